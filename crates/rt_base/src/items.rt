@@ -1,0 +1,41 @@
+// A list that contracts see as its elements.
+ghost use Rattle.std.specs.Prelude.{◌≡◌};
+
+use std::marker::Model;
+
+/// A `Vec` whose capacity nobody asks about. None of its calls takes memory.
+#[derive(Debug, Drop)]
+pub struct Items<V> {
+    inner: Vec<V>,
+}
+
+impl<V> Model for Items<V> {
+    ghost use Rattle.std.specs.Prelude.{List};
+
+    ghost Value = { List V };
+
+    ghost view = { λ t. t.inner.items };
+}
+
+impl<V> Items<V> {
+    /// The elements of a `Vec`.
+    pub fn of(inner: Vec<V>) -> Items<V>
+        ensures { result ≡ inner.items }
+    {
+        Items { inner }
+    }
+
+    /// The elements, borrowed.
+    pub fn as_slice(&self) -> &[V]
+        ensures { result.now ≡ self.now }
+    {
+        self.inner.as_slice()
+    }
+
+    /// The `Vec` again.
+    pub fn into_inner(self) -> Vec<V>
+        ensures { result.items ≡ self }
+    {
+        self.inner
+    }
+}
