@@ -1,0 +1,4 @@
+pub mod Address
+pub mod Attributes
+pub mod Label
+pub mod Noted
