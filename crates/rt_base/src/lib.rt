@@ -26,6 +26,7 @@ pub mod std_sink;
 pub mod std_source;
 pub mod text;
 pub mod time;
+pub mod whole;
 
 pub use addr::{Addr, Ip};
 pub use choice::Choice;
@@ -51,3 +52,4 @@ pub use std_sink::StdSink;
 pub use std_source::StdSource;
 pub use text::Text;
 pub use time::{MAX_TIME, Nanos};
+pub use whole::{Unread, read_whole, write_whole};
