@@ -1,0 +1,8 @@
+-- The last time of a journal with a further entry.
+use Rattle.std.proofs.Common.{◌≡◌, ℕ, List, [], ◌∷◌, ◌++◌, refl}
+use Rattle.rt_audit.specs.declared.entry.Entry.{Entry}
+use Rattle.rt_audit.specs.Journal.{last_time_from, time_after}
+
+pub last_time-more : (time : ℕ) (entries : List Entry) (entry : Entry) → last_time_from time (entries ++ entry ∷ []) ≡ time_after (last_time_from time entries) entry
+last_time-more time [] entry = refl
+last_time-more time (first ∷ entries) entry = last_time-more (time_after time first) entries entry

@@ -1,0 +1,24 @@
+-- A journal: the list of its entries.
+use Rattle.std.specs.Prelude.{ℕ, List, [], ◌∷◌}
+use Rattle.rt_audit.specs.declared.entry.Entry.{Entry}
+use Rattle.rt_audit.specs.declared.entry.Entry.TheVariants.{Start, Advance, Skip}
+
+-- the entries, and how many more have room
+pub record Kept : Type 0 where
+  pub entries : List Entry
+  pub spare : ℕ
+
+-- the time after an entry
+abbrev pub time_after : ℕ → Entry → ℕ
+time_after time (Start next now deadline cycle) = now
+time_after time (Advance now) = now
+time_after time (Skip now) = now
+time_after time _ = time
+
+abbrev pub last_time_from : ℕ → List Entry → ℕ
+last_time_from time [] = time
+last_time_from time (entry ∷ entries) = last_time_from (time_after time entry) entries
+
+-- the time of the last start, advance or skip, and 0 before any
+abbrev pub last_time : List Entry → ℕ
+last_time entries = last_time_from 0 entries

@@ -1,0 +1,105 @@
+-- The line of each entry.
+use Rattle.std.specs.Prelude.{ℕ, List, [], ◌∷◌, ◌++◌, Option, Some, None, codes}
+use Rattle.std.specs.Fmt.{decimal}
+use Rattle.hex.specs.Hex.{encode_lower}
+use Rattle.rt_base.specs.declared.choice.Choice.{Choice}
+use Rattle.rt_base.specs.declared.choice.Choice.TheVariants.{Kept, Dropped, Prefix}
+use Rattle.rt_audit.specs.declared.answer.AnswerKind.{AnswerKind}
+use Rattle.rt_audit.specs.declared.answer.AnswerKind.TheVariants.{Pending as IsPending, Ready as IsReady, Panicked, Stopped, NoMemory as LacksMemory, Ended}
+use Rattle.rt_audit.specs.declared.finish.FinishCause.{FinishCause}
+use Rattle.rt_audit.specs.declared.finish.FinishCause.TheVariants.{Completed, Timeout, Stalled, TaskPanicked, TimeOverflow, TooManyTasks, NoMemory}
+use Rattle.rt_audit.specs.declared.call.Call.{Call}
+use Rattle.rt_audit.specs.declared.call.Call.TheVariants.{CloseNode, Wake as WakeCall, SleepPoll}
+use Rattle.rt_audit.specs.declared.reply.CallReply.{CallReply}
+use Rattle.rt_audit.specs.declared.reply.CallReply.TheVariants.{Done, PendingAt, Ready, Refused}
+use Rattle.rt_audit.specs.declared.entry.Entry.{Entry}
+use Rattle.rt_audit.specs.declared.entry.Entry.TheVariants.{Start, Call as CallEntry, Event, Wake, Draw, Root, Round, Visit, Answer, NodeEnd, Advance, Skip, Fire, Cleanup, Crash, Finish}
+use Rattle.rt_audit.specs.Codes.{code_of}
+
+-- a word, a space and a number
+abbrev pub numbered_text : List ℕ → ℕ → List ℕ
+numbered_text word number = word ++ (codes " " ++ decimal number)
+
+abbrev pub optional_number : Option ℕ → List ℕ
+optional_number None = codes "-"
+optional_number (Some number) = decimal number
+
+-- each number behind a space
+abbrev pub numbers_text : List ℕ → List ℕ
+numbers_text [] = []
+numbers_text (number ∷ numbers) = (codes " " ++ decimal number) ++ numbers_text numbers
+
+-- bytes in lower-case hex, or a dash where there are none
+abbrev pub hex_text : List ℕ → List ℕ
+hex_text [] = codes "-"
+hex_text (byte ∷ bytes) = encode_lower (byte ∷ bytes)
+
+-- each field behind a space
+abbrev pub fields_text : List (List ℕ) → List ℕ
+fields_text [] = []
+fields_text (field ∷ fields) = (codes " " ++ hex_text field) ++ fields_text fields
+
+abbrev pub choice_text : Choice → List ℕ
+choice_text Kept = codes "k"
+choice_text Dropped = codes "d"
+choice_text (Prefix length) = codes "p" ++ decimal length
+
+-- each choice behind a space
+abbrev pub choices_text : List Choice → List ℕ
+choices_text [] = []
+choices_text (choice ∷ choices) = (codes " " ++ choice_text choice) ++ choices_text choices
+
+abbrev pub kind_word : AnswerKind → List ℕ
+kind_word IsPending = codes "pending"
+kind_word IsReady = codes "ready"
+kind_word Panicked = codes "panicked"
+kind_word Stopped = codes "stopped"
+kind_word LacksMemory = codes "nomemory"
+kind_word Ended = codes "ended"
+
+abbrev pub cause_word : FinishCause → List ℕ
+cause_word Completed = codes "ok"
+cause_word Timeout = codes "timeout"
+cause_word Stalled = codes "stalled"
+cause_word TaskPanicked = codes "panicked"
+cause_word TimeOverflow = codes "overflow"
+cause_word TooManyTasks = codes "tasks"
+cause_word NoMemory = codes "nomemory"
+
+abbrev pub call_text : Call → List ℕ
+call_text (CloseNode node) = numbered_text (codes "close-node") node
+call_text (WakeCall task) = numbered_text (codes "wake") task
+call_text (SleepPoll due) = numbered_text (codes "sleep-poll") due
+
+abbrev pub reply_text : CallReply → List ℕ
+reply_text Done = codes "ok"
+reply_text (PendingAt alarm) = numbered_text (codes "pending") alarm
+reply_text Ready = codes "ready"
+reply_text (Refused error) = numbered_text (codes "err") (code_of error)
+
+abbrev pub start_text : ℕ → Option ℕ → ℕ → ℕ → List ℕ
+start_text now deadline cycle next =
+    numbered_text (codes "start") now ++ codes " " ++ optional_number deadline ++ codes " " ++ decimal cycle ++ codes " " ++ decimal next
+
+abbrev pub called_text : Option ℕ → Call → CallReply → List ℕ
+called_text by call reply =
+    codes "call " ++ optional_number by ++ codes " " ++ call_text call ++ codes " -> " ++ reply_text reply
+
+-- the line of an entry
+abbrev pub line_of : Entry → List ℕ
+line_of (Start next now deadline cycle) = start_text now deadline cycle next
+line_of (CallEntry by call reply) = called_text by call reply
+line_of (Event label fields) = codes "event " ++ label ++ fields_text fields
+line_of (Wake task) = numbered_text (codes "wake") task
+line_of (Draw value) = numbered_text (codes "draw") value
+line_of (Root task) = numbered_text (codes "root") task
+line_of (Round order) = codes "round" ++ numbers_text order
+line_of (Visit task) = numbered_text (codes "visit") task
+line_of (Answer task kind) = numbered_text (codes "answer") task ++ codes " " ++ kind_word kind
+line_of (NodeEnd node) = numbered_text (codes "nodeend") node
+line_of (Advance now) = numbered_text (codes "advance") now
+line_of (Skip now) = numbered_text (codes "skip") now
+line_of (Fire alarm) = numbered_text (codes "fire") alarm
+line_of Cleanup = codes "cleanup"
+line_of (Crash choices) = codes "crash" ++ choices_text choices
+line_of (Finish cause) = codes "finish " ++ cause_word cause

@@ -1,0 +1,37 @@
+//! How a poll or an end of a task went.
+
+ghost use Rattle.std.specs.Prelude.{◌≡◌};
+ghost use Rattle.rt_audit.specs.Lines.{kind_word};
+
+/// The kind of an `Answer` entry.
+#[derive(Clone, Copy, Debug, PartialEq, Eq)]
+pub enum AnswerKind {
+    /// The poll is to be called again.
+    Pending,
+    /// The poll gave its output.
+    Ready,
+    /// The poll reported a panic.
+    Panicked,
+    /// The root wasn't polled, since a panic was kept.
+    Stopped,
+    /// A call of the poll lacked memory.
+    NoMemory,
+    /// The task's state was ended.
+    Ended,
+}
+
+impl AnswerKind {
+    /// The word of a journal's line.
+    pub fn word(self) -> &'static str
+        ensures { result.now ≡ kind_word self }
+    {
+        match self {
+            AnswerKind::Pending => "pending",
+            AnswerKind::Ready => "ready",
+            AnswerKind::Panicked => "panicked",
+            AnswerKind::Stopped => "stopped",
+            AnswerKind::NoMemory => "nomemory",
+            AnswerKind::Ended => "ended",
+        }
+    }
+}

@@ -1,0 +1,167 @@
+//! The entries of a journal.
+
+ghost use Rattle.std.specs.Prelude.{◌≡◌, ◌++◌, OnOk, string_bytes};
+ghost use Rattle.rt_audit.specs.Lines.{line_of, start_text, called_text};
+
+use crate::line::{
+    add_choices, add_fields, add_number, add_numbered, add_numbers, add_optional, add_word,
+};
+use crate::{AnswerKind, Call, CallReply, FinishCause};
+use rt_base::{Choice, Items, Nanos, NoMemory, Text};
+use std::alloc::Global;
+
+/// An entry of a journal. Times are nanoseconds since the epoch.
+#[derive(Debug, Drop)]
+pub enum Entry {
+    /// A run begins at `now`. The first task of this run gets the number `next`.
+    Start {
+        next: u64,
+        now: Nanos,
+        deadline: Option<Nanos>,
+        cycle: Nanos,
+    },
+    /// A call by a task, or by the maker of the root, was answered.
+    Call {
+        by: Option<u64>,
+        call: Call,
+        reply: CallReply,
+    },
+    /// An event of the run, as an auditor digests it.
+    Event {
+        label: Text,
+        fields: Items<Items<u8>>,
+    },
+    /// A task was queued by the event before.
+    Wake {
+        task: u64,
+    },
+    /// A number was drawn.
+    Draw {
+        value: u64,
+    },
+    /// The root got its number, and was queued.
+    Root {
+        task: u64,
+    },
+    /// A round visits these numbers.
+    Round {
+        order: Items<u64>,
+    },
+    /// A number of the round is visited.
+    Visit {
+        task: u64,
+    },
+    /// A poll, a visit or an end went so.
+    Answer {
+        task: u64,
+        kind: AnswerKind,
+    },
+    /// A node was ended that wasn't.
+    NodeEnd {
+        node: u64,
+    },
+    /// Time moved on by a cycle.
+    Advance {
+        now: Nanos,
+    },
+    /// Time moved on to the earliest alarm.
+    Skip {
+        now: Nanos,
+    },
+    /// An alarm went off.
+    Fire {
+        alarm: u64,
+    },
+    /// The tasks are ended from here on.
+    Cleanup,
+    /// The store crashed, with these choices for its unsynced changes.
+    Crash {
+        choices: Items<Choice>,
+    },
+    /// The run is over.
+    Finish {
+        cause: FinishCause,
+    },
+}
+
+impl Entry {
+    /// Adds the entry's line, without its end.
+    pub fn add_to(&self, alloc: Global, text: &mut String) -> Result<(), NoMemory>
+        ensures { OnOk result (string_bytes text.new ≡ string_bytes text.old ++ line_of self.now) }
+    {
+        match self {
+            Entry::Start {
+                next,
+                now,
+                deadline,
+                cycle,
+            } => add_start(text, *now, *deadline, *cycle, *next),
+            Entry::Call { by, call, reply } => add_call(text, *by, *call, reply),
+            Entry::Event { label, fields } => {
+                add_word(text, "event ")?;
+                add_word(text, label.as_str())?;
+                add_fields(alloc, text, fields.as_slice())
+            }
+            Entry::Wake { task } => add_numbered(text, "wake", *task as u128),
+            Entry::Draw { value } => add_numbered(text, "draw", *value as u128),
+            Entry::Root { task } => add_numbered(text, "root", *task as u128),
+            Entry::Round { order } => {
+                add_word(text, "round")?;
+                add_numbers(text, order.as_slice())
+            }
+            Entry::Visit { task } => add_numbered(text, "visit", *task as u128),
+            Entry::Answer { task, kind } => {
+                add_numbered(text, "answer", *task as u128)?;
+                add_word(text, " ")?;
+                add_word(text, kind.word())
+            }
+            Entry::NodeEnd { node } => add_numbered(text, "nodeend", *node as u128),
+            Entry::Advance { now } => add_numbered(text, "advance", *now),
+            Entry::Skip { now } => add_numbered(text, "skip", *now),
+            Entry::Fire { alarm } => add_numbered(text, "fire", *alarm as u128),
+            Entry::Cleanup => add_word(text, "cleanup"),
+            Entry::Crash { choices } => {
+                add_word(text, "crash")?;
+                add_choices(text, choices.as_slice())
+            }
+            Entry::Finish { cause } => {
+                add_word(text, "finish ")?;
+                add_word(text, cause.word())
+            }
+        }
+    }
+}
+
+fn add_start(
+    text: &mut String,
+    now: Nanos,
+    deadline: Option<Nanos>,
+    cycle: Nanos,
+    next: u64,
+) -> Result<(), NoMemory>
+    ensures { OnOk result (string_bytes text.new ≡ string_bytes text.old ++ start_text now deadline cycle next) }
+{
+    add_numbered(text, "start", now)?;
+    add_word(text, " ")?;
+    add_optional(text, deadline)?;
+    add_word(text, " ")?;
+    add_number(text, cycle)?;
+    add_word(text, " ")?;
+    add_number(text, next as u128)
+}
+
+fn add_call(
+    text: &mut String,
+    by: Option<u64>,
+    call: Call,
+    reply: &CallReply,
+) -> Result<(), NoMemory>
+    ensures { OnOk result (string_bytes text.new ≡ string_bytes text.old ++ called_text by call reply.now) }
+{
+    add_word(text, "call ")?;
+    add_optional(text, by.map(|task| task as u128))?;
+    add_word(text, " ")?;
+    call.add_to(text)?;
+    add_word(text, " -> ")?;
+    reply.add_to(text)
+}

@@ -1,0 +1,111 @@
+//! The journal: a list of entries, with room that is taken before it is used.
+
+ghost use Rattle.std.specs.Prelude.{◌≡◌, ◌≤◌, ◌<◌, ◌+◌, ◌∷◌, ◌++◌, [], length, OnOk, OnErr, IsTrue, ◌↔◌};
+ghost use Rattle.rt_audit.specs.Journal.{last_time, time_after};
+
+use crate::Entry;
+use rt_base::{Nanos, NoMemory};
+use std::alloc::Global;
+use std::marker::Model;
+
+/// The entries of all runs so far, in order.
+///
+/// Contracts see the entries, and `spare`: how many more have room.
+#[derive(Debug, Drop)]
+pub struct Journal {
+    entries: Vec<Entry>,
+    last: Nanos,
+}
+
+impl Model for Journal {
+    ghost use Rattle.std.specs.Prelude.{◌≡◌, ◌-◌, vec_len, vec_capacity};
+    ghost use Rattle.rt_audit.specs.Journal.{Kept, last_time};
+
+    ghost Value = { Kept };
+
+    ghost view = { λ j. record { entries = j.entries.items; spare = vec_capacity j.entries - vec_len j.entries } };
+
+    ghost invariant = { λ j. j.last ≡ last_time j.entries.items };
+}
+
+impl Journal {
+    /// A journal without entries or room.
+    pub fn new(alloc: Global) -> Self
+        ensures entries { result.entries ≡ [] }
+        ensures spare { result.spare ≡ 0 }
+    {
+        Journal {
+            entries: Vec::new(alloc),
+            last: 0,
+        }
+    }
+
+    /// The entries.
+    pub fn entries(&self) -> &[Entry]
+        ensures { result.now ≡ self.now.entries }
+    {
+        self.entries.as_slice()
+    }
+
+    /// How many entries there are.
+    pub fn len(&self) -> usize
+        ensures { result ≡ length self.now.entries }
+    {
+        self.entries.len()
+    }
+
+    /// Whether there is no entry.
+    pub fn is_empty(&self) -> bool
+        ensures { IsTrue result ↔ (self.now.entries ≡ []) }
+    {
+        self.entries.is_empty()
+    }
+
+    /// The time of the last start, advance or skip, in nanoseconds since the epoch, and 0 before any.
+    pub fn last_time(&self) -> Nanos
+        ensures { result ≡ last_time self.now.entries }
+    {
+        self.last
+    }
+
+    /// How many more entries have room.
+    pub fn spare(&self) -> usize
+        ensures { result ≡ self.now.spare }
+    {
+        self.entries.capacity() - self.entries.len()
+    }
+
+    /// Takes room for at least so many further entries.
+    pub fn reserve(&mut self, entries: usize) -> Result<(), NoMemory>
+        ensures entries { self.new.entries ≡ self.old.entries }
+        ensures kept { self.old.spare ≤ self.new.spare }
+        ensures room { OnOk result (entries ≤ self.new.spare) }
+        ensures refused { OnErr result (self.new.spare ≡ self.old.spare) }
+        ensures succeeds { entries ≤ self.old.spare → result ≡ Ok tt }
+    {
+        self.entries.reserve(entries)?;
+        Ok(())
+    }
+
+    /// Adds an entry at the end. It takes no memory: [`spare`](Self::spare) must be above zero.
+    pub fn push(&mut self, entry: Entry)
+        requires { 0 < self.old.spare }
+        ensures entries { self.new.entries ≡ self.old.entries ++ entry ∷ [] }
+        ensures spare { self.new.spare + 1 ≡ self.old.spare }
+    {
+        self.last = time_after(self.last, &entry);
+        self.entries.push_reserved(entry);
+    }
+}
+
+/// The time after an entry.
+fn time_after(time: Nanos, entry: &Entry) -> Nanos
+    ensures { result ≡ time_after time entry.now }
+{
+    match entry {
+        Entry::Start { now, .. } => *now,
+        Entry::Advance { now } => *now,
+        Entry::Skip { now } => *now,
+        _ => time,
+    }
+}

@@ -1,0 +1,38 @@
+//! The error of a refused call.
+
+ghost use Rattle.std.specs.Prelude.{◌≡◌, IfOk};
+
+use rt_base::{Error, NoMemory};
+use std::alloc::Global;
+use std::marker::Model;
+
+/// An error behind a pointer, since few entries have one. Contracts see the error.
+#[derive(Debug, Drop)]
+pub struct Refusal {
+    inner: Box<Error>,
+}
+
+impl Model for Refusal {
+    ghost use Rattle.rt_base.specs.declared.error.Error.{Error};
+
+    ghost Value = { Error };
+
+    ghost view = { λ r. r.inner.value };
+}
+
+impl Refusal {
+    /// Keeps an error.
+    pub fn new(alloc: Global, error: Error) -> Result<Refusal, NoMemory>
+        ensures { IfOk result (λ refusal. refusal ≡ error) }
+    {
+        let inner = Box::new(alloc, error)?;
+        Ok(Refusal { inner })
+    }
+
+    /// The error.
+    pub fn error(&self) -> &Error
+        ensures { result.now ≡ self.now }
+    {
+        &self.inner
+    }
+}

@@ -1,0 +1,40 @@
+//! What calls on the world are answered.
+
+ghost use Rattle.std.specs.Prelude.{◌≡◌, ◌++◌, OnOk, string_bytes};
+ghost use Rattle.rt_audit.specs.Lines.{reply_text};
+
+use crate::Refusal;
+use crate::code::error_code;
+use crate::line::{add_numbered, add_word};
+use rt_base::NoMemory;
+
+/// A reply, as its line shows it. A refusal keeps the error itself, of which the line shows the number.
+#[derive(Debug, Drop)]
+pub enum CallReply {
+    /// The call was carried out, and there is no more to say.
+    Done,
+    /// The sleep isn't over, and this alarm will wake its task.
+    PendingAt { alarm: u64 },
+    /// What was waited for is there. An output isn't kept.
+    Ready,
+    /// The call was refused.
+    Refused { error: Refusal },
+}
+
+impl CallReply {
+    /// Adds the words of a journal's line.
+    pub fn add_to(&self, text: &mut String) -> Result<(), NoMemory>
+        ensures { OnOk result (string_bytes text.new ≡ string_bytes text.old ++ reply_text self.now) }
+    {
+        match self {
+            CallReply::Done => add_word(text, "ok"),
+            CallReply::PendingAt { alarm } => add_numbered(text, "pending", *alarm as u128),
+            CallReply::Ready => add_word(text, "ready"),
+            CallReply::Refused { error } => add_numbered(
+                text,
+                "err",
+                error_code(error.error()) as u128,
+            ),
+        }
+    }
+}

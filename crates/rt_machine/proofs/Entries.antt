@@ -1,0 +1,72 @@
+-- The entries of a journal when one is added.
+use Rattle.std.proofs.Common.{◌≡◌, ◌≤◌, ℕ, List, [], ◌∷◌, ◌++◌, refl, ap, sym, ◌∙◌, true, length, take, drop, arith, length-append}
+use Rattle.std.proofs.lemmas.List.{take-append-le, drop-append-le, take-append-drop, length-take-le, drop_all, take_all}
+use Rattle.rt_audit.specs.declared.entry.Entry.{Entry}
+use Rattle.rt_audit.specs.declared.entry.Entry.TheVariants.{Call, Wake}
+use Rattle.rt_model.specs.State.{State, blank}
+use Rattle.rt_model.specs.Effects.{after, after_all}
+use Rattle.rt_model.specs.Rules.{May, IsDrawn, IsLawful, AreDrawn}
+use Rattle.rt_model.proofs.Append.{after_all-append, IsLawful-append, AreDrawn-append}
+use Rattle.rt_machine.specs.Told.{told_from, IsKept, AreCalls, is_call, pushed, noted}
+
+-- the parts on both sides of the mark
+pub joined : (xs : List Entry) (start mark : ℕ) → start ≤ mark → mark ≤ length xs → drop start (take mark xs) ++ drop mark xs ≡ drop start xs
+joined xs start mark a b =
+    let h : start ≤ length (take mark xs) = rw (length-take-le mark xs b) a in
+    sym (drop-append-le start (take mark xs) (drop mark xs) h) ∙ ap (λ ys. drop start ys) (take-append-drop mark xs)
+
+AreCalls-append : (es : List Entry) (e : Entry) → AreCalls es → is_call e ≡ true → AreCalls (es ++ e ∷ [])
+AreCalls-append [] e h k = (k, tt)
+AreCalls-append (x ∷ es) e h k = (h.0, AreCalls-append es e h.1 k)
+
+-- nothing is drawn for a call
+call-drawn : (s : State) (e : Entry) → is_call e ≡ true → IsDrawn s e
+call-drawn s (Call by call reply) h = tt
+call-drawn s (Wake task) h = tt
+call-drawn s _ h = cc
+
+state-more : (s : State) (es : List Entry) (e : Entry) → after_all s (es ++ e ∷ []) ≡ after (after_all s es) e
+state-more s es e = after_all-append s es (e ∷ [])
+
+lawful-more : (s : State) (es : List Entry) (e : Entry) → IsLawful s es → May (after_all s es) e → IsLawful s (es ++ e ∷ [])
+lawful-more s es e h k = IsLawful-append s es (e ∷ []) h (k, tt)
+
+drawn-more : (s : State) (es : List Entry) (e : Entry) → AreDrawn s es → IsDrawn (after_all s es) e → AreDrawn s (es ++ e ∷ [])
+drawn-more s es e h k = AreDrawn-append s es (e ∷ []) h (k, tt)
+
+module _ (xs : List Entry) (start mark : ℕ) (e : Entry) (kept : IsKept xs start mark) where
+  within : start ≤ length xs
+  within = omega (arith, kept.start_first, kept.mark_within)
+
+  pub note-kept : May (after_all blank (drop start xs)) e → is_call e ≡ true → IsKept (xs ++ e ∷ []) start mark
+  note-kept m k = record {
+    start_first = kept.start_first;
+    mark_within = omega (arith, kept.mark_within, length-append xs (e ∷ []));
+    lawful = rw (drop-append-le start xs (e ∷ []) within) (lawful-more blank (drop start xs) e kept.lawful m);
+    drawn = rw (drop-append-le start xs (e ∷ []) within) (drawn-more blank (drop start xs) e kept.drawn (call-drawn (after_all blank (drop start xs)) e k));
+    calls = rw (drop-append-le mark xs (e ∷ []) kept.mark_within) (AreCalls-append (drop mark xs) e kept.calls k);
+  }
+
+  pub note-told : told_from (xs ++ e ∷ []) start mark ≡ noted (told_from xs start mark) e
+  note-told =
+      let within = within in
+      rw (take-append-le start xs (e ∷ []) within, take-append-le mark xs (e ∷ []) kept.mark_within, drop-append-le mark xs (e ∷ []) kept.mark_within, drop-append-le start xs (e ∷ []) within, state-more blank (drop start xs) e) refl
+
+  pub push-kept : (len : ℕ) → len ≡ length (xs ++ e ∷ []) → May (after_all blank (drop start xs)) e → IsDrawn (after_all blank (drop start xs)) e → IsKept (xs ++ e ∷ []) start len
+  push-kept len is m d =
+      let all : drop len (xs ++ e ∷ []) ≡ [] = drop_all len (xs ++ e ∷ []) (omega arith) in
+      record {
+        start_first = omega (arith, kept.start_first, kept.mark_within, length-append xs (e ∷ []));
+        mark_within = omega arith;
+        lawful = rw (drop-append-le start xs (e ∷ []) within) (lawful-more blank (drop start xs) e kept.lawful m);
+        drawn = rw (drop-append-le start xs (e ∷ []) within) (drawn-more blank (drop start xs) e kept.drawn d);
+        calls = rw all tt;
+      }
+
+  pub push-told : (len : ℕ) → len ≡ length (xs ++ e ∷ []) → told_from (xs ++ e ∷ []) start len ≡ pushed (told_from xs start mark) e
+  push-told len is =
+      let all = drop_all len (xs ++ e ∷ []) (omega arith) in
+      let whole = take_all len (xs ++ e ∷ []) (omega arith) in
+      let within = within in
+      let parts = joined xs start mark kept.start_first kept.mark_within in
+      rw (take-append-le start xs (e ∷ []) within, all, whole, drop-append-le start xs (e ∷ []) within, state-more blank (drop start xs) e, parts) refl

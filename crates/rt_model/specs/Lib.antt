@@ -1,0 +1,10 @@
+pub mod Lists
+pub mod State
+pub mod Alarms
+pub mod Events
+pub mod Causes
+pub mod Effects
+pub mod Rules
+pub mod Walk
+pub mod Tied
+pub mod Run

@@ -1,0 +1,122 @@
+-- What may come next in a journal.
+use Rattle.std.specs.Prelude.{◌≡◌, ◌≢◌, ◌⊎◌, ◌<◌, ◌≤◌, ◌+◌, ◌-◌, ◌^◌, ℕ, List, [], ◌∷◌, Option, Some, None, true, false, IsTrue, drop, codes}
+use Rattle.std.specs.List.Sorted.{IsPermutation}
+use Rattle.rt_base.specs.declared.error.Error.TheVariants.{UnknownToken}
+use Rattle.rt_base.specs.declared.time.TheConstants.{MAX_TIME}
+use Rattle.rt_audit.specs.declared.call.Call.{Call}
+use Rattle.rt_audit.specs.declared.call.Call.TheVariants.{CloseNode, Wake as WakeCall, SleepPoll}
+use Rattle.rt_audit.specs.declared.reply.CallReply.{CallReply}
+use Rattle.rt_audit.specs.declared.reply.CallReply.TheVariants.{Done, PendingAt, Ready as IsReady, Refused}
+use Rattle.rt_audit.specs.declared.answer.AnswerKind.{AnswerKind}
+use Rattle.rt_audit.specs.declared.answer.AnswerKind.TheVariants.{Pending, Ready, NoMemory, Ended}
+use Rattle.rt_audit.specs.declared.finish.FinishCause.{FinishCause}
+use Rattle.rt_audit.specs.declared.finish.FinishCause.TheVariants.{NoMemory as OutOfMemory}
+use Rattle.rt_audit.specs.declared.entry.Entry.{Entry}
+use Rattle.rt_audit.specs.declared.entry.Entry.TheVariants.{Start, Call as CallEntry, Event, Wake, Draw, Root, Round, Visit, Answer, NodeEnd, Advance, Skip, Fire, Cleanup, Crash, Finish}
+use Rattle.rt_model.specs.Lists.{is_nil}
+use Rattle.rt_model.specs.State.{Phase, Blank, Making, Between, Visiting, Entered, Polling, Turning, Over, Closing, Crashed, Finished, Numbers, Nodes, State}
+use Rattle.rt_model.specs.Alarms.{is_set, skip_to, fires}
+use Rattle.rt_model.specs.Causes.{is_late, from_running, ends_next}
+use Rattle.rt_model.specs.Effects.{left_of, visited, cause_of, is_live, is_ended, after}
+use Rattle.rt_model.specs.Events.{process_task, task_fields}
+
+-- this number was given to a task of this run
+abbrev pub WasGiven : Numbers → ℕ → Type 0
+WasGiven n task = (n.first ≤ task) × (task < n.next)
+
+-- the reply is one that the call may have
+abbrev pub Answers : State → Call → CallReply → Type 0
+Answers s (CloseNode node) Done = is_live s.nodes node ≡ true
+Answers s (WakeCall task) Done = WasGiven s.numbers task
+Answers s (WakeCall task) (Refused error) = (error ≡ UnknownToken) × (WasGiven s.numbers task → ⊥)
+Answers s (SleepPoll due) IsReady = due ≤ s.clock.time
+Answers s (SleepPoll due) (PendingAt alarm) =
+    (s.clock.time < due) × ((alarm ≡ s.alarms.count) ⊎ (is_set s.alarms.set due alarm ≡ true))
+Answers s _ _ = ⊥
+
+-- who makes the calls here: the maker, the task that is polled, or in a cleanup the task that is ended next, once node 0 has ended
+abbrev pub CallsAt : Phase → Nodes → Option ℕ → Option ℕ → Type 0
+CallsAt Making nodes next by = by ≡ None
+CallsAt (Polling task left) nodes next by = by ≡ Some task
+CallsAt (Closing cause) nodes next by = (is_ended nodes 0 ≡ true) × (by ≡ next)
+CallsAt _ nodes next by = ⊥
+
+abbrev pub MayCall : State → Option ℕ → Type 0
+MayCall s by = CallsAt s.phase s.nodes (ends_next s.running s.root) by
+
+-- a visit, or the end of a task, may be answered so
+abbrev pub MayAnswer : State → ℕ → AnswerKind → Type 0
+MayAnswer s task Pending = s.phase ≡ Polling task (left_of s.phase)
+MayAnswer s task Ready = s.phase ≡ Polling task (left_of s.phase)
+MayAnswer s task NoMemory = s.phase ≡ Polling task (left_of s.phase)
+MayAnswer s task Ended =
+    (s.phase ≡ Closing (cause_of s.phase)) × (is_ended s.nodes 0 ≡ true) × (ends_next s.running s.root ≡ Some task)
+MayAnswer s task _ = ⊥
+
+-- a round may begin here
+abbrev pub MayRound : Phase → State → Type 0
+MayRound Between s = is_late s.clock ≡ false
+MayRound Turning s = (s.ready ≢ []) × (is_late s.clock ≡ false) × (fires s.alarms.set s.clock.time ≡ None)
+MayRound _ s = ⊥
+
+-- the cleanup may begin here. Want of memory can cut a run off anywhere
+abbrev pub MayClose : Phase → Type 0
+MayClose Blank = ⊥
+MayClose (Closing cause) = ⊥
+MayClose (Crashed cause) = ⊥
+MayClose (Finished cause) = ⊥
+MayClose _ = Unit {0}
+
+abbrev pub MayCrash : Phase → Nodes → List ℕ → Type 0
+MayCrash (Closing cause) nodes running = (is_ended nodes 0 ≡ true) × (running ≡ [])
+MayCrash _ nodes running = ⊥
+
+abbrev pub MayFinish : Phase → FinishCause → Type 0
+MayFinish (Crashed reached) cause = (cause ≡ OutOfMemory) ⊎ (reached ≡ Some cause)
+MayFinish _ cause = ⊥
+
+abbrev pub MayFree : State → Entry → Type 0
+MayFree s (Start next now deadline cycle) = s.phase ≡ Blank
+MayFree s (CallEntry by call reply) = MayCall s by × Answers s call reply
+MayFree s (Event label fields) =
+    (s.phase ≡ Entered (visited s.phase) (left_of s.phase))
+    × (label ≡ process_task)
+    × (fields ≡ task_fields (visited s.phase) [])
+MayFree s (Wake task) = ⊥
+MayFree s (Draw value) = ⊥
+MayFree s (Root task) = (s.phase ≡ Making) × (task ≡ s.numbers.next) × (task < 2 ^ 64 - 1)
+MayFree s (Round order) = MayRound s.phase s × IsPermutation s.ready order
+MayFree s (Visit task) =
+    (s.phase ≡ Visiting (left_of s.phase))
+    × (from_running s.running (left_of s.phase) ≡ task ∷ drop 1 (from_running s.running (left_of s.phase)))
+MayFree s (Answer task kind) = MayAnswer s task kind
+MayFree s (NodeEnd node) = (node ≡ 0) × (s.phase ≡ Closing (cause_of s.phase)) × (is_ended s.nodes 0 ≡ false)
+MayFree s (Advance now) =
+    (s.phase ≡ Visiting (left_of s.phase))
+    × (from_running s.running (left_of s.phase) ≡ [])
+    × (now ≡ s.clock.time + s.clock.fixed.cycle)
+    × (now ≤ MAX_TIME)
+MayFree s (Skip now) = (s.phase ≡ Turning) × (skip_to s.ready s.alarms.set s.clock.time ≡ Some now)
+MayFree s (Fire alarm) = (s.phase ≡ Turning) × (is_late s.clock ≡ false) × (fires s.alarms.set s.clock.time ≡ Some alarm)
+MayFree s Cleanup = MayClose s.phase
+MayFree s (Crash choices) = MayCrash s.phase s.nodes s.running × (choices ≡ [])
+MayFree s (Finish cause) = MayFinish s.phase cause
+
+-- the entry may come next. The wakes of an event come first, exactly these
+abbrev pub May : State → Entry → Type 0
+May s (Wake task) = s.owed ≡ task ∷ drop 1 s.owed
+May s e = (s.owed ≡ []) × MayFree s e
+
+-- each of the entries may come where it stands
+abbrev pub IsLawful : State → List Entry → Type 0
+IsLawful s [] = Unit {0}
+IsLawful s (e ∷ es) = May s e × IsLawful (after s e) es
+
+-- a round visits its numbers in the order in which they were queued: as long as nothing is drawn, this is what decides among the permutations
+abbrev pub IsDrawn : State → Entry → Type 0
+IsDrawn s (Round order) = order ≡ s.ready
+IsDrawn s _ = Unit {0}
+
+abbrev pub AreDrawn : State → List Entry → Type 0
+AreDrawn s [] = Unit {0}
+AreDrawn s (e ∷ es) = IsDrawn s e × AreDrawn (after s e) es

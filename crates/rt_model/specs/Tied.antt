@@ -1,0 +1,124 @@
+-- What ties the calls and answers of a journal to the steps of the task type and of the maker.
+use Rattle.std.specs.Prelude.{◌≡◌, ◌⊎◌, ◌-◌, ◌^◌, ℕ, List, [], ◌∷◌, Option, Some, None, Bool, true, false, if◌then◌else◌, eqb, ltb}
+use Rattle.rt_audit.specs.declared.answer.AnswerKind.{AnswerKind}
+use Rattle.rt_audit.specs.declared.answer.AnswerKind.TheVariants.{Pending as IsPending, Ready as IsReady, NoMemory as LacksMemory, Ended as IsEnded}
+use Rattle.rt_audit.specs.declared.entry.Entry.{Entry}
+use Rattle.rt_audit.specs.declared.entry.Entry.TheVariants.{Root, Answer as AnswerEntry, Cleanup, Crash}
+use Rattle.rt_model.specs.declared.answer.Answer.{Answer}
+use Rattle.rt_model.specs.declared.answer.Answer.TheVariants.{Pending, Ready}
+use Rattle.rt_model.specs.State.{State, Phase, Making}
+use Rattle.rt_model.specs.Effects.{after}
+use Rattle.rt_model.specs.Walk.{Step, Told, Held, Walks}
+
+-- what a task type does, by the state of a task, the time and its number: in a poll, and in its end
+pub record TaskSteps (A O : Type 0) : Type 0 where
+  pub next : A → ℕ → ℕ → List (Told O) → Step A O (Answer O)
+  pub last : A → ℕ → ℕ → List (Told O) → Step (Unit {0}) O (Unit {0})
+
+-- and with it what a maker of the root does, by the time
+pub record Steps (A O : Type 0) : Type 0 where
+  pub task : TaskSteps A O
+  pub first : ℕ → List (Told O) → Step A O (Unit {0})
+
+abbrev pub with_first : {A O : Type 0} → TaskSteps A O → (ℕ → List (Told O) → Step A O (Unit {0})) → Steps A O
+with_first task first = record { task = task; first = first }
+
+-- the values of a run: those that the world holds, the root's output, a root that was made and not taken in, and whether no part has lacked memory
+pub record Value (A O : Type 0) : Type 0 where
+  pub held : Held A O
+  pub output : Option O
+  pub unmade : Option A
+  pub whole : Bool
+
+-- no task, no output, and no part that lacked memory
+abbrev pub nothing : {A O : Type 0} → Value A O
+nothing = record { held = record { tasks = []; results = [] }; output = None; unmade = None; whole = true }
+
+-- the tasks by number
+
+abbrev pub find : {A : Type 0} → ℕ → List (ℕ × A) → Option A
+find k [] = None
+find k (x ∷ xs) = if eqb x.0 k then Some x.1 else find k xs
+
+abbrev pub without : {A : Type 0} → ℕ → List (ℕ × A) → List (ℕ × A)
+without k [] = []
+without k (x ∷ xs) = if eqb x.0 k then xs else x ∷ without k xs
+
+abbrev pub with_task : {A : Type 0} → ℕ → A → List (ℕ × A) → List (ℕ × A)
+with_task k a [] = (k, a) ∷ []
+with_task k a (x ∷ xs) = if ltb k x.0 then (k, a) ∷ (x ∷ xs) else x ∷ with_task k a xs
+
+-- with the state of this task taken out, and put in
+abbrev pub taken : {A O : Type 0} → ℕ → Held A O → Held A O
+taken k held = record { tasks = without k held.tasks; results = held.results }
+
+abbrev pub put : {A O : Type 0} → ℕ → A → Held A O → Held A O
+put k a held = record { tasks = with_task k a held.tasks; results = held.results }
+
+-- the number under which a root ends that was not taken in
+abbrev pub no_number : ℕ
+no_number = 2 ^ 64 - 1
+
+-- what a part leaves beside the values that the world holds
+abbrev pub Keeps : {A O : Type 0} → Value A O → Value A O → Type 0
+Keeps v w = (w.output ≡ v.output) × (w.unmade ≡ v.unmade) × (w.whole ≡ v.whole)
+
+-- the calls since the visit began are those of the task's poll, which answers so and leaves these values
+pub record Polls {A O : Type 0} (p : Steps A O) (s : State) (task : ℕ) (held : Held A O) (answer : Answer O) (end : Held A O) : Type 0 where
+  pub before : A
+  pub left : A
+  pub moved : Held A O
+  pub there : find task held.tasks ≡ Some before
+  pub walks : Walks (p.task.next before s.clock.time task) (taken task held) s.turns s.nodes answer left moved
+  pub is : end ≡ put task left moved
+
+-- the calls are those of the end of this state
+abbrev pub Ends : {A O : Type 0} → Steps A O → State → ℕ → A → Held A O → Held A O → Type 0
+Ends p s number before held end = Walks (p.task.last before s.clock.time number) held s.turns s.nodes tt tt end
+
+-- the calls are those of the maker, which makes this state
+abbrev pub Makes : {A O : Type 0} → Steps A O → State → Held A O → A → Held A O → Type 0
+Makes p s held made end = Walks (p.first s.clock.time) held s.turns s.nodes tt made end
+
+-- the end of a running task: by its own steps, or it lacked memory itself
+abbrev pub MovesEnded : {A O : Type 0} → Steps A O → State → Value A O → ℕ → Value A O → Type 0
+MovesEnded {A = A} p s v task w =
+    ((a : A) × (find task v.held.tasks ≡ Some a) × Ends p s task a (taken task v.held) w.held × Keeps v w)
+    ⊎ ((w.output ≡ v.output) × (w.whole ≡ false))
+
+abbrev pub MovesAnswer : {A O : Type 0} → Steps A O → State → Value A O → ℕ → AnswerKind → Value A O → Type 0
+MovesAnswer p s v task IsPending w = Polls p s task v.held Pending w.held × Keeps v w
+MovesAnswer {O = O} p s v task IsReady w =
+    (o : O) × Polls p s task v.held (Ready o) w.held × (w.output ≡ Some o) × (w.unmade ≡ v.unmade) × (w.whole ≡ v.whole)
+-- a poll that lacked memory isn't tied
+MovesAnswer p s v task LacksMemory w = (w.output ≡ v.output) × (w.whole ≡ false)
+MovesAnswer p s v task IsEnded w = MovesEnded p s v task w
+MovesAnswer p s v task _ w = ⊥
+
+-- a run that ends before its root is taken in: the maker made one, or it lacked memory
+abbrev pub MovesCleanup : {A O : Type 0} → Steps A O → State → Value A O → Phase → Value A O → Type 0
+MovesCleanup {A = A} p s v Making w =
+    ((a : A) × Makes p s v.held a w.held × (w.unmade ≡ Some a) × (w.output ≡ v.output) × (w.whole ≡ v.whole))
+    ⊎ ((w.output ≡ v.output) × (w.whole ≡ false))
+MovesCleanup p s v _ w = w ≡ v
+
+-- the end of a root that was not taken in
+abbrev pub MovesCrash : {A O : Type 0} → Steps A O → State → Value A O → Option A → Value A O → Type 0
+MovesCrash p s v None w = w ≡ v
+MovesCrash p s v (Some a) w =
+    (Ends p s no_number a v.held w.held × (w.unmade ≡ None) × (w.output ≡ v.output) × (w.whole ≡ v.whole))
+    ⊎ ((w.output ≡ v.output) × (w.whole ≡ false))
+
+-- the entry moves the values so
+abbrev pub Moves : {A O : Type 0} → Steps A O → State → Value A O → Entry → Value A O → Type 0
+Moves {A = A} {O = O} p s v (Root task) w =
+    (a : A) × (end : Held A O) × Makes p s v.held a end × (w.held ≡ put task a end) × Keeps v w
+Moves p s v (AnswerEntry task kind) w = MovesAnswer p s v task kind w
+Moves p s v Cleanup w = MovesCleanup p s v s.phase w
+Moves p s v (Crash choices) w = MovesCrash p s v v.unmade w
+Moves p s v _ w = w ≡ v
+
+-- each of the entries is tied to the steps, and moves the values from the first to the last
+abbrev pub IsTied : {A O : Type 0} → Steps A O → State → Value A O → List Entry → Value A O → Type 0
+IsTied p s v [] w = w ≡ v
+IsTied {A = A} {O = O} p s v (e ∷ es) w = (u : Value A O) × Moves p s v e u × IsTied p (after s e) u es w

@@ -1,0 +1,9 @@
+//! What a run is: the state that a journal tells, what may come next in it, and how it is tied to the task type.
+//! The definitions stand in `specs/`; the functions here state laws about them.
+#![tactic(auto)]
+
+mod alarm;
+mod answer;
+
+pub use alarm::Alarm;
+pub use answer::Answer;
