@@ -7,7 +7,7 @@ ghost use Rattle.rt_model.specs.Alarms.{fires, skip_to, woken_by};
 ghost use Rattle.rt_model.specs.Causes.{is_late, overflows, from_running, ends_next};
 ghost use Rattle.rt_model.specs.Effects.{after_all, left_of, visited, cause_of, is_closing, is_live, is_ended};
 ghost use Rattle.rt_model.specs.Events.{process_task, task_fields};
-ghost use Rattle.rt_model.specs.Rules.{IsLawful, AreDrawn, May, MayCall, MayRound, MayClose, MayCrash, MayFinish, WasGiven};
+ghost use Rattle.rt_model.specs.Rules.{IsLawful, AreDrawn, May, MayAnswer, MayCall, MayRound, MayClose, MayCrash, MayFinish, WasGiven};
 ghost use Rattle.rt_machine.specs.Told.{AreCalls, fresh, pushed, pushed_all, noted, own};
 ghost use Rattle.rt_machine.specs.Calls.{Noted, WakeRefused, lacking, sleep_reply, slept_number};
 
@@ -186,6 +186,13 @@ impl Machine {
         self.root == Some(task)
     }
 
+    /// The root's number, once it is taken in.
+    pub fn root(&self) -> Option<u64>
+        ensures { result ≡ self.now.told.state.root }
+    {
+        self.root
+    }
+
     /// Whether nobody is ready.
     pub fn is_idle(&self) -> bool
         ensures { result ≡ is_nil self.now.told.state.ready }
@@ -316,7 +323,7 @@ impl Machine {
     /// Ends the poll of a visit.
     pub fn answer(&mut self, task: u64, kind: AnswerKind)
         requires phase { self.old.told.state.phase ≡ Polling task (left_of self.old.told.state.phase) }
-        requires may { May self.old.told.state (Entry.Answer task kind) }
+        requires may { MayAnswer self.old.told.state task kind }
         requires kind { kind ≢ AnswerKind.Ended }
         ensures { self.new ≡ record { told = pushed self.old.told (Entry.Answer task kind); short = self.old.short } }
     {

@@ -8,19 +8,19 @@ use Rattle.rt_model.specs.declared.answer.Answer.{Answer}
 use Rattle.rt_model.specs.declared.answer.Answer.TheVariants.{Pending, Ready}
 use Rattle.rt_model.specs.State.{State, Phase, Making}
 use Rattle.rt_model.specs.Effects.{after}
-use Rattle.rt_model.specs.Walk.{Step, Told, Held, Walks}
+use Rattle.rt_model.specs.Walk.{Step, Heard, Held, Walks}
 
 -- what a task type does, by the state of a task, the time and its number: in a poll, and in its end
 pub record TaskSteps (A O : Type 0) : Type 0 where
-  pub next : A → ℕ → ℕ → List (Told O) → Step A O (Answer O)
-  pub last : A → ℕ → ℕ → List (Told O) → Step (Unit {0}) O (Unit {0})
+  pub next : A → ℕ → ℕ → List (Heard O) → Step A O (Answer O)
+  pub last : A → ℕ → ℕ → List (Heard O) → Step (Unit {0}) O (Unit {0})
 
 -- and with it what a maker of the root does, by the time
 pub record Steps (A O : Type 0) : Type 0 where
   pub task : TaskSteps A O
-  pub first : ℕ → List (Told O) → Step A O (Unit {0})
+  pub first : ℕ → List (Heard O) → Step A O (Unit {0})
 
-abbrev pub with_first : {A O : Type 0} → TaskSteps A O → (ℕ → List (Told O) → Step A O (Unit {0})) → Steps A O
+abbrev pub with_first : {A O : Type 0} → TaskSteps A O → (ℕ → List (Heard O) → Step A O (Unit {0})) → Steps A O
 with_first task first = record { task = task; first = first }
 
 -- the values of a run: those that the world holds, the root's output, a root that was made and not taken in, and whether no part has lacked memory

@@ -14,10 +14,10 @@ pub data Ask (O : Type 0) : Type 0 where
   Sleeping : (due : ℕ) → (alarm : Option ℕ) → Ask O
   Sending : (call : Call) → (value : O) → Ask O
 
--- what was told: a reply, or the value that a ready one hands out
-pub data Told (O : Type 0) : Type 0 where
-  Plain : (reply : CallReply) → Told O
-  Handed : (value : O) → Told O
+-- what was heard of a call: its reply, or the value that a ready one hands out
+pub data Heard (O : Type 0) : Type 0 where
+  Plain : (reply : CallReply) → Heard O
+  Handed : (value : O) → Heard O
 
 -- what is done next: a call that is told its reply; a token spent, which tells nothing; or an answer and the state after it
 pub data Step (L O R : Type 0) : Type 0 where
@@ -47,8 +47,8 @@ Asks (Sleeping due alarm) t = (t.call ≡ SleepPoll due) × IsOwn t.alarms due a
 Asks (Sending call value) t = t.call ≡ call
 
 -- what is told of a turn. No call hands a value out yet
-abbrev pub told_of : {A O : Type 0} → Held A O → Turn → Told O
-told_of held t = Plain t.reply
+abbrev pub heard_of : {A O : Type 0} → Held A O → Turn → Heard O
+heard_of held t = Plain t.reply
 
 -- the values after a turn. No call moves one yet
 abbrev pub moved : {A O : Type 0} → Held A O → Ask O → Turn → Held A O
@@ -67,20 +67,20 @@ Gave nodes held (Spends ask next) answer left end = (has_place nodes (call_of as
 Gave nodes held (Gives given state) answer left end = (given ≡ answer) × (state ≡ left) × (end ≡ held)
 
 -- the next call is this turn, and it goes on from there
-abbrev pub Goes : {A L O R : Type 0} → (List (Told O) → Step L O R) → (Held A O → List (Told O) → Step L O R → Type 0) → Held A O → List (Told O) → Step L O R → Turn → Type 0
-Goes steps on held told (Does ask) t =
-    Asks ask t × on (moved held ask t) (told ++ told_of held t ∷ []) (steps (told ++ told_of held t ∷ []))
-Goes steps on held told (Spends ask next) t =
-    (has_place t.nodes (call_of ask) ≡ true → (t.call ≡ call_of ask) × (t.reply ≡ Done) × on (moved held ask t) told next)
-    × (has_place t.nodes (call_of ask) ≡ false → Goes steps on held told next t)
-Goes steps on held told (Gives given state) t = ⊥
+abbrev pub Goes : {A L O R : Type 0} → (List (Heard O) → Step L O R) → (Held A O → List (Heard O) → Step L O R → Type 0) → Held A O → List (Heard O) → Step L O R → Turn → Type 0
+Goes steps on held heard (Does ask) t =
+    Asks ask t × on (moved held ask t) (heard ++ heard_of held t ∷ []) (steps (heard ++ heard_of held t ∷ []))
+Goes steps on held heard (Spends ask next) t =
+    (has_place t.nodes (call_of ask) ≡ true → (t.call ≡ call_of ask) × (t.reply ≡ Done) × on (moved held ask t) heard next)
+    × (has_place t.nodes (call_of ask) ≡ false → Goes steps on held heard next t)
+Goes steps on held heard (Gives given state) t = ⊥
 
-abbrev pub WalksFrom : {A L O R : Type 0} → (List (Told O) → Step L O R) → Nodes → R → L → Held A O → List Turn → Held A O → List (Told O) → Step L O R → Type 0
-WalksFrom steps nodes answer left end [] held told step = Gave nodes held step answer left end
-WalksFrom steps nodes answer left end (t ∷ turns) held told step =
-    Goes steps (WalksFrom steps nodes answer left end turns) held told step t
+abbrev pub WalksFrom : {A L O R : Type 0} → (List (Heard O) → Step L O R) → Nodes → R → L → Held A O → List Turn → Held A O → List (Heard O) → Step L O R → Type 0
+WalksFrom steps nodes answer left end [] held heard step = Gave nodes held step answer left end
+WalksFrom steps nodes answer left end (t ∷ turns) held heard step =
+    Goes steps (WalksFrom steps nodes answer left end turns) held heard step t
 
 -- with these values held, these turns are made one after another, and then this answer is given, in this state and with these values.
 -- The nodes are those that stand when it is given
-abbrev pub Walks : {A L O R : Type 0} → (List (Told O) → Step L O R) → Held A O → List Turn → Nodes → R → L → Held A O → Type 0
+abbrev pub Walks : {A L O R : Type 0} → (List (Heard O) → Step L O R) → Held A O → List Turn → Nodes → R → L → Held A O → Type 0
 Walks steps held turns nodes answer left end = WalksFrom steps nodes answer left end turns held [] (steps [])

@@ -1,0 +1,4 @@
+pub mod Seats
+pub mod Follows
+pub mod Turning
+pub mod Running

@@ -1,0 +1,9 @@
+pub mod World
+pub mod Calls
+pub mod Polls
+pub mod Seats
+pub mod Follows
+pub mod Visits
+pub mod Turns
+pub mod Rounds
+pub mod Ends
