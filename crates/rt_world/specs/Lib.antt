@@ -1,4 +1,5 @@
 pub mod World
+pub mod Failures
 pub mod Calls
 pub mod Polls
 pub mod Seats

@@ -8,6 +8,7 @@ use Rattle.rt_model.specs.Causes.{reached}
 use Rattle.rt_model.specs.Rules.{MayRound}
 use Rattle.rt_model.specs.Tied.{Steps}
 use Rattle.rt_world.specs.World.{World}
+use Rattle.rt_world.specs.Failures.{finish_of}
 use Rattle.rt_world.specs.Follows.{Agrees, AgreesAtLeast}
 use Rattle.rt_world.specs.Visits.{IsCut}
 use Rattle.rt_world.specs.declared.rounds.Ending.{Ending}
@@ -33,13 +34,13 @@ StandsFor s cause = IsCut s.phase × (reached s ≡ Some cause)
 -- where the run stands after a clock step
 abbrev pub StepStands : State → Stepped → Type 0
 StepStands s On = StandsBetween s
-StepStands s (Stopped cause) = StandsFor s cause
+StepStands s (Stopped error) = StandsFor s (finish_of error)
 StepStands s Broken = IsCut s.phase
 
 -- where it stands when its rounds have ended
 abbrev pub EndStands : {O : Type 0} → State → Ending O → Type 0
 EndStands s (Completed output) = StandsFor s IsCompleted
-EndStands s (Reached cause) = StandsFor s cause
+EndStands s (Reached error) = StandsFor s (finish_of error)
 EndStands s Cut = IsCut s.phase
 
 abbrev pub EndAgrees : (A O : Type 0) → Steps A O → World A O → Ending O → Type 0

@@ -1,6 +1,5 @@
 -- What the parts of a clock step leave.
 use Rattle.std.specs.Prelude.{◌≡◌, ◌≤◌, ◌⊎◌, false, Some}
-use Rattle.rt_audit.specs.declared.finish.FinishCause.{FinishCause}
 use Rattle.rt_model.specs.Lists.{is_nil}
 use Rattle.rt_model.specs.State.{State, Phase, Visiting, Turning}
 use Rattle.rt_model.specs.Causes.{reached}
@@ -8,6 +7,7 @@ use Rattle.rt_model.specs.Effects.{left_of}
 use Rattle.rt_model.specs.Rules.{MayRound}
 use Rattle.rt_machine.specs.Told.{Told}
 use Rattle.rt_world.specs.World.{World}
+use Rattle.rt_world.specs.Failures.{finish_of}
 use Rattle.rt_world.specs.declared.turns.Turn.{Turn}
 use Rattle.rt_world.specs.declared.turns.Turn.TheVariants.{Again, Ready, Reached, Cut}
 
@@ -35,12 +35,12 @@ pub record Turns (A O : Type 0) (old new : World A O) : Type 0 where
 abbrev pub TurnStands : State → Turn → Type 0
 TurnStands s Again = s.phase ≡ Turning
 TurnStands s Ready = (s.phase ≡ Turning) × MayRound Turning s
-TurnStands s (Reached cause) = (s.phase ≡ Turning) × (reached s ≡ Some cause)
+TurnStands s (Reached cause) = (s.phase ≡ Turning) × (reached s ≡ Some (finish_of cause))
 TurnStands s Cut = s.phase ≡ Turning
 
 -- where it stands after a clock step
 abbrev pub StepStands : State → Turn → Type 0
 StepStands s Again = ⊥
 StepStands s Ready = (s.phase ≡ Turning) × MayRound Turning s
-StepStands s (Reached cause) = (s.phase ≡ Turning) × (reached s ≡ Some cause)
+StepStands s (Reached cause) = (s.phase ≡ Turning) × (reached s ≡ Some (finish_of cause))
 StepStands s Cut = (s.phase ≡ Turning) ⊎ (s.phase ≡ Visiting (left_of s.phase))

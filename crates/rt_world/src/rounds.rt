@@ -10,18 +10,17 @@ ghost use Rattle.rt_world.specs.Follows.{Agrees};
 ghost use Rattle.rt_world.specs.Rounds.{Runs, StandsBetween, EndStands, EndAgrees, StepStands};
 ghost use Rattle.rt_world.specs.Visits.{RoundStands, AgreesAfter};
 
-use crate::{Task, Turn, Went, World};
+use crate::{RunError, Task, Turn, Went, World};
 use rand_core::Rng;
-use rt_audit::FinishCause;
 use rt_base::MAX_TIME;
 
 /// How a clock step went, with the test of its overflow.
-#[derive(Clone, Copy, Debug)]
+#[derive(Debug, Drop)]
 pub enum Stepped {
     /// A round may follow.
     On,
     /// The run has reached a cause to end.
-    Stopped(FinishCause),
+    Stopped(RunError),
     /// Memory was lacking.
     Broken,
 }
@@ -32,7 +31,7 @@ pub enum Ending<O> {
     /// The root gave its output.
     Completed(O),
     /// The run has reached a cause to end without one.
-    Reached(FinishCause),
+    Reached(RunError),
     /// Memory was lacking.
     Cut,
 }
@@ -52,7 +51,7 @@ impl<T, O, G> World<T, O, G> {
         ensures agrees { (p : Steps T O) → Agrees T O p true self.old None → Agrees T O p true self.new None }
     {
         if self.overflows() {
-            return Stepped::Stopped(FinishCause::TimeOverflow);
+            return Stepped::Stopped(RunError::TimeOverflow);
         }
         match self.clock_step() {
             Turn::Ready => Stepped::On,
@@ -96,7 +95,7 @@ impl<T: Task, G: Rng> World<T, T::Output, G> {
     {
         'rounds: loop {
             if self.is_late() {
-                return Ending::Reached(FinishCause::Timeout);
+                return Ending::Reached(RunError::Timeout);
             }
             match self.round() {
                 Went::On => {}

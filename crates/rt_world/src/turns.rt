@@ -9,19 +9,18 @@ ghost use Rattle.rt_model.specs.Tied.{Steps};
 ghost use Rattle.rt_world.specs.Follows.{Agrees};
 ghost use Rattle.rt_world.specs.Turns.{Fires, Turns, TurnStands, StepStands};
 
-use crate::World;
-use rt_audit::FinishCause;
+use crate::{RunError, World};
 use rt_base::{MAX_TIME, NoMemory};
 
 /// How a turn of a clock step went, or the whole step, which never ends with `Again`.
-#[derive(Clone, Copy, Debug)]
+#[derive(Debug, Drop)]
 pub enum Turn {
     /// Alarms are left, and nobody is ready.
     Again,
     /// Somebody is ready.
     Ready,
     /// The run has reached a cause to end.
-    Reached(FinishCause),
+    Reached(RunError),
     /// Memory was lacking.
     Cut,
 }
@@ -76,14 +75,14 @@ impl<T, O, G> World<T, O, G> {
             return Turn::Cut;
         }
         if self.is_late() {
-            return Turn::Reached(FinishCause::Timeout);
+            return Turn::Reached(RunError::Timeout);
         }
         self.fire_all();
         if !self.is_idle() {
             return Turn::Ready;
         }
         if !self.has_alarm() {
-            return Turn::Reached(FinishCause::Stalled);
+            return Turn::Reached(RunError::Stalled);
         }
         Turn::Again
     }
