@@ -1,0 +1,3 @@
+pub mod Pollers
+pub mod Starting
+pub mod Outcome

@@ -1,0 +1,67 @@
+//! What a run leaves.
+
+ghost use Rattle.std.specs.Prelude.{◌≡◌};
+
+use crate::RunError;
+use rt_audit::Journal;
+use rt_base::Nanos;
+use std::marker::Model;
+
+/// What a completed run leaves, from which a later one may go on.
+///
+/// Contracts see its last moment, its deadline and cycle in nanoseconds, and the entries of all runs so far.
+#[derive(Debug, Drop)]
+pub struct Checkpoint<G> {
+    pub(crate) rng: G,
+    pub(crate) journal: Journal,
+    pub(crate) time: Nanos,
+    pub(crate) deadline: Option<Nanos>,
+    pub(crate) cycle: Nanos,
+}
+
+impl<G> Model for Checkpoint<G> {
+    ghost use Rattle.rt_core.specs.Starting.{Kept};
+
+    ghost Value = { Kept };
+
+    ghost view = { λ c. record { time = c.time; deadline = c.deadline; cycle = c.cycle; journal = c.journal.entries } };
+}
+
+impl<G> Checkpoint<G> {
+    /// The journal of all runs so far.
+    pub fn journal(&self) -> &Journal
+        ensures { result.now.entries ≡ self.now.journal }
+    {
+        &self.journal
+    }
+
+    /// The same, handed out.
+    pub fn into_journal(self) -> Journal
+    where
+        G: Drop,
+        ensures { result.entries ≡ self.journal }
+    {
+        self.journal
+    }
+
+    /// The last moment of the run, in nanoseconds since the epoch.
+    pub fn time(&self) -> Nanos
+        ensures { result ≡ self.now.time }
+    {
+        self.time
+    }
+}
+
+/// The root's output, and what its run leaves.
+#[derive(Debug, Drop)]
+pub struct Finished<O, G> {
+    pub output: O,
+    pub checkpoint: Checkpoint<G>,
+}
+
+/// Why a run failed, and the journal of all runs so far. Want of memory is the one cause that may come at any time.
+#[derive(Debug, Drop)]
+pub struct Failure {
+    pub cause: RunError,
+    pub journal: Journal,
+}

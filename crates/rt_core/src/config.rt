@@ -1,0 +1,124 @@
+//! The settings of a run.
+
+ghost use Rattle.std.specs.Prelude.{◌≡◌, ◌≤◌, ◌<◌, ◌+◌, Option, None, Some};
+ghost use Rattle.rt_core.specs.Starting.{assert_of};
+
+use rand_chacha::ChaCha12Rng;
+use rand_core::SeedableRng;
+use rt_base::{MAX_TIME, Nanos};
+use thiserror::Error;
+
+/// Why settings are refused.
+#[derive(Clone, Copy, Debug, PartialEq, Eq, Error)]
+pub enum ConfigError {
+    /// The cycle is 0.
+    #[error("cycle is zero")]
+    ZeroCycle,
+    /// The start is past `MAX_TIME`.
+    #[error("start is past the last moment")]
+    StartTooLate,
+    /// The start plus the timeout is past `MAX_TIME`.
+    #[error("deadline is past the last moment")]
+    DeadlineTooLate,
+}
+
+/// The settings of a run: its generator, and in nanoseconds its cycle, its start and its timeout.
+#[derive(Debug, Drop)]
+pub struct Config<G> {
+    pub(crate) rng: G,
+    pub(crate) cycle: Nanos,
+    pub(crate) start_time: Nanos,
+    pub(crate) timeout: Option<Nanos>,
+}
+
+impl Config<ChaCha12Rng> {
+    /// A generator of seed 42, a cycle of 1,000,000 ns, start 0 and no timeout.
+    pub fn new() -> Self
+        ensures cycle { result.cycle ≡ 1000000 }
+        ensures start { result.start_time ≡ 0 }
+        ensures timeout { result.timeout ≡ None }
+    {
+        Config {
+            rng: ChaCha12Rng::seed_from_u64(42),
+            cycle: 1_000_000,
+            start_time: 0,
+            timeout: None,
+        }
+    }
+}
+
+impl Default for Config<ChaCha12Rng> {
+    fn default() -> Self
+        ensures cycle { result.cycle ≡ 1000000 }
+        ensures start { result.start_time ≡ 0 }
+        ensures timeout { result.timeout ≡ None }
+    {
+        Config::new()
+    }
+}
+
+impl<G> Config<G> {
+    /// Sets the cycle, by which time moves on after each round.
+    pub fn with_cycle(self, cycle: Nanos) -> Self
+        ensures { result ≡ record self { cycle = cycle } }
+    {
+        Config { cycle, ..self }
+    }
+
+    /// Sets the start.
+    pub fn with_start_time(self, start: Nanos) -> Self
+        ensures { result ≡ record self { start_time = start } }
+    {
+        Config {
+            start_time: start,
+            ..self
+        }
+    }
+
+    /// Sets the timeout, counted from the start, or none.
+    pub fn with_timeout(self, timeout: Option<Nanos>) -> Self
+        ensures { result ≡ record self { timeout = timeout } }
+    {
+        Config { timeout, ..self }
+    }
+
+    /// The cycle.
+    pub fn cycle(&self) -> Nanos
+        ensures { result ≡ self.now.cycle }
+    {
+        self.cycle
+    }
+
+    /// The start.
+    pub fn start_time(&self) -> Nanos
+        ensures { result ≡ self.now.start_time }
+    {
+        self.start_time
+    }
+
+    /// The timeout.
+    pub fn timeout(&self) -> Option<Nanos>
+        ensures { result ≡ self.now.timeout }
+    {
+        self.timeout
+    }
+
+    /// Tests the settings: in this order `ZeroCycle` exactly where the cycle is 0, `StartTooLate` exactly where the
+    /// start is past `MAX_TIME`, `DeadlineTooLate` exactly where the start plus the timeout is.
+    pub fn assert(&self) -> Result<(), ConfigError>
+        ensures { result ≡ assert_of self.now.cycle self.now.start_time self.now.timeout }
+    {
+        if self.cycle == 0 {
+            return Err(ConfigError::ZeroCycle);
+        }
+        if self.start_time > MAX_TIME {
+            return Err(ConfigError::StartTooLate);
+        }
+        match self.timeout {
+            Some(timeout) if MAX_TIME - self.start_time < timeout => {
+                Err(ConfigError::DeadlineTooLate)
+            }
+            _ => Ok(()),
+        }
+    }
+}

@@ -1,0 +1,21 @@
+//! Runners: a root task is made, run to its end under virtual time, and a checkpoint is handed back.
+#![tactic(auto)]
+
+mod checkpoint;
+mod config;
+mod context;
+mod maker;
+
+mod running;
+mod sleep;
+pub mod utils;
+mod yields;
+
+pub use checkpoint::{Checkpoint, Failure, Finished};
+pub use config::{Config, ConfigError};
+pub use context::Context;
+pub use maker::RootMaker;
+pub use rt_world::RunError;
+
+pub use sleep::Sleep;
+pub use yields::Reschedule;
