@@ -1,3 +1,4 @@
 pub mod Pollers
 pub mod Starting
 pub mod Outcome
+pub mod Given

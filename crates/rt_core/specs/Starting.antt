@@ -45,3 +45,7 @@ pub record Kept : Type 0 where
   pub deadline : Option ℕ
   pub cycle : ℕ
   pub journal : List Entry
+
+-- the beginning of a first run: its task numbers begin with 0
+abbrev pub first_begin : ℕ → ℕ → Option ℕ → Fixed
+first_begin cycle start timeout = record { start = start; cycle = cycle; deadline = deadline_of start timeout; first = 0 }

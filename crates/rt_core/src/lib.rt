@@ -6,6 +6,7 @@ mod config;
 mod context;
 mod maker;
 
+mod runner;
 mod running;
 mod sleep;
 pub mod utils;
@@ -16,6 +17,7 @@ pub use config::{Config, ConfigError};
 pub use context::Context;
 pub use maker::RootMaker;
 pub use rt_world::RunError;
+pub use runner::Runner;
 
 pub use sleep::Sleep;
 pub use yields::Reschedule;

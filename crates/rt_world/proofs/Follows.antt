@@ -4,7 +4,7 @@ use Rattle.std.proofs.lemmas.List.{append-nil}
 use Rattle.rt_audit.specs.declared.answer.AnswerKind.TheVariants.{Pending as IsPending, Ready as IsReady, NoMemory as LacksMemory, Ended as IsEnded}
 use Rattle.rt_audit.specs.declared.finish.FinishCause.{FinishCause}
 use Rattle.rt_audit.specs.declared.entry.Entry.{Entry}
-use Rattle.rt_audit.specs.declared.entry.Entry.TheVariants.{Call, Event, Wake, Root, Round, Visit, Answer as AnswerEntry, NodeEnd, Advance, Skip, Fire, Cleanup, Crash, Finish}
+use Rattle.rt_audit.specs.declared.entry.Entry.TheVariants.{Start, Call, Event, Wake, Root, Round, Visit, Answer as AnswerEntry, NodeEnd, Advance, Skip, Fire, Cleanup, Crash, Finish}
 use Rattle.rt_model.specs.declared.answer.Answer.{Answer}
 use Rattle.rt_model.specs.declared.answer.Answer.TheVariants.{Pending, Ready}
 use Rattle.rt_model.specs.State.{State, Clock, Phase, blank, Making}
@@ -13,7 +13,7 @@ use Rattle.rt_model.specs.Events.{process_task, task_fields}
 use Rattle.rt_model.specs.Walk.{Held, Walks}
 use Rattle.rt_model.specs.Tied.{Steps, Value, nothing, Moves, MovesCleanup, IsTied, find, taken, put, no_number}
 use Rattle.rt_model.proofs.Append.{after_all-append, IsTied-append}
-use Rattle.rt_machine.specs.Told.{Told, pushed, pushed_all, AreCalls, own}
+use Rattle.rt_machine.specs.Told.{Told, fresh, pushed, pushed_all, AreCalls, own}
 use Rattle.rt_world.specs.World.{World}
 use Rattle.rt_world.specs.Calls.{Kept}
 use Rattle.rt_world.specs.Follows.{Follows, Agrees, AgreesWith, value_of, still, IsMaking, IsMade, MakingAgrees}
@@ -33,6 +33,11 @@ module _ {A O : Type 0} (p : Steps A O) where
         state = rw (append-nil (own t ++ e ∷ []), after_all-append blank (own t) (e ∷ []), f.state) refl;
         tied = rw (append-nil (own t ++ e ∷ [])) (IsTied-append p blank nothing v w (own t) (e ∷ []) f.tied (w, k, refl));
       }
+
+  -- at the start of a run nothing has to be tied yet
+  pub follows-start : (given : List Entry) (next now cycle : ℕ) (deadline : Option ℕ) → Follows A O p (pushed (fresh given) (Start next now deadline cycle)) nothing
+  follows-start given next now cycle deadline =
+      follows-pushed (fresh given) nothing nothing (Start next now deadline cycle) (record { state = refl; tied = refl }) refl
 
   pub follows-called : (t u : Told) (v : Value A O) → Follows A O p t v → t.calls ≡ [] → u.past ≡ t.past → AreCalls u.calls → u.state ≡ after_all blank (own u) → Follows A O p u v
   follows-called t u v f none same calls state =

@@ -115,6 +115,7 @@ impl<T, O, G> World<T, O, G> {
     ) -> Result<World<T, O, G>, (Journal, G)>
         ensures ok { IfOk result (λ w. w ≡ record { told = pushed (fresh journal.entries) (Entry.Start next time deadline cycle); short = false; held = record { tasks = []; results = [] }; out = None }) }
         ensures err { IfErr result (λ back. back.0.entries ≡ journal.entries) }
+        ensures agrees { IfOk result (λ w. (p : Steps T O) → Agrees T O p true w None) }
     {
         match Machine::begin(alloc, journal, time, cycle, deadline, next) {
             Err(journal) => Err((journal, rng)),

@@ -1,0 +1,144 @@
+//! Runners.
+
+ghost use Rattle.std.specs.Prelude.{◌≡◌, ◌≤◌, ◌↔◌, [], None, Some, Ok, Err, IsOk, IfOk, IfErr, MatchResult};
+ghost use Rattle.rt_audit.specs.declared.finish.FinishCause.TheVariants.{NoMemory};
+ghost use Rattle.rt_model.specs.Tied.{with_first};
+ghost use Rattle.rt_world.specs.Failures.{finish_of};
+ghost use Rattle.rt_core.specs.Starting.{assert_of, deadline_of, first_begin, IsWithin};
+ghost use Rattle.rt_core.specs.Given.{entries_of};
+ghost use Rattle.rt_core.specs.Outcome.{Completes, Fails, DrawsNothing, IsValidInput};
+
+use crate::running::run_maker;
+use crate::{Checkpoint, Config, ConfigError, Failure, Finished, RootMaker, RunError};
+use rand_core::Rng;
+use rt_audit::Journal;
+use rt_base::Nanos;
+use rt_world::{Task, World};
+use std::alloc::Global;
+use std::marker::Model;
+
+/// A run that is to begin.
+///
+/// Contracts see how it begins, and the entries of the runs before it. By its type its cycle is at least 1, and its
+/// start and its deadline are at most `MAX_TIME`.
+#[derive(Drop)]
+pub struct Runner<G> {
+    rng: G,
+    start: Nanos,
+    cycle: Nanos,
+    deadline: Option<Nanos>,
+    journal: Option<Journal>,
+}
+
+impl<G> Model for Runner<G> {
+    ghost use Rattle.rt_core.specs.Starting.{Starting, MayStart};
+    ghost use Rattle.rt_core.specs.Given.{entries_of};
+
+    ghost Value = { Starting };
+
+    ghost view = { λ r. record { begin = record { start = r.start; cycle = r.cycle; deadline = r.deadline; first = 0 }; given = entries_of r.journal } };
+
+    ghost invariant = { λ r. MayStart r.cycle r.start r.deadline };
+}
+
+impl<G: Rng + Drop> Runner<G> {
+    /// A runner with these settings, and with no run before it. It is refused exactly as [`Config::assert`] refuses
+    /// the settings.
+    pub fn new(config: Config<G>) -> Result<Runner<G>, ConfigError>
+        ensures accepted { IsOk result ↔ (assert_of config.cycle config.start_time config.timeout ≡ Ok tt) }
+        ensures ok { IfOk result (λ r. r ≡ record { begin = first_begin config.cycle config.start_time config.timeout; given = [] }) }
+        ensures refused { IfErr result (λ e. assert_of config.cycle config.start_time config.timeout ≡ Err e) }
+    {
+        match config.assert() {
+            Err(error) => Err(error),
+            Ok(()) => {
+                let Config {
+                    rng,
+                    cycle,
+                    start_time,
+                    timeout,
+                } = config;
+                Ok(Runner {
+                    rng,
+                    start: start_time,
+                    cycle,
+                    deadline: deadline_after(start_time, timeout),
+                    journal: None,
+                })
+            }
+        }
+    }
+
+    /// Runs the root that the maker makes, to the end of the run, and hands back its output and a checkpoint.
+    ///
+    /// A failure carries the journal of all entries so far. Every cause but `NoMemory` comes exactly at its place of
+    /// the run.
+    #[tactic(auto, unfolding(rt_model::specs::Effects::after))]
+    pub fn start_and_recover<T: Task, M: RootMaker<T> + Drop>(
+        self,
+        alloc: Global,
+        maker: M,
+    ) -> Result<Finished<T::Output, G>, Failure>
+        ensures run { IfOk result (λ f. Completes T T.Output (with_first T.steps (M.first maker)) self.begin self.given f.output f.checkpoint) }
+        ensures failure { IfErr result (λ f. Fails T T.Output (with_first T.steps (M.first maker)) self.begin self.given f.journal.entries (finish_of f.cause)) }
+        ensures orders { MatchResult result (λ f. DrawsNothing self.given f.checkpoint.journal) (λ f. DrawsNothing self.given f.journal.entries) }
+        ensures complete { IsValidInput T T.Output (with_first T.steps (M.first maker)) self.begin → IfErr result (λ f. f.cause ≡ RunError.NoMemory) }
+    {
+        let Runner {
+            rng,
+            start,
+            cycle,
+            deadline,
+            journal,
+        } = self;
+        let given = given_journal(alloc, journal);
+        let begun = World::begin(alloc, given, start, cycle, deadline, 0, rng);
+        let mut world = match begun {
+            Ok(world) => world,
+            Err((journal, _)) => {
+                return Err(Failure {
+                    cause: RunError::NoMemory,
+                    journal,
+                });
+            }
+        };
+        let outcome = run_maker::<T, M, G>(&mut world, maker);
+        world.facts();
+        let time = world.now();
+        let (journal, rng) = world.into_parts();
+        match outcome {
+            Ok(output) => Ok(Finished {
+                output,
+                checkpoint: Checkpoint {
+                    rng,
+                    journal,
+                    time,
+                    deadline,
+                    cycle,
+                },
+            }),
+            Err(cause) => Err(Failure { cause, journal }),
+        }
+    }
+}
+
+/// The journal of the runs before, or an empty one.
+fn given_journal(alloc: Global, journal: Option<Journal>) -> Journal
+    ensures { result.entries ≡ entries_of journal }
+{
+    match journal {
+        Some(journal) => journal,
+        None => Journal::new(alloc),
+    }
+}
+
+/// The moment that lies so far behind the start, where there is one.
+fn deadline_after(start: Nanos, timeout: Option<Nanos>) -> Option<Nanos>
+    requires within { IsWithin (deadline_of start timeout) }
+    ensures { result ≡ deadline_of start timeout }
+{
+    match timeout {
+        None => None,
+        Some(timeout) => Some(start + timeout),
+    }
+}
