@@ -4,12 +4,13 @@ ghost use Rattle.std.specs.Prelude.{◌≡◌, ◌≤◌, ◌↔◌, [], None, S
 ghost use Rattle.rt_audit.specs.declared.finish.FinishCause.TheVariants.{NoMemory};
 ghost use Rattle.rt_model.specs.Tied.{with_first};
 ghost use Rattle.rt_world.specs.Failures.{finish_of};
-ghost use Rattle.rt_core.specs.Starting.{assert_of, deadline_of, first_begin, IsWithin};
+ghost use Rattle.rt_core.specs.Starting.{assert_of, deadline_of, first_begin, IsWithin, Kept};
 ghost use Rattle.rt_core.specs.Given.{entries_of};
 ghost use Rattle.rt_core.specs.Outcome.{Completes, Fails, DrawsNothing, IsValidInput};
 
 use crate::running::run_maker;
 use crate::{Checkpoint, Config, ConfigError, Failure, Finished, RootMaker, RunError};
+use rand_chacha::ChaCha12Rng;
 use rand_core::Rng;
 use rt_audit::Journal;
 use rt_base::Nanos;
@@ -118,6 +119,52 @@ impl<G: Rng + Drop> Runner<G> {
                 },
             }),
             Err(cause) => Err(Failure { cause, journal }),
+        }
+    }
+}
+
+impl<G: Rng + Drop> Runner<G> {
+    /// The output of [`start_and_recover`](Self::start_and_recover), or its failure.
+    pub fn start<T: Task, M: RootMaker<T> + Drop>(
+        self,
+        alloc: Global,
+        maker: M,
+    ) -> Result<T::Output, Failure>
+        ensures run { IfOk result (λ output. (kept : Kept) × Completes T T.Output (with_first T.steps (M.first maker)) self.begin self.given output kept) }
+        ensures failure { IfErr result (λ f. Fails T T.Output (with_first T.steps (M.first maker)) self.begin self.given f.journal.entries (finish_of f.cause)) }
+        ensures complete { IsValidInput T T.Output (with_first T.steps (M.first maker)) self.begin → IfErr result (λ f. f.cause ≡ RunError.NoMemory) }
+    {
+        match self.start_and_recover::<T, M>(alloc, maker) {
+            Ok(finished) => {
+                let Finished { output, checkpoint } = finished;
+                let _ = checkpoint;
+                Ok(output)
+            }
+            Err(failure) => Err(failure),
+        }
+    }
+}
+
+impl Runner<ChaCha12Rng> {
+    /// A runner with the settings of [`Config::new`] and this timeout in nanoseconds. It is refused exactly as
+    /// [`Config::assert`] refuses these settings.
+    pub fn timed(timeout: Nanos) -> Result<Runner<ChaCha12Rng>, ConfigError>
+        ensures accepted { IsOk result ↔ (assert_of 1000000 0 (Some timeout) ≡ Ok tt) }
+        ensures ok { IfOk result (λ r. r ≡ record { begin = first_begin 1000000 0 (Some timeout); given = [] }) }
+        ensures refused { IfErr result (λ e. assert_of 1000000 0 (Some timeout) ≡ Err e) }
+    {
+        Runner::new(Config::new().with_timeout(Some(timeout)))
+    }
+}
+
+impl Default for Runner<ChaCha12Rng> {
+    /// A runner with the settings of [`Config::new`].
+    fn default() -> Self
+        ensures { result ≡ record { begin = first_begin 1000000 0 None; given = [] } }
+    {
+        match Runner::new(Config::new()) {
+            Ok(runner) => runner,
+            Err(_) => unreachable!(),
         }
     }
 }
