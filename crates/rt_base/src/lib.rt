@@ -24,6 +24,8 @@ pub mod sink;
 pub mod source;
 pub mod std_sink;
 pub mod std_source;
+#[cfg(test)]
+mod tests;
 pub mod text;
 pub mod time;
 pub mod whole;
