@@ -34,7 +34,7 @@ impl<V> Items<V> {
     }
 
     /// The allocator that the list keeps.
-    pub fn allocator(&self) -> Global {
+    pub(crate) fn allocator(&self) -> Global {
         *self.inner.allocator()
     }
 

@@ -9,22 +9,20 @@ use crate::no_memory::NoMemory;
 use crate::text::Text;
 use std::alloc::Global;
 
-/// What the names of the runtime's own metrics begin with.
-pub const METRICS_PREFIX: &str = "runtime";
-
 /// Whether the label is a letter and then letters, digits and underscores.
 pub fn validate_label(label: &str) -> Result<(), MetricError>
     ensures valid { is_ok result ≡ is_label label.now }
     ensures cause { IfErr result (λ kind. kind ≡ MetricError.BadLabel) }
 {
-    if is_label_text(label.as_bytes()) {
+    if is_label(label.as_bytes()) {
         Ok(())
     } else {
         Err(MetricError::BadLabel)
     }
 }
 
-fn is_label_text(text: &[u8]) -> bool
+/// Whether the bytes are a letter and then letters, digits and underscores.
+pub fn is_label(text: &[u8]) -> bool
     ensures { result ≡ is_label text.now }
 {
     match text {

@@ -24,6 +24,8 @@ pub mod sink;
 pub mod source;
 pub mod std_sink;
 pub mod std_source;
+#[cfg(test)]
+mod tests;
 pub mod text;
 pub mod time;
 pub mod whole;
@@ -36,7 +38,7 @@ pub use event::Event;
 pub use execution::Execution;
 pub use failed::Failed;
 pub use items::Items;
-pub use label::{child_label, prefixed_name, validate_label};
+pub use label::{child_label, is_label, prefixed_name, validate_label};
 pub use list_sink::ListSink;
 pub use list_source::ListSource;
 pub use metric_error::MetricError;

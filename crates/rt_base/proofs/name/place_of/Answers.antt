@@ -1,8 +1,8 @@
 use Rattle.std.proofs.Common.{◌≡◌, ◌<◌, ◌∙◌, sym, arith, length, get_or}
-use Rattle.std.proofs.Common.{Less, Equal, Greater}
+use Rattle.std.proofs.Common.{Less, Equal}
 use Rattle.rt_base.specs.Attributes.{text_cmp}
 use Rattle.std.proofs.lemmas.List.{get_or_default}
-use Rattle.rt_base.proofs.Places.{put_past, put_before, put_at}
+use Rattle.rt_base.proofs.Places.{put_before, put_at}
 use Rattle.rt_base.proofs.name.place_of.Goals as goal
 
 pub returns-in-Less : goal.returns-in-Less
