@@ -1,0 +1,4 @@
+pub mod Below
+pub mod Walk
+pub mod Records
+pub mod Shapes

@@ -1,0 +1,6 @@
+pub mod Slots
+pub mod Ancestry
+pub mod Kept
+pub mod Inside
+pub mod Ending
+pub mod TreeInside

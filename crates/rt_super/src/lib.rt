@@ -1,0 +1,11 @@
+//! Which contexts have ended with which, when sleepers wake, and one-time results.
+#![tactic(auto)]
+
+mod ending;
+mod node;
+mod slot_state;
+mod slots;
+mod tree;
+
+pub use slots::Slots;
+pub use tree::Tree;
