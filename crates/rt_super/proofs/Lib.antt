@@ -2,3 +2,4 @@ pub mod Below
 pub mod Walk
 pub mod Records
 pub mod Shapes
+pub mod AlarmLemmas

@@ -4,3 +4,5 @@ pub mod Kept
 pub mod Inside
 pub mod Ending
 pub mod TreeInside
+pub mod Alarms
+pub mod AlarmsInside
