@@ -6,7 +6,7 @@ use Rattle.std.proofs.lemmas.List.{map-append, length-map}
 use Rattle.std.proofs.lemmas.List.Folds.{list_any-append, find-append}
 use Rattle.std.proofs.lemmas.Option.{slice_get_past, slice_get_within}
 use Rattle.std.proofs.lemmas.Bool.Decides.{nat_tests}
-use Rattle.rt_super.specs.Ancestry.{NodeState, TreeRecord, node_at, is_known, is_live, task_on, links, subtree, stands_in, was_born_ended, is_ended, newly_ended, tasks_on, new_node, with_child, changed, with_end}
+use Rattle.rt_super.specs.Ancestry.{NodeState, TreeRecord, node_at, is_known, is_live, live_task, task_on, links, subtree, stands_in, was_born_ended, is_ended, newly_ended, tasks_on, new_node, with_child, changed, with_end}
 use Rattle.rt_super.specs.Kept.{KeptNode, Kept, StandsFor, IsChild, placed, parents_of, is_marked, kept_of, with_node}
 use Rattle.rt_super.proofs.Below.{below, stands_new, or_false}
 
@@ -143,6 +143,7 @@ pub record_child : (k : Kept) (r : TreeRecord) (parent : ℕ) → StandsFor k r 
 record_child k r parent s lengths = record {
   fresh = is_known_kept k r (length k.nodes) s ∙ ap is_some (slice_get_past k.nodes (length k.nodes) (omega arith));
   flag = sym (s.ended parent);
+  free = free;
   stands = record {
     order = order;
     nodes = λ n. rw (find-append (λ x. eqb x.number n) r.nodes (new_node (length k.nodes) (Some parent) (is_ended r parent) ∷ []), slice_push k.nodes (record { parent = Some parent; live = true; task = None }) n) (nodes n (node_at r n) (s.nodes n));
@@ -151,6 +152,18 @@ record_child k r parent s lengths = record {
   };
 }
   where
+    unknown : (o : Option NodeState) → option_map kept_of o ≡ slice_get k.nodes (length k.nodes) → o ≡ None
+    unknown None e = refl
+    unknown (Some x) e = none_some (e ∙ slice_get_past k.nodes (length k.nodes) (omega arith))
+      where
+        none_some : Some (kept_of x) ≡ None → Some x ≡ None
+        none_some h = cc
+    free : live_task (with_child r (length k.nodes) parent) (length k.nodes) ≡ None
+    free =
+        let new = new_node (length k.nodes) (Some parent) (is_ended r parent) in
+        let same : eqb (length k.nodes) (length k.nodes) ≡ true = grind (arith, nat_tests) in
+        let at : node_at (with_child r (length k.nodes) parent) (length k.nodes) ≡ Some new = find-append (λ x. eqb x.number (length k.nodes)) r.nodes (new ∷ []) ∙ ap (λ o. option_or o (cond (eqb (length k.nodes) (length k.nodes)) (Some new) None)) (unknown (node_at r (length k.nodes)) (s.nodes (length k.nodes))) ∙ ap (λ b. option_or None (cond b (Some new) None)) same in
+        rw at refl
     order : links (with_child r (length k.nodes) parent) ≡ placed 0 (parents_of (k.nodes ++ record { parent = Some parent; live = true; task = None } ∷ []))
     order =
         let e : 0 + length (parents_of k.nodes) ≡ length k.nodes = omega (arith, length-map k.nodes (λ x. x.parent)) in

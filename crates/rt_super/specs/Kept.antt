@@ -42,11 +42,12 @@ pub record StandsFor (k : Kept) (r : TreeRecord) : Type 0 where
 abbrev pub HasNoTask : Kept → ℕ → Type 0
 HasNoTask k n = (r : TreeRecord) × StandsFor k r × (live_task r n ≡ None)
 
--- A child was made: its number was never given before, it is born ended where its parent is ended, and the kept nodes stand
--- for the record with it.
+-- A child was made: its number was never given before, it is born ended where its parent is ended, it has no task, and the
+-- kept nodes stand for the record with it.
 pub record IsChild (r : TreeRecord) (k : Kept) (parent number : ℕ) (ended : Bool) : Type 0 where
   pub fresh : is_known r number ≡ false
   pub flag : ended ≡ is_ended r parent
+  pub free : live_task (with_child r number parent) number ≡ None
   pub stands : StandsFor k (with_child r number parent)
 
 -- whether the node at a place is live

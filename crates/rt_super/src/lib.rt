@@ -11,3 +11,6 @@ mod tree;
 pub use alarms::Alarms;
 pub use slots::Slots;
 pub use tree::Tree;
+
+#[cfg(test)]
+mod tests;

@@ -1,9 +1,10 @@
 // Which contexts end with which.
-ghost use Rattle.std.specs.Prelude.{◌≡◌, ◌⊎◌, ◌<◌, ◌↔◌, ℕ, length, slice_get, Ok, Err, None, IfOk, IfErr, IsOk, OnErr, OnOk, IsTrue, true, false, map, vec_capacity};
+ghost use Rattle.std.specs.Prelude.{◌≡◌, ◌⊎◌, ◌<◌, ◌≤◌, ◌↔◌, ℕ, length, slice_get, Ok, Err, None, IfOk, IfErr, IsOk, OnErr, OnOk, IsTrue, true, false, map, vec_capacity};
 ghost use Rattle.rt_super.specs.Ancestry.{TreeRecord, first_record, IsLive, IsEnded, is_live, is_ended, is_known, live_task, with_child, with_task, with_release, with_end, with_flag_taken};
 ghost use Rattle.rt_super.specs.Kept.{StandsFor, HasNoTask, IsChild, live_at, with_node, is_marked};
 ghost use Rattle.rt_super.specs.Inside.{kept_node, children_lists, adopted};
 ghost use Rattle.std.specs.Option.{ForSome};
+ghost use Rattle.std.specs.VecDeque.{deque_capacity};
 
 use crate::ending::end_subtree;
 use crate::node::Node;
@@ -178,7 +179,7 @@ impl Tree {
         self.nodes.reserve(1)?;
         self.ended.reserve(1)?;
         self.pending.reserve(places)?;
-        self.flags.reserve(places - self.flags.len())?;
+        reserve_flags(&mut self.flags, places)?;
         let children = Vec::new(*self.nodes.allocator());
         adopt(&mut self.nodes, parent, number)?;
         self.nodes.push_reserved(Node {
@@ -202,6 +203,20 @@ fn adopt(nodes: &mut Vec<Node>, parent: Option<u64>, child: usize) -> Result<(),
 {
     if let Some(parent) = parent {
         nodes[parent as usize].children.push(child)?;
+    }
+    Ok(())
+}
+
+/// Takes room for so many flags.
+fn reserve_flags(flags: &mut VecDeque<u64>, places: usize) -> Result<(), NoMemory>
+    requires few { length flags.old.items ≤ places }
+    ensures items { flags.new.items ≡ flags.old.items }
+    ensures room { OnOk result (places ≤ deque_capacity flags.new) }
+    ensures kept { deque_capacity flags.old ≤ deque_capacity flags.new }
+{
+    if places > flags.capacity() {
+        // Twice the room, so that a growing tree seldom comes back for more.
+        flags.reserve(places.saturating_mul(2) - flags.len())?;
     }
     Ok(())
 }
