@@ -5,6 +5,8 @@ ghost use Rattle.rt_super.specs.Kept.{StandsFor};
 
 use crate::{Alarms, Slots, Tree};
 use rt_base::{Error, Poll};
+use std::alloc::Global;
+use std::process::Abort;
 use std::test::Fail;
 
 /// A child with a task on it.
@@ -20,19 +22,20 @@ fn grow(tree: &mut Tree, parent: u64, task: u64) -> Result<u64, Error>
 #[test]
 fn surface(rt: HostRuntime) -> Result<(), Fail> {
     let mut tree = Tree::new(rt.alloc())?;
-    let child = grow(&mut tree, tree.root(), 7)?;
+    let root = tree.root();
+    let child = grow(&mut tree, root, 7)?;
     assert_eq!(rt; tree.task_of(child), Some(7));
     tree.end(child);
     assert_eq!(rt; tree.next_flag(), Some(7));
     assert!(rt; tree.is_ended(child));
     tree.release(child);
     assert!(rt; !tree.is_ended(child));
-    surface_of_alarms(&rt)?;
-    surface_of_slots(&rt)
+    surface_of_alarms(&rt, rt.alloc())?;
+    surface_of_slots(&rt, rt.alloc())
 }
 
-fn surface_of_alarms(rt: &HostRuntime) -> Result<(), Fail> {
-    let mut alarms = Alarms::new(rt.alloc());
+fn surface_of_alarms(rt: &impl Abort, alloc: Global) -> Result<(), Fail> {
+    let mut alarms = Alarms::new(alloc);
     assert!(rt; alarms.is_empty());
     let alarm = alarms.set(30, 1)?;
     alarms.rewake(alarm, 2);
@@ -43,8 +46,8 @@ fn surface_of_alarms(rt: &HostRuntime) -> Result<(), Fail> {
     Ok(())
 }
 
-fn surface_of_slots(rt: &HostRuntime) -> Result<(), Fail> {
-    let mut slots: Slots<u8> = Slots::new(rt.alloc());
+fn surface_of_slots(rt: &impl Abort, alloc: Global) -> Result<(), Fail> {
+    let mut slots: Slots<u8> = Slots::new(alloc);
     let slot = slots.add()?;
     assert!(rt; slots.holds(slot));
     assert_eq!(rt; slots.poll(slot, 3), Poll::Pending);

@@ -32,7 +32,7 @@ invariant_of-self-2 c =
       sound = rw (c.push_reserved.ensures.items, c.push_reserved-2.ensures.items, c.reserve-2.ensures.items) (sound_added c.adopt.new.nodes.items c.self.inside.nodes.items _ c.self.inside.ended.items c.args.ended c.len-number.result c.self.invariant.sound kept lists c.new-children.ensures.items (omega (arith, c.len-number.ensures)) (older_of c.args.parent (length c.self.inside.nodes.items) (λ x e. omega (arith, older x e, length-map c.self.inside.nodes.items kept_node))) (follows_of c.self.inside.ended.items c.args.parent c.args.ended closed));
       flags = rw (c.push_reserved-2.ensures.items, c.reserve-2.ensures.items, c.reserve_flags.ensures.items) (omega (arith, c.self.invariant.flags, marks_set-push c.self.inside.ended.items c.args.ended));
       pending = c.reserve-3.ensures.items ∙ c.self.invariant.pending;
-      visits = rw (c.push_reserved.ensures.items, length_push) (omega (arith, count, c.in_ok-reserve-3.ensures.ok, c.self.invariant.pending));
+      visits = rw (c.push_reserved.ensures.items, length_push) (omega (arith, count, c.in_ok-reserve-3.ensures.ok));
       room = rw (c.push_reserved.ensures.items, length_push) (omega (arith, count, c.in_ok-reserve_flags.ensures.room));
     }
 
