@@ -158,12 +158,14 @@ record_child k r parent s lengths = record {
       where
         none_some : Some (kept_of x) ≡ None → Some x ≡ None
         none_some h = cc
+
     free : live_task (with_child r (length k.nodes) parent) (length k.nodes) ≡ None
     free =
         let new = new_node (length k.nodes) (Some parent) (is_ended r parent) in
         let same : eqb (length k.nodes) (length k.nodes) ≡ true = grind (arith, nat_tests) in
         let at : node_at (with_child r (length k.nodes) parent) (length k.nodes) ≡ Some new = find-append (λ x. eqb x.number (length k.nodes)) r.nodes (new ∷ []) ∙ ap (λ o. option_or o (cond (eqb (length k.nodes) (length k.nodes)) (Some new) None)) (unknown (node_at r (length k.nodes)) (s.nodes (length k.nodes))) ∙ ap (λ b. option_or None (cond b (Some new) None)) same in
         rw at refl
+
     order : links (with_child r (length k.nodes) parent) ≡ placed 0 (parents_of (k.nodes ++ record { parent = Some parent; live = true; task = None } ∷ []))
     order =
         let e : 0 + length (parents_of k.nodes) ≡ length k.nodes = omega (arith, length-map k.nodes (λ x. x.parent)) in
