@@ -1,0 +1,224 @@
+-- Alarms in the order of (due, number).
+use Rattle.std.proofs.Common.{◌≡◌, ℕ, zero, suc, ◌<◌, Bool, true, false, cond, ◌||◌, ◌&&◌, eqb, ltb, List, [], ◌∷◌, map, refl, sym, ap, ◌∙◌, arith, Option, Some, None}
+use Rattle.std.specs.List.{AllByRecursion, All}
+use Rattle.std.specs.List.Sorted.{IsStrictlySortedBy}
+use Rattle.std.specs.Option.{option_map}
+use Rattle.std.specs.Ordering.{nat_cmp, ordering_then, match_ordering, is_eq}
+use Rattle.std.specs.Cmp.{nat_cmp_is}
+use Rattle.std.specs.declared.cmp.Ordering.{Ordering}
+use Rattle.std.specs.declared.cmp.Ordering.TheVariants.{Less, Equal, Greater}
+use Rattle.std.specs.BTreeMap.{insert_entry, is_at}
+use Rattle.std.specs.Map.{set_value, keys_of, lookup}
+use Rattle.std.proofs.lemmas.Bool.Decides.{nat_tests}
+use Rattle.rt_super.specs.Alarms.{Alarm, is_before, AreInOrder, with_alarm, alarm_at, waking}
+use Rattle.rt_super.specs.AlarmsInside.{alarm_of, alarms_of, AreOnce}
+
+-- how the map compares its keys
+abbrev pub key_cmp : ℕ × ℕ → ℕ × ℕ → Ordering
+key_cmp x y = ordering_then (nat_cmp x.0 y.0) (nat_cmp x.1 y.1)
+
+-- order
+
+all_of : {X : Type 0} (P : X → Type 0) (xs : List X) → AllByRecursion P xs → All P xs
+all_of P [] h k d l = absurd (omega arith)
+all_of P (x ∷ xs) h zero d l = h.0
+all_of P (x ∷ xs) h (suc k) d l = all_of P xs h.1 k d (omega arith)
+
+less_before : (x y z w : Bool) → ordering_then (cond x Less (cond y Equal Greater)) (cond z Less (cond w Equal Greater)) ≡ Less → (x || (y && z)) ≡ true
+less_before true y z w e = refl
+less_before false true true w e = refl
+less_before false true false true e = cc
+less_before false true false false e = cc
+less_before false false z w e = cc
+
+pub in_order : (es : List ((ℕ × ℕ) × ℕ)) → IsStrictlySortedBy key_cmp (keys_of es) → AreInOrder (alarms_of es)
+unfolding IsStrictlySortedBy
+in_order [] h = tt
+in_order (e ∷ es) h = (all_of (λ b. is_before (alarm_of e) b ≡ true) (alarms_of es) (each es h.0), in_order es h.1)
+  where
+    each : (fs : List ((ℕ × ℕ) × ℕ)) → AllByRecursion (λ y. key_cmp e.0 y ≡ Less) (keys_of fs) → AllByRecursion (λ b. is_before (alarm_of e) b ≡ true) (alarms_of fs)
+    each [] k = tt
+    each (f ∷ fs) k = (less_before (ltb e.0.0 f.0.0) (eqb e.0.0 f.0.0) (ltb e.0.1 f.0.1) (eqb e.0.1 f.0.1) k.0, each fs k.1)
+
+-- a new alarm
+
+before_cmp : (x y z : Bool) → ordering_then (cond x Less (cond y Equal Greater)) (cond z Less (cond false Equal Greater)) ≡ cond (x || (y && z)) Less Greater
+before_cmp true y z = refl
+before_cmp false true true = refl
+before_cmp false true false = refl
+before_cmp false false z = refl
+
+pub set_in_place : (es : List ((ℕ × ℕ) × ℕ)) (due number task : ℕ) → alarm_at (alarms_of es) number ≡ None → alarms_of (insert_entry key_cmp es (due, number) task) ≡ with_alarm (record { due = due; number = number; task = task }) (alarms_of es)
+set_in_place [] due number task fresh = refl
+set_in_place (e ∷ es) due number task fresh = by (eqb e.0.1 number) refl (set_in_place es due number task)
+  where
+    flip : (a b : ℕ) → eqb a b ≡ false → eqb b a ≡ false
+    flip a b h = grind (arith, nat_tests)
+
+    by : (b : Bool) → eqb e.0.1 number ≡ b → (alarm_at (alarms_of es) number ≡ None → alarms_of (insert_entry key_cmp es (due, number) task) ≡ with_alarm (record { due = due; number = number; task = task }) (alarms_of es)) → alarms_of (match_ordering (key_cmp (due, number) e.0) (((due, number), task) ∷ e ∷ es) ((e.0, task) ∷ es) (e ∷ insert_entry key_cmp es (due, number) task)) ≡ cond (ltb due e.0.0 || (eqb due e.0.0 && ltb number e.0.1)) (record { due = due; number = number; task = task } ∷ alarm_of e ∷ alarms_of es) (alarm_of e ∷ with_alarm (record { due = due; number = number; task = task }) (alarms_of es))
+    by true h ih = let some : cond (eqb e.0.1 number) (Some (alarm_of e)) (alarm_at (alarms_of es) number) ≡ Some (alarm_of e) = rw h refl in absurd (none_some (sym some ∙ fresh))
+      where
+        none_some : Some (alarm_of e) ≡ None → ⊥
+        none_some k = cc
+    by false h ih =
+        let later : alarm_at (alarms_of es) number ≡ None = rw (h) at fresh in
+        let rest = ih later in
+        let apart : eqb number e.0.1 ≡ false = flip e.0.1 number h in
+        let same : key_cmp (due, number) e.0 ≡ cond (ltb due e.0.0 || (eqb due e.0.0 && ltb number e.0.1)) Less Greater = rw apart (before_cmp (ltb due e.0.0) (eqb due e.0.0) (ltb number e.0.1)) in
+        rw same (place (ltb due e.0.0 || (eqb due e.0.0 && ltb number e.0.1)) rest)
+      where
+        place : (b : Bool) → alarms_of (insert_entry key_cmp es (due, number) task) ≡ with_alarm (record { due = due; number = number; task = task }) (alarms_of es) → alarms_of (match_ordering (cond b Less Greater) (((due, number), task) ∷ e ∷ es) ((e.0, task) ∷ es) (e ∷ insert_entry key_cmp es (due, number) task)) ≡ cond b (record { due = due; number = number; task = task } ∷ alarm_of e ∷ alarms_of es) (alarm_of e ∷ with_alarm (record { due = due; number = number; task = task }) (alarms_of es))
+        place true r = refl
+        place false r = ap (λ xs. alarm_of e ∷ xs) r
+
+pub alarm_at-with_alarm : (a : Alarm) (xs : List Alarm) (q : ℕ) → alarm_at xs a.number ≡ None → alarm_at (with_alarm a xs) q ≡ cond (eqb a.number q) (Some a) (alarm_at xs q)
+alarm_at-with_alarm a [] q fresh = refl
+alarm_at-with_alarm a (b ∷ xs) q fresh = by (eqb b.number a.number) refl (alarm_at-with_alarm a xs q)
+  where
+    by : (t : Bool) → eqb b.number a.number ≡ t → (alarm_at xs a.number ≡ None → alarm_at (with_alarm a xs) q ≡ cond (eqb a.number q) (Some a) (alarm_at xs q)) → alarm_at (cond (is_before a b) (a ∷ b ∷ xs) (b ∷ with_alarm a xs)) q ≡ cond (eqb a.number q) (Some a) (cond (eqb b.number q) (Some b) (alarm_at xs q))
+    by true h ih = let some : cond (eqb b.number a.number) (Some b) (alarm_at xs a.number) ≡ Some b = rw h refl in absurd (none_some (sym some ∙ fresh))
+      where
+        none_some : Some b ≡ None → ⊥
+        none_some k = cc
+    by false h ih = place (is_before a b) (ih (rw (h) at fresh))
+      where
+        swap : (x y : Bool) → eqb a.number q ≡ x → eqb b.number q ≡ y → alarm_at (with_alarm a xs) q ≡ cond x (Some a) (alarm_at xs q) → cond y (Some b) (alarm_at (with_alarm a xs) q) ≡ cond x (Some a) (cond y (Some b) (alarm_at xs q))
+        swap true true e f r = absurd (both (grind (arith, nat_tests)))
+          where
+            both : eqb b.number a.number ≡ true → ⊥
+            both k = cc
+        swap true false e f r = r
+        swap false true e f r = refl
+        swap false false e f r = r
+
+        place : (t : Bool) → alarm_at (with_alarm a xs) q ≡ cond (eqb a.number q) (Some a) (alarm_at xs q) → alarm_at (cond t (a ∷ b ∷ xs) (b ∷ with_alarm a xs)) q ≡ cond (eqb a.number q) (Some a) (cond (eqb b.number q) (Some b) (alarm_at xs q))
+        place true r = refl
+        place false r = swap (eqb a.number q) (eqb b.number q) refl refl r
+
+pub AreOnce-with_alarm : (a : Alarm) (xs : List Alarm) → alarm_at xs a.number ≡ None → AreOnce xs → AreOnce (with_alarm a xs)
+AreOnce-with_alarm a [] fresh once = (refl, tt)
+AreOnce-with_alarm a (b ∷ xs) fresh once = by (eqb b.number a.number) refl (AreOnce-with_alarm a xs)
+  where
+    by : (t : Bool) → eqb b.number a.number ≡ t → (alarm_at xs a.number ≡ None → AreOnce xs → AreOnce (with_alarm a xs)) → AreOnce (cond (is_before a b) (a ∷ b ∷ xs) (b ∷ with_alarm a xs))
+    by true h ih = let some : cond (eqb b.number a.number) (Some b) (alarm_at xs a.number) ≡ Some b = rw h refl in absurd (none_some (sym some ∙ fresh))
+      where
+        none_some : Some b ≡ None → ⊥
+        none_some k = cc
+    by false h ih = place (is_before a b)
+      where
+        later : alarm_at xs a.number ≡ None
+        later = rw (h) at fresh
+
+        flip : eqb a.number b.number ≡ false
+        flip = grind (arith, nat_tests)
+
+        place : (t : Bool) → AreOnce (cond t (a ∷ b ∷ xs) (b ∷ with_alarm a xs))
+        place true = (fresh, once)
+        place false = (alarm_at-with_alarm a xs b.number later ∙ ap (λ k. cond k (Some a) (alarm_at xs b.number)) flip ∙ once.0, ih later once.1)
+
+-- an alarm that wakes another task
+
+waking_number : (n t : ℕ) (a : Alarm) → (waking n t a).number ≡ a.number
+waking_number n t a = elim (eqb a.number n) as (λ b. (cond b (record { due = a.due; number = a.number; task = t }) a).number ≡ a.number) [ true ↦ refl | false ↦ refl ]
+
+waking_due : (n t : ℕ) (a : Alarm) → (waking n t a).due ≡ a.due
+waking_due n t a = elim (eqb a.number n) as (λ b. (cond b (record { due = a.due; number = a.number; task = t }) a).due ≡ a.due) [ true ↦ refl | false ↦ refl ]
+
+pub alarm_at-waking : (n t q : ℕ) (xs : List Alarm) → alarm_at (map (waking n t) xs) q ≡ option_map (waking n t) (alarm_at xs q)
+alarm_at-waking n t q [] = refl
+alarm_at-waking n t q (a ∷ xs) =
+    ap (λ k. cond (eqb k q) (Some (waking n t a)) (alarm_at (map (waking n t) xs) q)) (waking_number n t a)
+    ∙ ap (λ o. cond (eqb a.number q) (Some (waking n t a)) o) (alarm_at-waking n t q xs)
+    ∙ both (eqb a.number q)
+  where
+    both : (b : Bool) → cond b (Some (waking n t a)) (option_map (waking n t) (alarm_at xs q)) ≡ option_map (waking n t) (cond b (Some a) (alarm_at xs q))
+    both true = refl
+    both false = refl
+
+pub dues-waking : (n t : ℕ) (o : Option Alarm) → option_map (λ a. a.due) (option_map (waking n t) o) ≡ option_map (λ a. a.due) o
+dues-waking n t None = refl
+dues-waking n t (Some a) = ap (λ d. Some d) (waking_due n t a)
+
+pub AreOnce-waking : (n t : ℕ) (xs : List Alarm) → AreOnce xs → AreOnce (map (waking n t) xs)
+AreOnce-waking n t [] once = tt
+AreOnce-waking n t (a ∷ xs) once = (ap (λ k. alarm_at (map (waking n t) xs) k) (waking_number n t a) ∙ alarm_at-waking n t a.number xs ∙ ap (λ o. option_map (waking n t) o) once.0, AreOnce-waking n t xs once.1)
+
+pub waking_none : (n t : ℕ) (xs : List Alarm) → alarm_at xs n ≡ None → map (waking n t) xs ≡ xs
+waking_none n t [] none = refl
+waking_none n t (a ∷ xs) none = by (eqb a.number n) refl (waking_none n t xs)
+  where
+    by : (b : Bool) → eqb a.number n ≡ b → (alarm_at xs n ≡ None → map (waking n t) xs ≡ xs) → waking n t a ∷ map (waking n t) xs ≡ a ∷ xs
+    by true h ih = let some : cond (eqb a.number n) (Some a) (alarm_at xs n) ≡ Some a = rw h refl in absurd (none_some (sym some ∙ none))
+      where
+        none_some : Some a ≡ None → ⊥
+        none_some k = cc
+    by false h ih = let same : waking n t a ≡ a = rw h refl in rw (same, ih (rw (h) at none)) refl
+
+other_key : (o : Ordering) (z : Bool) → is_eq (ordering_then o (cond z Less (cond false Equal Greater))) ≡ false
+other_key Less z = refl
+other_key Equal true = refl
+other_key Equal false = refl
+other_key Greater z = refl
+
+same_key : (d n : ℕ) → is_eq (ordering_then (nat_cmp d d) (nat_cmp n n)) ≡ true
+same_key d n = rw (← nat_cmp_is d d Equal refl, ← nat_cmp_is n n Equal refl) refl
+
+pub set_value_waking : (es : List ((ℕ × ℕ) × ℕ)) (due n t : ℕ) → AreOnce (alarms_of es) → option_map (λ a. a.due) (alarm_at (alarms_of es) n) ≡ Some due → alarms_of (set_value (is_at (key_cmp (due, n))) es t) ≡ map (waking n t) (alarms_of es)
+set_value_waking [] due n t once at = refl
+set_value_waking (e ∷ es) due n t once at = by (eqb e.0.1 n) refl (set_value_waking es due n t once.1)
+  where
+    by : (b : Bool) → eqb e.0.1 n ≡ b → (option_map (λ a. a.due) (alarm_at (alarms_of es) n) ≡ Some due → alarms_of (set_value (is_at (key_cmp (due, n))) es t) ≡ map (waking n t) (alarms_of es)) → alarms_of (cond (is_at (key_cmp (due, n)) e.0) ((e.0, t) ∷ es) (e ∷ set_value (is_at (key_cmp (due, n))) es t)) ≡ waking n t (alarm_of e) ∷ map (waking n t) (alarms_of es)
+    by true h ih =
+        let same : n ≡ e.0.1 = grind (arith, nat_tests) in
+        let found : Some e.0.0 ≡ Some due = rw (h) at at in
+        let moment : due ≡ e.0.0 = cc in
+        let test : is_eq (ordering_then (nat_cmp due e.0.0) (nat_cmp n e.0.1)) ≡ true = rw (moment, same) (same_key e.0.0 e.0.1) in
+        let woken : waking n t (alarm_of e) ≡ alarm_of (e.0, t) = rw h refl in
+        let rest : map (waking n t) (alarms_of es) ≡ alarms_of es = waking_none n t (alarms_of es) (rw same once.0) in
+        rw (test, woken, rest) refl
+    by false h ih =
+        let apart : eqb n e.0.1 ≡ false = grind (arith, nat_tests) in
+        let test : is_eq (ordering_then (nat_cmp due e.0.0) (nat_cmp n e.0.1)) ≡ false = rw apart (other_key (nat_cmp due e.0.0) (ltb n e.0.1)) in
+        let same : waking n t (alarm_of e) ≡ alarm_of e = rw h refl in
+        rw (test, same, ih (rw (h) at at)) refl
+
+pub set_value_none : (test : ℕ × ℕ → Bool) (es : List ((ℕ × ℕ) × ℕ)) (t : ℕ) → lookup test es ≡ None → set_value test es t ≡ es
+set_value_none test [] t none = refl
+set_value_none test (e ∷ es) t none = by (test e.0) refl (set_value_none test es t)
+  where
+    by : (b : Bool) → test e.0 ≡ b → (lookup test es ≡ None → set_value test es t ≡ es) → cond (test e.0) ((e.0, t) ∷ es) (e ∷ set_value test es t) ≡ e ∷ es
+    by true h ih = let some : cond (test e.0) (Some e.1) (lookup test es) ≡ Some e.1 = rw h refl in absurd (none_some (sym some ∙ none))
+      where
+        none_some : Some e.1 ≡ None → ⊥
+        none_some k = cc
+    by false h ih = rw (h, ih (rw (h) at none)) refl
+
+pub none_from_due : (o : Option Alarm) → option_map (λ a. a.due) o ≡ None → o ≡ None
+none_from_due None e = refl
+none_from_due (Some a) e = cc
+
+-- the parts of what is kept, after a call
+
+pub tail_none : (a : Alarm) (rest : List Alarm) (n : ℕ) → alarm_at (a ∷ rest) n ≡ None → alarm_at rest n ≡ None
+tail_none a rest n none = by (eqb a.number n) none
+  where
+    by : (b : Bool) → cond b (Some a) (alarm_at rest n) ≡ None → alarm_at rest n ≡ None
+    by true h = cc
+    by false h = h
+
+pub dues_tail : (a : Alarm) (rest : List Alarm) (q : ℕ) → alarm_at rest a.number ≡ None → cond (eqb a.number q) None (option_map (λ x. x.due) (alarm_at (a ∷ rest) q)) ≡ option_map (λ x. x.due) (alarm_at rest q)
+dues_tail a rest q gone = by (eqb a.number q) refl
+  where
+    by : (b : Bool) → eqb a.number q ≡ b → cond b None (option_map (λ x. x.due) (cond b (Some a) (alarm_at rest q))) ≡ option_map (λ x. x.due) (alarm_at rest q)
+    by true h = let same : a.number ≡ q = grind (arith, nat_tests) in rw (← same, gone) refl
+    by false h = refl
+
+pub dues_set : (a : Alarm) (xs : List Alarm) (q : ℕ) → alarm_at xs a.number ≡ None → cond (eqb a.number q) (Some a.due) (option_map (λ x. x.due) (alarm_at xs q)) ≡ option_map (λ x. x.due) (alarm_at (with_alarm a xs) q)
+dues_set a xs q fresh = both (eqb a.number q) ∙ ap (λ o. option_map (λ x. x.due) o) (sym (alarm_at-with_alarm a xs q fresh))
+  where
+    both : (b : Bool) → cond b (Some a.due) (option_map (λ x. x.due) (alarm_at xs q)) ≡ option_map (λ x. x.due) (cond b (Some a) (alarm_at xs q))
+    both true = refl
+    both false = refl
+
+pub given_set : (a : Alarm) (xs : List Alarm) (n : ℕ) → alarm_at xs a.number ≡ None → alarm_at xs n ≡ None → a.number < n → alarm_at (with_alarm a xs) n ≡ None
+given_set a xs n fresh none later = let apart : eqb a.number n ≡ false = grind (arith, nat_tests) in alarm_at-with_alarm a xs n fresh ∙ ap (λ b. cond b (Some a) (alarm_at xs n)) apart ∙ none

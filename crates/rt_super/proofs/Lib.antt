@@ -1,0 +1,5 @@
+pub mod Below
+pub mod Walk
+pub mod Records
+pub mod Shapes
+pub mod AlarmLemmas

@@ -1,0 +1,48 @@
+-- Slots: places for one-time results, the n-th at the place n of a list.
+use Rattle.std.specs.Prelude.{ℕ, Bool, true, false, List, Option, Some, None, slice_get, slice_set}
+use Rattle.rt_base.specs.declared.poll.Poll.{Poll}
+use Rattle.rt_base.specs.declared.poll.Poll.TheVariants.{Ready, Pending}
+use Rattle.rt_super.specs.declared.slot_state.SlotState.{SlotState}
+use Rattle.rt_super.specs.declared.slot_state.SlotState.TheVariants.{Open, Full, Closed, GivenUp}
+
+-- the task that waits at an open slot
+abbrev pub waiting_of : {V : Type 0} → Option (SlotState V) → Option ℕ
+waiting_of (Some (Open waiting)) = waiting
+waiting_of _ = None
+
+-- whether the slot was added and not given up
+abbrev pub is_held : {V : Type 0} → Option (SlotState V) → Bool
+is_held None = false
+is_held (Some GivenUp) = false
+is_held (Some _) = true
+
+-- the slots with this one changed; a slot that isn't there stays away
+abbrev pub changed_at : {V : Type 0} → List (SlotState V) → ℕ → (SlotState V → SlotState V) → List (SlotState V)
+changed_at slots slot change = elim (slice_get slots slot) [ None ↦ slots | Some state ↦ slice_set slots slot (change state) ]
+
+-- a value comes: only an open slot takes it
+abbrev pub with_value : {V : Type 0} → V → SlotState V → SlotState V
+with_value value (Open waiting) = Full value
+with_value value state = state
+
+-- nothing comes any more: only an open slot changes
+abbrev pub without_value : {V : Type 0} → SlotState V → SlotState V
+without_value (Open waiting) = Closed
+without_value state = state
+
+-- what a poll answers: a value, that none comes any more, or that neither is known yet
+abbrev pub poll_answer : {V : Type 0} → Option (SlotState V) → Poll (Option V)
+poll_answer (Some (Full value)) = Ready (Some value)
+poll_answer (Some (Open waiting)) = Pending
+poll_answer _ = Ready None
+
+-- after a poll: an open slot knows the task that waits, and a value is gone
+abbrev pub after_poll : {V : Type 0} → ℕ → SlotState V → SlotState V
+after_poll task (Open waiting) = Open (Some task)
+after_poll task (Full value) = Closed
+after_poll task state = state
+
+-- the value that nobody took yet
+abbrev pub value_in : {V : Type 0} → SlotState V → Option V
+value_in (Full value) = Some value
+value_in _ = None

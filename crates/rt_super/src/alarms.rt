@@ -1,0 +1,124 @@
+// When sleepers wake.
+ghost use Rattle.std.specs.Prelude.{◌≡◌, ◌<◌, length, slice_get, option_map, IfOk, OnOk, OnErr, ◌==◌};
+ghost use Rattle.rt_super.specs.Alarms.{no_alarms, alarm_set, alarm_rewoken, alarm_at, due_first, alarm_popped, AreInOrder};
+
+use rt_base::{Nanos, NoMemory};
+use std::alloc::Global;
+use std::collections::{BTreeMap, HashMap};
+use std::marker::Model;
+
+/// The alarms that are set. Each has a due time in nanoseconds, a number, and the task that it
+/// wakes. Alarms are numbered from 0 in the order of `set`.
+///
+/// Only `set` takes memory.
+#[derive(Drop)]
+pub struct Alarms {
+    /// The task that each alarm wakes, by due time and number.
+    tasks: BTreeMap<(Nanos, u64), u64>,
+    /// The due time of each alarm, by number.
+    dues: HashMap<u64, Nanos>,
+    /// How many alarms were ever set.
+    count: u64,
+}
+
+impl Model for Alarms {
+    ghost use Rattle.rt_super.specs.Alarms.{AlarmList};
+
+    ghost Value = { AlarmList };
+
+    ghost use Rattle.rt_super.specs.AlarmsInside.{alarms_of, IsWhole};
+
+    ghost view = { λ a. record { alarms = alarms_of a.tasks.entries; count = a.count } };
+
+    ghost invariant = { IsWhole };
+}
+
+impl Alarms {
+    /// No alarm.
+    pub fn new(alloc: Global) -> Self
+        ensures { result ≡ no_alarms }
+    {
+        Alarms {
+            tasks: BTreeMap::new(alloc),
+            dues: HashMap::new(alloc),
+            count: 0,
+        }
+    }
+
+    /// Sets an alarm that is due at a moment and wakes a task, and answers its number. `NoMemory`
+    /// also where the numbers have run out.
+    pub fn set(&mut self, due: Nanos, task: u64) -> Result<u64, NoMemory>
+        ensures number { IfOk result (λ alarm. alarm ≡ self.old.count) }
+        ensures added { OnOk result (self.new ≡ alarm_set self.old due task) }
+        ensures refused { OnErr result (self.new ≡ self.old) }
+    {
+        if self.count == u64::MAX {
+            return Err(NoMemory);
+        }
+        let number = self.count;
+        self.dues.insert(number, due)?;
+        match self.tasks.insert((due, number), task) {
+            Ok(_) => {
+                self.count += 1;
+                Ok(number)
+            }
+            Err(_) => {
+                self.dues.remove(&number);
+                Err(NoMemory)
+            }
+        }
+    }
+
+    /// Lets a live alarm wake another task. Nothing where no live alarm has the number.
+    pub fn rewake(&mut self, alarm: u64, task: u64)
+        ensures { self.new ≡ alarm_rewoken self.old alarm task }
+    {
+        let Some(due) = self.due_of(alarm) else {
+            return;
+        };
+        let Some(waked) = self.tasks.get_mut(&(due, alarm)) else {
+            return;
+        };
+        *waked = task;
+    }
+
+    /// When the least alarm is due.
+    pub fn earliest(&self) -> Option<Nanos>
+        ensures first { result ≡ option_map (λ a. a.due) (slice_get self.now.alarms 0) }
+        ensures ordered { AreInOrder self.now.alarms }
+    {
+        match self.tasks.first_key_value() {
+            Some((key, _)) => Some(key.0),
+            None => None,
+        }
+    }
+
+    /// Takes the least alarm by due time and number, if it is due, and answers its number and its
+    /// task.
+    pub fn pop_due(&mut self, now: Nanos) -> Option<(u64, u64)>
+        ensures first { result ≡ option_map (λ a. (a.number, a.task)) (due_first self.old.alarms now) }
+        ensures popped { self.new ≡ alarm_popped self.old now }
+        ensures ordered { AreInOrder self.old.alarms }
+    {
+        if self.earliest()? > now {
+            return None;
+        }
+        let ((_, number), task) = self.tasks.pop_first()?;
+        self.dues.remove(&number);
+        Some((number, task))
+    }
+
+    /// Whether no alarm is set.
+    pub fn is_empty(&self) -> bool
+        ensures { result ≡ (length self.now.alarms == 0) }
+    {
+        self.tasks.is_empty()
+    }
+
+    /// When a live alarm is due.
+    pub fn due_of(&self, alarm: u64) -> Option<Nanos>
+        ensures { result ≡ option_map (λ a. a.due) (alarm_at self.now.alarms alarm) }
+    {
+        self.dues.get(&alarm).copied()
+    }
+}

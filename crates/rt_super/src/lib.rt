@@ -1,0 +1,16 @@
+//! Which contexts have ended with which, when sleepers wake, and one-time results.
+#![tactic(auto)]
+
+mod alarms;
+mod ending;
+mod node;
+mod slot_state;
+mod slots;
+mod tree;
+
+pub use alarms::Alarms;
+pub use slots::Slots;
+pub use tree::Tree;
+
+#[cfg(test)]
+mod tests;

@@ -1,0 +1,106 @@
+// One-time results, each with a number.
+ghost use Rattle.std.specs.Prelude.{◌≡◌, ◌++◌, ◌∷◌, [], length, slice_get, IfOk, OnErr, IsTrue};
+ghost use Rattle.rt_super.specs.Slots.{waiting_of, is_held, changed_at, with_value, without_value, poll_answer, after_poll};
+
+use crate::slot_state::SlotState;
+use rt_base::{NoMemory, Poll};
+use std::alloc::Global;
+use std::marker::Model;
+
+/// Places for results that come once. A slot has two sides: one gives the value or closes, and
+/// one polls until it gives up. Slots are numbered from 0 in the order of `add`.
+///
+/// Only `add` takes memory.
+#[derive(Drop)]
+pub struct Slots<V> {
+    states: Vec<SlotState<V>>,
+}
+
+impl<V> Model for Slots<V> {
+    ghost use Rattle.std.specs.Prelude.{List};
+    ghost use Rattle.rt_super.specs.declared.slot_state.SlotState.{SlotState};
+
+    ghost Value = { List (SlotState V) };
+
+    ghost view = { λ s. s.states.items };
+}
+
+impl<V> Slots<V> {
+    /// No slot.
+    pub fn new(alloc: Global) -> Self
+        ensures { result ≡ [] }
+    {
+        Slots {
+            states: Vec::new(alloc),
+        }
+    }
+
+    /// Adds an open slot and answers its number.
+    pub fn add(&mut self) -> Result<u64, NoMemory>
+        ensures number { IfOk result (λ slot. slot ≡ length self.old) }
+        ensures added { IfOk result (λ slot. self.new ≡ self.old ++ SlotState.Open None ∷ []) }
+        ensures refused { OnErr result (self.new ≡ self.old) }
+    {
+        let slot = self.states.len() as u64;
+        self.states.reserve(1)?;
+        self.states.push_reserved(SlotState::Open(None));
+        Ok(slot)
+    }
+
+    /// Whether the slot was added and not given up.
+    pub fn holds(&self, slot: u64) -> bool
+        ensures { result ≡ is_held (slice_get self.now slot) }
+    {
+        match self.states.get(slot as usize) {
+            None | Some(SlotState::GivenUp) => false,
+            Some(_) => true,
+        }
+    }
+
+    /// Closes an open slot, so that no value comes any more, and answers the task that waits for
+    /// it. Any other slot stays as it is.
+    pub fn close(&mut self, slot: u64) -> Option<u64>
+        ensures waiting { result ≡ waiting_of (slice_get self.old slot) }
+        ensures closed { self.new ≡ changed_at self.old slot without_value }
+    {
+        if slot < self.states.len() as u64 {
+            self.states[slot as usize].close()
+        } else {
+            None
+        }
+    }
+
+    /// Asks for the value in the name of a task, which waits where neither a value nor the closing
+    /// came yet. A value is given once; after it, and after the closing, the answer is None.
+    pub fn poll(&mut self, slot: u64, task: u64) -> Poll<Option<V>>
+        requires held { IsTrue (is_held (slice_get self.old slot)) }
+        ensures answer { result ≡ poll_answer (slice_get self.old slot) }
+        ensures after { self.new ≡ changed_at self.old slot (after_poll task) }
+    {
+        self.states[slot as usize].poll(task)
+    }
+}
+
+impl<V: Drop> Slots<V> {
+    /// Gives an open slot its value, and answers the task that waits for it. Any other slot stays
+    /// as it is, and the value is let go, so `V` is `Drop`.
+    pub fn put(&mut self, slot: u64, value: V) -> Option<u64>
+        ensures waiting { result ≡ waiting_of (slice_get self.old slot) }
+        ensures given { self.new ≡ changed_at self.old slot (with_value value) }
+    {
+        if slot < self.states.len() as u64 {
+            self.states[slot as usize].put(value)
+        } else {
+            None
+        }
+    }
+
+    /// Nobody polls the slot any more. A value in it is let go, so `V` is `Drop`.
+    pub fn give_up(&mut self, slot: u64)
+        ensures { self.new ≡ changed_at self.old slot (λ _. SlotState.GivenUp) }
+    {
+        if slot < self.states.len() as u64 {
+            self.states[slot as usize] = SlotState::GivenUp;
+        }
+    }
+}

@@ -1,0 +1,92 @@
+// Each call once, and how ends reach down a tree.
+ghost use Rattle.std.specs.Prelude.{OnOk, IfOk};
+ghost use Rattle.rt_super.specs.Ancestry.{TreeRecord};
+ghost use Rattle.rt_super.specs.Kept.{StandsFor};
+
+use crate::{Alarms, Slots, Tree};
+use rt_base::{Error, Poll};
+use std::alloc::Global;
+use std::process::Abort;
+use std::test::Fail;
+
+/// A child with a task on it.
+fn grow(tree: &mut Tree, parent: u64, task: u64) -> Result<u64, Error>
+    requires { (r : TreeRecord) × StandsFor tree.old r }
+    ensures { OnOk result ((r : TreeRecord) × StandsFor tree.new r) }
+{
+    let (node, _) = tree.child(parent)?;
+    let _ = tree.register(node, task)?;
+    Ok(node)
+}
+
+#[test]
+fn surface(rt: HostRuntime) -> Result<(), Fail> {
+    let mut tree = Tree::new(rt.alloc())?;
+    let root = tree.root();
+    let child = grow(&mut tree, root, 7)?;
+    assert_eq!(rt; tree.task_of(child), Some(7));
+    tree.end(child);
+    assert_eq!(rt; tree.next_flag(), Some(7));
+    assert!(rt; tree.is_ended(child));
+    tree.release(child);
+    assert!(rt; !tree.is_ended(child));
+    surface_of_alarms(&rt, rt.alloc())?;
+    surface_of_slots(&rt, rt.alloc())
+}
+
+fn surface_of_alarms(rt: &impl Abort, alloc: Global) -> Result<(), Fail> {
+    let mut alarms = Alarms::new(alloc);
+    assert!(rt; alarms.is_empty());
+    let alarm = alarms.set(30, 1)?;
+    alarms.rewake(alarm, 2);
+    assert_eq!(rt; alarms.earliest(), Some(30));
+    assert_eq!(rt; alarms.due_of(alarm), Some(30));
+    assert_eq!(rt; alarms.pop_due(29), None);
+    assert_eq!(rt; alarms.pop_due(30), Some((alarm, 2)));
+    Ok(())
+}
+
+fn surface_of_slots(rt: &impl Abort, alloc: Global) -> Result<(), Fail> {
+    let mut slots: Slots<u8> = Slots::new(alloc);
+    let slot = slots.add()?;
+    assert!(rt; slots.holds(slot));
+    assert_eq!(rt; slots.poll(slot, 3), Poll::Pending);
+    assert_eq!(rt; slots.put(slot, 9), Some(3));
+    assert_eq!(rt; slots.close(slot), None);
+    slots.give_up(slot);
+    assert!(rt; !slots.holds(slot));
+    Ok(())
+}
+
+#[test]
+fn child_ends_with_its_parent(rt: HostRuntime) -> Result<(), Fail> {
+    let mut tree = Tree::new(rt.alloc())?;
+    let first = grow(&mut tree, 0, 1)?;
+    let inner = grow(&mut tree, first, 2)?;
+    let second = grow(&mut tree, 0, 3)?;
+    let last = grow(&mut tree, inner, 4)?;
+    let other = grow(&mut tree, first, 5)?;
+    tree.end(first);
+    for task in [1, 2, 4, 5] {
+        assert_eq!(rt; tree.next_flag(), Some(task));
+    }
+    assert_eq!(rt; tree.next_flag(), None);
+    assert!(rt; tree.is_ended(last) && tree.is_ended(other) && !tree.is_ended(second));
+    Ok(())
+}
+
+#[test]
+fn deep_chain_is_flagged(rt: HostRuntime) -> Result<(), Fail> {
+    let mut tree = Tree::new(rt.alloc())?;
+    let mut last = 0;
+    for task in 0..50_000 {
+        last = grow(&mut tree, last, task)?;
+    }
+    tree.end(0);
+    for task in 0..50_000 {
+        assert_eq!(rt; tree.next_flag(), Some(task));
+    }
+    assert_eq!(rt; tree.next_flag(), None);
+    assert!(rt; tree.is_ended(last));
+    Ok(())
+}
