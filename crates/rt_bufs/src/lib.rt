@@ -1,0 +1,11 @@
+//! Byte buffers that are cut and shared: bytes are copied where a call says so, and else have
+//! several owners. A contract sees a buffer as the list of its bytes.
+#![tactic(auto)]
+
+pub mod io_buf;
+pub mod io_buf_mut;
+pub mod io_bufs;
+
+pub use io_buf::IoBuf;
+pub use io_buf_mut::IoBufMut;
+pub use io_bufs::IoBufs;
