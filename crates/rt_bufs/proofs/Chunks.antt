@@ -38,8 +38,11 @@ drop-concat xs k w n e =
     rw (← e) (ap (drop (length (concat (take k xs)) + w)) (concat_parts k xs) ∙ drop-append-add (concat (take k xs)) (concat (drop k xs)) w)
 
 -- the bytes of one more chunk
+pub concat-take : (xs : List (List ℕ)) (i : ℕ) (d : List ℕ) → i < length xs → concat (take (suc i) xs) ≡ concat (take i xs) ++ get_or xs i d
+concat-take xs i d h = ap concat (take-suc xs i d h) ∙ concat_push (take i xs) (get_or xs i d)
+
 pub length-concat-take : (xs : List (List ℕ)) (i : ℕ) (d : List ℕ) → i < length xs → length (concat (take (suc i) xs)) ≡ length (concat (take i xs)) + length (get_or xs i d)
-length-concat-take xs i d h = ap (λ l. length (concat l)) (take-suc xs i d h) ∙ length-concat_push (take i xs) (get_or xs i d)
+length-concat-take xs i d h = ap length (concat-take xs i d h) ∙ length-append (concat (take i xs)) (get_or xs i d)
 
 -- the first bytes from chunk k on are those of chunk k
 pub take-chunk : (xs : List (List ℕ)) (k w : ℕ) (d : List ℕ) → k < length xs → w ≤ length (get_or xs k d) → take w (concat (drop k xs)) ≡ take w (get_or xs k d)

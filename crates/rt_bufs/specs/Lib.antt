@@ -1,2 +1,3 @@
-pub mod Writable
 pub mod Chunked
+pub mod Writable
+pub mod WritableChunks

@@ -5,6 +5,7 @@ ghost use Rattle.std.specs.VecDeque.{deque_len, deque_capacity};
 ghost use Rattle.rt_bufs.specs.Chunked.{NoneEmpty, chunks_of};
 
 use crate::{IoBuf, IoBufMut};
+use bytes::BytesMut;
 use rt_base::NoMemory;
 use std::alloc::Global;
 use std::collections::VecDeque;
@@ -79,7 +80,10 @@ impl IoBufs {
 
     /// The first chunk, or no bytes where there is none.
     pub fn chunk(&self) -> &[u8]
-        ensures { result.now ≡ unwrap_or (slice_get self.now.chunks 0) [] }
+        ensures first { result.now ≡ unwrap_or (slice_get self.now.chunks 0) [] }
+        ensures front { take (length result.now) self.now.bytes ≡ result.now }
+        ensures fits { length result.now ≤ length self.now.bytes }
+        ensures some { 0 < length self.now.bytes → 0 < length result.now }
     {
         match self.chunks.front() {
             Some(first) => first.as_slice(),
@@ -90,7 +94,9 @@ impl IoBufs {
     /// The chunk with this number, from 0 on.
     pub fn chunk_at(&self, index: usize) -> &[u8]
         requires { index < length self.now.chunks }
-        ensures { slice_get self.now.chunks index ≡ Some result.now }
+        ensures chunk { slice_get self.now.chunks index ≡ Some result.now }
+        ensures next { concat (take (index + 1) self.now.chunks)
+            ≡ concat (take index self.now.chunks) ++ result.now }
     {
         self.chunks[index].as_slice()
     }
@@ -108,6 +114,26 @@ impl IoBufs {
             return Err(NoMemory);
         };
         self.chunks.push_back(buf)?;
+        self.len = len;
+        Ok(())
+    }
+
+    // Moves all bytes of `tail` to the end, with no copy.
+    pub(crate) fn take_in(&mut self, tail: &mut BytesMut) -> Result<(), NoMemory>
+        ensures bytes { OnOk result (self.new.bytes ≡ self.old.bytes ++ tail.old.items) }
+        ensures taken { OnOk result (tail.new.items ≡ []) }
+        ensures refused { OnErr result ((self.new ≡ self.old) × (tail.new.items ≡ tail.old.items)) }
+    {
+        if tail.is_empty() {
+            return Ok(());
+        }
+        let Some(len) = self.len.checked_add(tail.len()) else {
+            return Err(NoMemory);
+        };
+        self.chunks.reserve(1)?;
+        let alloc = *self.chunks.allocator();
+        let bytes = tail.freeze_to(tail.len())?;
+        self.chunks.push_back_reserved(IoBuf::of(alloc, bytes));
         self.len = len;
         Ok(())
     }
