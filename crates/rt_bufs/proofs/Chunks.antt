@@ -1,5 +1,5 @@
 -- Lists of chunks, and the bytes that they are.
-use Rattle.std.proofs.Common.{◌≡◌, ℕ, ◌+◌, ◌<◌, ◌≤◌, List, [], ◌∷◌, ◌++◌, zero, suc, length, take, drop, get_or, sym, ap, ◌∙◌, append-nil, length-append, take-append-drop}
+use Rattle.std.proofs.Common.{◌≡◌, ℕ, ◌+◌, ◌-◌, ◌<◌, ◌≤◌, List, [], ◌∷◌, ◌++◌, zero, suc, length, take, drop, get_or, sym, ap, arith, ◌∙◌, append-nil, length-append, take-append-drop}
 use Rattle.std.proofs.Math.Seq.{take-append-add, drop-append-add, drop-cons, take-suc}
 use Rattle.std.proofs.lemmas.List.{take-append-le}
 use Rattle.std.proofs.lemmas.List.Folds.{concat-append}
@@ -57,3 +57,10 @@ concat-cut xs front edge k w n sum is cut =
 pub concat-whole : (xs front : List (List ℕ)) (k w n : ℕ) → length (concat (take k xs)) + w ≡ n → front ≡ take k xs → w ≡ 0 → concat front ≡ take n (concat xs)
 concat-whole xs front k w n sum is none =
     ap concat is ∙ sym (append-nil (concat (take k xs))) ∙ ap (λ m. concat (take k xs) ++ take m (concat (drop k xs))) (sym none) ∙ sym (take-concat xs k w n sum)
+
+-- the first bytes of two lists, where the cut leaves k of the second list and gives n up
+pub take-append_last : (bs xs ys : List ℕ) (k n : ℕ) → bs ≡ xs ++ ys → k + n ≡ length ys → take (length bs - n) bs ≡ xs ++ take k ys
+take-append_last bs xs ys k n e sum =
+    let size = ap length e ∙ length-append xs ys in
+    let at : length bs - n ≡ length xs + k = omega arith in
+    rw at (ap (take (length xs + k)) e ∙ take-append-add xs ys k)

@@ -1,5 +1,5 @@
 // Bytes that no one writes any more, with any number of owners.
-ghost use Rattle.std.specs.Prelude.{◌≡◌, ◌^◌, ◌<◌, ◌≤◌, ◌↔◌, [], length, take, drop, slice_range, IsTrue, IfOk, OnOk, OnErr};
+ghost use Rattle.std.specs.Prelude.{◌≡◌, ◌^◌, ◌<◌, ◌≤◌, ◌↔◌, [], length, take, drop, slice_range, IsTrue, IsOk, IfOk, OnOk, OnErr};
 
 use crate::IoBufMut;
 use bytes::{Bytes, BytesMut};
@@ -26,7 +26,8 @@ impl Model for IoBuf {
 impl IoBuf {
     /// The bytes of a `Vec`, which are not copied.
     pub fn from_vec(bytes: Vec<u8>) -> Result<IoBuf, NoMemory>
-        ensures { IfOk result (λ b. b ≡ bytes.items) }
+        ensures bytes { IfOk result (λ b. b ≡ bytes.items) }
+        ensures empty { bytes.items ≡ [] → IsOk result }
     {
         let alloc = *bytes.allocator();
         let bytes = Bytes::from_vec(bytes)?;
@@ -75,7 +76,8 @@ impl IoBuf {
     pub fn slice(&self, from: usize, to: usize) -> Result<IoBuf, NoMemory>
         requires ordered { from ≤ to }
         requires in_range { to ≤ length self.now }
-        ensures { IfOk result (λ b. b ≡ slice_range self.now from to) }
+        ensures bytes { IfOk result (λ b. b ≡ slice_range self.now from to) }
+        ensures empty { from ≡ to → IsOk result }
     {
         let bytes = self.bytes.slice(from..to)?;
         Ok(IoBuf {
@@ -84,12 +86,14 @@ impl IoBuf {
         })
     }
 
-    /// Cuts the first `at` bytes off and returns them.
+    /// Cuts the first `at` bytes off and returns them. A cut at either end takes no memory.
     pub fn split_to(&mut self, at: usize) -> Result<IoBuf, NoMemory>
         requires { at ≤ length self.old }
         ensures front { IfOk result (λ b. b ≡ take at self.old) }
         ensures rest { OnOk result (self.new ≡ drop at self.old) }
         ensures refused { OnErr result (self.new ≡ self.old) }
+        ensures none { at ≡ 0 → IsOk result }
+        ensures whole { at ≡ length self.old → IsOk result }
     {
         let bytes = self.bytes.split_to(at)?;
         Ok(IoBuf {

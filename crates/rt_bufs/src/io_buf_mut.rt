@@ -1,5 +1,5 @@
 // Bytes that one owner writes.
-ghost use Rattle.std.specs.Prelude.{◌≡◌, ◌+◌, ◌^◌, ◌<◌, ◌≤◌, [], ◌++◌, length, take, drop, replicate, IfOk};
+ghost use Rattle.std.specs.Prelude.{◌≡◌, ◌+◌, ◌^◌, ◌<◌, ◌≤◌, [], ◌++◌, length, take, drop, replicate, IsOk, IfOk};
 
 use crate::IoBuf;
 use bytes::BytesMut;
@@ -110,7 +110,8 @@ impl IoBufMut {
 
     /// The same bytes, which no one writes any more. A refusal gives them up.
     pub fn freeze(self) -> Result<IoBuf, NoMemory>
-        ensures { IfOk result (λ b. b ≡ self.bytes) }
+        ensures bytes { IfOk result (λ b. b ≡ self.bytes) }
+        ensures empty { self.bytes ≡ [] → IsOk result }
     {
         let alloc = *self.bytes.allocator();
         let bytes = self.bytes.freeze()?;

@@ -1,5 +1,5 @@
 // Buffers in a row, read as one run of bytes.
-ghost use Rattle.std.specs.Prelude.{◌≡◌, ◌+◌, ◌<◌, ◌≤◌, ◌↔◌, [], ◌++◌, length, take, drop, slice_get, slice_index_or, unwrap_or, IsTrue, IfSome, IfNone, IfOk, OnOk, OnErr, Some};
+ghost use Rattle.std.specs.Prelude.{◌≡◌, ◌+◌, ◌-◌, ◌<◌, ◌≤◌, ◌↔◌, [], ◌++◌, length, take, drop, slice_get, slice_index_or, unwrap_or, IsTrue, IfSome, IfNone, IsOk, IfOk, OnOk, OnErr, Some};
 ghost use Rattle.std.specs.List.{concat};
 ghost use Rattle.std.specs.VecDeque.{deque_len, deque_capacity};
 ghost use Rattle.rt_bufs.specs.Chunked.{NoneEmpty, chunks_of};
@@ -10,6 +10,7 @@ use rt_base::NoMemory;
 use std::alloc::Global;
 use std::collections::VecDeque;
 use std::marker::Model;
+use std::mem;
 
 /// Shared buffers in a row, the chunks. Empty ones aren't kept.
 #[derive(Drop)]
@@ -106,6 +107,7 @@ impl IoBufs {
         ensures bytes { OnOk result (self.new.bytes ≡ self.old.bytes ++ buf) }
         ensures chunks { OnOk result (self.new.chunks ≡ self.old.chunks ++ chunks_of buf) }
         ensures refused { OnErr result (self.new ≡ self.old) }
+        ensures empty { buf ≡ [] → IsOk result }
     {
         if buf.is_empty() {
             return Ok(());
@@ -114,6 +116,23 @@ impl IoBufs {
             return Err(NoMemory);
         };
         self.chunks.push_back(buf)?;
+        self.len = len;
+        Ok(())
+    }
+
+    /// Adds the bytes of `other` at the end, with no copy.
+    pub fn append_all(&mut self, other: IoBufs) -> Result<(), NoMemory>
+        ensures bytes { OnOk result (self.new.bytes ≡ self.old.bytes ++ other.bytes) }
+        ensures chunks { OnOk result (self.new.chunks ≡ self.old.chunks ++ other.chunks) }
+        ensures refused { OnErr result (self.new ≡ self.old) }
+    {
+        let IoBufs { mut chunks, len } = other;
+        let Some(len) = self.len.checked_add(len) else {
+            return Err(NoMemory);
+        };
+        let count = chunks.len();
+        self.chunks.reserve(count)?;
+        move_first(&mut chunks, &mut self.chunks, count);
         self.len = len;
         Ok(())
     }
@@ -169,17 +188,57 @@ impl IoBufs {
         n
     }
 
-    /// Cuts the first `n` bytes off and returns them, with no copy.
+    /// Gives the bytes from `len` on up, where there are such. It takes no memory.
+    pub fn truncate(&mut self, len: usize)
+        ensures { self.new.bytes ≡ take len self.old.bytes }
+    {
+        let mut left = self.len.saturating_sub(len);
+        while left > 0 {
+            left -= self.truncate_last(left);
+        }
+    }
+
+    // Gives up to `n` bytes of the last chunk up, the last ones, and says how many.
+    fn truncate_last(&mut self, n: usize) -> usize
+        requires { (0 < n) × (n ≤ length self.old.bytes) }
+        ensures count { (0 < result) × (result ≤ n) }
+        ensures rest { self.new.bytes ≡ take (length self.old.bytes - result) self.old.bytes }
+    {
+        let Some(mut last) = self.chunks.pop_back() else {
+            unreachable!()
+        };
+        let len = last.len();
+        if len <= n {
+            self.len -= len;
+            return len;
+        }
+        last.truncate(len - n);
+        self.chunks.push_back_reserved(last);
+        self.len -= n;
+        n
+    }
+
+    /// Cuts the first `n` bytes off and returns them, with no copy. A cut at either end takes no
+    /// memory.
     pub fn split_to(&mut self, n: usize) -> Result<IoBufs, NoMemory>
         requires { n ≤ length self.old.bytes }
         ensures front { IfOk result (λ b. b.bytes ≡ take n self.old.bytes) }
         ensures rest { OnOk result (self.new.bytes ≡ drop n self.old.bytes) }
         ensures joined { IfOk result (λ b. b.bytes ++ self.new.bytes ≡ self.old.bytes) }
         ensures refused { OnErr result (self.new ≡ self.old) }
+        ensures none { n ≡ 0 → IsOk result }
+        ensures whole { n ≡ length self.old.bytes → IsOk result }
     {
+        let alloc = *self.chunks.allocator();
+        if n == 0 {
+            return Ok(IoBufs::new(alloc));
+        }
+        if n == self.len {
+            return Ok(mem::replace(self, IoBufs::new(alloc)));
+        }
         // All that can be refused comes first.
         let (whole, within) = self.place_of(n);
-        let mut front = VecDeque::with_capacity(*self.chunks.allocator(), whole + 1)?;
+        let mut front = VecDeque::with_capacity(alloc, whole + 1)?;
         let edge = self.edge(whole, within)?;
         move_first(&mut self.chunks, &mut front, whole);
         self.len -= n - within;
@@ -226,9 +285,11 @@ impl IoBufs {
         Ok(Some(self.chunks[index].slice(0, len)?))
     }
 
-    /// All bytes as one buffer. It copies them where they lie in two chunks or more.
+    /// All bytes as one buffer. It copies them where they lie in two chunks or more, and else takes
+    /// no memory. A refusal gives them up.
     pub fn coalesce(mut self) -> Result<IoBuf, NoMemory>
-        ensures { IfOk result (λ b. b ≡ self.bytes) }
+        ensures bytes { IfOk result (λ b. b ≡ self.bytes) }
+        ensures one { length self.chunks ≤ 1 → IsOk result }
     {
         let alloc = *self.chunks.allocator();
         if self.chunks.len() > 1 {

@@ -42,6 +42,7 @@ fn surface(rt: HostRuntime) -> Result<(), Fail> {
     assert!(rt; frozen(alloc)?);
     assert!(rt; shared_in_a_row(alloc)?);
     assert!(rt; cut_in_a_row(alloc)?);
+    assert!(rt; joined_in_a_row(alloc)?);
     assert!(rt; written_in_a_row(alloc)?);
     assert!(rt; put_together(alloc)?);
     Ok(())
@@ -97,6 +98,13 @@ fn cut_in_a_row(alloc: Global) -> Result<bool, NoMemory> {
     let front = bufs.split_to(1)?;
     bufs.advance(1);
     Ok(is(front.chunk(), "a") && is(bufs.coalesce()?.as_slice(), "cd"))
+}
+
+fn joined_in_a_row(alloc: Global) -> Result<bool, NoMemory> {
+    let mut bufs = IoBufs::from_buf(alloc, buf(alloc, b"ab")?)?;
+    bufs.append_all(three_chunks(alloc)?)?;
+    bufs.truncate(6);
+    Ok(bufs.chunk_count() == 4 && is(bufs.coalesce()?.as_slice(), "ababcd"))
 }
 
 fn written_in_a_row(alloc: Global) -> Result<bool, NoMemory> {
