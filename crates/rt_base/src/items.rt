@@ -1,6 +1,7 @@
 // A list that contracts see as its elements.
 ghost use Rattle.std.specs.Prelude.{◌≡◌};
 
+use std::alloc::Global;
 use std::marker::Model;
 
 /// A `Vec` whose capacity nobody asks about. None of its calls takes memory.
@@ -30,6 +31,11 @@ impl<V> Items<V> {
         ensures { result.now ≡ self.now }
     {
         self.inner.as_slice()
+    }
+
+    /// The allocator that the list keeps.
+    pub(crate) fn allocator(&self) -> Global {
+        *self.inner.allocator()
     }
 
     /// The `Vec` again.

@@ -1,0 +1,3 @@
+pub mod Outsides
+pub mod Places
+pub mod Reserved

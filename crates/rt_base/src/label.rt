@@ -1,0 +1,78 @@
+// Labels of tasks and names of metrics.
+ghost use Rattle.std.specs.Prelude.{◌≡◌, ◌↔◌, IfOk, IfErr, OnErr, OnOk, IsTrue, Err, false, is_ok, string_bytes, ◌⊎◌};
+ghost use Rattle.std.specs.List.{list_all};
+ghost use Rattle.rt_base.specs.Label.{is_label, is_reserved, is_word_byte, prefixed};
+
+use crate::error::Error;
+use crate::metric_error::MetricError;
+use crate::no_memory::NoMemory;
+use crate::text::Text;
+use std::alloc::Global;
+
+/// Whether the label is a letter and then letters, digits and underscores.
+pub fn validate_label(label: &str) -> Result<(), MetricError>
+    ensures valid { is_ok result ≡ is_label label.now }
+    ensures cause { IfErr result (λ kind. kind ≡ MetricError.BadLabel) }
+{
+    if is_label(label.as_bytes()) {
+        Ok(())
+    } else {
+        Err(MetricError::BadLabel)
+    }
+}
+
+/// Whether the bytes are a letter and then letters, digits and underscores.
+pub fn is_label(text: &[u8]) -> bool
+    ensures { result ≡ is_label text.now }
+{
+    match text {
+        [first, rest @ ..] => first.is_ascii_alphabetic() && are_word_bytes(rest),
+        [] => false,
+    }
+}
+
+fn are_word_bytes(text: &[u8]) -> bool
+    ensures { result ≡ list_all is_word_byte text.now }
+{
+    text.iter().all(|b| b.is_ascii_alphanumeric() || *b == b'_')
+}
+
+/// The name, after the prefix and an underscore where there is a prefix.
+pub fn prefixed_name(alloc: Global, prefix: &str, name: &str) -> Result<String, NoMemory>
+    ensures { IfOk result (λ full. string_bytes full ≡ prefixed prefix.now name.now) }
+{
+    let mut full = String::from_str(alloc, prefix)?;
+    if !prefix.is_empty() {
+        full.push_str("_")?;
+    }
+    full.push_str(name)?;
+    Ok(full)
+}
+
+/// The full label of a child.
+///
+/// Answers `Metric(BadLabel)` where `label` isn't valid, and then `Metric(Reserved)` where the full
+/// label begins with `runtime`.
+pub fn child_label(alloc: Global, prefix: &str, label: &str) -> Result<String, Error>
+    ensures full { IfOk result (λ full. string_bytes full ≡ prefixed prefix.now label.now) }
+    ensures bad_label { (result ≡ Err (Error.Metric MetricError.BadLabel)) ↔ (is_label label.now ≡ false) }
+    ensures reserved { (result ≡ Err (Error.Metric MetricError.Reserved)) ↔ (IsTrue (is_label label.now) × IsTrue (is_reserved (prefixed prefix.now label.now))) }
+    ensures causes { IfErr result (λ error. (error ≡ Error.NoMemory) ⊎ (error ≡ Error.Metric MetricError.BadLabel) ⊎ (error ≡ Error.Metric MetricError.Reserved)) }
+{
+    validate_label(label)?;
+    if is_reserved_name(prefix, label) {
+        return Err(Error::Metric(MetricError::Reserved));
+    }
+    Ok(prefixed_name(alloc, prefix, label)?)
+}
+
+/// Whether the prefixed name begins with `runtime`.
+fn is_reserved_name(prefix: &str, name: &str) -> bool
+    ensures { result ≡ is_reserved (prefixed prefix.now name.now) }
+{
+    if prefix.is_empty() {
+        name.starts_with("runtime")
+    } else {
+        prefix.starts_with("runtime")
+    }
+}

@@ -1,0 +1,54 @@
+// Standard output as a sink: the trusted edge.
+ghost use Rattle.std.specs.Prelude.{◌≡◌, None};
+
+use crate::failed::Failed;
+use crate::sink::Sink8;
+use std::io::{Print, Stdout};
+use std::marker::Model;
+use std::rt::HostRuntime;
+
+/// Standard output. Contracts see how many writes have failed, and nothing of the content.
+#[derive(Drop)]
+pub struct StdSink {
+    stdout: Stdout,
+    errors: u64,
+}
+
+impl Model for StdSink {
+    ghost use Rattle.std.specs.Prelude.{ℕ};
+
+    ghost Value = { ℕ };
+
+    ghost view = { λ s. s.errors };
+}
+
+impl StdSink {
+    /// Standard output, with no fault so far.
+    pub fn new(rt: &HostRuntime) -> StdSink
+        ensures { result ≡ 0 }
+    {
+        StdSink {
+            stdout: rt.stdout(),
+            errors: 0,
+        }
+    }
+}
+
+impl Sink8 for StdSink {
+    ghost held = { λ _. None };
+
+    ghost faults = { λ s. s };
+
+    fn write(&mut self, piece: &[u8]) -> Result<usize, Failed> {
+        if piece.is_empty() {
+            return Ok(0);
+        }
+        match self.stdout.write_some(piece) {
+            Ok(count) if count > 0 => Ok(count),
+            _ => {
+                self.errors = self.errors.saturating_add(1);
+                Err(Failed)
+            }
+        }
+    }
+}

@@ -1,0 +1,248 @@
+// What no clause says: printed texts, and that calls succeed where there is memory.
+
+use crate::{
+    Addr, Choice, Env, Error, Event, Execution, Failed, Ip, Items, ListSink, ListSource, MAX_TIME,
+    MetricError, Name, NoEnv, NoMemory, Poll, Refused, SafeSink, SafeSource, Sink8, Source,
+    StdSink, StdSource, Text, Unread, add_attribute, child_label, prefixed_name, read_whole,
+    validate_label, write_whole,
+};
+use std::alloc::Global;
+use std::process::Abort;
+use std::test::Fail;
+
+fn text(alloc: Global, bytes: &str) -> Result<Text, NoMemory> {
+    Ok(Text::of(String::from_str(alloc, bytes)?))
+}
+
+#[test]
+fn surface(rt: HostRuntime) -> Result<(), Fail> {
+    small_types(&rt, rt.alloc())?;
+    errors(&rt, rt.alloc())?;
+    names(&rt, rt.alloc())?;
+    environment(&rt, rt.alloc())?;
+    sources(&rt, rt.alloc())?;
+    sinks(&rt, rt.alloc())?;
+    Ok(())
+}
+
+fn small_types(rt: &impl Abort, alloc: Global) -> Result<(), Fail> {
+    let word = text(alloc, "ab")?;
+    assert!(rt; word == word.clone_value()?);
+    assert_eq!(rt; word.as_str(), "ab");
+    assert_eq!(rt; word.into_inner().len(), 2);
+    let items: Items<u64> = Items::of(vec![in alloc; 1u64, 2]?);
+    assert_eq!(rt; items.as_slice(), [1u64, 2].as_slice());
+    let kept = Vec::<u64>::new(items.allocator());
+    assert_eq!(rt; items.into_inner().len(), 2 + kept.len());
+    assert_ne!(rt; Poll::Ready(3u64), Poll::Pending);
+    assert_ne!(rt; Choice::Kept, Choice::Prefix(0));
+    assert_eq!(rt; Execution::default(), Execution::Shared(false));
+    assert_eq!(rt; MAX_TIME / 1_000_000_000, 9223372036854775807);
+    Ok(())
+}
+
+fn errors(rt: &impl Abort, alloc: Global) -> Result<(), Fail> {
+    let error = Error::BlobMissing(text(alloc, "p")?, text(alloc, "62")?);
+    assert!(rt; error.clone_value()? == error);
+    let refused = Refused { back: 7u64, error };
+    let Refused { back, error } = refused;
+    assert_eq!(rt; back, 7);
+    assert!(rt; error != Error::from(MetricError::OtherHelp));
+    assert!(rt; Error::from(NoMemory) == Error::NoMemory);
+    Ok(())
+}
+
+fn names(rt: &impl Abort, alloc: Global) -> Result<(), Fail> {
+    assert_eq!(rt; validate_label("a_1"), Ok(()));
+    let mut attributes = Vec::new(alloc);
+    for (key, value) in [("b", "1"), ("a", "2"), ("c", "3"), ("b", "4")] {
+        add_attribute(alloc, &mut attributes, key, value)?;
+    }
+    let name = Name {
+        label: Text::of(child_label(alloc, "p", "c")?),
+        attributes: Items::of(attributes),
+    };
+    let copy = name.clone_value()?;
+    assert_eq!(rt;
+        format!(in alloc; "{copy:?}")?.as_str(),
+        format!(in alloc; "{name:?}")?.as_str()
+    );
+    let mut line = prefixed_name(alloc, "", name.label.as_str())?;
+    for (key, value) in name.attributes.as_slice() {
+        write!(line, " {key}={value}")?;
+    }
+    assert_eq!(rt; line.as_str(), "p_c a=2 b=4 c=3");
+    Ok(())
+}
+
+fn environment(rt: &impl Abort, alloc: Global) -> Result<(), Fail> {
+    let mut none = NoEnv;
+    none.reserve(2)?;
+    none.event(Event {
+        label: text(alloc, "stop")?,
+        fields: Items::of(Vec::new(alloc)),
+    });
+    assert_eq!(rt; none.draw(), 0);
+    Ok(())
+}
+
+fn sources(rt: &impl Abort, alloc: Global) -> Result<(), Fail> {
+    let mut safe = SafeSource::new(vec![in alloc; 1u8, 2, 3]?);
+    assert_eq!(rt;
+        read_whole(alloc, &mut safe, 3)?.as_slice(),
+        [1u8, 2, 3].as_slice()
+    );
+    let mut long = SafeSource::new(vec![in alloc; 1u8, 2, 3]?);
+    assert_eq!(rt;
+        read_whole(alloc, &mut long, 2).err(),
+        Some(Unread::TooLong)
+    );
+    let mut list = ListSource::new(vec![in alloc; 1u8, 2, 3]?, vec![in alloc; 2u64]?, 2);
+    let mut piece = [0u8; 4];
+    assert_eq!(rt; list.read(&mut piece), Ok(2));
+    assert_eq!(rt; list.read(&mut piece), Err(Failed));
+    assert_eq!(rt; list.read(&mut piece), Ok(1));
+    assert_eq!(rt; list.read(&mut piece), Ok(0));
+    Ok(())
+}
+
+fn sinks(rt: &impl Abort, alloc: Global) -> Result<(), Fail> {
+    let mut safe = SafeSink::new(alloc);
+    assert_eq!(rt; write_whole(&mut safe, b"run"), Ok(()));
+    assert_eq!(rt; safe.as_slice(), b"run".as_slice());
+    let mut list = ListSink::new(alloc, vec![in alloc; 3u64]?, 1);
+    assert_eq!(rt; write_whole(&mut list, b"run"), Err(Failed));
+    assert_eq!(rt; list.as_slice(), b"ru".as_slice());
+    assert_eq!(rt; list.write(b"n"), Ok(1));
+    Ok(())
+}
+
+#[test]
+fn standard_input_and_output(rt: HostRuntime) {
+    let mut input = StdSource::new(&rt);
+    let mut piece = [0u8; 4];
+    assert_eq!(rt; input.read(&mut piece), Ok(0));
+    let mut output = StdSink::new(&rt);
+    assert_eq!(rt; output.write(b""), Ok(0));
+    assert_eq!(rt; output.write(b"\n"), Ok(1));
+}
+
+#[test]
+fn error_words(rt: HostRuntime) -> Result<(), Fail> {
+    for (error, words) in [
+        (Error::Exited, "exited"),
+        (Error::Closed, "closed"),
+        (Error::Aborted, "aborted"),
+        (Error::Timeout, "timeout"),
+        (Error::BindFailed, "bind failed"),
+        (Error::ConnectionFailed, "connection failed"),
+        (Error::WriteFailed, "write failed"),
+        (Error::ReadFailed, "read failed"),
+        (Error::SendFailed, "send failed"),
+        (Error::RecvFailed, "recv failed"),
+        (Error::BlobInsufficientLength, "blob insufficient length"),
+        (Error::InvalidChecksum, "invalid or missing checksum"),
+        (Error::OffsetOverflow, "offset overflow"),
+        (Error::PortsExhausted, "ports exhausted"),
+        (Error::UnknownToken, "unknown token"),
+        (Error::ClockOverflow, "clock overflow"),
+        (Error::TooManyTasks, "too many tasks"),
+        (
+            Error::Metric(MetricError::BadLabel),
+            "metric error: bad label",
+        ),
+        (
+            Error::Metric(MetricError::Reserved),
+            "metric error: reserved",
+        ),
+        (
+            Error::Metric(MetricError::OtherType),
+            "metric error: other type",
+        ),
+        (
+            Error::Metric(MetricError::OtherHelp),
+            "metric error: other help",
+        ),
+        (Error::NoMemory, "no memory"),
+    ] {
+        assert_eq!(rt; format!(in rt.alloc(); "{error}")?.as_str(), words);
+    }
+    Ok(())
+}
+
+#[test]
+fn error_texts(rt: HostRuntime) -> Result<(), Fail> {
+    let alloc = rt.alloc();
+    let bad =
+        "partition name invalid, must only contain alphanumeric, dash ('-'), or underscore ('_') characters: a";
+    for (error, words) in [
+        (
+            Error::ResolveFailed(text(alloc, "a")?),
+            "dns resolution failed: a",
+        ),
+        (Error::PartitionNameInvalid(text(alloc, "a")?), bad),
+        (
+            Error::PartitionCreationFailed(text(alloc, "a")?),
+            "partition creation failed: a",
+        ),
+        (
+            Error::PartitionMissing(text(alloc, "a")?),
+            "partition missing: a",
+        ),
+        (
+            Error::PartitionCorrupt(text(alloc, "a")?),
+            "partition corrupt: a",
+        ),
+        (
+            Error::BlobAlreadyOpen(text(alloc, "a")?, text(alloc, "b")?),
+            "blob already open: a/b",
+        ),
+        (
+            Error::BlobMissing(text(alloc, "a")?, text(alloc, "b")?),
+            "blob missing: a/b",
+        ),
+        (
+            Error::BlobCorrupt(text(alloc, "a")?, text(alloc, "b")?, text(alloc, "c")?),
+            "blob corrupt: a/b reason: c",
+        ),
+    ] {
+        assert_eq!(rt; format!(in alloc; "{error}")?.as_str(), words);
+    }
+    Ok(())
+}
+
+#[test]
+fn address_texts(rt: HostRuntime) -> Result<(), Fail> {
+    let here = Ip::V4([127, 0, 0, 1]);
+    let there = Ip::V6([0x2001, 0xdb8, 0, 0, 0, 0, 0, 0x1f]);
+    for (ip, port, words) in [
+        (here, 4000, "127.0.0.1:4000"),
+        (there, 0, "[2001:db8:0:0:0:0:0:1f]:0"),
+    ] {
+        let addr = Addr { ip, port };
+        assert_eq!(rt; format!(in rt.alloc(); "{addr}")?.as_str(), words);
+    }
+    Ok(())
+}
+
+#[test]
+fn refused_labels(rt: HostRuntime) {
+    for label in ["", "9a", "_a", "a-b", "a b", "\u{e9}"] {
+        assert_eq!(rt;
+            validate_label(label),
+            Err(MetricError::BadLabel),
+            "at {label}"
+        );
+    }
+    for (prefix, label, kind) in [
+        ("", "runtimes", MetricError::Reserved),
+        ("runtime", "a", MetricError::Reserved),
+        ("", "9a", MetricError::BadLabel),
+        ("runtime", "9a", MetricError::BadLabel),
+    ] {
+        match child_label(rt.alloc(), prefix, label) {
+            Err(error) => assert!(rt; error == Error::Metric(kind), "at {label}"),
+            Ok(_) => panic!(rt; "at {label}"),
+        }
+    }
+}

@@ -1,0 +1,27 @@
+use Rattle.std.proofs.Common.{◌≡◌, ℕ, zero, suc, ◌<◌, ◌≤◌, ◌&&◌, Bool, true, false, List, [], ◌∷◌, get_or, arith}
+use Rattle.std.proofs.lemmas.Bool.{and_parts}
+use Rattle.std.proofs.lemmas.Bool.Decides.{nat_tests}
+use Rattle.std.proofs.lemmas.Str.{IsUtf8-from_ascii}
+use Rattle.std.specs.Char.{is_ascii_alphabetic}
+use Rattle.std.specs.List.{list_all}
+use Rattle.std.specs.Str.{IsUtf8, IsAscii}
+use Rattle.rt_base.specs.Label.{is_label, is_word_byte}
+
+word_byte_small : (b : ℕ) → is_word_byte b ≡ true → b < 128
+word_byte_small b h = grind (arith, nat_tests)
+
+letter_small : (b : ℕ) → is_ascii_alphabetic b ≡ true → b < 128
+letter_small b h = grind (arith, nat_tests)
+
+word_bytes_small : (bs : List ℕ) → list_all is_word_byte bs ≡ true → (i : ℕ) → get_or bs i 0 < 128
+word_bytes_small [] h i = omega arith
+word_bytes_small (b ∷ bs) h zero = word_byte_small b (and_parts _ _ h).0
+word_bytes_small (b ∷ bs) h (suc i) = word_bytes_small bs (and_parts _ _ h).1 i
+
+label_small : (bs : List ℕ) → is_label bs ≡ true → (i : ℕ) → get_or bs i 0 < 128
+label_small [] h i = omega arith
+label_small (b ∷ bs) h zero = letter_small b (and_parts _ _ h).0
+label_small (b ∷ bs) h (suc i) = word_bytes_small bs (and_parts _ _ h).1 i
+
+pub label_is_utf8 : (bs : List ℕ) → is_label bs ≡ true → IsUtf8 bs
+label_is_utf8 bs h = IsUtf8-from_ascii bs (label_small bs h)

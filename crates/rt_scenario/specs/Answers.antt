@@ -1,0 +1,36 @@
+-- What calls of the reader answer, want of memory apart.
+use Rattle.std.specs.Prelude.{◌≡◌, ℕ, Option, Some, None, Result, Ok, Err}
+use Rattle.rt_scenario.specs.Scenario.{Draft, Reading, Whole, BrokenAt, ending}
+use Rattle.rt_scenario.specs.declared.kind.Kind.{Kind}
+use Rattle.rt_scenario.specs.declared.kind.Kind.TheVariants.{NoRun}
+use Rattle.rt_scenario.specs.declared.scenario.Scenario.{Scenario}
+use Rattle.rt_scenario.specs.declared.reader.Refusal.{Refusal}
+use Rattle.rt_scenario.specs.declared.reader.Refusal.TheVariants.{Broken as Breaks', NoMemory as NoMemory'}
+use Rattle.rt_scenario.specs.declared.word.Word.{Word}
+use Rattle.rt_scenario.specs.declared.word.Word.TheVariants.{Yield, Pend, Done}
+use Rattle.rt_scenario.specs.declared.stop.Stop.{Stop}
+use Rattle.rt_scenario.specs.declared.stop.Stop.TheVariants.{Breaks, NoMemory}
+
+-- the call leaves the draft that is wanted, or names the rule that is broken
+abbrev pub Answers : Result Draft Kind → Result (Unit {0}) Stop → Draft → Type 0
+Answers want (Ok done) new = want ≡ Ok new
+Answers want (Err (Breaks k)) new = want ≡ Err k
+Answers want (Err NoMemory) new = Unit {0}
+
+-- a line that is its first word alone
+abbrev pub IsBare : Word → Type 0
+IsBare Yield = Unit {0}
+IsBare Pend = Unit {0}
+IsBare Done = Unit {0}
+IsBare word = ⊥
+
+-- the scenario that a draft makes after its last line, if it makes one
+abbrev pub Finishes : Draft → Option Scenario → Type 0
+Finishes d None = (n : ℕ) → ending n d ≡ BrokenAt n NoRun
+Finishes d (Some s) = (n : ℕ) → ending n d ≡ Whole s
+
+-- the reader answers what the bytes say
+abbrev pub Reads : Reading → Result Scenario Refusal → Type 0
+Reads said (Ok s) = said ≡ Whole s
+Reads said (Err (Breaks' b)) = said ≡ BrokenAt b.line b.kind
+Reads said (Err NoMemory') = Unit {0}

@@ -1,0 +1,16 @@
+// A line of a script.
+
+/// What a task of the script does at one line.
+#[derive(Clone, Copy, Debug, PartialEq, Eq)]
+pub enum Line {
+    /// Sleeps so many nanoseconds.
+    Sleep(u128),
+    /// Lets the others go first.
+    Yield,
+    /// Answers pending at each poll.
+    Pend,
+    /// Ends with this value.
+    End(i64),
+    /// Ends with the value of the last line.
+    EndLast,
+}

@@ -1,0 +1,74 @@
+// Numbers and values of a scenario.
+ghost use Rattle.std.specs.Prelude.{◌≡◌, ◌<◌, ◌≤◌, ◌^◌, ℕ, List, length, Some, true};
+ghost use Rattle.std.specs.List.{list_all};
+ghost use Rattle.std.specs.Char.{is_ascii_digit, digit_value};
+ghost use Rattle.std.specs.Str.Parse.{digits_value};
+ghost use Rattle.rt_scenario.specs.Numbers.{number_of, value_of, is_decimal, minus, below};
+
+/// A decimal number without sign or leading zero, below `2^128`.
+pub fn number_of(text: &[u8]) -> Option<u128>
+    ensures { result ≡ number_of text.now }
+{
+    if is_decimal(text) {
+        digits_number(text)
+    } else {
+        None
+    }
+}
+
+fn digits_number(text: &[u8]) -> Option<u128>
+    requires { list_all is_ascii_digit text.now ≡ true }
+    ensures { result ≡ below (2 ^ 128) (digits_value 10 text.now) }
+{
+    let mut number = 0u128;
+    let mut rest = text;
+    while let Some((digit, tail)) = rest.split_first() {
+        number = number.checked_mul(10)?.checked_add(digit_number(*digit))?;
+        rest = tail;
+    }
+    Some(number)
+}
+
+fn digit_number(digit: u8) -> u128
+    requires { is_ascii_digit digit ≡ true }
+    ensures { result ≡ digit_value digit }
+{
+    u128::from(digit - b'0')
+}
+
+/// A number, or a minus sign and a number other than 0, within an `i64`.
+pub fn value_of(text: &[u8]) -> Option<i64>
+    ensures { result ≡ value_of text.now }
+{
+    match text {
+        [b'-', rest @ ..] => negative_of(number_of(rest)?),
+        _ => i64::try_from(number_of(text)?).ok(),
+    }
+}
+
+fn is_decimal(text: &[u8]) -> bool
+    ensures { result ≡ is_decimal text.now }
+{
+    match text {
+        [] => false,
+        [b'0'] => true,
+        [b'0', ..] => false,
+        _ => are_digits(text),
+    }
+}
+
+fn are_digits(text: &[u8]) -> bool
+    ensures { result ≡ list_all is_ascii_digit text.now }
+{
+    text.iter().all(|b| b.is_ascii_digit())
+}
+
+fn negative_of(number: u128) -> Option<i64>
+    ensures { result ≡ minus (Some number) }
+{
+    if number == 0 {
+        return None;
+    }
+    let number = i128::try_from(number).ok()?;
+    i64::try_from(-number).ok()
+}

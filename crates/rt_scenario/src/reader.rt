@@ -1,0 +1,53 @@
+// Reads a whole scenario.
+ghost use Rattle.rt_scenario.specs.Scenario.{scenario_of};
+ghost use Rattle.rt_scenario.specs.Answers.{Reads};
+
+use crate::draft::Draft;
+use crate::kind::Kind;
+use crate::scenario::Scenario;
+use crate::split::split_line;
+use crate::stop::Stop;
+use std::alloc::Global;
+
+/// The first line that breaks a rule.
+#[derive(Clone, Copy, Debug, PartialEq, Eq)]
+pub struct Broken {
+    /// Its number, from 1.
+    pub line: u64,
+    pub kind: Kind,
+}
+
+/// Why a text is no scenario, or wasn't read.
+#[derive(Clone, Copy, Debug, PartialEq, Eq)]
+pub enum Refusal {
+    Broken(Broken),
+    NoMemory,
+}
+
+/// Reads a scenario in one pass.
+///
+/// Where a script isn't closed at the end, or nothing is run, the line after the last is broken.
+pub fn read_scenario(alloc: Global, bytes: &[u8]) -> Result<Scenario, Refusal>
+    ensures { Reads (scenario_of bytes.now) result }
+{
+    let mut draft = Draft::new(alloc);
+    let mut line = 1u64;
+    let mut rest = bytes;
+    while !rest.is_empty() {
+        let (text, tail) = split_line(rest);
+        match draft.take_line(text) {
+            Ok(()) => {}
+            Err(Stop::Breaks(kind)) => return Err(Refusal::Broken(Broken { line, kind })),
+            Err(Stop::NoMemory) => return Err(Refusal::NoMemory),
+        }
+        line += 1;
+        rest = tail;
+    }
+    match draft.finish() {
+        Some(scenario) => Ok(scenario),
+        None => Err(Refusal::Broken(Broken {
+            line,
+            kind: Kind::NoRun,
+        })),
+    }
+}
