@@ -1,3 +1,4 @@
 pub mod Outsides
 pub mod Places
 pub mod Reserved
+pub mod SortedKeys

@@ -45,3 +45,21 @@ impl<V> Items<V> {
         self.inner
     }
 }
+
+impl<V: PartialEq> PartialEq for Items<V> {
+    ghost use Rattle.std.specs.Cmp.Lexicographic.{pointwise, lists_per};
+
+    ghost eq = { pointwise V.eq };
+
+    ghost laws = { lists_per V.laws };
+
+    fn eq(&self, other: &Items<V>) -> bool {
+        self.inner == other.inner
+    }
+}
+
+impl<V: Eq> Eq for Items<V> {
+    ghost use Rattle.std.specs.Cmp.Lexicographic.{lists_equiv};
+
+    ghost laws = { lists_equiv V.Eq.laws };
+}

@@ -1,6 +1,6 @@
 // The name of a context: its label and its attributes.
 ghost use Rattle.std.specs.Prelude.{◌≡◌, IfOk, OnErr, OnOk, length, take, drop, ◌<◌, ◌≤◌, ℕ, List, slice_get};
-ghost use Rattle.rt_base.specs.Attributes.{with_attribute, PutAt};
+ghost use Rattle.rt_base.specs.Attributes.{with_attribute, IsSortedByKey, PutAt};
 
 use crate::items::Items;
 use crate::no_memory::NoMemory;
@@ -9,7 +9,7 @@ use std::alloc::Global;
 use std::cmp::Ordering;
 
 /// The label and the attributes of a context, sorted by key.
-#[derive(Debug, Drop)]
+#[derive(Debug, Drop, PartialEq, Eq)]
 pub struct Name {
     pub label: Text,
     pub attributes: Items<(Text, Text)>,
@@ -47,6 +47,7 @@ pub fn add_attribute(
     value: &str,
 ) -> Result<(), NoMemory>
     ensures added { OnOk result (attributes.new.items ≡ with_attribute attributes.old.items key.now value.now) }
+    ensures sorted { IsSortedByKey attributes.old.items → IsSortedByKey attributes.new.items }
     ensures unchanged { OnErr result (attributes.new.items ≡ attributes.old.items) }
 {
     let value = Text::of(String::from_str(alloc, value)?);

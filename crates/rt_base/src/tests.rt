@@ -63,10 +63,7 @@ fn names(rt: &impl Abort, alloc: Global) -> Result<(), Fail> {
         attributes: Items::of(attributes),
     };
     let copy = name.clone_value()?;
-    assert_eq!(rt;
-        format!(in alloc; "{copy:?}")?.as_str(),
-        format!(in alloc; "{name:?}")?.as_str()
-    );
+    assert!(rt; copy == name);
     let mut line = prefixed_name(alloc, "", name.label.as_str())?;
     for (key, value) in name.attributes.as_slice() {
         write!(line, " {key}={value}")?;

@@ -1,4 +1,4 @@
-use Rattle.std.proofs.Common.{◌≡◌, ◌≢◌, ℕ, suc, ◌+◌, ◌<◌, ◌==◌, Bool, true, false, cond, if◌then◌else◌, List, [], ◌∷◌, ◌++◌, length, Option, Some, None, is_some, Ok, Err, refl, sym, ap, subst, ◌∙◌, arith, add-one}
+use Rattle.std.proofs.Common.{◌≡◌, ℕ, suc, ◌+◌, ◌<◌, Bool, true, false, cond, if◌then◌else◌, List, [], ◌∷◌, ◌++◌, length, Option, Some, None, is_some, Ok, Err, refl, sym, ap, ◌∙◌, arith, add-one}
 use Rattle.std.specs.Option.{option_map, option_copied}
 use Rattle.std.specs.Borrow.{Bor}
 use Rattle.rt_scenario.specs.Words.{is_text}
@@ -7,7 +7,6 @@ use Rattle.rt_scenario.specs.Open.{open_scripts}
 use Rattle.rt_scenario.specs.declared.draft.OpenScript.{OpenScript}
 use Rattle.std.specs.Cmp.Lexicographic.{same_text}
 use Rattle.rt_scenario.specs.Answers.{IsBare}
-use Rattle.rt_scenario.specs.declared.kind.Kind.{Kind}
 use Rattle.rt_scenario.specs.declared.kind.Kind.TheVariants as kind
 use Rattle.rt_scenario.specs.declared.line.Line.{Line}
 use Rattle.rt_scenario.specs.declared.scenario.ScriptText.{ScriptText}

@@ -10,6 +10,8 @@ pub mod reader;
 pub mod scenario;
 mod split;
 mod stop;
+#[cfg(test)]
+mod tests;
 mod word;
 
 pub use kind::Kind;

@@ -1,4 +1,4 @@
-use Rattle.std.proofs.Common.{◌≡◌, ◌==◌, ℕ, zero, ◌+◌, length, Option, Some, None, List, MatchOption}
+use Rattle.std.proofs.Common.{◌≡◌, ◌==◌, ◌+◌, length}
 use Rattle.std.specs.List.{list_any}
 use Rattle.std.specs.Option.{option_map_or}
 use Rattle.rt_scenario.specs.Lines.{words_of, words_in}

@@ -1,8 +1,7 @@
-use Rattle.std.proofs.Common.{◌≡◌, false, Some, None, Option, ℕ, List, ◌++◌, is_some, length, sym, ap, ◌∙◌, rules, refl, string_bytes}
+use Rattle.std.proofs.Common.{◌≡◌, false, Some, None, ℕ, List, ◌++◌, is_some, length, sym, ap, ◌∙◌, rules, string_bytes}
 use Rattle.std.specs.BTreeMap.{get_by_text}
 use Rattle.std.proofs.lemmas.List.{append-nil}
 use Rattle.std.proofs.lemmas.Map.Text.{btree_map_updates_text}
-use Rattle.rt_scenario.specs.Open.{open_scripts}
 use Rattle.rt_scenario.specs.Scenario.{script_at}
 use Rattle.rt_scenario.proofs.Scripts.{opened, none_open, none_copied}
 use Rattle.rt_scenario.proofs.draft.Draft.open_script.Goals as goal

@@ -1,4 +1,3 @@
-use Rattle.std.proofs.Common.{rules}
 use Rattle.rt_scenario.proofs.Scripts.{bare_count}
 use Rattle.rt_scenario.proofs.Cuts.{some_in}
 use Rattle.rt_scenario.proofs.draft.Draft.take_bare.Goals as goal

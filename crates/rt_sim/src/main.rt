@@ -1,0 +1,37 @@
+//! `rt_sim`: a script runs as the root of a run, and its journal, result, time and rounds are reported.
+#![tactic(auto)]
+
+mod maker;
+mod outcome;
+mod report;
+mod script;
+mod simulate;
+
+pub use maker::RootScript;
+pub use outcome::{Outcome, RunReport, RunResult};
+use rt_base::{StdSink, StdSource};
+pub use script::Script;
+pub use simulate::simulate_alone;
+use std::process::ExitCode;
+use std::rt::HostRuntime;
+
+/// The status where the words of the command can't be had.
+const NO_WORDS: u8 = 8;
+
+fn main(rt: HostRuntime) -> ExitCode {
+    let alloc = rt.alloc();
+    let Ok(words) = std::env::args(&rt) else {
+        return ExitCode::from(NO_WORDS);
+    };
+    let Ok(words) = words.collect::<Vec<String>>(alloc) else {
+        return ExitCode::from(NO_WORDS);
+    };
+    let command = match words.as_slice().split_first() {
+        Some((_, command)) => command,
+        None => &[],
+    };
+    let mut source = StdSource::new(&rt);
+    let mut sink = StdSink::new(&rt);
+    let outcome = simulate_alone(alloc, command, &mut source, &mut sink);
+    ExitCode::from(outcome.status)
+}

@@ -1,0 +1,37 @@
+//! What a simulation comes to.
+
+use rt_audit::Journal;
+use rt_base::{Items, Nanos, Text};
+use rt_core::RunError;
+
+/// The root's output, or why its run failed.
+#[derive(Debug, Drop)]
+pub enum RunResult {
+    Ok(i64),
+    Failed(RunError),
+}
+
+/// A run: the name of its root, its result, and the place of its entries in the journal.
+#[derive(Debug, Drop)]
+pub struct RunReport {
+    pub root: Text,
+    pub result: RunResult,
+    /// The place of its first entry.
+    pub from: usize,
+    /// The place behind its last entry.
+    pub to: usize,
+    /// Zero bytes, as long as no digest is kept.
+    pub digest: [u8; 4],
+    /// Its last moment, in nanoseconds since the epoch.
+    pub time: Nanos,
+    /// How many rounds it had.
+    pub rounds: u64,
+}
+
+/// The status of the program, the runs that are reported, and the journal of all runs.
+#[derive(Debug, Drop)]
+pub struct Outcome {
+    pub status: u8,
+    pub runs: Items<RunReport>,
+    pub journal: Journal,
+}
