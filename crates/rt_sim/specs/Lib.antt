@@ -1,2 +1,3 @@
-pub mod Script
 pub mod Did
+pub mod Ran
+pub mod Script

@@ -1,5 +1,12 @@
 //! The call of the program.
 
+ghost use Rattle.std.specs.Prelude.{◌≡◌, ◌<◌, ◌⊎◌, ℕ, List, true, length, IfSome};
+ghost use Rattle.rt_base.specs.Outside.{HasRisen};
+ghost use Rattle.rt_scenario.specs.Scenario.{scenario_of, Whole, BrokenAt};
+ghost use Rattle.rt_scenario.specs.declared.scenario.Scenario.{Scenario};
+ghost use Rattle.rt_scenario.specs.declared.kind.Kind.{Kind};
+ghost use Rattle.rt_sim.specs.Ran.{is_reported, is_run, is_read, Reports, Simulates};
+
 use crate::report::{Unwritten, write_report};
 use crate::{Outcome, RootScript, RunReport, RunResult, Script};
 use rt_audit::{Entry, Journal};
@@ -21,7 +28,11 @@ pub fn simulate_alone<S: Source, K: Sink8>(
     words: &[String],
     source: &mut S,
     sink: &mut K,
-) -> Outcome {
+) -> Outcome
+    ensures ran { is_reported result.status ≡ true → (bytes : List ℕ) × IfSome (S.left source.old) (λ left. bytes ≡ left) × (s : Scenario) × (scenario_of bytes ≡ Whole s) × Simulates s result }
+    ensures refused { result.status ≡ 3 → (IfSome (S.left source.old) (λ left. LONGEST < length left)) ⊎ ((bytes : List ℕ) × IfSome (S.left source.old) (λ left. bytes ≡ left) × (line : ℕ) × (kind : Kind) × (scenario_of bytes ≡ BrokenAt line kind)) }
+    ensures unread { result.status ≡ 4 → HasRisen (S.faults source.old) (S.faults source.new) }
+{
     let [word] = words else {
         return refuse(
             alloc,
@@ -47,7 +58,9 @@ pub fn simulate_alone<S: Source, K: Sink8>(
 }
 
 /// An outcome without runs.
-fn nothing(alloc: Global, status: u8) -> Outcome {
+fn nothing(alloc: Global, status: u8) -> Outcome
+    ensures { result.status ≡ status }
+{
     Outcome {
         status,
         runs: Items::of(Vec::new(alloc)),
@@ -56,14 +69,21 @@ fn nothing(alloc: Global, status: u8) -> Outcome {
 }
 
 /// Writes a line, and answers a status.
-fn refuse<K: Sink8>(alloc: Global, sink: &mut K, status: u8, line: &str) -> Outcome {
+fn refuse<K: Sink8>(alloc: Global, sink: &mut K, status: u8, line: &str) -> Outcome
+    ensures status { (result.status ≡ status) ⊎ (result.status ≡ 5) }
+{
     match write_whole(sink, line.as_bytes()) {
         Ok(()) => nothing(alloc, status),
         Err(_) => nothing(alloc, 5),
     }
 }
 
-fn run_bytes<K: Sink8>(alloc: Global, bytes: &[u8], sink: &mut K) -> Outcome {
+/// Runs the scenario that these bytes write.
+fn run_bytes<K: Sink8>(alloc: Global, bytes: &[u8], sink: &mut K) -> Outcome
+    ensures ran { is_reported result.status ≡ true → (s : Scenario) × (scenario_of bytes.now ≡ Whole s) × Simulates s result }
+    ensures refused { result.status ≡ 3 → (line : ℕ) × (kind : Kind) × (scenario_of bytes.now ≡ BrokenAt line kind) }
+    ensures statuses { is_read result.status ≡ true }
+{
     match read_scenario(alloc, bytes) {
         Err(Refusal::NoMemory) => nothing(alloc, 7),
         Err(Refusal::Broken(broken)) => refuse_broken(alloc, sink, broken),
@@ -71,7 +91,9 @@ fn run_bytes<K: Sink8>(alloc: Global, bytes: &[u8], sink: &mut K) -> Outcome {
     }
 }
 
-fn refuse_broken<K: Sink8>(alloc: Global, sink: &mut K, broken: Broken) -> Outcome {
+fn refuse_broken<K: Sink8>(alloc: Global, sink: &mut K, broken: Broken) -> Outcome
+    ensures status { (result.status ≡ 3) ⊎ ((result.status ≡ 5) ⊎ (result.status ≡ 7)) }
+{
     let Broken { line, kind } = broken;
     match format!(in alloc; "error {line} {kind}\n") {
         Ok(text) => refuse(alloc, sink, 3, text.as_str()),
@@ -79,7 +101,11 @@ fn refuse_broken<K: Sink8>(alloc: Global, sink: &mut K, broken: Broken) -> Outco
     }
 }
 
-fn run_scenario<K: Sink8>(alloc: Global, scenario: Scenario, sink: &mut K) -> Outcome {
+/// Runs the root of a scenario.
+fn run_scenario<K: Sink8>(alloc: Global, scenario: Scenario, sink: &mut K) -> Outcome
+    ensures ran { is_reported result.status ≡ true → Simulates scenario result }
+    ensures statuses { is_run result.status ≡ true }
+{
     let Scenario {
         timeout,
         scripts,
@@ -125,7 +151,11 @@ fn report_run<K: Sink8>(
     ended: RunResult,
     time: Nanos,
     journal: Journal,
-) -> Outcome {
+) -> Outcome
+    ensures reports { is_reported result.status ≡ true → Reports root ended result }
+    ensures journal { result.journal.entries ≡ journal.entries }
+    ensures statuses { is_run result.status ≡ true }
+{
     let status = match &ended {
         RunResult::Ok(_) => 0,
         RunResult::Failed(_) => 6,
