@@ -52,7 +52,7 @@ lives-at lives x c false h e =
     let no : true ≡ false = cc in
     (cc, h ∙ sym no)
 
-lives-some : (lives : ChannelState → Bool) (o : Option ChannelState) (c : ChannelState) → if_lives lives o ≡ Some c → (o ≡ Some c) × (lives c ≡ true)
+pub lives-some : (lives : ChannelState → Bool) (o : Option ChannelState) (c : ChannelState) → if_lives lives o ≡ Some c → (o ≡ Some c) × (lives c ≡ true)
 lives-some lives None c e = let no : true ≡ false = cc in (cc, absurd (cc))
 lives-some lives (Some x) c e =
     let k = lives-at lives x c (lives x) refl e in
@@ -90,3 +90,87 @@ pub lift-at : (lives : ChannelState → Bool) → IsLife lives → (R K : Channe
 lift-at lives life R K unknown cs new n all lift h =
     let P : Option ChannelState → Type 0 = λ o. MatchOption o (unknown × (new ≡ map stored cs)) (λ c. (d : ChannelState) × K c d × (new ≡ slice_set (map stored cs) n d)) in
     lift-some lives life R K unknown cs new n all lift (if_lives lives (slice_get cs n)) refl (subst P (live-map lives life cs n) h)
+
+-- a call on one half that isn't refused
+at-option : (f k : ChannelState → ChannelState) (cs : List ChannelState) (n : ℕ) (o : Option ChannelState) → ((c : ChannelState) → o ≡ Some c → k (stored c) ≡ stored (f c)) → at (map stored cs) n k (option_map stored o) ≡ map stored (at cs n f o)
+at-option f k cs n None same = refl
+at-option f k cs n (Some c) same = ap (slice_set (map stored cs) n) (same c refl) ∙ sym (map-set cs n (f c))
+
+at-counted : (f : ChannelState → ChannelState) (cs : List ChannelState) (n : ℕ) (o : Option ChannelState) → AreCounted cs → ((c : ChannelState) → o ≡ Some c → IsCounted (f c)) → AreCounted (at cs n f o)
+at-counted f cs n None all one = all
+at-counted f cs n (Some c) all one = counted-set cs n (f c) all (one c refl)
+
+-- what is kept after it, and its counts
+pub lift-function : (lives : ChannelState → Bool) → IsLife lives → (f k : ChannelState → ChannelState) → ((c : ChannelState) → is_gone c ≡ false → k (stored c) ≡ stored (f c)) → ((c : ChannelState) → IsCounted c → IsCounted (f c)) → (cs : List ChannelState) (n : ℕ) → AreCounted cs → (at (map stored cs) n k (if_lives lives (slice_get (map stored cs) n)) ≡ map stored (at cs n f (if_lives lives (slice_get cs n)))) × AreCounted (at cs n f (if_lives lives (slice_get cs n)))
+lift-function lives life f k same one cs n all =
+    let o : Option ChannelState = if_lives lives (slice_get cs n) in
+    (ap (at (map stored cs) n k) (live-map lives life cs n) ∙ at-option f k cs n o (λ c e. same c (life.live c (lives-some lives (slice_get cs n) c e).1)),
+     at-counted f cs n o all (λ c e. one c (all n c (lives-some lives (slice_get cs n) c e).0)))
+
+cond-stored : (b : Bool) (x y : ChannelState) → cond b (stored x) (stored y) ≡ stored (cond b x y)
+cond-stored true x y = refl
+cond-stored false x y = refl
+
+given-up-send-stored : (c : ChannelState) → given_up_send (stored c) ≡ stored (given_up_send c)
+given-up-send-stored c = cond-stored c.sending (record c { sender = None; sending = false; sink = record c.sink { given_up = true } }) c
+
+pub lift-give-up-send : (cs : List ChannelState) (n : ℕ) → AreCounted cs → (with_given_up_send (map stored cs) n ≡ map stored (with_given_up_send cs n)) × AreCounted (with_given_up_send cs n)
+lift-give-up-send cs n all =
+    lift-function has_sink sink-life given_up_send given_up_send (λ c e. given-up-send-stored c)
+      (λ c h. cond-holds IsCounted c.sending (record c { sender = None; sending = false; sink = record c.sink { given_up = true } }) c (record { read = h.read; taken = h.taken }) h) cs n all
+
+given-up-recv-stored : (c : ChannelState) (r : Option ℕ) → given_up_recv (stored c) r ≡ stored (given_up_recv c r)
+given-up-recv-stored c None = refl
+given-up-recv-stored c (Some len) = refl
+
+given-up-recv-counted : (c : ChannelState) (r : Option ℕ) → IsCounted c → IsCounted (given_up_recv c r)
+given-up-recv-counted c None h = h
+given-up-recv-counted c (Some len) h = record { read = h.read; taken = h.taken }
+
+pub lift-give-up-recv : (cs : List ChannelState) (n : ℕ) → AreCounted cs → (with_given_up_recv (map stored cs) n ≡ map stored (with_given_up_recv cs n)) × AreCounted (with_given_up_recv cs n)
+lift-give-up-recv cs n all =
+    lift-function has_stream stream-life (λ c. given_up_recv c c.receiving) (λ c. given_up_recv c c.receiving) (λ c e. given-up-recv-stored c c.receiving) (λ c h. given-up-recv-counted c c.receiving h) cs n all
+
+pub lift-close-sink : (cs : List ChannelState) (n : ℕ) → AreCounted cs → (without_sink (map stored cs) n ≡ map stored (with_closed_sink cs n)) × AreCounted (with_closed_sink cs n)
+lift-close-sink cs n all =
+    lift-function has_sink sink-life closed_sink (λ c. freed (closed_sink c)) (λ c e. ap (λ x. freed (closed_sink x)) (stored-live c e)) (λ c h. record { read = h.read; taken = h.taken }) cs n all
+
+pub lift-close-stream : (cs : List ChannelState) (n : ℕ) → AreCounted cs → (without_stream (map stored cs) n ≡ map stored (with_closed_stream cs n)) × AreCounted (with_closed_stream cs n)
+lift-close-stream cs n all =
+    lift-function has_stream stream-life closed_stream (λ c. freed (closed_stream c)) (λ c e. ap (λ x. freed (closed_stream x)) (stored-live c e)) (λ c h. record { read = h.read; taken = h.taken }) cs n all
+
+receiver-map : (o : Option ChannelState) → receiver_of (option_map stored o) ≡ receiver_of o
+receiver-map None = refl
+receiver-map (Some c) = refl
+
+sender-map : (o : Option ChannelState) → sender_of (option_map stored o) ≡ sender_of o
+sender-map None = refl
+sender-map (Some c) = refl
+
+pub sink_wakes-map : (cs : List ChannelState) (n : ℕ) → sink_wakes (map stored cs) n ≡ sink_wakes cs n
+sink_wakes-map cs n = ap receiver_of (live-map has_sink sink-life cs n) ∙ receiver-map (live_sink cs n)
+
+pub stream_wakes-map : (cs : List ChannelState) (n : ℕ) → stream_wakes (map stored cs) n ≡ stream_wakes cs n
+stream_wakes-map cs n = ap sender_of (live-map has_stream stream-life cs n) ∙ sender-map (live_stream cs n)
+
+-- the closing of connections
+pub record ClosesAlike (cs : List ChannelState) (connections : List Connection) : Type 0 where
+  pub closed : after_closing without_sink without_stream (map stored cs) connections ≡ map stored (after_closing with_closed_sink with_closed_stream cs connections)
+  pub woken : woken_by_closing without_sink without_stream (map stored cs) connections ≡ woken_by_closing with_closed_sink with_closed_stream cs connections
+  pub counted : AreCounted (after_closing with_closed_sink with_closed_stream cs connections)
+
+pub closes-alike : (connections : List Connection) (cs : List ChannelState) → AreCounted cs → ClosesAlike cs connections
+closes-alike [] cs all = record { closed = refl; woken = refl; counted = all }
+closes-alike (c ∷ rest) cs all =
+    let k = lift-close-sink cs c.sink all in
+    let m = lift-close-stream (with_closed_sink cs c.sink) c.stream k.1 in
+    let both : without_stream (without_sink (map stored cs) c.sink) c.stream ≡ map stored (with_closed_stream (with_closed_sink cs c.sink) c.stream) = ap (λ xs. without_stream xs c.stream) k.0 ∙ m.0 in
+    let r = closes-alike rest (with_closed_stream (with_closed_sink cs c.sink) c.stream) m.1 in
+    let receiver = sink_wakes-map cs c.sink in
+    let sender = ap (λ xs. stream_wakes xs c.stream) k.0 ∙ stream_wakes-map (with_closed_sink cs c.sink) c.stream in
+    record {
+      closed = ap (λ xs. after_closing without_sink without_stream xs rest) both ∙ r.closed;
+      woken = ap (λ w. option_to_list w ++ (option_to_list (stream_wakes (without_sink (map stored cs) c.sink) c.stream) ++ woken_by_closing without_sink without_stream (without_stream (without_sink (map stored cs) c.sink) c.stream) rest)) receiver
+        ∙ ap (λ w. option_to_list (sink_wakes cs c.sink) ++ (option_to_list w ++ woken_by_closing without_sink without_stream (without_stream (without_sink (map stored cs) c.sink) c.stream) rest)) sender
+        ∙ ap (λ w. option_to_list (sink_wakes cs c.sink) ++ (option_to_list (stream_wakes (with_closed_sink cs c.sink) c.stream) ++ w)) (ap (λ xs. woken_by_closing without_sink without_stream xs rest) both ∙ r.woken);
+      counted = r.counted }

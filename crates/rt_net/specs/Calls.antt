@@ -24,6 +24,13 @@ idle_sink n = record { number = n; sending = false }
 abbrev pub idle_stream : ℕ → Stream
 idle_stream n = record { number = n; receiving = false }
 
+-- A channel is made.
+
+abbrev pub NetOpens : ℕ → Result (Sink × Stream) Error → NetworkState → NetworkState → Type 0
+NetOpens size (Ok r) s t =
+    (r ≡ (idle_sink (length s.channels), idle_stream (length s.channels))) × (t ≡ record s { channels = s.channels ++ fresh size ∷ [] })
+NetOpens size (Err e) s t = t ≡ s
+
 -- A call on the channels alone.
 
 abbrev pub OnChannels : (List ChannelState → List ChannelState → Type 0) → NetworkState → NetworkState → Type 0

@@ -1,4 +1,4 @@
--- The count of refusals, and which answers a call may give.
+-- The count of refusals, and which halves wait after a call.
 use Rattle.std.specs.Prelude.{◌≡◌, ℕ, ◌-◌, ◌^◌, ◌<◌, ◌≤◌, ◌⊎◌, Bool, true, false, Result, Ok, Err}
 use Rattle.rt_base.specs.declared.error.Error.{Error}
 use Rattle.rt_base.specs.declared.error.Error.TheVariants.{NoMemory}
@@ -31,3 +31,14 @@ is_not_ready (Ready _) = false
 abbrev pub waits : {A : Type 0} → Result (Reply (Poll A)) Error → Bool
 waits (Ok r) = is_not_ready r.value
 waits (Err _) = false
+
+-- no wait of the halves of a new connection is started
+abbrev pub AreIdle : {K M : Type 0} → (K → Bool) → (M → Bool) → Result (Reply (K × M)) Error → Type 0
+AreIdle sending receiving (Ok r) = (sending r.value.0 ≡ false) × (receiving r.value.1 ≡ false)
+AreIdle sending receiving (Err _) = Unit {0}
+
+-- so are those of a connection that is taken
+abbrev pub TakesIdle : {A K M : Type 0} → (K → Bool) → (M → Bool) → Result (Poll (A × K × M)) Error → Type 0
+TakesIdle sending receiving (Ok (Ready r)) = (sending r.1 ≡ false) × (receiving r.2 ≡ false)
+TakesIdle sending receiving (Ok Pending) = Unit {0}
+TakesIdle sending receiving (Err _) = Unit {0}

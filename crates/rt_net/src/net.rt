@@ -6,7 +6,7 @@ ghost use Rattle.rt_net.specs.Network.{live_listener, AtStream, with_given_up_se
 ghost use Rattle.rt_net.specs.Table.{without_sink, without_stream};
 ghost use Rattle.rt_net.specs.Calls.{OnChannels, NetSends, NetPollsSend, NetPeeks, NetBinds, NetDials, NetAccepts, NetGivesAcceptUp, NetTellsWoken, IsDialerAddress, closed_at, idle_sink, idle_stream, localhost};
 ghost use Rattle.rt_net.specs.Kept.{empty_net};
-ghost use Rattle.rt_net.specs.Refusals.{Counts, is_pending};
+ghost use Rattle.rt_net.specs.Refusals.{Counts, AreIdle, TakesIdle};
 
 use crate::channels::Channels;
 use crate::connection::Connection;
@@ -84,6 +84,7 @@ impl Net {
         ensures halves { IfOk result (λ r. r ≡ (idle_sink (length self.old.state.channels), idle_stream (length self.old.state.channels))) }
         ensures made { IfOk result (λ _. self.new.state ≡ record self.old.state { channels = self.old.state.channels ++ fresh buffer_size ∷ [] }) }
         ensures refused { OnErr result (self.new.state ≡ self.old.state) }
+        ensures counts { self.new.refusals ≡ self.old.refusals }
     {
         self.channels.reserve(1)?;
         let number = self.channels.len() as u64;
@@ -102,7 +103,8 @@ impl Net {
 
     // Binds a listener.
     pub(crate) fn listen(&mut self, socket: Addr) -> Result<Listener, Error>
-        ensures { NetBinds socket result self.old.state self.new.state }
+        ensures state { NetBinds socket result self.old.state self.new.state }
+        ensures refusals { self.new.refusals ≡ self.old.refusals }
     {
         if is_dialer_address(socket) || self.listeners.is_bound(socket) {
             return Err(Error::BindFailed);
@@ -117,7 +119,9 @@ impl Net {
 
     // Connects to a listener.
     pub(crate) fn connect(&mut self, socket: Addr) -> Result<Reply<(Sink, Stream)>, Error>
-        ensures { NetDials socket result self.old.state self.new.state }
+        ensures state { NetDials socket result self.old.state self.new.state }
+        ensures half { AreIdle (λ k. k.sending) (λ k. k.receiving) result }
+        ensures refusals { self.new.refusals ≡ self.old.refusals }
     {
         if self.port == LAST_PORT {
             return Err(Error::PortsExhausted);
@@ -161,7 +165,9 @@ impl Net {
 
     // Takes a connection.
     pub(crate) fn take_connection(&mut self, number: u64, task: u64) -> Result<Poll<(Addr, Sink, Stream)>, Error>
-        ensures { NetAccepts number task result self.old.state self.new.state }
+        ensures state { NetAccepts number task result self.old.state self.new.state }
+        ensures half { TakesIdle (λ k. k.sending) (λ k. k.receiving) result }
+        ensures refusals { self.new.refusals ≡ self.old.refusals }
     {
         match self.listeners.accept(number, task) {
             Err(error) => Err(error),

@@ -10,7 +10,7 @@ ghost use Rattle.rt_base.specs.declared.poll.Poll.{Poll};
 ghost use Rattle.rt_base.specs.Noted.{Noted, Adds};
 ghost use Rattle.rt_bufs.specs.Chunked.{Chunked};
 ghost use Rattle.rt_net.specs.declared.reply.Reply.{Reply};
-ghost use Rattle.rt_net.specs.Refusals.{Counts};
+ghost use Rattle.rt_net.specs.Refusals.{Counts, is_pending, waits, AreIdle, TakesIdle};
 
 use crate::halves::{Receiving, Sending};
 use crate::reply::Reply;
@@ -74,24 +74,28 @@ pub trait Network {
     fn send<E: Env>(&mut self, env: &mut E, sink: &mut Self::Sink, bufs: IoBufs, task: u64) -> Reply<Result<Poll<()>, Error>>
         requires { Self.Sink.sending sink.old ≡ false }
         ensures gives { (x : List Noted) × Adds (E.noted env.old) x (E.noted env.new) × sends self.old sink.old bufs task result self.new sink.new x }
+        ensures half { Self.Sink.sending sink.new ≡ is_pending result.value }
         ensures counts { Counts (refusals self.old) (refusals self.new) result.value };
 
     /// Polls a `send` that was pending.
     fn poll_send<E: Env>(&mut self, env: &mut E, sink: &mut Self::Sink, task: u64) -> Result<Poll<()>, Error>
         requires { Self.Sink.sending sink.old ≡ true }
         ensures gives { (x : List Noted) × Adds (E.noted env.old) x (E.noted env.new) × polls_send self.old sink.old task result self.new sink.new x }
+        ensures half { Self.Sink.sending sink.new ≡ is_pending result }
         ensures counts { Counts (refusals self.old) (refusals self.new) result };
 
     /// Receives `len` bytes, and is pending where they aren't there.
     fn recv<E: Env>(&mut self, env: &mut E, stream: &mut Self::Stream, len: usize, task: u64) -> Result<Reply<Poll<IoBufs>>, Error>
         requires { Self.Stream.receiving stream.old ≡ false }
         ensures gives { (x : List Noted) × Adds (E.noted env.old) x (E.noted env.new) × receives self.old stream.old len task result self.new stream.new x }
+        ensures half { Self.Stream.receiving stream.new ≡ waits result }
         ensures counts { Counts (refusals self.old) (refusals self.new) result };
 
     /// Polls a `recv` that was pending.
     fn poll_recv<E: Env>(&mut self, env: &mut E, stream: &mut Self::Stream, task: u64) -> Result<Poll<IoBufs>, Error>
         requires { Self.Stream.receiving stream.old ≡ true }
         ensures gives { (x : List Noted) × Adds (E.noted env.old) x (E.noted env.new) × polls_recv self.old stream.old task result self.new stream.new x }
+        ensures half { Self.Stream.receiving stream.new ≡ is_pending result }
         ensures counts { Counts (refusals self.old) (refusals self.new) result };
 
     /// A copy of the first bytes that the stream holds, at most `max_len`.
@@ -102,11 +106,13 @@ pub trait Network {
     /// Gives a `send` up. It takes no memory.
     fn give_up_send(&mut self, sink: &mut Self::Sink)
         ensures gives { gives_send_up self.old sink.old self.new sink.new }
+        ensures half { Self.Sink.sending sink.new ≡ false }
         ensures counts { refusals self.old ≤ refusals self.new };
 
     /// Gives a `recv` up. It takes no memory.
     fn give_up_recv(&mut self, stream: &mut Self::Stream)
         ensures gives { gives_recv_up self.old stream.old self.new stream.new }
+        ensures half { Self.Stream.receiving stream.new ≡ false }
         ensures counts { refusals self.old ≤ refusals self.new };
 
     /// Closes the sink, and answers the task that this wakes. It takes no memory.
@@ -127,16 +133,19 @@ pub trait Network {
     /// Connects to the listener at an address.
     fn dial<E: Env>(&mut self, env: &mut E, socket: Addr) -> Result<Reply<(Self::Sink, Self::Stream)>, Error>
         ensures gives { (x : List Noted) × Adds (E.noted env.old) x (E.noted env.new) × dials self.old socket result self.new x }
+        ensures half { AreIdle Self.Sink.sending Self.Stream.receiving result }
         ensures counts { Counts (refusals self.old) (refusals self.new) result };
 
     /// Takes the next connection, with the address that it was dialed from, and is pending where none waits.
     fn accept<E: Env>(&mut self, env: &mut E, listener: &mut Self::Listener, task: u64) -> Result<Poll<(Addr, Self::Sink, Self::Stream)>, Error>
         ensures gives { (x : List Noted) × Adds (E.noted env.old) x (E.noted env.new) × accepts self.old listener.old task result self.new listener.new x }
+        ensures half { TakesIdle Self.Sink.sending Self.Stream.receiving result }
         ensures counts { Counts (refusals self.old) (refusals self.new) result };
 
     /// Polls an `accept` that was pending.
     fn poll_accept<E: Env>(&mut self, env: &mut E, listener: &mut Self::Listener, task: u64) -> Result<Poll<(Addr, Self::Sink, Self::Stream)>, Error>
         ensures gives { (x : List Noted) × Adds (E.noted env.old) x (E.noted env.new) × polls_accept self.old listener.old task result self.new listener.new x }
+        ensures half { TakesIdle Self.Sink.sending Self.Stream.receiving result }
         ensures counts { Counts (refusals self.old) (refusals self.new) result };
 
     /// The address that the listener was bound at. It takes no memory.
