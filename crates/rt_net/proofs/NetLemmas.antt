@@ -2,7 +2,7 @@
 use Rattle.std.proofs.Common.{◌≡◌, ℕ, zero, suc, ◌+◌, List, [], ◌∷◌, ◌++◌, length, map, Option, Some, None, Result, Ok, Err, refl, sym, ap, ◌∙◌, subst, arith, option_map}
 use Rattle.std.specs.Prelude.{slice_set, MatchOption}
 use Rattle.std.specs.List.{slice_get}
-use Rattle.std.proofs.lemmas.List.{append-nil, map-append, length-map}
+use Rattle.std.proofs.lemmas.List.{append-nil, append_assoc, map-append, length-map}
 use Rattle.rt_base.specs.declared.addr.Addr.{Addr}
 use Rattle.rt_base.specs.declared.error.Error.{Error}
 use Rattle.rt_base.specs.declared.error.Error.TheVariants.{BindFailed, ConnectionFailed, PortsExhausted, UnknownToken, NoMemory}
@@ -194,3 +194,11 @@ calls-tells-woken v w None h = λ s st.
 pub adds-none : (kept : Option (List Noted)) → Adds kept [] kept
 adds-none None = tt
 adds-none (Some xs) = ap (λ ys. let o : Option (List Noted) = Some ys in o) (sym (append-nil xs))
+
+-- one thing is noted, and then these
+pub adds-more : (old mid new : Option (List Noted)) (a : Noted) (xs : List Noted) → Adds old (a ∷ []) mid → Adds mid xs new → Adds old (a ∷ xs) new
+adds-more None mid new a xs h k = tt
+adds-more (Some ys) mid new a xs h k =
+    let P : Option (List Noted) → Type 0 = λ m. Adds m xs new in
+    let there : new ≡ Some ((ys ++ a ∷ []) ++ xs) = subst P h k in
+    there ∙ ap (λ zs. let o : Option (List Noted) = Some zs in o) (append_assoc ys (a ∷ []) xs)

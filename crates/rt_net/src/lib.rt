@@ -23,3 +23,9 @@ mod place;
 pub mod reply;
 pub mod sink;
 pub mod stream;
+
+#[cfg(test)]
+mod passing;
+
+#[cfg(test)]
+mod tests;
