@@ -27,12 +27,14 @@ Table = List ChannelState
 
 -- a call on the channels alone
 calls-channels : (v w : Kept) (mid : NetworkState) (P K : Table → Table → Type 0) → ((cs new : Table) → AreCounted cs → K (map stored cs) new → (ds : Table) × P cs ds × (new ≡ map stored ds) × AreCounted ds) → OnChannels K v.state mid → w.state ≡ mid → Calls (OnChannels P) v w
+unfolding Calls
 calls-channels v w mid P K lift h e = λ s st.
     let there = subst (λ (x : NetworkState). K x.channels mid.channels) st.0 h.0 in
     let l = lift s.channels mid.channels st.1 there in
     (record s { channels = l.0 }, (l.1, refl), (e ∙ h.1 ∙ ap (λ (x : NetworkState). record x { channels = mid.channels }) st.0 ∙ ap (λ ds. record s { channels = ds }) l.2, l.3))
 
 pub calls-sends : (v w : Kept) (mid : NetworkState) (n : ℕ) (bytes : List ℕ) (task : ℕ) (r : Reply (Result (Poll Unit) Error)) → NetSends n bytes task r v.state mid → w.state ≡ mid → Calls (NetSends n bytes task r) v w
+unfolding Calls
 calls-sends v w mid n bytes task r h e = λ s st.
     let R : ChannelState → ChannelState → Type 0 = λ c d. Sends c bytes task r.value r.wake d in
     let unknown : Type 0 = (r.value ≡ Err UnknownToken) × (r.wake ≡ None) in
@@ -41,6 +43,7 @@ calls-sends v w mid n bytes task r h e = λ s st.
     (c.0, (c.1, h.1), c.2)
 
 pub calls-polls-send : (v w : Kept) (mid : NetworkState) (n task : ℕ) (r : Result (Poll Unit) Error) → NetPollsSend n task r v.state mid → w.state ≡ mid → Calls (NetPollsSend n task r) v w
+unfolding Calls
 calls-polls-send v w mid n task r h e =
     let R : ChannelState → ChannelState → Type 0 = λ c d. PollsSend c task r d in
     let unknown : Type 0 = r ≡ Err UnknownToken in
@@ -48,6 +51,7 @@ calls-polls-send v w mid n task r h e =
       (λ cs new all k. lift-at has_sink sink-life R R unknown cs new n all (λ c d hc k. lift-polls-send c task r d hc k) k) h e
 
 pub calls-receives : (v w : Kept) (mid : NetworkState) (n len task : ℕ) (r : Result (Reply (Poll Chunked)) Error) → OnChannels (λ cs ds. AtStream (λ c d. Keeps (Receives c len task r) d) (r ≡ Err UnknownToken) cs n ds) v.state mid → w.state ≡ mid → Calls (NetReceives n len task r) v w
+unfolding Calls
 calls-receives v w mid n len task r h e =
     let R : ChannelState → ChannelState → Type 0 = λ c d. Receives c len task r d in
     let K : ChannelState → ChannelState → Type 0 = λ c d. Keeps (Receives c len task r) d in
@@ -56,6 +60,7 @@ calls-receives v w mid n len task r h e =
       (λ cs new all k. lift-at has_stream stream-life R K unknown cs new n all (λ c d hc k. lift-receives c len task r d hc k) k) h e
 
 pub calls-polls-receive : (v w : Kept) (mid : NetworkState) (n task : ℕ) (r : Result (Poll Chunked) Error) → OnChannels (λ cs ds. AtStream (λ c d. Keeps (PollsReceive c task r) d) (r ≡ Err UnknownToken) cs n ds) v.state mid → w.state ≡ mid → Calls (NetPollsReceive n task r) v w
+unfolding Calls
 calls-polls-receive v w mid n task r h e =
     let R : ChannelState → ChannelState → Type 0 = λ c d. PollsReceive c task r d in
     let K : ChannelState → ChannelState → Type 0 = λ c d. Keeps (PollsReceive c task r) d in
@@ -65,6 +70,7 @@ calls-polls-receive v w mid n task r h e =
 
 -- a look that leaves all as it is
 pub calls-peeks : (v w : Kept) (n len : ℕ) (r : Result (List ℕ) Error) → NetPeeks n len r v.state v.state → w.state ≡ v.state → Calls (NetPeeks n len r) v w
+unfolding Calls
 calls-peeks v w n len r h e = λ s st.
     let there = subst (λ (x : NetworkState). MatchOption (live_stream x.channels n) (r ≡ Err UnknownToken) (λ c. Peeks c len r)) st.0 h.0 in
     (s, (peeks s.channels (live_stream s.channels n) refl (subst (λ o. MatchOption o (r ≡ Err UnknownToken) (λ c. Peeks c len r)) (live-map has_stream stream-life s.channels n) there), refl), (e ∙ st.0, st.1))
@@ -81,6 +87,7 @@ counted-one (x ∷ cs) d all one (suc n) c e = counted-one cs d (λ m y k. all (
 
 -- a channel more
 pub calls-opens : (v w : Kept) (size : ℕ) (r : Sink × Stream) → r ≡ (idle_sink (length v.state.channels), idle_stream (length v.state.channels)) → w.state ≡ record v.state { channels = v.state.channels ++ fresh size ∷ [] } → Calls (NetOpens size (Ok r)) v w
+unfolding Calls
 calls-opens v w size r h e = λ s st.
     let count : length v.state.channels ≡ length s.channels = ap (λ (x : NetworkState). length x.channels) st.0 ∙ length-map s.channels stored in
     (record s { channels = s.channels ++ fresh size ∷ [] },
@@ -90,31 +97,38 @@ calls-opens v w size r h e = λ s st.
 
 -- a refusal of it
 pub calls-refused : (v w : Kept) (size : ℕ) (x : Error) → w.state ≡ v.state → Calls (NetOpens size (Err x)) v w
+unfolding Calls
 calls-refused v w size x e = λ s st. (s, refl, (e ∙ st.0, st.1))
 
 -- a function of the channels
 calls-function : (v w : Kept) (f g : Table → Table) → ((cs : Table) → AreCounted cs → (g (map stored cs) ≡ map stored (f cs)) × AreCounted (f cs)) → w.state ≡ record v.state { channels = g v.state.channels } → Calls (λ s t. t ≡ record s { channels = f s.channels }) v w
+unfolding Calls
 calls-function v w f g lift e = λ s st.
     let l = lift s.channels st.1 in
     (record s { channels = f s.channels }, refl, (e ∙ ap (λ (x : NetworkState). record x { channels = g x.channels }) st.0 ∙ ap (λ ds. record s { channels = ds }) l.0, l.1))
 
 pub calls-gives-send-up : (v w : Kept) (n : ℕ) → NetGivesSendUp n v.state w.state → Calls (NetGivesSendUp n) v w
+unfolding Calls
 calls-gives-send-up v w n h = calls-function v w (λ cs. with_given_up_send cs n) (λ cs. with_given_up_send cs n) (λ cs all. lift-give-up-send cs n all) h
 
 pub calls-gives-recv-up : (v w : Kept) (n : ℕ) → NetGivesRecvUp n v.state w.state → Calls (NetGivesRecvUp n) v w
+unfolding Calls
 calls-gives-recv-up v w n h = calls-function v w (λ cs. with_given_up_recv cs n) (λ cs. with_given_up_recv cs n) (λ cs all. lift-give-up-recv cs n all) h
 
 pub calls-closes-sink : (v w : Kept) (n : ℕ) (r : Option ℕ) → r ≡ sink_wakes v.state.channels n → w.state ≡ record v.state { channels = without_sink v.state.channels n } → Calls (NetClosesSink n r) v w
+unfolding Calls
 calls-closes-sink v w n r wake e = λ s st.
     let c = calls-function v w (λ cs. with_closed_sink cs n) (λ cs. without_sink cs n) (λ cs all. lift-close-sink cs n all) e s st in
     (c.0, (wake ∙ ap (λ (x : NetworkState). sink_wakes x.channels n) st.0 ∙ sink_wakes-map s.channels n, c.1), c.2)
 
 pub calls-closes-stream : (v w : Kept) (n : ℕ) (r : Option ℕ) → r ≡ stream_wakes v.state.channels n → w.state ≡ record v.state { channels = without_stream v.state.channels n } → Calls (NetClosesStream n r) v w
+unfolding Calls
 calls-closes-stream v w n r wake e = λ s st.
     let c = calls-function v w (λ cs. with_closed_stream cs n) (λ cs. without_stream cs n) (λ cs all. lift-close-stream cs n all) e s st in
     (c.0, (wake ∙ ap (λ (x : NetworkState). stream_wakes x.channels n) st.0 ∙ stream_wakes-map s.channels n, c.1), c.2)
 
 pub calls-binds : (v w : Kept) (mid : NetworkState) (a : Addr) (r : Result Listener Error) → NetBinds a r v.state mid → w.state ≡ mid → Calls (NetBinds a r) v w
+unfolding Calls
 calls-binds v w mid a (Ok l) h e = λ s st.
     let k = subst (λ x. NetBinds a (Ok l) x mid) st.0 h in
     (record s { listeners = s.listeners ++ fresh_listener a ∷ [] }, (k.0, k.1, k.2, refl), (e ∙ k.3, st.1))
@@ -132,6 +146,7 @@ counted-two (x ∷ cs) d all one zero c e = all zero c e
 counted-two (x ∷ cs) d all one (suc n) c e = counted-two cs d (λ m y k. all (suc m) y k) one n c e
 
 pub calls-dials : (v w : Kept) (mid : NetworkState) (a : Addr) (r : Result (Reply (Sink × Stream)) Error) → NetDials a r v.state mid → w.state ≡ mid → Calls (NetDials a r) v w
+unfolding Calls
 calls-dials v w mid a (Ok r) h e = λ s st.
     let k = subst (λ x. NetDials a (Ok r) x mid) st.0 h in
     let count : length (map stored s.channels) ≡ length s.channels = length-map s.channels stored in
@@ -160,12 +175,14 @@ accepts-option s mid n task r None h = (s, (h.0, refl), h.1, refl)
 accepts-option s mid n task r (Some l) h = (record s { listeners = slice_set s.listeners n h.0 }, (h.0, h.1, refl), h.2, refl)
 
 pub calls-accepts : (v w : Kept) (mid : NetworkState) (n task : ℕ) (r : Result (Poll (Addr × Sink × Stream)) Error) → NetAccepts n task r v.state mid → w.state ≡ mid → Calls (NetAccepts n task r) v w
+unfolding Calls
 calls-accepts v w mid n task r h e = λ s st.
     let k = subst (λ x. NetAccepts n task r x mid) st.0 h in
     let o = accepts-option s mid n task r (live_listener s.listeners n) k in
     (o.0, o.1, (e ∙ o.2, subst AreCounted (sym o.3) st.1))
 
 pub calls-gives-accept-up : (v w : Kept) (n : ℕ) → NetGivesAcceptUp n v.state w.state → Calls (NetGivesAcceptUp n) v w
+unfolding Calls
 calls-gives-accept-up v w n h = λ s st.
     (record s { listeners = without_task s.listeners n }, refl, (h ∙ ap (λ (x : NetworkState). record x { listeners = without_task x.listeners n }) st.0, st.1))
 
@@ -178,11 +195,13 @@ closes-option s n (Some l) all =
      c.counted)
 
 pub calls-closes-listener : (v w : Kept) (n : ℕ) → w.state ≡ closed_at without_sink without_stream v.state n (live_listener v.state.listeners n) → Calls (NetClosesListener n) v w
+unfolding Calls
 calls-closes-listener v w n h = λ s st.
     let o = closes-option s n (live_listener s.listeners n) st.1 in
     (closed_at with_closed_sink with_closed_stream s n (live_listener s.listeners n), refl, (h ∙ ap (λ (x : NetworkState). closed_at without_sink without_stream x n (live_listener x.listeners n)) st.0 ∙ o.0, o.1))
 
 pub calls-tells-woken : (v w : Kept) (r : Option ℕ) → NetTellsWoken r v.state w.state → Calls (NetTellsWoken r) v w
+unfolding Calls
 calls-tells-woken v w (Some task) h = λ s st.
     let k = subst (λ x. NetTellsWoken (Some task) x w.state) st.0 h in
     (record s { woken = w.state.woken }, (k.0, refl), (k.1, st.1))

@@ -34,5 +34,5 @@ StandsFor v s = (v ≡ stored_network s) × AreCounted s.channels
 
 -- a call, by a relation of the records before and after it: for each record that the old value stands for, the new
 -- value stands for a record after it
-abbrev pub Calls : (NetworkState → NetworkState → Type 0) → Kept → Kept → Type 0
+unfoldable pub Calls : (NetworkState → NetworkState → Type 0) → Kept → Kept → Type 0
 Calls R old new = (s : NetworkState) → StandsFor old.state s → (t : NetworkState) × R s t × StandsFor new.state t
