@@ -202,7 +202,7 @@ fn exercise<N: Network>(net: &mut N, mut sink: N::Sink, mut stream: N::Stream, b
         put = seen(&net.poll_send(&mut NoEnv, &mut sink, 1));
     }
     let peeked = match net.peek(&mut NoEnv, &stream, 2) {
-        Ok(first) => first.len() == 2,
+        Ok(first) => first.len() <= 2,
         Err(_) => false,
     };
     if !stream.is_receiving() {
