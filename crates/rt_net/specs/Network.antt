@@ -1,0 +1,165 @@
+-- The network as a record: its port counter, the listeners ever bound, and the channels ever made. A sink, a stream
+-- and a listener have the number of their place in these lists. The rules are those of the source crate's
+-- deterministic network.
+use Rattle.std.specs.Prelude.{◌≡◌, ◌≢◌, ℕ, ◌+◌, ◌<◌, ◌≤◌, Bool, true, false, List, [], ◌∷◌, ◌++◌, length, map, Option, Some, None, Result, Ok, Err, if◌then◌else◌, slice_get, slice_set, option_to_list, MatchOption, ◌⊎◌, Contains}
+use Rattle.rt_base.specs.declared.addr.Addr.{Addr}
+use Rattle.rt_base.specs.declared.addr.Ip.TheVariants.{V4}
+use Rattle.rt_base.specs.declared.poll.Poll.{Poll}
+use Rattle.rt_base.specs.declared.poll.Poll.TheVariants.{Ready, Pending}
+use Rattle.rt_net.specs.declared.connection.Connection.{Connection}
+use Rattle.rt_net.specs.Channel.{ChannelState, receiver_task, closed_sink, closed_stream, given_up_send, given_up_recv, fresh}
+
+-- `waiting` is the connections that were dialed and not accepted, in the order of their dials, and `task` the task
+-- that waits for the next
+pub record ListenerState : Type 0 where
+  pub address : Addr
+  pub alive : Bool
+  pub waiting : List Connection
+  pub task : Option ℕ
+
+-- `port` is the port of the next dialer, and `woken` the tasks that the last closing of a listener woke and that
+-- were not told yet
+pub record NetworkState : Type 0 where
+  pub port : ℕ
+  pub listeners : List ListenerState
+  pub channels : List ChannelState
+  pub woken : List ℕ
+
+-- the addresses ever bound
+abbrev pub addresses : List ListenerState → List Addr
+addresses ls = map (λ l. l.address) ls
+
+-- The object of a number, where it is live.
+
+abbrev pub if_lives : (ChannelState → Bool) → Option ChannelState → Option ChannelState
+if_lives lives None = None
+if_lives lives (Some c) = if lives c then Some c else None
+
+abbrev pub has_sink : ChannelState → Bool
+has_sink c = c.sink.alive
+
+abbrev pub has_stream : ChannelState → Bool
+has_stream c = c.stream.alive
+
+abbrev pub live_sink : List ChannelState → ℕ → Option ChannelState
+live_sink cs n = if_lives has_sink (slice_get cs n)
+
+abbrev pub live_stream : List ChannelState → ℕ → Option ChannelState
+live_stream cs n = if_lives has_stream (slice_get cs n)
+
+abbrev pub if_listener_lives : Option ListenerState → Option ListenerState
+if_listener_lives None = None
+if_listener_lives (Some l) = if l.alive then Some l else None
+
+abbrev pub live_listener : List ListenerState → ℕ → Option ListenerState
+live_listener ls n = if_listener_lives (slice_get ls n)
+
+-- A call on one half: on its channel where the half is live, and else what is answered for an unknown token.
+
+abbrev pub At : (ChannelState → Bool) → (ChannelState → ChannelState → Type 0) → Type 0 → List ChannelState → ℕ → List ChannelState → Type 0
+At lives R unknown old n new =
+    MatchOption (if_lives lives (slice_get old n)) (unknown × (new ≡ old)) (λ c. (d : ChannelState) × R c d × (new ≡ slice_set old n d))
+
+abbrev pub AtSink : (ChannelState → ChannelState → Type 0) → Type 0 → List ChannelState → ℕ → List ChannelState → Type 0
+AtSink = At has_sink
+
+abbrev pub AtStream : (ChannelState → ChannelState → Type 0) → Type 0 → List ChannelState → ℕ → List ChannelState → Type 0
+AtStream = At has_stream
+
+-- A call on one half that isn't refused, and does nothing where the half isn't live.
+
+abbrev pub at : List ChannelState → ℕ → (ChannelState → ChannelState) → Option ChannelState → List ChannelState
+at cs n f None = cs
+at cs n f (Some c) = slice_set cs n (f c)
+
+-- the `send` of a sink is given up
+abbrev pub with_given_up_send : List ChannelState → ℕ → List ChannelState
+with_given_up_send cs n = at cs n given_up_send (live_sink cs n)
+
+-- the `recv` of a stream is given up
+abbrev pub with_given_up_recv : List ChannelState → ℕ → List ChannelState
+with_given_up_recv cs n = at cs n (λ c. given_up_recv c c.receiving) (live_stream cs n)
+
+-- a sink is closed
+abbrev pub with_closed_sink : List ChannelState → ℕ → List ChannelState
+with_closed_sink cs n = at cs n closed_sink (live_sink cs n)
+
+-- a stream is closed
+abbrev pub with_closed_stream : List ChannelState → ℕ → List ChannelState
+with_closed_stream cs n = at cs n closed_stream (live_stream cs n)
+
+-- the receiver that the closing of a sink wakes
+abbrev pub receiver_of : Option ChannelState → Option ℕ
+receiver_of None = None
+receiver_of (Some c) = receiver_task c.receiver
+
+abbrev pub sink_wakes : List ChannelState → ℕ → Option ℕ
+sink_wakes cs n = receiver_of (live_sink cs n)
+
+-- the sender that the closing of a stream wakes
+abbrev pub sender_of : Option ChannelState → Option ℕ
+sender_of None = None
+sender_of (Some c) = c.sender
+
+abbrev pub stream_wakes : List ChannelState → ℕ → Option ℕ
+stream_wakes cs n = sender_of (live_stream cs n)
+
+-- The closing of connections, one after the other, by what closing a sink and closing a stream leave; and the tasks
+-- that this wakes, a receiver before a sender.
+
+abbrev pub Closing : Type 0
+Closing = List ChannelState → ℕ → List ChannelState
+
+abbrev pub after_closing : Closing → Closing → List ChannelState → List Connection → List ChannelState
+after_closing k t cs [] = cs
+after_closing k t cs (c ∷ rest) = after_closing k t (t (k cs c.sink) c.stream) rest
+
+abbrev pub woken_by_closing : Closing → Closing → List ChannelState → List Connection → List ℕ
+woken_by_closing k t cs [] = []
+woken_by_closing k t cs (c ∷ rest) =
+    option_to_list (sink_wakes cs c.sink) ++ (option_to_list (stream_wakes (k cs c.sink) c.stream) ++ woken_by_closing k t (t (k cs c.sink) c.stream) rest)
+
+-- Listeners.
+
+-- a listener at an address, where nothing waits
+abbrev pub fresh_listener : Addr → ListenerState
+fresh_listener a = record { address = a; alive = true; waiting = []; task = None }
+
+-- a listener that was closed: its address stays taken
+abbrev pub closed_listener : ListenerState → ListenerState
+closed_listener l = record l { alive = false; waiting = []; task = None }
+
+-- the first connection is taken, or the task waits
+abbrev pub Accepts : ListenerState → ℕ → Poll Connection → ListenerState → Type 0
+Accepts l task (Ready c) new = (l.waiting ≡ c ∷ new.waiting) × (new ≡ record l { waiting = new.waiting; task = None })
+Accepts l task Pending new = (l.waiting ≡ []) × (new ≡ record l { task = Some task })
+
+-- the live listener of this number has this address
+abbrev pub IsLiveAt : List ListenerState → ℕ → Addr → Type 0
+IsLiveAt ls n a = (l : ListenerState) × (live_listener ls n ≡ Some l) × (l.address ≡ a)
+
+-- the task that waits for a connection
+abbrev pub waiting_task : Option ListenerState → Option ℕ
+waiting_task None = None
+waiting_task (Some l) = l.task
+
+abbrev pub at_listener : List ListenerState → ℕ → (ListenerState → ListenerState) → Option ListenerState → List ListenerState
+at_listener ls n f None = ls
+at_listener ls n f (Some l) = slice_set ls n (f l)
+
+-- a connection waits at a listener, and the task that waited for one is woken
+abbrev pub with_connection : List ListenerState → ℕ → Connection → List ListenerState
+with_connection ls n c = at_listener ls n (λ l. record l { waiting = l.waiting ++ c ∷ []; task = None }) (live_listener ls n)
+
+-- the wait for a connection is given up
+abbrev pub without_task : List ListenerState → ℕ → List ListenerState
+without_task ls n = at_listener ls n (λ l. record l { task = None }) (live_listener ls n)
+
+-- a listener is closed
+abbrev pub without_listener : List ListenerState → ℕ → List ListenerState
+without_listener ls n = at_listener ls n closed_listener (live_listener ls n)
+
+-- a call on a listener where it is live, and else what is answered for an unknown token
+abbrev pub AtListener : (ListenerState → ListenerState → Type 0) → Type 0 → List ListenerState → ℕ → List ListenerState → Type 0
+AtListener R unknown old n new =
+    MatchOption (live_listener old n) (unknown × (new ≡ old)) (λ l. (m : ListenerState) × R l m × (new ≡ slice_set old n m))

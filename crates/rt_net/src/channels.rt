@@ -1,0 +1,195 @@
+// All channels, by number.
+ghost use Rattle.std.specs.Prelude.{◌≡◌, ◌+◌, ◌^◌, ◌<◌, ◌≤◌, [], ◌∷◌, ◌++◌, length, OnOk, is_some, Err, MatchOption};
+ghost use Rattle.rt_base.specs.declared.error.Error.TheVariants.{UnknownToken};
+ghost use Rattle.rt_net.specs.Channel.{fresh, Sends, PollsSend, Receives, PollsReceive, Peeks, Keeps};
+ghost use Rattle.rt_net.specs.Network.{live_sink, live_stream, AtSink, AtStream, with_given_up_send, with_given_up_recv, sink_wakes, stream_wakes};
+ghost use Rattle.rt_net.specs.Table.{without_sink, without_stream};
+
+use crate::pipe::Pipe;
+use crate::reply::Reply;
+use rt_base::{Error, NoMemory, Poll};
+use rt_bufs::{IoBuf, IoBufs};
+use std::alloc::Global;
+use std::marker::Model;
+
+/// The channels ever made.
+#[derive(Drop)]
+pub struct Channels {
+    pipes: Vec<Pipe>,
+}
+
+impl Model for Channels {
+    ghost use Rattle.std.specs.Prelude.{◌-◌, vec_len, vec_capacity};
+    ghost use Rattle.rt_net.specs.Table.{Table};
+
+    ghost Value = { Table };
+
+    ghost view = { λ c. record { list = c.pipes.items; spare = vec_capacity c.pipes - vec_len c.pipes } };
+}
+
+impl Channels {
+    /// No channels.
+    pub fn new(alloc: Global) -> Channels
+        ensures { result.list ≡ [] }
+    {
+        Channels {
+            pipes: Vec::new(alloc),
+        }
+    }
+
+    /// How many were made.
+    pub fn len(&self) -> usize
+        ensures value { result ≡ length self.now.list }
+        ensures bound { result < 2 ^ 63 }
+    {
+        self.pipes.len()
+    }
+
+    /// Takes room for `count` more.
+    pub fn reserve(&mut self, count: usize) -> Result<(), NoMemory>
+        ensures list { self.new.list ≡ self.old.list }
+        ensures room { OnOk result (count ≤ self.new.spare) }
+    {
+        self.pipes.reserve(count)?;
+        Ok(())
+    }
+
+    /// Makes one, in the room that was taken.
+    pub fn add(&mut self, buffer_size: usize)
+        requires { 0 < self.old.spare }
+        ensures list { self.new.list ≡ self.old.list ++ fresh buffer_size ∷ [] }
+        ensures spare { self.new.spare + 1 ≡ self.old.spare }
+    {
+        let alloc = *self.pipes.allocator();
+        self.pipes.push_reserved(Pipe::new(alloc, buffer_size));
+    }
+
+    // Whether a live sink has the number.
+    fn has_sink(&self, number: u64) -> bool
+        ensures { result ≡ is_some (live_sink self.now.list number) }
+    {
+        match self.pipes.get(number as usize) {
+            Some(pipe) => pipe.has_sink(),
+            None => false,
+        }
+    }
+
+    // Whether a live stream has the number.
+    fn has_stream(&self, number: u64) -> bool
+        ensures { result ≡ is_some (live_stream self.now.list number) }
+    {
+        match self.pipes.get(number as usize) {
+            Some(pipe) => pipe.has_stream(),
+            None => false,
+        }
+    }
+
+    /// Sends on the sink of this number.
+    pub fn send(&mut self, number: u64, bufs: IoBufs, task: u64) -> Reply<Result<Poll<()>, Error>>
+        ensures sends { AtSink (λ c d. Sends c bufs.bytes task result.value result.wake d)
+            ((result.value ≡ Err UnknownToken) × (result.wake ≡ None)) self.old.list number self.new.list }
+        ensures link { result.link ≡ None }
+    {
+        if !self.has_sink(number) {
+            return Reply {
+                value: Err(Error::UnknownToken),
+                wake: None,
+                link: None,
+            };
+        }
+        let pipe = &mut self.pipes[number as usize];
+        pipe.send(bufs, task)
+    }
+
+    /// Polls the `send` of the sink of this number.
+    pub fn poll_send(&mut self, number: u64, task: u64) -> Result<Poll<()>, Error>
+        ensures { AtSink (λ c d. PollsSend c task result d) (result ≡ Err UnknownToken) self.old.list number self.new.list }
+    {
+        if !self.has_sink(number) {
+            return Err(Error::UnknownToken);
+        }
+        let pipe = &mut self.pipes[number as usize];
+        pipe.poll_send(task)
+    }
+
+    /// Receives on the stream of this number.
+    pub fn recv(&mut self, number: u64, len: usize, task: u64) -> Result<Reply<Poll<IoBufs>>, Error>
+        ensures { AtStream (λ c d. Keeps (Receives c len task result) d) (result ≡ Err UnknownToken) self.old.list number self.new.list }
+    {
+        if !self.has_stream(number) {
+            return Err(Error::UnknownToken);
+        }
+        let pipe = &mut self.pipes[number as usize];
+        pipe.recv(len, task)
+    }
+
+    /// Polls the `recv` of the stream of this number.
+    pub fn poll_recv(&mut self, number: u64, task: u64) -> Result<Poll<IoBufs>, Error>
+        ensures { AtStream (λ c d. Keeps (PollsReceive c task result) d) (result ≡ Err UnknownToken) self.old.list number self.new.list }
+    {
+        if !self.has_stream(number) {
+            return Err(Error::UnknownToken);
+        }
+        let pipe = &mut self.pipes[number as usize];
+        pipe.poll_recv(task)
+    }
+
+    /// A copy of the first bytes that the stream of this number holds.
+    pub fn peek(&self, number: u64, max_len: usize) -> Result<IoBuf, Error>
+        ensures { MatchOption (live_stream self.now.list number) (result ≡ Err UnknownToken) (λ c. Peeks c max_len result) }
+    {
+        if !self.has_stream(number) {
+            return Err(Error::UnknownToken);
+        }
+        let pipe = &self.pipes[number as usize];
+        pipe.peek(max_len)
+    }
+
+    /// Gives the `send` of the sink of this number up.
+    pub fn give_up_send(&mut self, number: u64)
+        ensures { self.new.list ≡ with_given_up_send self.old.list number }
+    {
+        if self.has_sink(number) {
+            let pipe = &mut self.pipes[number as usize];
+            pipe.give_up_send();
+        }
+    }
+
+    /// Gives the `recv` of the stream of this number up.
+    pub fn give_up_recv(&mut self, number: u64)
+        ensures { self.new.list ≡ with_given_up_recv self.old.list number }
+    {
+        if self.has_stream(number) {
+            let pipe = &mut self.pipes[number as usize];
+            pipe.give_up_recv();
+        }
+    }
+
+    /// Closes the sink of this number, and answers the receiver that this wakes.
+    pub fn close_sink(&mut self, number: u64) -> Option<u64>
+        ensures woken { result ≡ sink_wakes self.old.list number }
+        ensures closed { self.new.list ≡ without_sink self.old.list number }
+    {
+        if !self.has_sink(number) {
+            return None;
+        }
+        let pipe = &mut self.pipes[number as usize];
+        let wake = pipe.close_sink();
+        pipe.free();
+        wake
+    }
+
+    /// Closes the stream of this number, and answers the sender that this wakes.
+    pub fn close_stream(&mut self, number: u64) -> Option<u64>
+        ensures woken { result ≡ stream_wakes self.old.list number }
+        ensures closed { self.new.list ≡ without_stream self.old.list number }
+    {
+        if !self.has_stream(number) {
+            return None;
+        }
+        let pipe = &mut self.pipes[number as usize];
+        let wake = pipe.close_stream();
+        pipe.free();
+        wake
+    }
+}

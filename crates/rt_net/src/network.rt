@@ -1,0 +1,169 @@
+// The network, by what each call may answer, leave and note.
+//
+// Code over any `N: Network` is proved from this trait alone. There is one relation for each call, over the network
+// and the token before it, the arguments, the answer, the network and the token after it, and what the call noted in
+// the environment. So a wrapper states its own relations by those of what it wraps.
+ghost use Rattle.std.specs.Prelude.{◌≡◌, ◌≤◌, ℕ, Bool, true, false, List, Option, Result};
+ghost use Rattle.rt_base.specs.declared.addr.Addr.{Addr};
+ghost use Rattle.rt_base.specs.declared.error.Error.{Error};
+ghost use Rattle.rt_base.specs.declared.poll.Poll.{Poll};
+ghost use Rattle.rt_base.specs.Noted.{Noted, Adds};
+ghost use Rattle.rt_bufs.specs.Chunked.{Chunked};
+ghost use Rattle.rt_net.specs.declared.reply.Reply.{Reply};
+ghost use Rattle.rt_net.specs.Refusals.{Counts, is_pending, waits, AreIdle, TakesIdle};
+
+use crate::halves::{Receiving, Sending};
+use crate::reply::Reply;
+use rt_base::{Addr, Env, Error, Poll};
+use rt_bufs::{IoBuf, IoBufs};
+
+/// The sink of a network.
+pub type SinkOf<N> = <N as Network>::Sink;
+
+/// The stream of a network.
+pub type StreamOf<N> = <N as Network>::Stream;
+
+/// The listener of a network.
+pub type ListenerOf<N> = <N as Network>::Listener;
+
+/// Listeners, and channels whose halves are tokens that must be spent. `task` is the number of the task that calls,
+/// which waits where the answer is pending.
+pub trait Network {
+    type Listener;
+    type Sink: Sending;
+    type Stream: Receiving;
+
+    // How many calls were refused for another cause than want of memory.
+    ghost refusals: { Self → ℕ };
+
+    ghost sends: { Self → Self.Sink → Chunked → ℕ → Reply (Result (Poll Unit) Error) → Self → Self.Sink → List Noted → Type 0 };
+
+    ghost polls_send: { Self → Self.Sink → ℕ → Result (Poll Unit) Error → Self → Self.Sink → List Noted → Type 0 };
+
+    ghost receives: { Self → Self.Stream → ℕ → ℕ → Result (Reply (Poll Chunked)) Error → Self → Self.Stream → List Noted → Type 0 };
+
+    ghost polls_recv: { Self → Self.Stream → ℕ → Result (Poll Chunked) Error → Self → Self.Stream → List Noted → Type 0 };
+
+    ghost peeks: { Self → Self.Stream → ℕ → Result (List ℕ) Error → Self → List Noted → Type 0 };
+
+    ghost gives_send_up: { Self → Self.Sink → Self → Self.Sink → Type 0 };
+
+    ghost gives_recv_up: { Self → Self.Stream → Self → Self.Stream → Type 0 };
+
+    ghost closes_sink: { Self → Self.Sink → Option ℕ → Self → Type 0 };
+
+    ghost closes_stream: { Self → Self.Stream → Option ℕ → Self → Type 0 };
+
+    ghost binds: { Self → Addr → Result Self.Listener Error → Self → List Noted → Type 0 };
+
+    ghost dials: { Self → Addr → Result (Reply (Self.Sink × Self.Stream)) Error → Self → List Noted → Type 0 };
+
+    ghost accepts: { Self → Self.Listener → ℕ → Result (Poll (Addr × Self.Sink × Self.Stream)) Error → Self → Self.Listener → List Noted → Type 0 };
+
+    ghost polls_accept: { Self → Self.Listener → ℕ → Result (Poll (Addr × Self.Sink × Self.Stream)) Error → Self → Self.Listener → List Noted → Type 0 };
+
+    ghost has_address: { Self → Self.Listener → Addr → Type 0 };
+
+    ghost gives_accept_up: { Self → Self.Listener → Self → Self.Listener → Type 0 };
+
+    ghost closes_listener: { Self → Self.Listener → Self → Type 0 };
+
+    ghost tells_woken: { Self → Option ℕ → Self → Type 0 };
+
+    /// Sends the bytes, and is pending where too many are left in the channel.
+    fn send<E: Env>(&mut self, env: &mut E, sink: &mut Self::Sink, bufs: IoBufs, task: u64) -> Reply<Result<Poll<()>, Error>>
+        requires { Self.Sink.sending sink.old ≡ false }
+        ensures gives { (x : List Noted) × Adds (E.noted env.old) x (E.noted env.new) × sends self.old sink.old bufs task result self.new sink.new x }
+        ensures half { Self.Sink.sending sink.new ≡ is_pending result.value }
+        ensures counts { Counts (refusals self.old) (refusals self.new) result.value };
+
+    /// Polls a `send` that was pending.
+    fn poll_send<E: Env>(&mut self, env: &mut E, sink: &mut Self::Sink, task: u64) -> Result<Poll<()>, Error>
+        requires { Self.Sink.sending sink.old ≡ true }
+        ensures gives { (x : List Noted) × Adds (E.noted env.old) x (E.noted env.new) × polls_send self.old sink.old task result self.new sink.new x }
+        ensures half { Self.Sink.sending sink.new ≡ is_pending result }
+        ensures counts { Counts (refusals self.old) (refusals self.new) result };
+
+    /// Receives `len` bytes, and is pending where they aren't there.
+    fn recv<E: Env>(&mut self, env: &mut E, stream: &mut Self::Stream, len: usize, task: u64) -> Result<Reply<Poll<IoBufs>>, Error>
+        requires { Self.Stream.receiving stream.old ≡ false }
+        ensures gives { (x : List Noted) × Adds (E.noted env.old) x (E.noted env.new) × receives self.old stream.old len task result self.new stream.new x }
+        ensures half { Self.Stream.receiving stream.new ≡ waits result }
+        ensures counts { Counts (refusals self.old) (refusals self.new) result };
+
+    /// Polls a `recv` that was pending.
+    fn poll_recv<E: Env>(&mut self, env: &mut E, stream: &mut Self::Stream, task: u64) -> Result<Poll<IoBufs>, Error>
+        requires { Self.Stream.receiving stream.old ≡ true }
+        ensures gives { (x : List Noted) × Adds (E.noted env.old) x (E.noted env.new) × polls_recv self.old stream.old task result self.new stream.new x }
+        ensures half { Self.Stream.receiving stream.new ≡ is_pending result }
+        ensures counts { Counts (refusals self.old) (refusals self.new) result };
+
+    /// A copy of the first bytes that the stream holds, at most `max_len`.
+    fn peek<E: Env>(&mut self, env: &mut E, stream: &Self::Stream, max_len: usize) -> Result<IoBuf, Error>
+        ensures gives { (x : List Noted) × Adds (E.noted env.old) x (E.noted env.new) × peeks self.old stream.now max_len result self.new x }
+        ensures counts { Counts (refusals self.old) (refusals self.new) result };
+
+    /// Gives a `send` up. It takes no memory.
+    fn give_up_send(&mut self, sink: &mut Self::Sink)
+        ensures gives { gives_send_up self.old sink.old self.new sink.new }
+        ensures half { Self.Sink.sending sink.new ≡ false }
+        ensures counts { refusals self.old ≤ refusals self.new };
+
+    /// Gives a `recv` up. It takes no memory.
+    fn give_up_recv(&mut self, stream: &mut Self::Stream)
+        ensures gives { gives_recv_up self.old stream.old self.new stream.new }
+        ensures half { Self.Stream.receiving stream.new ≡ false }
+        ensures counts { refusals self.old ≤ refusals self.new };
+
+    /// Closes the sink, and answers the task that this wakes. It takes no memory.
+    fn close_sink(&mut self, sink: Self::Sink) -> Option<u64>
+        ensures gives { closes_sink self.old sink result self.new }
+        ensures counts { refusals self.old ≤ refusals self.new };
+
+    /// Closes the stream, and answers the task that this wakes. It takes no memory.
+    fn close_stream(&mut self, stream: Self::Stream) -> Option<u64>
+        ensures gives { closes_stream self.old stream result self.new }
+        ensures counts { refusals self.old ≤ refusals self.new };
+
+    /// Listens at an address.
+    fn bind<E: Env>(&mut self, env: &mut E, socket: Addr) -> Result<Self::Listener, Error>
+        ensures gives { (x : List Noted) × Adds (E.noted env.old) x (E.noted env.new) × binds self.old socket result self.new x }
+        ensures counts { Counts (refusals self.old) (refusals self.new) result };
+
+    /// Connects to the listener at an address.
+    fn dial<E: Env>(&mut self, env: &mut E, socket: Addr) -> Result<Reply<(Self::Sink, Self::Stream)>, Error>
+        ensures gives { (x : List Noted) × Adds (E.noted env.old) x (E.noted env.new) × dials self.old socket result self.new x }
+        ensures half { AreIdle Self.Sink.sending Self.Stream.receiving result }
+        ensures counts { Counts (refusals self.old) (refusals self.new) result };
+
+    /// Takes the next connection, with the address that it was dialed from, and is pending where none waits.
+    fn accept<E: Env>(&mut self, env: &mut E, listener: &mut Self::Listener, task: u64) -> Result<Poll<(Addr, Self::Sink, Self::Stream)>, Error>
+        ensures gives { (x : List Noted) × Adds (E.noted env.old) x (E.noted env.new) × accepts self.old listener.old task result self.new listener.new x }
+        ensures half { TakesIdle Self.Sink.sending Self.Stream.receiving result }
+        ensures counts { Counts (refusals self.old) (refusals self.new) result };
+
+    /// Polls an `accept` that was pending.
+    fn poll_accept<E: Env>(&mut self, env: &mut E, listener: &mut Self::Listener, task: u64) -> Result<Poll<(Addr, Self::Sink, Self::Stream)>, Error>
+        ensures gives { (x : List Noted) × Adds (E.noted env.old) x (E.noted env.new) × polls_accept self.old listener.old task result self.new listener.new x }
+        ensures half { TakesIdle Self.Sink.sending Self.Stream.receiving result }
+        ensures counts { Counts (refusals self.old) (refusals self.new) result };
+
+    /// The address that the listener was bound at. It takes no memory.
+    fn local_addr(&self, listener: &Self::Listener) -> Addr
+        ensures { has_address self.now listener.now result };
+
+    /// Gives an `accept` up. It takes no memory.
+    fn give_up_accept(&mut self, listener: &mut Self::Listener)
+        ensures gives { gives_accept_up self.old listener.old self.new listener.new }
+        ensures counts { refusals self.old ≤ refusals self.new };
+
+    /// Closes the listener and the connections that wait at it. It takes no memory.
+    fn close_listener(&mut self, listener: Self::Listener)
+        ensures gives { closes_listener self.old listener self.new }
+        ensures counts { refusals self.old ≤ refusals self.new };
+
+    /// The next task that the last closing of a listener woke. It takes no memory.
+    fn next_woken(&mut self) -> Option<u64>
+        ensures gives { tells_woken self.old result self.new }
+        ensures counts { refusals self.old ≤ refusals self.new };
+}

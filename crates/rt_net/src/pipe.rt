@@ -1,0 +1,391 @@
+// One channel: the bytes that were not answered yet, and who waits at its two ends.
+ghost use Rattle.std.specs.Prelude.{◌≡◌, ℕ, ◌+◌, ◌-◌, ◌<◌, ◌≤◌, min, [], ◌++◌, length, take, drop, OnOk, OnErr, IfOk, Ok, Err, Some, None, true, false};
+ghost use Rattle.rt_net.specs.Channel.{fresh, is_open, receiver_task, with_ended_sink, Sends, PollsSend, failed, closed_sink, closed_stream, given_up_send, given_up_recv, sent, appended, handed_task, is_drained, Settles, kept, answered, pulled, drained_task, moved, failed_recv, parked, Receives, PollsReceive, Peeks, Keeps, freed, held, left, IsNextAnswer};
+
+use crate::byte_queue::ByteQueue;
+use crate::half::{Half, Parked};
+use crate::reply::Reply;
+use rt_base::{Error, NoMemory, Poll};
+use rt_bufs::{IoBuf, IoBufs};
+use std::alloc::Global;
+use std::marker::Model;
+
+/// What is kept of a channel.
+#[derive(Drop)]
+pub struct Pipe {
+    bytes: ByteQueue,
+    held: usize,
+    ready: Option<IoBufs>,
+    buffer_size: usize,
+    receiver: Option<Parked>,
+    sender: Option<u64>,
+    sink: Half,
+    stream: Half,
+    receiving: Option<usize>,
+    sending: bool,
+}
+
+impl Model for Pipe {
+    ghost use Rattle.rt_net.specs.Channel.{ChannelState};
+
+    ghost Value = { ChannelState };
+
+    ghost use Rattle.rt_net.specs.Pipe.{channel_of, IsKept};
+
+    ghost view = { channel_of };
+
+    ghost invariant = { IsKept };
+}
+
+impl Pipe {
+    /// A channel without bytes.
+    pub fn new(alloc: Global, buffer_size: usize) -> Pipe
+        ensures { result ≡ fresh buffer_size }
+    {
+        Pipe {
+            bytes: ByteQueue::new(alloc),
+            held: 0,
+            ready: None,
+            buffer_size,
+            receiver: None,
+            sender: None,
+            sink: Half::new(),
+            stream: Half::new(),
+            receiving: None,
+            sending: false,
+        }
+    }
+
+    /// Whether the sink wasn't closed.
+    pub fn has_sink(&self) -> bool
+        ensures { result ≡ self.now.sink.alive }
+    {
+        self.sink.alive
+    }
+
+    /// Whether the stream wasn't closed.
+    pub fn has_stream(&self) -> bool
+        ensures { result ≡ self.now.stream.alive }
+    {
+        self.stream.alive
+    }
+
+    /// Sends the bytes for `task`.
+    pub fn send(&mut self, bufs: IoBufs, task: u64) -> Reply<Result<Poll<()>, Error>>
+        ensures sends { Sends self.old bufs.bytes task result.value result.wake self.new }
+        ensures link { result.link ≡ None }
+    {
+        if self.sink.is_spent() {
+            let wake = self.fail_sink();
+            return reply(Err(Error::Closed), wake);
+        }
+        if !self.stream.alive {
+            let wake = self.fail_sink();
+            return reply(Err(Error::SendFailed), wake);
+        }
+        match self.accept(bufs) {
+            Ok(wake) => reply(Ok(self.settle(task)), wake),
+            Err(_) => reply(Err(Error::NoMemory), None),
+        }
+    }
+
+    /// Polls a `send` that was started.
+    pub fn poll_send(&mut self, task: u64) -> Result<Poll<()>, Error>
+        ensures { PollsSend self.old task result self.new }
+    {
+        if self.bytes.len() - self.held <= self.buffer_size {
+            self.sender = None;
+            self.sending = false;
+            return Ok(Poll::Ready(()));
+        }
+        if !self.stream.alive {
+            let _ = self.fail_sink();
+            return Err(Error::SendFailed);
+        }
+        self.sender = Some(task);
+        self.sending = true;
+        Ok(Poll::Pending)
+    }
+
+    /// Receives `len` bytes for `task`.
+    pub fn recv(&mut self, len: usize, task: u64) -> Result<Reply<Poll<IoBufs>>, Error>
+        ensures { Keeps (Receives self.old len task result) self.new }
+    {
+        if self.stream.is_spent() {
+            return Err(Error::Closed);
+        }
+        if self.held_after(len) < len {
+            let wake = self.pull(len);
+            if !self.sink.is_open() {
+                self.fail_recv();
+                return Err(Error::RecvFailed);
+            }
+            self.park(len, task);
+            return Ok(reply(Poll::Pending, wake));
+        }
+        let bytes = first_bytes(self.bytes.alloc(), self.bytes.as_slice(), &[], len)?;
+        let wake = self.pull(len);
+        self.answer(len);
+        Ok(reply(Poll::Ready(bytes), wake))
+    }
+
+    /// Polls a `recv` that was started.
+    pub fn poll_recv(&mut self, task: u64) -> Result<Poll<IoBufs>, Error>
+        ensures { Keeps (PollsReceive self.old task result) self.new }
+    {
+        let Some(len) = self.receiving else {
+            self.answer(0);
+            return Ok(Poll::Ready(IoBufs::new(self.bytes.alloc())));
+        };
+        if self.held < len {
+            if !self.sink.is_open() {
+                self.fail_recv();
+                return Err(Error::RecvFailed);
+            }
+            self.park(len, task);
+            return Ok(Poll::Pending);
+        }
+        let Some(bytes) = self.ready.take() else {
+            unreachable!()
+        };
+        self.receiver = None;
+        self.receiving = None;
+        self.answer(len);
+        Ok(Poll::Ready(bytes))
+    }
+
+    /// A copy of the first bytes held, at most `max_len`.
+    pub fn peek(&self, max_len: usize) -> Result<IoBuf, Error>
+        ensures { Peeks self.now max_len result }
+    {
+        let first = &self.bytes.as_slice()[..max_len.min(self.held)];
+        let bytes = first.to_vec(self.bytes.alloc())?;
+        Ok(IoBuf::from_vec(bytes)?)
+    }
+
+    /// Gives a started `send` up.
+    pub fn give_up_send(&mut self)
+        ensures { self.new ≡ given_up_send self.old }
+    {
+        if self.sending {
+            self.sender = None;
+            self.sending = false;
+            self.sink.given_up = true;
+        }
+    }
+
+    /// Gives a started `recv` up.
+    pub fn give_up_recv(&mut self)
+        ensures { self.new ≡ given_up_recv self.old self.old.receiving }
+    {
+        if let Some(_) = self.receiving {
+            self.receiver = None;
+            self.receiving = None;
+            self.stream.given_up = true;
+        }
+    }
+
+    /// Closes the sink, and answers the receiver that this wakes.
+    pub fn close_sink(&mut self) -> Option<u64>
+        ensures woken { result ≡ receiver_task self.old.receiver }
+        ensures closed { self.new ≡ closed_sink self.old }
+    {
+        let wake = self.waiting_receiver();
+        self.sink.alive = false;
+        self.sender = None;
+        self.sending = false;
+        self.receiver = None;
+        wake
+    }
+
+    /// Closes the stream, and answers the sender that this wakes.
+    pub fn close_stream(&mut self) -> Option<u64>
+        ensures woken { result ≡ self.old.sender }
+        ensures closed { self.new ≡ closed_stream self.old }
+    {
+        let wake = self.sender;
+        self.stream.alive = false;
+        self.ready = None;
+        self.receiver = None;
+        self.receiving = None;
+        self.sender = None;
+        wake
+    }
+
+    // Takes bytes in, and answers the receiver that this wakes.
+    fn accept(&mut self, bufs: IoBufs) -> Result<Option<u64>, NoMemory>
+        ensures woken { IfOk result (λ wake. wake ≡ handed_task (appended self.old bufs.bytes) self.old.receiver) }
+        ensures taken { OnOk result (self.new ≡ record (sent self.old bufs.bytes) { sender = None; sending = false }) }
+        ensures refused { OnErr result (self.new ≡ self.old) }
+    {
+        let bytes = bufs.coalesce()?;
+        let answer = self.next_answer(bytes.as_slice())?;
+        self.take_in(bytes.as_slice(), answer)
+    }
+
+    // Takes bytes in, and hands them to a parked `recv` that they complete.
+    fn take_in(&mut self, bytes: &[u8], answer: Option<IoBufs>) -> Result<Option<u64>, NoMemory>
+        requires { IsNextAnswer self.old bytes.now self.old.receiver answer }
+        ensures woken { IfOk result (λ wake. wake ≡ handed_task (appended self.old bytes.now) self.old.receiver) }
+        ensures taken { OnOk result (self.new ≡ record (sent self.old bytes.now) { sender = None; sending = false }) }
+        ensures refused { OnErr result (self.new ≡ self.old) }
+    {
+        self.bytes.extend(bytes)?;
+        self.sender = None;
+        self.sending = false;
+        match (answer, self.receiver) {
+            (Some(answer), Some(parked)) => {
+                let left = self.bytes.len() - self.held;
+                self.held += left.min(parked.need.max(self.buffer_size));
+                self.ready = Some(answer);
+                self.receiver = None;
+                Ok(Some(parked.task))
+            }
+            (_, _) => Ok(None),
+        }
+    }
+
+    // The sender goes on, or parks.
+    fn settle(&mut self, task: u64) -> Poll<()>
+        requires { self.old.stream.alive ≡ true }
+        ensures { Settles self.old task result self.new }
+    {
+        if self.bytes.len() - self.held <= self.buffer_size {
+            self.sender = None;
+            self.sending = false;
+            return Poll::Ready(());
+        }
+        self.sender = Some(task);
+        self.sending = true;
+        Poll::Pending
+    }
+
+    // How many bytes the stream holds once a `recv` of `len` bytes has moved what it may.
+    fn held_after(&self, len: usize) -> usize
+        ensures { result ≡ held (moved self.now len) }
+    {
+        let left = self.bytes.len() - self.held;
+        self.held + left.min(len.max(self.buffer_size).saturating_sub(self.held))
+    }
+
+    // Moves the bytes that a `recv` of `len` bytes may move, and answers the sender that this wakes.
+    // What was started before is over.
+    fn pull(&mut self, len: usize) -> Option<u64>
+        ensures woken { result ≡ drained_task (moved self.old len) }
+        ensures pulled { self.new ≡ record (pulled self.old len) { receiver = None; receiving = None } }
+    {
+        self.held = self.held_after(len);
+        self.receiver = None;
+        self.receiving = None;
+        if self.bytes.len() - self.held > self.buffer_size {
+            return None;
+        }
+        self.sender.take()
+    }
+
+    // Parks the `recv` of `len` bytes.
+    fn park(&mut self, len: usize, task: u64)
+        requires lacks { held self.old < len }
+        requires opened { is_open self.old.sink ≡ true }
+        requires empty { left self.old < len - held self.old }
+        ensures { self.new ≡ parked self.old len task }
+    {
+        self.receiver = Some(Parked {
+            need: len - self.held,
+            task,
+        });
+        self.receiving = Some(len);
+    }
+
+    // The `recv` fails for good.
+    fn fail_recv(&mut self)
+        ensures { self.new ≡ failed_recv self.old }
+    {
+        self.stream.failed = true;
+        self.receiver = None;
+        self.receiving = None;
+    }
+
+    // Takes the first `len` bytes out, which were answered.
+    fn answer(&mut self, len: usize)
+        requires { len ≤ held self.old }
+        ensures { self.new ≡ kept (answered self.old len) }
+    {
+        self.receiver = None;
+        self.receiving = None;
+        self.bytes.advance(len);
+        self.held -= len;
+    }
+
+    // The sink fails for good.
+    fn fail_sink(&mut self) -> Option<u64>
+        ensures woken { result ≡ receiver_task self.old.receiver }
+        ensures ended { self.new ≡ with_ended_sink self.old (failed self.old.sink) }
+    {
+        let wake = self.waiting_receiver();
+        self.sink.failed = true;
+        self.sender = None;
+        self.sending = false;
+        self.receiver = None;
+        wake
+    }
+
+    // The answer of the parked `recv`, where `bytes` complete it.
+    fn next_answer(&self, bytes: &[u8]) -> Result<Option<IoBufs>, NoMemory>
+        ensures { IfOk result (λ r. IsNextAnswer self.now bytes.now self.now.receiver r) }
+    {
+        let Some(parked) = self.receiver else {
+            return Ok(None);
+        };
+        let left = self.bytes.len() - self.held;
+        if bytes.len() < parked.need - left {
+            return Ok(None);
+        }
+        let len = self.receiving.unwrap_or(0);
+        let answer = first_bytes(self.bytes.alloc(), self.bytes.as_slice(), bytes, len)?;
+        Ok(Some(answer))
+    }
+
+    /// Gives the memory of the bytes back, where no half is alive.
+    pub fn free(&mut self)
+        ensures { self.new ≡ freed self.old }
+    {
+        if !self.sink.alive && !self.stream.alive {
+            self.bytes = ByteQueue::new(self.bytes.alloc());
+            self.held = 0;
+        }
+    }
+
+    // The task of the parked `recv`.
+    fn waiting_receiver(&self) -> Option<u64>
+        ensures { result ≡ receiver_task self.now.receiver }
+    {
+        match self.receiver {
+            Some(parked) => Some(parked.task),
+            None => None,
+        }
+    }
+}
+
+// An answer with the task that it wakes.
+fn reply<V>(value: V, wake: Option<u64>) -> Reply<V>
+    ensures { result ≡ record { value = value; wake = wake; link = None } }
+{
+    Reply {
+        value,
+        wake,
+        link: None,
+    }
+}
+
+// A copy of the first `len` bytes of `front` and then `back`.
+fn first_bytes(alloc: Global, front: &[u8], back: &[u8], len: usize) -> Result<IoBufs, NoMemory>
+    ensures { IfOk result (λ b. b.bytes ≡ take len (front.now ++ back.now)) }
+{
+    let of_front = len.min(front.len());
+    let of_back = (len - of_front).min(back.len());
+    let mut bytes = Vec::with_capacity(alloc, of_front + of_back)?;
+    bytes.extend_from_slice(&front[..of_front])?;
+    bytes.extend_from_slice(&back[..of_back])?;
+    IoBufs::from_buf(alloc, IoBuf::from_vec(bytes)?)
+}

@@ -1,0 +1,13 @@
+// What a call on the network answers.
+use rt_base::Nanos;
+
+/// An answer, and the task that the call wakes.
+#[derive(Debug, Drop)]
+pub struct Reply<V> {
+    /// The answer.
+    pub value: V,
+    /// The number of the one task to wake.
+    pub wake: Option<u64>,
+    /// The number of a stream and when its bytes arrive there; None, since bytes arrive at once.
+    pub link: Option<(u64, Nanos)>,
+}

@@ -1,0 +1,35 @@
+// The sink of a channel of a `Net`.
+ghost use Rattle.std.specs.Prelude.{◌≡◌};
+
+use crate::halves::Sending;
+
+/// The half of a channel from which bytes are sent. It must be spent by `Network::close_sink`.
+#[derive(Debug)]
+pub struct Sink {
+    pub(crate) number: u64,
+    pub(crate) sending: bool,
+}
+
+impl Sink {
+    /// The number that it has in its `Net`, where no other sink has it.
+    pub fn number(&self) -> u64
+        ensures { result ≡ self.now.number }
+    {
+        self.number
+    }
+
+    /// Whether a `send` is started and neither answered nor given up.
+    pub fn is_sending(&self) -> bool
+        ensures { result ≡ self.now.sending }
+    {
+        self.sending
+    }
+}
+
+impl Sending for Sink {
+    ghost sending = { λ k. k.sending };
+
+    fn is_sending(&self) -> bool {
+        self.sending
+    }
+}

@@ -1,0 +1,35 @@
+// The stream of a channel of a `Net`.
+ghost use Rattle.std.specs.Prelude.{◌≡◌};
+
+use crate::halves::Receiving;
+
+/// The half of a channel at which bytes are received. It must be spent by `Network::close_stream`.
+#[derive(Debug)]
+pub struct Stream {
+    pub(crate) number: u64,
+    pub(crate) receiving: bool,
+}
+
+impl Stream {
+    /// The number that it has in its `Net`, where no other stream has it.
+    pub fn number(&self) -> u64
+        ensures { result ≡ self.now.number }
+    {
+        self.number
+    }
+
+    /// Whether a `recv` is started and neither answered nor given up.
+    pub fn is_receiving(&self) -> bool
+        ensures { result ≡ self.now.receiving }
+    {
+        self.receiving
+    }
+}
+
+impl Receiving for Stream {
+    ghost receiving = { λ k. k.receiving };
+
+    fn is_receiving(&self) -> bool {
+        self.receiving
+    }
+}
