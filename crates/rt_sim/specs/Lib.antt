@@ -1,3 +1,4 @@
 pub mod Did
 pub mod Ran
+pub mod Report
 pub mod Script

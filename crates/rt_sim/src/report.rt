@@ -1,5 +1,10 @@
 //! The report of a run, written through a buffer.
 
+ghost use Rattle.std.specs.Prelude.{◌≡◌, ◌≤◌, ◌++◌, Err, OnOk, codes, string_bytes};
+ghost use Rattle.rt_base.specs.Outside.{Appends, HasRisen};
+ghost use Rattle.rt_audit.specs.Lines.{line_of};
+ghost use Rattle.rt_sim.specs.Report.{report_text, entries_text, result_text, numbers_text, word_of, IsWritten};
+
 use crate::{RunReport, RunResult};
 use rt_audit::Entry;
 use rt_base::{Failed, NoMemory, Sink8, write_whole};
@@ -18,18 +23,33 @@ pub enum Unwritten {
 }
 
 impl From<NoMemory> for Unwritten {
+    ghost use Rattle.std.specs.Prelude.{◌≡◌};
+    ghost use Rattle.rt_sim.specs.declared.report.Unwritten.TheVariants.{NoMemory};
+
+    ghost from_gives = { λ _ e. e ≡ NoMemory };
+
     fn from(_: NoMemory) -> Unwritten {
         Unwritten::NoMemory
     }
 }
 
 impl From<AllocError> for Unwritten {
+    ghost use Rattle.std.specs.Prelude.{◌≡◌};
+    ghost use Rattle.rt_sim.specs.declared.report.Unwritten.TheVariants.{NoMemory};
+
+    ghost from_gives = { λ _ e. e ≡ NoMemory };
+
     fn from(_: AllocError) -> Unwritten {
         Unwritten::NoMemory
     }
 }
 
 impl From<Failed> for Unwritten {
+    ghost use Rattle.std.specs.Prelude.{◌≡◌};
+    ghost use Rattle.rt_sim.specs.declared.report.Unwritten.TheVariants.{Failed};
+
+    ghost from_gives = { λ _ e. e ≡ Failed };
+
     fn from(_: Failed) -> Unwritten {
         Unwritten::Failed
     }
@@ -41,25 +61,64 @@ pub fn write_report<K: Sink8>(
     sink: &mut K,
     run: &RunReport,
     entries: &[Entry],
-) -> Result<(), Unwritten> {
+) -> Result<(), Unwritten>
+    ensures whole { OnOk result (Appends (K.held sink.old) (report_text run.now entries.now) (K.held sink.new)) }
+    ensures cause { result ≡ Err Unwritten.Failed → HasRisen (K.faults sink.old) (K.faults sink.new) }
+    ensures counted { K.faults sink.old ≤ K.faults sink.new }
+{
     let mut buffer = String::new(alloc);
     let root = run.root.as_str();
     write!(buffer, "run {root}\n")?;
-    for entry in entries {
-        entry.add_to(alloc, &mut buffer)?;
-        buffer.push_str("\n")?;
-        if buffer.len() >= BUFFER {
-            write_whole(sink, buffer.as_bytes())?;
-            buffer.clear();
-        }
-    }
-    add_result(&mut buffer, run)?;
+    write_entries(alloc, sink, &mut buffer, entries)?;
+    add_result(&mut buffer, &run.result)?;
+    add_numbers(&mut buffer, run)?;
     write_whole(sink, buffer.as_bytes())?;
     Ok(())
 }
 
-fn add_result(text: &mut String, run: &RunReport) -> Result<(), Unwritten> {
-    match &run.result {
+/// Writes a line for each entry, the last of them into the buffer alone.
+#[tactic(auto, using(crate::proofs::Written::written_later))]
+fn write_entries<K: Sink8>(
+    alloc: Global,
+    sink: &mut K,
+    buffer: &mut String,
+    entries: &[Entry],
+) -> Result<(), Unwritten>
+    ensures written { OnOk result (IsWritten (K.held sink.old) (string_bytes buffer.old ++ entries_text entries.now) (K.held sink.new) (string_bytes buffer.new)) }
+    ensures cause { result ≡ Err Unwritten.Failed → HasRisen (K.faults sink.old) (K.faults sink.new) }
+    ensures counted { K.faults sink.old ≤ K.faults sink.new }
+{
+    for entry in entries {
+        write_entry(alloc, sink, buffer, entry)?;
+    }
+    Ok(())
+}
+
+/// Puts the line of an entry into the buffer, and writes the buffer out where it is full.
+#[tactic(auto, using(crate::proofs::Written::written_out))]
+fn write_entry<K: Sink8>(
+    alloc: Global,
+    sink: &mut K,
+    buffer: &mut String,
+    entry: &Entry,
+) -> Result<(), Unwritten>
+    ensures written { OnOk result (IsWritten (K.held sink.old) (string_bytes buffer.old ++ (line_of entry.now ++ codes "\n")) (K.held sink.new) (string_bytes buffer.new)) }
+    ensures cause { result ≡ Err Unwritten.Failed → HasRisen (K.faults sink.old) (K.faults sink.new) }
+    ensures counted { K.faults sink.old ≤ K.faults sink.new }
+{
+    entry.add_to(alloc, buffer)?;
+    buffer.push_str("\n")?;
+    if buffer.len() >= BUFFER {
+        write_whole(sink, buffer.as_bytes())?;
+        buffer.clear();
+    }
+    Ok(())
+}
+
+fn add_result(text: &mut String, ended: &RunResult) -> Result<(), NoMemory>
+    ensures { OnOk result (string_bytes text.new ≡ string_bytes text.old ++ result_text ended.now) }
+{
+    match ended {
         RunResult::Ok(value) => {
             let value = *value;
             write!(text, "result ok {value}\n")?;
@@ -69,13 +128,21 @@ fn add_result(text: &mut String, run: &RunReport) -> Result<(), Unwritten> {
             write!(text, "result {word}\n")?;
         }
     }
+    Ok(())
+}
+
+fn add_numbers(text: &mut String, run: &RunReport) -> Result<(), NoMemory>
+    ensures { OnOk result (string_bytes text.new ≡ string_bytes text.old ++ numbers_text run.now) }
+{
     let time = run.time;
     let rounds = run.rounds;
     write!(text, "time {time}\nrounds {rounds}\ndigest 00000000\n")?;
     Ok(())
 }
 
-fn error_word(error: &RunError) -> &'static str {
+fn error_word(error: &RunError) -> &'static str
+    ensures { result.now ≡ word_of error.now }
+{
     match error {
         RunError::Timeout => "timeout",
         RunError::Stalled => "stalled",

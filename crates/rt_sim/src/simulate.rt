@@ -1,10 +1,12 @@
 //! The call of the program.
 
-ghost use Rattle.std.specs.Prelude.{◌≡◌, ◌<◌, ◌⊎◌, ℕ, List, true, length, IfSome};
-ghost use Rattle.rt_base.specs.Outside.{HasRisen};
+ghost use Rattle.std.specs.Prelude.{◌≡◌, ◌<◌, ◌⊎◌, ◌∷◌, [], ℕ, List, true, length, IfSome};
+ghost use Rattle.rt_base.specs.Outside.{HasRisen, Appends};
 ghost use Rattle.rt_scenario.specs.Scenario.{scenario_of, Whole, BrokenAt};
 ghost use Rattle.rt_scenario.specs.declared.scenario.Scenario.{Scenario};
 ghost use Rattle.rt_scenario.specs.declared.kind.Kind.{Kind};
+ghost use Rattle.rt_sim.specs.Report.{report_text, refusal_text};
+ghost use Rattle.rt_sim.specs.declared.outcome.RunReport.{RunReport};
 ghost use Rattle.rt_sim.specs.Ran.{is_reported, is_run, is_read, Reports, Simulates};
 
 use crate::report::{Unwritten, write_report};
@@ -31,6 +33,8 @@ pub fn simulate_alone<S: Source, K: Sink8>(
 ) -> Outcome
     ensures ran { is_reported result.status ≡ true → (bytes : List ℕ) × IfSome (S.left source.old) (λ left. bytes ≡ left) × (s : Scenario) × (scenario_of bytes ≡ Whole s) × Simulates s result }
     ensures refused { result.status ≡ 3 → (IfSome (S.left source.old) (λ left. LONGEST < length left)) ⊎ ((bytes : List ℕ) × IfSome (S.left source.old) (λ left. bytes ≡ left) × (line : ℕ) × (kind : Kind) × (scenario_of bytes ≡ BrokenAt line kind)) }
+    ensures text { is_reported result.status ≡ true → (run : RunReport) × (result.runs ≡ run ∷ []) × Appends (K.held sink.old) (report_text run result.journal.entries) (K.held sink.new) }
+    ensures unwritten { result.status ≡ 5 → HasRisen (K.faults sink.old) (K.faults sink.new) }
     ensures unread { result.status ≡ 4 → HasRisen (S.faults source.old) (S.faults source.new) }
 {
     let [word] = words else {
@@ -70,7 +74,7 @@ fn nothing(alloc: Global, status: u8) -> Outcome
 
 /// Writes a line, and answers a status.
 fn refuse<K: Sink8>(alloc: Global, sink: &mut K, status: u8, line: &str) -> Outcome
-    ensures status { (result.status ≡ status) ⊎ (result.status ≡ 5) }
+    ensures said { ((result.status ≡ status) × Appends (K.held sink.old) line.now (K.held sink.new)) ⊎ ((result.status ≡ 5) × HasRisen (K.faults sink.old) (K.faults sink.new)) }
 {
     match write_whole(sink, line.as_bytes()) {
         Ok(()) => nothing(alloc, status),
@@ -83,6 +87,8 @@ fn run_bytes<K: Sink8>(alloc: Global, bytes: &[u8], sink: &mut K) -> Outcome
     ensures ran { is_reported result.status ≡ true → (s : Scenario) × (scenario_of bytes.now ≡ Whole s) × Simulates s result }
     ensures refused { result.status ≡ 3 → (line : ℕ) × (kind : Kind) × (scenario_of bytes.now ≡ BrokenAt line kind) }
     ensures statuses { is_read result.status ≡ true }
+    ensures text { is_reported result.status ≡ true → (run : RunReport) × (result.runs ≡ run ∷ []) × Appends (K.held sink.old) (report_text run result.journal.entries) (K.held sink.new) }
+    ensures unwritten { result.status ≡ 5 → HasRisen (K.faults sink.old) (K.faults sink.new) }
 {
     match read_scenario(alloc, bytes) {
         Err(Refusal::NoMemory) => nothing(alloc, 7),
@@ -92,7 +98,7 @@ fn run_bytes<K: Sink8>(alloc: Global, bytes: &[u8], sink: &mut K) -> Outcome
 }
 
 fn refuse_broken<K: Sink8>(alloc: Global, sink: &mut K, broken: Broken) -> Outcome
-    ensures status { (result.status ≡ 3) ⊎ ((result.status ≡ 5) ⊎ (result.status ≡ 7)) }
+    ensures said { ((result.status ≡ 3) × Appends (K.held sink.old) (refusal_text broken) (K.held sink.new)) ⊎ (((result.status ≡ 5) × HasRisen (K.faults sink.old) (K.faults sink.new)) ⊎ (result.status ≡ 7)) }
 {
     let Broken { line, kind } = broken;
     match format!(in alloc; "error {line} {kind}\n") {
@@ -105,6 +111,8 @@ fn refuse_broken<K: Sink8>(alloc: Global, sink: &mut K, broken: Broken) -> Outco
 fn run_scenario<K: Sink8>(alloc: Global, scenario: Scenario, sink: &mut K) -> Outcome
     ensures ran { is_reported result.status ≡ true → Simulates scenario result }
     ensures statuses { is_run result.status ≡ true }
+    ensures text { is_reported result.status ≡ true → (run : RunReport) × (result.runs ≡ run ∷ []) × Appends (K.held sink.old) (report_text run result.journal.entries) (K.held sink.new) }
+    ensures unwritten { result.status ≡ 5 → HasRisen (K.faults sink.old) (K.faults sink.new) }
 {
     let Scenario {
         timeout,
@@ -155,6 +163,8 @@ fn report_run<K: Sink8>(
     ensures reports { is_reported result.status ≡ true → Reports root ended result }
     ensures journal { result.journal.entries ≡ journal.entries }
     ensures statuses { is_run result.status ≡ true }
+    ensures text { is_reported result.status ≡ true → (run : RunReport) × (result.runs ≡ run ∷ []) × Appends (K.held sink.old) (report_text run result.journal.entries) (K.held sink.new) }
+    ensures unwritten { result.status ≡ 5 → HasRisen (K.faults sink.old) (K.faults sink.new) }
 {
     let status = match &ended {
         RunResult::Ok(_) => 0,

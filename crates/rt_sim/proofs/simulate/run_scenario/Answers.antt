@@ -21,6 +21,8 @@ returns-in-Ok-start_and_recover g c =
         reports = search rules;
       };
       statuses = search rules;
+      text = search rules;
+      unwritten = search rules;
     }
 
 pub returns : goal.returns
@@ -38,4 +40,6 @@ returns g c =
         reports = search rules;
       };
       statuses = search rules;
+      text = search rules;
+      unwritten = search rules;
     }
