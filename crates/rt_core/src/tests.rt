@@ -43,9 +43,10 @@ impl Task for Probe {
         let Ok(over) = self.context.sleep_until(self.context.current(world)) else {
             return Answer::NoMemory;
         };
-        poll_once(ahead, world, cx);
-        poll_once(over, world, cx);
-        poll_once(reschedule(), world, cx);
+        poll_twice(ahead, world, cx);
+        poll_twice(over, world, cx);
+        poll_twice(reschedule(), world, cx);
+        let _ = world.wake(9);
         Answer::NoMemory
     }
 
@@ -55,8 +56,8 @@ impl Task for Probe {
     }
 }
 
-/// Polls it once, and gives it up.
-fn poll_once<T: Outcome, P: Poller<T, ()> + Drop, G: Rng>(
+/// Polls it twice, and gives it up.
+fn poll_twice<T: Outcome, P: Poller<T, ()> + Drop, G: Rng>(
     poller: P,
     world: &mut World<T, T::Output, G>,
     cx: &Cx,
@@ -68,12 +69,14 @@ fn poll_once<T: Outcome, P: Poller<T, ()> + Drop, G: Rng>(
 {
     let mut poller = poller;
     let _ = poller.poll(world, cx);
+    let _ = poller.poll(world, cx);
     poller.give_up(world);
 }
 
-/// Makes a probe.
+/// Makes a probe, or closes its context and makes none.
 #[derive(Clone, Copy)]
 struct RootProbe {
+    makes: bool,
     calls: bool,
 }
 
@@ -85,8 +88,12 @@ impl RootMaker<Probe> for RootProbe {
     fn make<G: Rng>(
         self,
         context: Context,
-        _world: &mut World<Probe, u64, G>,
+        world: &mut World<Probe, u64, G>,
     ) -> Result<Probe, NoMemory> {
+        if !self.makes {
+            context.close(world);
+            return Err(NoMemory);
+        }
         Ok(Probe {
             context,
             calls: self.calls,
@@ -104,14 +111,23 @@ fn lines(alloc: Global, journal: &Journal) -> Result<String, NoMemory> {
     Ok(text)
 }
 
-/// Whether a probe's calls are noted, and its breaking off ends the run.
-fn notes_calls(alloc: Global) -> Result<bool, NoMemory> {
-    let Err(failure) = Runner::default().start::<Probe, RootProbe>(alloc, RootProbe { calls: true })
-    else {
+/// A probe that makes its calls, or is ready at once.
+fn probing(calls: bool) -> RootProbe {
+    RootProbe { makes: true, calls }
+}
+
+/// Whether a run that lacks memory has these lines.
+fn breaks_off(alloc: Global, maker: RootProbe, expected: &str) -> Result<bool, NoMemory> {
+    let Err(failure) = Runner::default().start::<Probe, RootProbe>(alloc, maker) else {
         return Ok(false);
     };
     let Failure { cause, journal } = failure;
     let text = lines(alloc, &journal)?;
+    Ok(cause == RunError::NoMemory && text.as_str() == expected)
+}
+
+/// Whether a poll that breaks off keeps its calls, and is cleaned up.
+fn notes_calls(alloc: Global) -> Result<bool, NoMemory> {
     let expected = "\
 start 0 - 1000000 0
 root 0
@@ -119,9 +135,12 @@ round 0
 visit 0
 event process_task 00000000000000000000000000000000 -
 call 0 sleep-poll 5 -> pending 0
+call 0 sleep-poll 5 -> pending 0
+call 0 sleep-poll 0 -> ready
 call 0 sleep-poll 0 -> ready
 call 0 wake 0 -> ok
 wake 0
+call 0 wake 9 -> err 12
 answer 0 nomemory
 cleanup
 nodeend 0
@@ -130,7 +149,24 @@ answer 0 ended
 crash
 finish nomemory
 ";
-    Ok(cause == RunError::NoMemory && text.as_str() == expected)
+    breaks_off(alloc, probing(true), expected)
+}
+
+/// Whether a maker that makes no root is cleaned up too.
+fn ends_unmade(alloc: Global) -> Result<bool, NoMemory> {
+    let maker = RootProbe {
+        makes: false,
+        calls: false,
+    };
+    let expected = "\
+start 0 - 1000000 0
+call - close-node 0 -> ok
+cleanup
+nodeend 0
+crash
+finish nomemory
+";
+    breaks_off(alloc, maker, expected)
 }
 
 /// Whether runs complete, and leave what they should.
@@ -138,12 +174,12 @@ fn completes(alloc: Global) -> bool {
     let Ok(timed) = Runner::timed(5) else {
         return false;
     };
-    let Ok(7) = timed.start::<Probe, RootProbe>(alloc, RootProbe { calls: false }) else {
+    let Ok(7) = timed.start::<Probe, RootProbe>(alloc, probing(false)) else {
         return false;
     };
     let Ok(finished) = Runner::default().start_and_recover::<Probe, RootProbe>(
         alloc,
-        RootProbe { calls: false },
+        probing(false),
     ) else {
         return false;
     };
@@ -168,5 +204,6 @@ fn surface(rt: HostRuntime) -> Result<(), Fail> {
     assert!(rt; keeps_settings());
     assert!(rt; completes(rt.alloc()));
     assert!(rt; notes_calls(rt.alloc())?);
+    assert!(rt; ends_unmade(rt.alloc())?);
     Ok(())
 }
