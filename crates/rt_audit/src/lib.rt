@@ -10,6 +10,8 @@ mod journal;
 mod line;
 mod refusal;
 mod reply;
+#[cfg(test)]
+mod tests;
 
 pub use answer::AnswerKind;
 pub use call::Call;

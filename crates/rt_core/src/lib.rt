@@ -5,10 +5,11 @@ mod checkpoint;
 mod config;
 mod context;
 mod maker;
-
 mod runner;
 mod running;
 mod sleep;
+#[cfg(test)]
+mod tests;
 pub mod utils;
 mod yields;
 
@@ -18,6 +19,5 @@ pub use context::Context;
 pub use maker::RootMaker;
 pub use rt_world::RunError;
 pub use runner::Runner;
-
 pub use sleep::Sleep;
 pub use yields::Reschedule;
