@@ -1,5 +1,5 @@
 -- How a run has come to its outcome.
-use Rattle.std.proofs.Common.{◌≡◌, ◌⊎◌, ◌++◌, inl, inr, ℕ, List, refl, ap, ◌∙◌, sym, Bool, true, false, Option, Some, None}
+use Rattle.std.proofs.Common.{◌≡◌, ◌++◌, inl, inr, ℕ, List, refl, ap, ◌∙◌, sym, Bool, true, Option, Some, None}
 use Rattle.rt_audit.specs.declared.entry.Entry.{Entry}
 use Rattle.rt_audit.specs.declared.finish.FinishCause.{FinishCause}
 use Rattle.rt_audit.specs.declared.finish.FinishCause.TheVariants.{Completed, Timeout, Stalled, TimeOverflow, TooManyTasks, NoMemory}
@@ -39,16 +39,17 @@ pub ruleset outcome_laws = (ended-whole, ended-cut)
 module _ (A O : Type 0) (p : Steps A O) (begin : Fixed) (w : World A O) (lawful : IsLawful blank (own w.told)) (state : w.told.state ≡ after_all blank (own w.told)) (fixed : w.told.state.clock.fixed ≡ begin) where
   is_run : (cause : FinishCause) (output : Option O) → w.told.state.phase ≡ Finished cause → Ended A O p w cause output → (cause ≡ NoMemory → ⊥) → (v : Value A O) × IsRun A O p begin (own w.told) cause w.told.state v × (v.output ≡ output)
   is_run cause output ends e not =
-      let kept : (e.whole ≡ true) × (e.last ≡ output) = elim e.kept [ inl h ↦ h | inr h ↦ absurd (not h) ] in
-      (value_of w e.last None e.whole,
-       record {
-         begins = begins begin (own w.told) w.told.state cause lawful state fixed ends;
-         reaches = sym state;
-         ends = ends;
-         tied = e.agrees.tied;
-         whole = kept.0;
-       },
-       kept.1)
+      let kept : (e.whole ≡ true) × (e.last ≡ output) = elim e.kept [ inl h ↦ h | inr h ↦ absurd (not h) ] in (
+        value_of w e.last None e.whole,
+        record {
+          begins = begins begin (own w.told) w.told.state cause lawful state fixed ends;
+          reaches = sym state;
+          ends = ends;
+          tied = e.agrees.tied;
+          whole = kept.0;
+        },
+        kept.1,
+      )
 
   is_cut_off : w.told.state.phase ≡ Finished NoMemory → Ended A O p w NoMemory None → IsCutOff A O p begin (own w.told)
   is_cut_off ends e = record {

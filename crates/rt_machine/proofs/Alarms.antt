@@ -1,5 +1,5 @@
 -- Alarms that are set, one in the place of another, and a further one.
-use Rattle.std.proofs.Common.{◌≡◌, ◌<◌, ◌+◌, ℕ, zero, suc, List, [], ◌∷◌, ◌++◌, refl, ap, length, take, drop, get_or, arith, eq-eqb, Option, slice_set, true, false}
+use Rattle.std.proofs.Common.{◌≡◌, ◌<◌, ◌+◌, ℕ, zero, suc, List, [], ◌∷◌, ◌++◌, refl, ap, length, take, drop, get_or, arith, eq-eqb, Option, slice_set, true}
 use Rattle.rt_model.specs.declared.alarm.Alarm.{Alarm}
 use Rattle.rt_model.specs.State.{Alarms}
 use Rattle.rt_model.specs.Alarms.{with_alarm, rewoken, is_set, slept}

@@ -1,5 +1,5 @@
 -- How many tasks run, and which of them a cleanup ends next.
-use Rattle.std.proofs.Common.{◌≡◌, ◌+◌, ℕ, List, [], ◌∷◌, refl, true, Option, Some, None, length, arith, ◌∙◌, drop, ◌<◌}
+use Rattle.std.proofs.Common.{◌≡◌, ◌+◌, ℕ, List, [], ◌∷◌, refl, true, Option, Some, None, length, arith, ◌<◌}
 use Rattle.rt_model.specs.declared.alarm.Alarm.{Alarm}
 use Rattle.rt_model.specs.Lists.{has_number, with_number, without_number}
 use Rattle.rt_model.specs.Alarms.{fires}

@@ -1,5 +1,5 @@
 -- What a call leaves of what a machine shows.
-use Rattle.std.specs.Prelude.{◌≡◌, ℕ, List, [], ◌∷◌, ◌++◌, Bool, true, false, Option, Some, None, leb, if◌then◌else◌}
+use Rattle.std.specs.Prelude.{◌≡◌, ℕ, [], ◌∷◌, ◌++◌, true, Option, Some, None, leb, if◌then◌else◌}
 use Rattle.rt_base.specs.declared.error.Error.{Error}
 use Rattle.rt_base.specs.declared.error.Error.TheVariants.{NoMemory, UnknownToken}
 use Rattle.rt_audit.specs.declared.call.Call.{Call}
@@ -10,7 +10,6 @@ use Rattle.rt_model.specs.State.{Alarms, State, Turn}
 use Rattle.rt_model.specs.Alarms.{alarm_of}
 use Rattle.rt_model.specs.Rules.{WasGiven}
 use Rattle.rt_model.specs.Effects.{alarms_called, nodes_called}
-use Rattle.rt_machine.specs.Told.{Told}
 use Rattle.rt_machine.specs.Places.{Seen}
 
 -- a call with its reply, and what stood when it was made

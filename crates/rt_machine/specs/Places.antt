@@ -1,6 +1,6 @@
 -- The room that a run takes in advance, as a sum by kind of what it owes.
-use Rattle.std.specs.Prelude.{◌≡◌, ◌≤◌, ◌+◌, ◌-◌, ◌*◌, ◌^◌, ℕ, List, [], ◌∷◌, length, Bool, true, false, Option, Some, None, if◌then◌else◌}
-use Rattle.rt_model.specs.State.{Clock, Numbers, Nodes, Phase, Blank, Making, Between, Visiting, Entered, Polling, Turning, Over, Closing, Crashed, Finished, State, Alarms}
+use Rattle.std.specs.Prelude.{◌≡◌, ◌≤◌, ◌+◌, ◌-◌, ◌*◌, ◌^◌, ℕ, List, [], ◌∷◌, length, Bool, true, false, Option, Some, None}
+use Rattle.rt_model.specs.State.{Clock, Numbers, Phase, Blank, Entered, Polling, Closing, Crashed, Finished, State, Alarms}
 use Rattle.rt_model.specs.Effects.{is_closing}
 use Rattle.rt_machine.specs.Told.{Told, Journaled}
 

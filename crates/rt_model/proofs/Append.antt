@@ -1,5 +1,5 @@
 -- Entries one list after another.
-use Rattle.std.proofs.Common.{◌≡◌, List, [], ◌∷◌, ◌++◌, refl, sym, subst}
+use Rattle.std.proofs.Common.{◌≡◌, List, [], ◌∷◌, ◌++◌, refl}
 use Rattle.rt_audit.specs.declared.entry.Entry.{Entry}
 use Rattle.rt_model.specs.State.{State}
 use Rattle.rt_model.specs.Effects.{after, after_all}

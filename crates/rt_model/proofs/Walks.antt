@@ -1,17 +1,17 @@
 -- Walks, one after another.
-use Rattle.std.proofs.Common.{◌≡◌, List, [], ◌∷◌, ◌++◌, refl, ap, sym, ◌∙◌, append_assoc, true, false}
-use Rattle.std.proofs.lemmas.List.{append-nil}
+use Rattle.std.proofs.Common.{◌≡◌, List, [], ◌∷◌, ◌++◌, append_assoc}
 use Rattle.rt_model.specs.State.{Nodes, Turn}
-use Rattle.rt_model.specs.Walk.{Ask, Heard, Step, Does, Spends, Gives, Held, Goes, WalksFrom, Walks, Asks, heard_of, moved, call_of, has_place}
+use Rattle.rt_model.specs.Walk.{Ask, Heard, Step, Does, Spends, Gives, Held, Goes, WalksFrom, Walks, Asks, heard_of, moved}
 
 module _ {A L O R : Type 0} (f g : List (Heard O) → Step L O R) (before : List (Heard O)) (same : (heard : List (Heard O)) → f (before ++ heard) ≡ g heard) (nodes : Nodes) (answer : R) (left : L) (end : Held A O) where
   goes : (turns : List Turn) → ((held : Held A O) (heard : List (Heard O)) (step : Step L O R) → WalksFrom g nodes answer left end turns held heard step → WalksFrom f nodes answer left end turns held (before ++ heard) step) → (held : Held A O) (heard : List (Heard O)) (step : Step L O R) (t : Turn) → Goes g (WalksFrom g nodes answer left end turns) held heard step t → Goes f (WalksFrom f nodes answer left end turns) held (before ++ heard) step t
   goes turns on held heard (Does ask) t w =
       let h = heard_of held t ∷ [] in
       (w.0, rw (append_assoc before heard h, same (heard ++ h)) (on (moved held ask t) (heard ++ h) (g (heard ++ h)) w.1))
-  goes turns on held heard (Spends ask next) t w =
-      (λ there. ((w.0 there).0, (w.0 there).1, on (moved held ask t) heard next (w.0 there).2),
-       λ gone. goes turns on held heard next t (w.1 gone))
+  goes turns on held heard (Spends ask next) t w = (
+    λ there. ((w.0 there).0, (w.0 there).1, on (moved held ask t) heard next (w.0 there).2),
+    λ gone. goes turns on held heard next t (w.1 gone),
+  )
   goes turns on held heard (Gives given state) t w = absurd w
 
   -- steps that go on as others do, behind what was heard before

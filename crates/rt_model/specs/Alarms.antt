@@ -1,5 +1,5 @@
 -- Alarms: a list in order of due times, and of numbers where these are equal.
-use Rattle.std.specs.Prelude.{◌≡◌, ◌⊎◌, ℕ, List, [], ◌∷◌, Option, Some, None, Bool, true, false, leb, ltb, eqb, if◌then◌else◌, ◌+◌, ◌&&◌, ◌||◌}
+use Rattle.std.specs.Prelude.{ℕ, List, [], ◌∷◌, Option, Some, None, Bool, false, leb, ltb, eqb, if◌then◌else◌, ◌+◌, ◌&&◌, ◌||◌}
 use Rattle.rt_model.specs.declared.alarm.Alarm.{Alarm}
 use Rattle.rt_model.specs.State.{Alarms}
 use Rattle.rt_model.specs.Lists.{those}

@@ -1,5 +1,5 @@
 -- The cause that a run has reached, if it has reached one. A run goes past none of these places.
-use Rattle.std.specs.Prelude.{ℕ, List, [], ◌∷◌, Option, Some, None, Bool, true, false, leb, ltb, eqb, ◌+◌, ◌-◌, ◌^◌, if◌then◌else◌, ◌&&◌}
+use Rattle.std.specs.Prelude.{ℕ, List, [], ◌∷◌, Option, Some, None, Bool, true, false, leb, ltb, ◌+◌, ◌-◌, ◌^◌, if◌then◌else◌, ◌&&◌}
 use Rattle.rt_base.specs.declared.time.TheConstants.{MAX_TIME}
 use Rattle.rt_audit.specs.declared.finish.FinishCause.{FinishCause}
 use Rattle.rt_audit.specs.declared.finish.FinishCause.TheVariants.{Timeout, Stalled, TimeOverflow, TooManyTasks}

@@ -1,5 +1,5 @@
 -- What each entry does to the parts of a state.
-use Rattle.std.specs.Prelude.{ℕ, List, [], ◌∷◌, ◌++◌, Option, Some, None, Bool, true, false, eqb, if◌then◌else◌, ◌+◌, drop}
+use Rattle.std.specs.Prelude.{ℕ, List, [], ◌∷◌, ◌++◌, Option, Some, None, Bool, true, false, ◌+◌, drop}
 use Rattle.rt_audit.specs.declared.call.Call.{Call}
 use Rattle.rt_audit.specs.declared.call.Call.TheVariants.{CloseNode, Wake as WakeCall, SleepPoll}
 use Rattle.rt_audit.specs.declared.reply.CallReply.{CallReply}

@@ -1,5 +1,5 @@
 -- What a run is at a moment, as its journal tells it: a product of parts, each moved by entries on its own.
-use Rattle.std.specs.Prelude.{ℕ, List, [], ◌∷◌, Option, Some, None}
+use Rattle.std.specs.Prelude.{ℕ, List, [], Option, None}
 use Rattle.rt_audit.specs.declared.call.Call.{Call}
 use Rattle.rt_audit.specs.declared.reply.CallReply.{CallReply}
 use Rattle.rt_audit.specs.declared.finish.FinishCause.{FinishCause}

@@ -1,5 +1,7 @@
 //! What a poll of a task answers.
 
+ghost use Rattle.std.specs.Prelude.{◌≡◌, ◌↔◌, IsTrue};
+
 /// The answer of a poll.
 #[derive(Debug, Drop)]
 pub enum Answer<O> {
@@ -9,4 +11,20 @@ pub enum Answer<O> {
     Ready(O),
     /// A call lacked memory. The run ends.
     NoMemory,
+}
+
+impl<O> Answer<O> {
+    /// Whether the poll is to be called again.
+    pub fn is_pending(&self) -> bool
+        ensures { IsTrue result ↔ (self.now ≡ Answer.Pending) }
+    {
+        matches!(self, Answer::Pending)
+    }
+
+    /// Whether the task has finished.
+    pub fn is_ready(&self) -> bool
+        ensures { IsTrue result ↔ ((output : O) × (self.now ≡ Answer.Ready output)) }
+    {
+        matches!(self, Answer::Ready(_))
+    }
 }

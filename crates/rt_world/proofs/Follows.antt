@@ -1,5 +1,5 @@
 -- How a journal goes on following the steps.
-use Rattle.std.proofs.Common.{◌≡◌, ◌⊎◌, inl, inr, ℕ, List, [], ◌∷◌, ◌++◌, refl, ap, ◌∙◌, sym, Bool, true, false, map, Option, Some, None}
+use Rattle.std.proofs.Common.{◌≡◌, inl, inr, ℕ, List, [], ◌∷◌, ◌++◌, refl, ap, ◌∙◌, Bool, true, false, map, Option, Some, None}
 use Rattle.std.proofs.lemmas.List.{append-nil}
 use Rattle.rt_audit.specs.declared.answer.AnswerKind.TheVariants.{Pending as IsPending, Ready as IsReady, NoMemory as LacksMemory, Ended as IsEnded}
 use Rattle.rt_audit.specs.declared.finish.FinishCause.{FinishCause}
@@ -10,13 +10,13 @@ use Rattle.rt_model.specs.declared.answer.Answer.TheVariants.{Pending, Ready}
 use Rattle.rt_model.specs.State.{State, Clock, Phase, blank, Making}
 use Rattle.rt_model.specs.Effects.{after, after_all}
 use Rattle.rt_model.specs.Events.{process_task, task_fields}
-use Rattle.rt_model.specs.Walk.{Held, Walks}
+use Rattle.rt_model.specs.Walk.{Walks}
 use Rattle.rt_model.specs.Tied.{Steps, Value, nothing, Moves, MovesCleanup, IsTied, find, taken, put, no_number}
 use Rattle.rt_model.proofs.Append.{after_all-append, IsTied-append}
 use Rattle.rt_machine.specs.Told.{Told, fresh, pushed, pushed_all, AreCalls, own}
 use Rattle.rt_world.specs.World.{World}
 use Rattle.rt_world.specs.Calls.{Kept}
-use Rattle.rt_world.specs.Follows.{Follows, Agrees, AgreesWith, value_of, still, IsMaking, IsMade, MakingAgrees}
+use Rattle.rt_world.specs.Follows.{Follows, Agrees, AgreesWith, value_of, IsMaking, IsMade, MakingAgrees}
 
 -- calls and wakes are tied to nothing, and move no value
 tied-calls : {A O : Type 0} → (p : Steps A O) (s : State) (v : Value A O) (es : List Entry) → AreCalls es → IsTied p s v es v

@@ -1,11 +1,11 @@
 -- What a call on the world leaves.
-use Rattle.std.specs.Prelude.{◌≡◌, ℕ, List, [], ◌∷◌, ◌++◌, Bool, true, false, Option, Some, None}
+use Rattle.std.specs.Prelude.{◌≡◌, ℕ, [], ◌∷◌, ◌++◌, true, false}
 use Rattle.rt_base.specs.declared.error.Error.{Error}
 use Rattle.rt_base.specs.declared.error.Error.TheVariants.{NoMemory, UnknownToken}
 use Rattle.rt_audit.specs.declared.call.Call.{Call}
-use Rattle.rt_audit.specs.declared.call.Call.TheVariants.{CloseNode, Wake}
+use Rattle.rt_audit.specs.declared.call.Call.TheVariants.{Wake}
 use Rattle.rt_audit.specs.declared.reply.CallReply.{CallReply}
-use Rattle.rt_audit.specs.declared.reply.CallReply.TheVariants.{Done, Refused}
+use Rattle.rt_audit.specs.declared.reply.CallReply.TheVariants.{Refused}
 use Rattle.rt_model.specs.Lists.{has_number}
 use Rattle.rt_model.specs.Effects.{is_closing, alarms_called, nodes_called}
 use Rattle.rt_model.specs.Rules.{MayCall, WasGiven}

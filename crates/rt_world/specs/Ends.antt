@@ -1,8 +1,8 @@
 -- What the end of a run leaves.
-use Rattle.std.specs.Prelude.{◌≡◌, ◌⊎◌, ◌&&◌, [], Bool, true, false, not, Option, Some, None}
+use Rattle.std.specs.Prelude.{◌≡◌, ◌⊎◌, [], Bool, true, false, Option, Some, None}
 use Rattle.rt_audit.specs.declared.finish.FinishCause.{FinishCause}
 use Rattle.rt_audit.specs.declared.finish.FinishCause.TheVariants.{NoMemory}
-use Rattle.rt_model.specs.State.{State, Phase, Closing, Finished}
+use Rattle.rt_model.specs.State.{State, Closing}
 use Rattle.rt_model.specs.Effects.{cause_of, is_ended}
 use Rattle.rt_model.specs.Tied.{Steps}
 use Rattle.rt_world.specs.World.{World}

@@ -1,9 +1,8 @@
 -- What the rounds of a run leave.
-use Rattle.std.specs.Prelude.{◌≡◌, ◌⊎◌, ◌<◌, Bool, true, Option, Some, None}
-use Rattle.rt_base.specs.declared.time.TheConstants.{MAX_TIME}
+use Rattle.std.specs.Prelude.{◌≡◌, ◌⊎◌, true, Some, None}
 use Rattle.rt_audit.specs.declared.finish.FinishCause.{FinishCause}
 use Rattle.rt_audit.specs.declared.finish.FinishCause.TheVariants.{Completed as IsCompleted}
-use Rattle.rt_model.specs.State.{State, Between, Turning, Over}
+use Rattle.rt_model.specs.State.{State, Between, Turning}
 use Rattle.rt_model.specs.Causes.{reached}
 use Rattle.rt_model.specs.Rules.{MayRound}
 use Rattle.rt_model.specs.Tied.{Steps}

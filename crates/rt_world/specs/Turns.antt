@@ -1,7 +1,7 @@
 -- What the parts of a clock step leave.
 use Rattle.std.specs.Prelude.{◌≡◌, ◌≤◌, ◌⊎◌, false, Some}
 use Rattle.rt_model.specs.Lists.{is_nil}
-use Rattle.rt_model.specs.State.{State, Phase, Visiting, Turning}
+use Rattle.rt_model.specs.State.{State, Visiting, Turning}
 use Rattle.rt_model.specs.Causes.{reached}
 use Rattle.rt_model.specs.Effects.{left_of}
 use Rattle.rt_model.specs.Rules.{MayRound}

@@ -1,5 +1,5 @@
 -- What a visit leaves, and what the visits of a round leave.
-use Rattle.std.specs.Prelude.{◌≡◌, ℕ, List, [], Bool, true, Some, None}
+use Rattle.std.specs.Prelude.{◌≡◌, ℕ, List, [], true, Some, None}
 use Rattle.rt_audit.specs.declared.finish.FinishCause.TheVariants.{Completed}
 use Rattle.rt_model.specs.State.{State, Phase, Visiting, Over}
 use Rattle.rt_model.specs.Causes.{from_running}

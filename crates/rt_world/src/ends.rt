@@ -161,11 +161,7 @@ impl<T: Task, G: Rng> World<T, T::Output, G> {
     /// Ends a run whose root was not taken in, with the cause that it has reached, or cut off where there is none. The
     /// maker may have made a root. Answers the cause that the run's last entry has.
     #[tactic(auto, unfolding(rt_model::specs::Effects::after))]
-    pub fn cleanup_unmade(
-        &mut self,
-        unmade: Option<T>,
-        cause: Option<FinishCause>,
-    ) -> FinishCause
+    pub fn cleanup_unmade(&mut self, unmade: Option<T>, cause: Option<FinishCause>) -> FinishCause
         requires stands { Reaches self.old.told.state cause }
         requires making { self.old.told.state.phase ≡ Making }
         requires none_out { self.old.out ≡ None }

@@ -1,6 +1,5 @@
 use Rattle.std.proofs.Common.{◌≡◌, ◌++◌, ◌∙◌, ap, sym, List}
 use Rattle.rt_audit.specs.declared.entry.Entry.{Entry}
-use Rattle.rt_model.specs.State.{Fixed}
 use Rattle.rt_model.specs.Effects.{after}
 use Rattle.rt_model.specs.Tied.{with_first, Steps}
 use Rattle.rt_machine.specs.Told.{own}
@@ -15,14 +14,14 @@ returns-in-Ok-outcome-clause-run g c =
     let p : Steps g.row.T.Denot g.row.T-Output.Denot = with_first g.T.Task.steps (g.M.RootMaker.first c.args.maker) in
     let w : World g.row.T.Denot g.row.T-Output.Denot = c.run_maker-outcome.new.world in
     let fixed : w.told.state.clock.fixed ≡ c.args.self.begin =
-        c.run_maker-outcome.ensures.fixed
-        ∙ ap (λ (u : World g.row.T.Denot g.row.T-Output.Denot). u.told.state.clock.fixed) c.in-Ok.ensures.ok
-        ∙ ap (λ (s : Starting). s.begin) c.self.view_is in
+    c.run_maker-outcome.ensures.fixed
+    ∙ ap (λ (u : World g.row.T.Denot g.row.T-Output.Denot). u.told.state.clock.fixed) c.in-Ok.ensures.ok
+    ∙ ap (λ (s : Starting). s.begin) c.self.view_is in
     let given : w.told.given ≡ c.args.self.given =
-        c.run_maker-outcome.ensures.given
-        ∙ ap (λ (u : World g.row.T.Denot g.row.T-Output.Denot). u.told.given) c.in-Ok.ensures.ok
-        ∙ c.given_journal-given.ensures
-        ∙ ap (λ (s : Starting). s.given) c.self.view_is in
+    c.run_maker-outcome.ensures.given
+    ∙ ap (λ (u : World g.row.T.Denot g.row.T-Output.Denot). u.told.given) c.in-Ok.ensures.ok
+    ∙ c.given_journal-given.ensures
+    ∙ ap (λ (s : Starting). s.given) c.self.view_is in
     let extends = c.into_parts-journal.ensures.entries ∙ ap (λ (ys : List Entry). ys ++ own w.told) given in
     let cycle = sym (ap (λ (s : Starting). s.begin.cycle) c.self.view_is) in
     let deadline = sym (ap (λ (s : Starting). s.begin.deadline) c.self.view_is) in
@@ -34,14 +33,14 @@ returns-in-Err-outcome-clause-failure g c =
     let p : Steps g.row.T.Denot g.row.T-Output.Denot = with_first g.T.Task.steps (g.M.RootMaker.first c.args.maker) in
     let w : World g.row.T.Denot g.row.T-Output.Denot = c.run_maker-outcome.new.world in
     let fixed : w.told.state.clock.fixed ≡ c.args.self.begin =
-        c.run_maker-outcome.ensures.fixed
-        ∙ ap (λ (u : World g.row.T.Denot g.row.T-Output.Denot). u.told.state.clock.fixed) c.in-Ok.ensures.ok
-        ∙ ap (λ (s : Starting). s.begin) c.self.view_is in
+    c.run_maker-outcome.ensures.fixed
+    ∙ ap (λ (u : World g.row.T.Denot g.row.T-Output.Denot). u.told.state.clock.fixed) c.in-Ok.ensures.ok
+    ∙ ap (λ (s : Starting). s.begin) c.self.view_is in
     let given : w.told.given ≡ c.args.self.given =
-        c.run_maker-outcome.ensures.given
-        ∙ ap (λ (u : World g.row.T.Denot g.row.T-Output.Denot). u.told.given) c.in-Ok.ensures.ok
-        ∙ c.given_journal-given.ensures
-        ∙ ap (λ (s : Starting). s.given) c.self.view_is in
+    c.run_maker-outcome.ensures.given
+    ∙ ap (λ (u : World g.row.T.Denot g.row.T-Output.Denot). u.told.given) c.in-Ok.ensures.ok
+    ∙ c.given_journal-given.ensures
+    ∙ ap (λ (s : Starting). s.given) c.self.view_is in
     record {
       entries = own w.told;
       extends = c.into_parts-journal.ensures.entries ∙ ap (λ (ys : List Entry). ys ++ own w.told) given;

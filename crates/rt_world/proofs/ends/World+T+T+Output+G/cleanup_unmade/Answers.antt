@@ -1,4 +1,4 @@
-use Rattle.std.proofs.Common.{None, Some, inl, inr, refl, Bool, ℕ, List}
+use Rattle.std.proofs.Common.{None, Some, inl, inr, refl}
 use Rattle.rt_audit.specs.declared.finish.FinishCause.TheVariants.{NoMemory}
 use Rattle.rt_model.specs.Tied.{with_first, Steps}
 use Rattle.rt_world.specs.Follows.{still}

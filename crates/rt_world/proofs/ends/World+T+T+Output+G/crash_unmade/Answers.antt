@@ -1,6 +1,5 @@
 use Rattle.std.proofs.Common.{◌≡◌, sym, false, Bool, ◌∙◌}
-use Rattle.rt_model.specs.Tied.{with_first, Steps, no_number}
-use Rattle.rt_machine.specs.Places.{number_of}
+use Rattle.rt_model.specs.Tied.{with_first, Steps}
 use Rattle.rt_world.proofs.Follows.{unmade-tied, unmade-loose}
 use Rattle.rt_world.proofs.ends.World+T+T+Output+G.crash_unmade.Goals as goal
 

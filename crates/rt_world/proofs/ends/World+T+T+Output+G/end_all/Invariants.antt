@@ -1,8 +1,8 @@
-use Rattle.std.proofs.Common.{◌≡◌, ℕ, List, Bool, Option, length}
+use Rattle.std.proofs.Common.{ℕ, List, Bool, Option, length}
 use Rattle.rt_model.specs.Walk.{Heard, Step}
 use Rattle.rt_model.specs.Tied.{with_first}
 use Rattle.rt_world.specs.Follows.{AgreesWith, still}
-use Rattle.rt_world.specs.Ends.{Ends, IsClosing}
+use Rattle.rt_world.specs.Ends.{Ends}
 use Rattle.rt_world.proofs.ends.World+T+T+Output+G.end_all.Given as goal
 
 abbrev pub invariant-ends : goal.invariant-ends

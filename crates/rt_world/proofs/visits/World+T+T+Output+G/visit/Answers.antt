@@ -19,12 +19,16 @@ returns-in-Ready-clause-agrees g c first f =
 
 pub returns-in-NoMemory-clause-agrees : goal.returns-in-NoMemory-clause-agrees
 returns-in-NoMemory-clause-agrees g c first f =
-    let p : Steps g.row.T.Denot g.row.T-Output.Denot = with_first g.T.Task.steps first in
-    (false, rw c.answer-in-NoMemory.ensures
-    (visit-cut p c.args.self.now c.enter.new.self c.poll-answer.new.world c.args.task c.in-Ok.state c.poll-answer.new.self c.in-Ok.ensures.ok c.in-Ok.ensures.state c.poll-answer.ensures.kept c.facts.ensures.calls c.facts.ensures.state f))
+    let p : Steps g.row.T.Denot g.row.T-Output.Denot = with_first g.T.Task.steps first in (
+      false,
+      rw c.answer-in-NoMemory.ensures
+          (visit-cut p c.args.self.now c.enter.new.self c.poll-answer.new.world c.args.task c.in-Ok.state c.poll-answer.new.self c.in-Ok.ensures.ok c.in-Ok.ensures.state c.poll-answer.ensures.kept c.facts.ensures.calls c.facts.ensures.state f),
+    )
 
 pub returns-then-is_short-clause-agrees : goal.returns-then-is_short-clause-agrees
 returns-then-is_short-clause-agrees g c first f =
-    let p : Steps g.row.T.Denot g.row.T-Output.Denot = with_first g.T.Task.steps first in
-    (false, rw c.answer.ensures
-    (visit-cut p c.args.self.now c.enter.new.self c.poll-answer.new.world c.args.task c.in-Ok.state c.poll-answer.new.self c.in-Ok.ensures.ok c.in-Ok.ensures.state c.poll-answer.ensures.kept c.facts.ensures.calls c.facts.ensures.state f))
+    let p : Steps g.row.T.Denot g.row.T-Output.Denot = with_first g.T.Task.steps first in (
+      false,
+      rw c.answer.ensures
+          (visit-cut p c.args.self.now c.enter.new.self c.poll-answer.new.world c.args.task c.in-Ok.state c.poll-answer.new.self c.in-Ok.ensures.ok c.in-Ok.ensures.state c.poll-answer.ensures.kept c.facts.ensures.calls c.facts.ensures.state f),
+    )

@@ -1,5 +1,3 @@
-use Rattle.std.proofs.Common.{◌≡◌, refl, sym}
-use Rattle.rt_world.specs.Follows.{MakingAgrees}
 use Rattle.rt_world.proofs.Follows.{closed-unmade, making-unmarked}
 use Rattle.rt_world.proofs.world.World.close_unmade.Goals as goal
 
