@@ -47,22 +47,26 @@ bool-cases false = inr refl
 pub indexed-more : (eq : Place → Place → Bool) (same : (p q : Place) → eq p q ≡ true → p ≡ q) (itself : (p : Place) → eq p p ≡ true) (find find' : Place → Option ℕ) (xs : List Addr) (a : Addr) → IsIndexed find xs → ((q : Place) → find' q ≡ cond (eq (place_of a) q) (Some (length xs)) (find q)) → ((n : ℕ) → slice_get xs n ≡ Some a → ⊥) → IsIndexed find' (xs ++ a ∷ [])
 indexed-more eq same itself find find' xs a old put absent =
     let chosen : (b : Addr) (t : Bool) → eq (place_of a) (place_of b) ≡ t → find' (place_of b) ≡ cond t (Some (length xs)) (find (place_of b)) =
-        λ b t h. put (place_of b) ∙ ap (λ (u : Bool). cond u (Some (length xs)) (find (place_of b))) h in
+    λ b t h. put (place_of b) ∙ ap (λ (u : Bool). cond u (Some (length xs)) (find (place_of b))) h in
     record {
       finds = λ n b h. elim (get-snoc xs a b n h) [
-        inl k ↦ elim (bool-cases (eq (place_of a) (place_of b))) [
-          inl t ↦
-            let e : a ≡ b = place-injective a b (same (place_of a) (place_of b) t) in
-            absurd (absent n (k ∙ ap (λ x. let o : Option Addr = Some x in o) (sym e)))
-        | inr f ↦ chosen b false f ∙ old.finds n b k ]
-      | inr k ↦
-          let P : Addr → Type 0 = λ x. eq (place_of a) (place_of x) ≡ true in
-          let t : eq (place_of a) (place_of b) ≡ true = subst P k.1 (itself (place_of a)) in
-          chosen b true t ∙ ap (λ m. let o : Option ℕ = Some m in o) (sym k.0) ];
+        | inl k ↦ elim (bool-cases (eq (place_of a) (place_of b))) [
+          | inl t ↦
+              let e : a ≡ b = place-injective a b (same (place_of a) (place_of b) t) in
+              absurd (absent n (k ∙ ap (λ x. let o : Option Addr = Some x in o) (sym e)))
+          | inr f ↦ chosen b false f ∙ old.finds n b k
+        ]
+        | inr k ↦
+            let P : Addr → Type 0 = λ x. eq (place_of a) (place_of x) ≡ true in
+            let t : eq (place_of a) (place_of b) ≡ true = subst P k.1 (itself (place_of a)) in
+            chosen b true t ∙ ap (λ m. let o : Option ℕ = Some m in o) (sym k.0)
+      ];
       found = λ b n h. elim (bool-cases (eq (place_of a) (place_of b))) [
-        inl t ↦
-          let e : a ≡ b = place-injective a b (same (place_of a) (place_of b) t) in
-          let here : Some (length xs) ≡ Some n = sym (chosen b true t) ∙ h in
-          let m : length xs ≡ n = cc in
-          ap (slice_get (xs ++ a ∷ [])) (sym m) ∙ get-last xs a ∙ ap (λ x. let o : Option Addr = Some x in o) e
-      | inr f ↦ get-before xs (a ∷ []) b n (old.found b n (sym (chosen b false f) ∙ h)) ] }
+        | inl t ↦
+            let e : a ≡ b = place-injective a b (same (place_of a) (place_of b) t) in
+            let here : Some (length xs) ≡ Some n = sym (chosen b true t) ∙ h in
+            let m : length xs ≡ n = cc in
+            ap (slice_get (xs ++ a ∷ [])) (sym m) ∙ get-last xs a ∙ ap (λ x. let o : Option Addr = Some x in o) e
+        | inr f ↦ get-before xs (a ∷ []) b n (old.found b n (sym (chosen b false f) ∙ h))
+      ];
+    }

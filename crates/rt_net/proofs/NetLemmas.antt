@@ -39,7 +39,7 @@ calls-sends v w mid n bytes task r h e = λ s st.
     let R : ChannelState → ChannelState → Type 0 = λ c d. Sends c bytes task r.value r.wake d in
     let unknown : Type 0 = (r.value ≡ Err UnknownToken) × (r.wake ≡ None) in
     let c = calls-channels v w mid (λ cs ds. AtSink R unknown cs n ds) (λ cs ds. AtSink R unknown cs n ds)
-      (λ cs new all k. lift-at has_sink sink-life R R unknown cs new n all (λ c d hc k. lift-sends c bytes task r.value r.wake d hc k) k) h.0 e s st in
+    (λ cs new all k. lift-at has_sink sink-life R R unknown cs new n all (λ c d hc k. lift-sends c bytes task r.value r.wake d hc k) k) h.0 e s st in
     (c.0, (c.1, h.1), c.2)
 
 pub calls-polls-send : (v w : Kept) (mid : NetworkState) (n task : ℕ) (r : Result (Poll Unit) Error) → NetPollsSend n task r v.state mid → w.state ≡ mid → Calls (NetPollsSend n task r) v w
@@ -48,7 +48,7 @@ calls-polls-send v w mid n task r h e =
     let R : ChannelState → ChannelState → Type 0 = λ c d. PollsSend c task r d in
     let unknown : Type 0 = r ≡ Err UnknownToken in
     calls-channels v w mid (λ cs ds. AtSink R unknown cs n ds) (λ cs ds. AtSink R unknown cs n ds)
-      (λ cs new all k. lift-at has_sink sink-life R R unknown cs new n all (λ c d hc k. lift-polls-send c task r d hc k) k) h e
+    (λ cs new all k. lift-at has_sink sink-life R R unknown cs new n all (λ c d hc k. lift-polls-send c task r d hc k) k) h e
 
 pub calls-receives : (v w : Kept) (mid : NetworkState) (n len task : ℕ) (r : Result (Reply (Poll Chunked)) Error) → OnChannels (λ cs ds. AtStream (λ c d. Keeps (Receives c len task r) d) (r ≡ Err UnknownToken) cs n ds) v.state mid → w.state ≡ mid → Calls (NetReceives n len task r) v w
 unfolding Calls
@@ -57,7 +57,7 @@ calls-receives v w mid n len task r h e =
     let K : ChannelState → ChannelState → Type 0 = λ c d. Keeps (Receives c len task r) d in
     let unknown : Type 0 = r ≡ Err UnknownToken in
     calls-channels v w mid (λ cs ds. AtStream R unknown cs n ds) (λ cs ds. AtStream K unknown cs n ds)
-      (λ cs new all k. lift-at has_stream stream-life R K unknown cs new n all (λ c d hc k. lift-receives c len task r d hc k) k) h e
+    (λ cs new all k. lift-at has_stream stream-life R K unknown cs new n all (λ c d hc k. lift-receives c len task r d hc k) k) h e
 
 pub calls-polls-receive : (v w : Kept) (mid : NetworkState) (n task : ℕ) (r : Result (Poll Chunked) Error) → OnChannels (λ cs ds. AtStream (λ c d. Keeps (PollsReceive c task r) d) (r ≡ Err UnknownToken) cs n ds) v.state mid → w.state ≡ mid → Calls (NetPollsReceive n task r) v w
 unfolding Calls
@@ -66,7 +66,7 @@ calls-polls-receive v w mid n task r h e =
     let K : ChannelState → ChannelState → Type 0 = λ c d. Keeps (PollsReceive c task r) d in
     let unknown : Type 0 = r ≡ Err UnknownToken in
     calls-channels v w mid (λ cs ds. AtStream R unknown cs n ds) (λ cs ds. AtStream K unknown cs n ds)
-      (λ cs new all k. lift-at has_stream stream-life R K unknown cs new n all (λ c d hc k. lift-polls-recv c task r d hc k) k) h e
+    (λ cs new all k. lift-at has_stream stream-life R K unknown cs new n all (λ c d hc k. lift-polls-recv c task r d hc k) k) h e
 
 -- a look that leaves all as it is
 pub calls-peeks : (v w : Kept) (n len : ℕ) (r : Result (List ℕ) Error) → NetPeeks n len r v.state v.state → w.state ≡ v.state → Calls (NetPeeks n len r) v w
@@ -89,11 +89,14 @@ counted-one (x ∷ cs) d all one (suc n) c e = counted-one cs d (λ m y k. all (
 pub calls-opens : (v w : Kept) (size : ℕ) (r : Sink × Stream) → r ≡ (idle_sink (length v.state.channels), idle_stream (length v.state.channels)) → w.state ≡ record v.state { channels = v.state.channels ++ fresh size ∷ [] } → Calls (NetOpens size (Ok r)) v w
 unfolding Calls
 calls-opens v w size r h e = λ s st.
-    let count : length v.state.channels ≡ length s.channels = ap (λ (x : NetworkState). length x.channels) st.0 ∙ length-map s.channels stored in
-    (record s { channels = s.channels ++ fresh size ∷ [] },
-     (h ∙ ap (λ len. (idle_sink len, idle_stream len)) count, refl),
-     (e ∙ ap (λ (x : NetworkState). record x { channels = x.channels ++ fresh size ∷ [] }) st.0 ∙ ap (λ cs. record s { channels = cs }) (sym (map-append stored s.channels (fresh size ∷ []))),
-      counted-one s.channels (fresh size) st.1 (record { read = omega arith; taken = omega arith })))
+    let count : length v.state.channels ≡ length s.channels = ap (λ (x : NetworkState). length x.channels) st.0 ∙ length-map s.channels stored in (
+      record s { channels = s.channels ++ fresh size ∷ [] },
+      (h ∙ ap (λ len. (idle_sink len, idle_stream len)) count, refl),
+      (
+        e ∙ ap (λ (x : NetworkState). record x { channels = x.channels ++ fresh size ∷ [] }) st.0 ∙ ap (λ cs. record s { channels = cs }) (sym (map-append stored s.channels (fresh size ∷ []))),
+        counted-one s.channels (fresh size) st.1 (record { read = omega arith; taken = omega arith }),
+      ),
+    )
 
 -- a refusal of it
 pub calls-refused : (v w : Kept) (size : ℕ) (x : Error) → w.state ≡ v.state → Calls (NetOpens size (Err x)) v w
@@ -151,16 +154,19 @@ calls-dials v w mid a (Ok r) h e = λ s st.
     let k = subst (λ x. NetDials a (Ok r) x mid) st.0 h in
     let count : length (map stored s.channels) ≡ length s.channels = length-map s.channels stored in
     let made = ap (λ len. record s {
-        port = s.port + 1;
-        listeners = with_connection s.listeners k.1.0 (record { dialer = record { ip = localhost; port = s.port }; sink = len; stream = len + 1 });
-        channels = map stored s.channels ++ fresh 65536 ∷ fresh 65536 ∷ [] }) count
-      ∙ ap (λ cs. record s {
-        port = s.port + 1;
-        listeners = with_connection s.listeners k.1.0 (next_connection s);
-        channels = cs }) (sym (map-append stored s.channels (fresh 65536 ∷ fresh 65536 ∷ []))) in
-    (connected s k.1.0,
-     (k.0, (k.1.0, k.1.1, k.1.2, k.1.3, k.1.4, refl), k.2 ∙ ap (λ len. (idle_sink (len + 1), idle_stream len)) count, k.3),
-     (e ∙ k.1.5 ∙ made, counted-two s.channels (fresh 65536) st.1 (record { read = omega arith; taken = omega arith })))
+      port = s.port + 1;
+      listeners = with_connection s.listeners k.1.0 (record { dialer = record { ip = localhost; port = s.port }; sink = len; stream = len + 1 });
+      channels = map stored s.channels ++ fresh 65536 ∷ fresh 65536 ∷ [];
+    }) count
+    ∙ ap (λ cs. record s {
+      port = s.port + 1;
+      listeners = with_connection s.listeners k.1.0 (next_connection s);
+      channels = cs;
+    }) (sym (map-append stored s.channels (fresh 65536 ∷ fresh 65536 ∷ []))) in (
+      connected s k.1.0,
+      (k.0, (k.1.0, k.1.1, k.1.2, k.1.3, k.1.4, refl), k.2 ∙ ap (λ len. (idle_sink (len + 1), idle_stream len)) count, k.3),
+      (e ∙ k.1.5 ∙ made, counted-two s.channels (fresh 65536) st.1 (record { read = omega arith; taken = omega arith })),
+    )
 calls-dials v w mid a (Err PortsExhausted) h e = λ s st.
     let k = subst (λ x. NetDials a (Err PortsExhausted) x mid) st.0 h in
     (s, (k.0, refl), (e ∙ k.1, st.1))
@@ -189,10 +195,11 @@ calls-gives-accept-up v w n h = λ s st.
 closes-option : (s : NetworkState) (n : ℕ) (o : Option ListenerState) → AreCounted s.channels → (closed_at without_sink without_stream (stored_network s) n o ≡ stored_network (closed_at with_closed_sink with_closed_stream s n o)) × AreCounted (closed_at with_closed_sink with_closed_stream s n o).channels
 closes-option s n None all = (refl, all)
 closes-option s n (Some l) all =
-    let c = closes-alike l.waiting s.channels all in
-    (ap (λ cs. record s { listeners = slice_set s.listeners n (closed_listener l); channels = cs; woken = woken_by_closing without_sink without_stream (map stored s.channels) l.waiting }) c.closed
-     ∙ ap (λ ts. record s { listeners = slice_set s.listeners n (closed_listener l); channels = map stored (after_closing with_closed_sink with_closed_stream s.channels l.waiting); woken = ts }) c.woken,
-     c.counted)
+    let c = closes-alike l.waiting s.channels all in (
+      ap (λ cs. record s { listeners = slice_set s.listeners n (closed_listener l); channels = cs; woken = woken_by_closing without_sink without_stream (map stored s.channels) l.waiting }) c.closed
+          ∙ ap (λ ts. record s { listeners = slice_set s.listeners n (closed_listener l); channels = map stored (after_closing with_closed_sink with_closed_stream s.channels l.waiting); woken = ts }) c.woken,
+      c.counted,
+    )
 
 pub calls-closes-listener : (v w : Kept) (n : ℕ) → w.state ≡ closed_at without_sink without_stream v.state n (live_listener v.state.listeners n) → Calls (NetClosesListener n) v w
 unfolding Calls

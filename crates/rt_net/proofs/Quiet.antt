@@ -15,14 +15,15 @@ parked-quiet c h len task same quiet lacks opened empty =
     let sum : len ≡ len - h + held c = omega arith in
     record {
       receiver = λ w k.
-        let r : Parked = record { need = len - h; task = task } in
-        let e : r ≡ w = cc in
-        subst P e (empty, opened, ap (λ n. let o : Option ℕ = Some n in o) sum);
+          let r : Parked = record { need = len - h; task = task } in
+          let e : r ≡ w = cc in
+          subst P e (empty, opened, ap (λ n. let o : Option ℕ = Some n in o) sum);
       sender = quiet.sender;
       started = λ n k l o.
-        let e : len ≡ n = cc in
-        let d : len - h ≡ n - held c = omega arith in
-        (task, ap (λ m. let o : Option Parked = Some (record { need = m; task = task }) in o) d) }
+          let e : len ≡ n = cc in
+          let d : len - h ≡ n - held c = omega arith in
+          (task, ap (λ m. let o : Option Parked = Some (record { need = m; task = task }) in o) d);
+    }
 
 -- nothing was answered, so all is kept
 pub kept-unread : (c : ChannelState) → c.read ≡ 0 → kept c ≡ c

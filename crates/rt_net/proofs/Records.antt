@@ -61,8 +61,8 @@ kin-handed : (c : ChannelState) (r : Option Parked) → IsCounted c → Kin c (h
 kin-handed c None h = (h, record { sink = refl; stream = refl })
 kin-handed c (Some w) h =
     cond-holds (Kin c) (is_receivable c w.need) (record c { taken = c.taken + min (left c) (max w.need c.buffer_size); receiver = None }) c
-      (record { read = omega (arith, h.read); taken = omega (arith, h.taken) }, record { sink = refl; stream = refl })
-      (h, record { sink = refl; stream = refl })
+    (record { read = omega (arith, h.read); taken = omega (arith, h.taken) }, record { sink = refl; stream = refl })
+    (h, record { sink = refl; stream = refl })
 
 counted-appended : (c : ChannelState) (bytes : List ℕ) → IsCounted c → IsCounted (appended c bytes)
 counted-appended c bytes h = record { read = h.read; taken = omega (arith, length-append c.put bytes, h.taken) }

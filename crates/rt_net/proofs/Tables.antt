@@ -103,9 +103,10 @@ at-counted f cs n (Some c) all one = counted-set cs n (f c) all (one c refl)
 -- what is kept after it, and its counts
 pub lift-function : (lives : ChannelState → Bool) → IsLife lives → (f k : ChannelState → ChannelState) → ((c : ChannelState) → is_gone c ≡ false → k (stored c) ≡ stored (f c)) → ((c : ChannelState) → IsCounted c → IsCounted (f c)) → (cs : List ChannelState) (n : ℕ) → AreCounted cs → (at (map stored cs) n k (if_lives lives (slice_get (map stored cs) n)) ≡ map stored (at cs n f (if_lives lives (slice_get cs n)))) × AreCounted (at cs n f (if_lives lives (slice_get cs n)))
 lift-function lives life f k same one cs n all =
-    let o : Option ChannelState = if_lives lives (slice_get cs n) in
-    (ap (at (map stored cs) n k) (live-map lives life cs n) ∙ at-option f k cs n o (λ c e. same c (life.live c (lives-some lives (slice_get cs n) c e).1)),
-     at-counted f cs n o all (λ c e. one c (all n c (lives-some lives (slice_get cs n) c e).0)))
+    let o : Option ChannelState = if_lives lives (slice_get cs n) in (
+      ap (at (map stored cs) n k) (live-map lives life cs n) ∙ at-option f k cs n o (λ c e. same c (life.live c (lives-some lives (slice_get cs n) c e).1)),
+      at-counted f cs n o all (λ c e. one c (all n c (lives-some lives (slice_get cs n) c e).0)),
+    )
 
 cond-stored : (b : Bool) (x y : ChannelState) → cond b (stored x) (stored y) ≡ stored (cond b x y)
 cond-stored true x y = refl
@@ -117,7 +118,7 @@ given-up-send-stored c = cond-stored c.sending (record c { sender = None; sendin
 pub lift-give-up-send : (cs : List ChannelState) (n : ℕ) → AreCounted cs → (with_given_up_send (map stored cs) n ≡ map stored (with_given_up_send cs n)) × AreCounted (with_given_up_send cs n)
 lift-give-up-send cs n all =
     lift-function has_sink sink-life given_up_send given_up_send (λ c e. given-up-send-stored c)
-      (λ c h. cond-holds IsCounted c.sending (record c { sender = None; sending = false; sink = record c.sink { given_up = true } }) c (record { read = h.read; taken = h.taken }) h) cs n all
+    (λ c h. cond-holds IsCounted c.sending (record c { sender = None; sending = false; sink = record c.sink { given_up = true } }) c (record { read = h.read; taken = h.taken }) h) cs n all
 
 given-up-recv-stored : (c : ChannelState) (r : Option ℕ) → given_up_recv (stored c) r ≡ stored (given_up_recv c r)
 given-up-recv-stored c None = refl
@@ -171,6 +172,7 @@ closes-alike (c ∷ rest) cs all =
     record {
       closed = ap (λ xs. after_closing without_sink without_stream xs rest) both ∙ r.closed;
       woken = ap (λ w. option_to_list w ++ (option_to_list (stream_wakes (without_sink (map stored cs) c.sink) c.stream) ++ woken_by_closing without_sink without_stream (without_stream (without_sink (map stored cs) c.sink) c.stream) rest)) receiver
-        ∙ ap (λ w. option_to_list (sink_wakes cs c.sink) ++ (option_to_list w ++ woken_by_closing without_sink without_stream (without_stream (without_sink (map stored cs) c.sink) c.stream) rest)) sender
-        ∙ ap (λ w. option_to_list (sink_wakes cs c.sink) ++ (option_to_list (stream_wakes (with_closed_sink cs c.sink) c.stream) ++ w)) (ap (λ xs. woken_by_closing without_sink without_stream xs rest) both ∙ r.woken);
-      counted = r.counted }
+          ∙ ap (λ w. option_to_list (sink_wakes cs c.sink) ++ (option_to_list w ++ woken_by_closing without_sink without_stream (without_stream (without_sink (map stored cs) c.sink) c.stream) rest)) sender
+          ∙ ap (λ w. option_to_list (sink_wakes cs c.sink) ++ (option_to_list (stream_wakes (with_closed_sink cs c.sink) c.stream) ++ w)) (ap (λ xs. woken_by_closing without_sink without_stream xs rest) both ∙ r.woken);
+      counted = r.counted;
+    }

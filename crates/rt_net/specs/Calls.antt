@@ -88,7 +88,8 @@ abbrev pub connected : NetworkState → ℕ → NetworkState
 connected s n = record s {
   port = s.port + 1;
   listeners = with_connection s.listeners n (next_connection s);
-  channels = s.channels ++ fresh 65536 ∷ fresh 65536 ∷ [] }
+  channels = s.channels ++ fresh 65536 ∷ fresh 65536 ∷ [];
+}
 
 abbrev pub NetDials : Addr → Result (Reply (Sink × Stream)) Error → NetworkState → NetworkState → Type 0
 NetDials a (Ok r) s t =
@@ -118,7 +119,8 @@ closed_at k m s n None = s
 closed_at k m s n (Some l) = record s {
   listeners = slice_set s.listeners n (closed_listener l);
   channels = after_closing k m s.channels l.waiting;
-  woken = woken_by_closing k m s.channels l.waiting }
+  woken = woken_by_closing k m s.channels l.waiting;
+}
 
 abbrev pub NetClosesListener : ℕ → NetworkState → NetworkState → Type 0
 NetClosesListener n s t = t ≡ closed_at with_closed_sink with_closed_stream s n (live_listener s.listeners n)

@@ -215,7 +215,8 @@ fresh size = record {
   sink = record { alive = true; failed = false; given_up = false };
   stream = record { alive = true; failed = false; given_up = false };
   receiving = None;
-  sending = false }
+  sending = false;
+}
 
 -- What is kept of a channel: its record without the bytes that were answered.
 abbrev pub kept : ChannelState → ChannelState

@@ -15,7 +15,8 @@ channel_of p = record {
   sink = p.sink;
   stream = p.stream;
   receiving = p.receiving;
-  sending = p.sending }
+  sending = p.sending;
+}
 
 -- no waiting task's cause is there, and the answer of a started `recv` is made as soon as its bytes are held
 pub record IsKept (p : Inside) : Type 0 where

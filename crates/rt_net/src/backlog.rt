@@ -50,7 +50,11 @@ impl Backlog {
         ensures added { OnOk result (self.new ≡ self.old ++ connection ∷ []) }
         ensures refused { OnErr result (self.new ≡ self.old) }
     {
-        let tasks = self.waiting.len().checked_add(1).and_then(|count| count.checked_mul(2));
+        let tasks = self
+            .waiting
+            .len()
+            .checked_add(1)
+            .and_then(|count| count.checked_mul(2));
         let Some(tasks) = tasks else {
             return Err(NoMemory);
         };
@@ -72,7 +76,10 @@ impl Backlog {
         ensures closed { channels.new.list ≡ after_closing without_sink without_stream channels.old.list self }
         ensures woken { result.items ≡ woken_by_closing without_sink without_stream channels.old.list self }
     {
-        let Backlog { mut waiting, mut woken } = self;
+        let Backlog {
+            mut waiting,
+            mut woken,
+        } = self;
         while let Some(connection) = waiting.pop_front() {
             if let Some(task) = channels.close_sink(connection.sink) {
                 woken.push_back_reserved(task);

@@ -54,7 +54,8 @@ impl Index {
         ensures refused { OnErr result (self.new ≡ self.old) }
     {
         self.addresses.reserve(1)?;
-        self.numbers.insert(key_of(address), self.addresses.len() as u64)?;
+        self.numbers
+            .insert(key_of(address), self.addresses.len() as u64)?;
         self.addresses.push_reserved(address);
         Ok(())
     }

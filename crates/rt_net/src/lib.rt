@@ -18,14 +18,12 @@ pub mod net;
 mod net_halves;
 mod net_network;
 pub mod network;
+#[cfg(test)]
+mod passing;
 mod pipe;
 mod place;
 pub mod reply;
 pub mod sink;
 pub mod stream;
-
-#[cfg(test)]
-mod passing;
-
 #[cfg(test)]
 mod tests;

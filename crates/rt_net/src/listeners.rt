@@ -76,7 +76,11 @@ impl Listeners {
         ensures none { IfNone result ((n : ℕ) → ¬ IsLiveAt self.now n address) }
     {
         match self.index.number_of(address) {
-            Some(number) => if self.acceptors.has(number) { Some(number) } else { None },
+            Some(number) => if self.acceptors.has(number) {
+                Some(number)
+            } else {
+                None
+            },
             None => None,
         }
     }

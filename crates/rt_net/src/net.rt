@@ -26,6 +26,7 @@ const LOCALHOST: Ip = Ip::V4([127, 0, 0, 1]);
 
 /// The first port of a dialer, and the first port past those of dialers.
 const FIRST_PORT: u16 = 32768;
+
 const LAST_PORT: u16 = 61000;
 
 /// The buffer size of a channel, in bytes.
@@ -164,7 +165,11 @@ impl Net {
     }
 
     // Takes a connection.
-    pub(crate) fn take_connection(&mut self, number: u64, task: u64) -> Result<Poll<(Addr, Sink, Stream)>, Error>
+    pub(crate) fn take_connection(
+        &mut self,
+        number: u64,
+        task: u64,
+    ) -> Result<Poll<(Addr, Sink, Stream)>, Error>
         ensures state { NetAccepts number task result self.old.state self.new.state }
         ensures half { TakesIdle (λ k. k.sending) (λ k. k.receiving) result }
         ensures refusals { self.new.refusals ≡ self.old.refusals }

@@ -16,7 +16,12 @@ use rt_bufs::{IoBuf, IoBufs};
 
 impl Net {
     // Sends on a sink.
-    pub(crate) fn put(&mut self, sink: &mut Sink, bufs: IoBufs, task: u64) -> Reply<Result<Poll<()>, Error>>
+    pub(crate) fn put(
+        &mut self,
+        sink: &mut Sink,
+        bufs: IoBufs,
+        task: u64,
+    ) -> Reply<Result<Poll<()>, Error>>
         ensures state { NetSends sink.old.number bufs.bytes task result self.old.state self.new.state }
         ensures sink { sink.new ≡ record sink.old { sending = is_pending result.value } }
         ensures refusals { self.new.refusals ≡ self.old.refusals }
@@ -44,7 +49,12 @@ impl Net {
     }
 
     // Receives on a stream.
-    pub(crate) fn get(&mut self, stream: &mut Stream, len: usize, task: u64) -> Result<Reply<Poll<IoBufs>>, Error>
+    pub(crate) fn get(
+        &mut self,
+        stream: &mut Stream,
+        len: usize,
+        task: u64,
+    ) -> Result<Reply<Poll<IoBufs>>, Error>
         ensures state { OnChannels (λ cs ds. AtStream (λ c d. Keeps (Receives c len task result) d) (result ≡ Err UnknownToken) cs stream.old.number ds) self.old.state self.new.state }
         ensures stream { stream.new ≡ record stream.old { receiving = waits result } }
         ensures refusals { self.new.refusals ≡ self.old.refusals }

@@ -12,7 +12,9 @@ use rt_bufs::{IoBuf, IoBufs};
 
 impl Network for Net {
     type Listener = Listener;
+
     type Sink = Sink;
+
     type Stream = Stream;
 
     ghost use Rattle.std.specs.Prelude.{◌≡◌, []};
@@ -56,35 +58,62 @@ impl Network for Net {
 
     ghost tells_woken = { λ v r w. Calls (NetTellsWoken r) v w };
 
-    fn send<E: Env>(&mut self, env: &mut E, sink: &mut Sink, bufs: IoBufs, task: u64) -> Reply<Result<Poll<()>, Error>> {
+    fn send<E: Env>(
+        &mut self,
+        env: &mut E,
+        sink: &mut Sink,
+        bufs: IoBufs,
+        task: u64,
+    ) -> Reply<Result<Poll<()>, Error>> {
         let _ = env;
         let reply = self.put(sink, bufs, task);
         self.count(&reply.value);
         reply
     }
 
-    fn poll_send<E: Env>(&mut self, env: &mut E, sink: &mut Sink, task: u64) -> Result<Poll<()>, Error> {
+    fn poll_send<E: Env>(
+        &mut self,
+        env: &mut E,
+        sink: &mut Sink,
+        task: u64,
+    ) -> Result<Poll<()>, Error> {
         let _ = env;
         let answer = self.poll_put(sink, task);
         self.count(&answer);
         answer
     }
 
-    fn recv<E: Env>(&mut self, env: &mut E, stream: &mut Stream, len: usize, task: u64) -> Result<Reply<Poll<IoBufs>>, Error> {
+    fn recv<E: Env>(
+        &mut self,
+        env: &mut E,
+        stream: &mut Stream,
+        len: usize,
+        task: u64,
+    ) -> Result<Reply<Poll<IoBufs>>, Error> {
         let _ = env;
         let answer = self.get(stream, len, task);
         self.count(&answer);
         answer
     }
 
-    fn poll_recv<E: Env>(&mut self, env: &mut E, stream: &mut Stream, task: u64) -> Result<Poll<IoBufs>, Error> {
+    fn poll_recv<E: Env>(
+        &mut self,
+        env: &mut E,
+        stream: &mut Stream,
+        task: u64,
+    ) -> Result<Poll<IoBufs>, Error> {
         let _ = env;
         let answer = self.poll_get(stream, task);
         self.count(&answer);
         answer
     }
 
-    fn peek<E: Env>(&mut self, env: &mut E, stream: &Stream, max_len: usize) -> Result<IoBuf, Error> {
+    fn peek<E: Env>(
+        &mut self,
+        env: &mut E,
+        stream: &Stream,
+        max_len: usize,
+    ) -> Result<IoBuf, Error> {
         let _ = env;
         let answer = self.look(stream, max_len);
         self.count(&answer);
@@ -126,14 +155,24 @@ impl Network for Net {
         answer
     }
 
-    fn accept<E: Env>(&mut self, env: &mut E, listener: &mut Listener, task: u64) -> Result<Poll<(Addr, Sink, Stream)>, Error> {
+    fn accept<E: Env>(
+        &mut self,
+        env: &mut E,
+        listener: &mut Listener,
+        task: u64,
+    ) -> Result<Poll<(Addr, Sink, Stream)>, Error> {
         let _ = env;
         let answer = self.take_connection(listener.number, task);
         self.count(&answer);
         answer
     }
 
-    fn poll_accept<E: Env>(&mut self, env: &mut E, listener: &mut Listener, task: u64) -> Result<Poll<(Addr, Sink, Stream)>, Error> {
+    fn poll_accept<E: Env>(
+        &mut self,
+        env: &mut E,
+        listener: &mut Listener,
+        task: u64,
+    ) -> Result<Poll<(Addr, Sink, Stream)>, Error> {
         let _ = env;
         let answer = self.take_connection(listener.number, task);
         self.count(&answer);

@@ -30,7 +30,9 @@ pub type ListenerOf<N> = <N as Network>::Listener;
 /// which waits where the answer is pending.
 pub trait Network {
     type Listener;
+
     type Sink: Sending;
+
     type Stream: Receiving;
 
     // How many calls were refused for another cause than want of memory.
@@ -71,35 +73,62 @@ pub trait Network {
     ghost tells_woken: { Self → Option ℕ → Self → Type 0 };
 
     /// Sends the bytes, and is pending where too many are left in the channel.
-    fn send<E: Env>(&mut self, env: &mut E, sink: &mut Self::Sink, bufs: IoBufs, task: u64) -> Reply<Result<Poll<()>, Error>>
+    fn send<E: Env>(
+        &mut self,
+        env: &mut E,
+        sink: &mut Self::Sink,
+        bufs: IoBufs,
+        task: u64,
+    ) -> Reply<Result<Poll<()>, Error>>
         requires { Self.Sink.sending sink.old ≡ false }
         ensures gives { (x : List Noted) × Adds (E.noted env.old) x (E.noted env.new) × sends self.old sink.old bufs task result self.new sink.new x }
         ensures half { Self.Sink.sending sink.new ≡ is_pending result.value }
         ensures counts { Counts (refusals self.old) (refusals self.new) result.value };
 
     /// Polls a `send` that was pending.
-    fn poll_send<E: Env>(&mut self, env: &mut E, sink: &mut Self::Sink, task: u64) -> Result<Poll<()>, Error>
+    fn poll_send<E: Env>(
+        &mut self,
+        env: &mut E,
+        sink: &mut Self::Sink,
+        task: u64,
+    ) -> Result<Poll<()>, Error>
         requires { Self.Sink.sending sink.old ≡ true }
         ensures gives { (x : List Noted) × Adds (E.noted env.old) x (E.noted env.new) × polls_send self.old sink.old task result self.new sink.new x }
         ensures half { Self.Sink.sending sink.new ≡ is_pending result }
         ensures counts { Counts (refusals self.old) (refusals self.new) result };
 
     /// Receives `len` bytes, and is pending where they aren't there.
-    fn recv<E: Env>(&mut self, env: &mut E, stream: &mut Self::Stream, len: usize, task: u64) -> Result<Reply<Poll<IoBufs>>, Error>
+    fn recv<E: Env>(
+        &mut self,
+        env: &mut E,
+        stream: &mut Self::Stream,
+        len: usize,
+        task: u64,
+    ) -> Result<Reply<Poll<IoBufs>>, Error>
         requires { Self.Stream.receiving stream.old ≡ false }
         ensures gives { (x : List Noted) × Adds (E.noted env.old) x (E.noted env.new) × receives self.old stream.old len task result self.new stream.new x }
         ensures half { Self.Stream.receiving stream.new ≡ waits result }
         ensures counts { Counts (refusals self.old) (refusals self.new) result };
 
     /// Polls a `recv` that was pending.
-    fn poll_recv<E: Env>(&mut self, env: &mut E, stream: &mut Self::Stream, task: u64) -> Result<Poll<IoBufs>, Error>
+    fn poll_recv<E: Env>(
+        &mut self,
+        env: &mut E,
+        stream: &mut Self::Stream,
+        task: u64,
+    ) -> Result<Poll<IoBufs>, Error>
         requires { Self.Stream.receiving stream.old ≡ true }
         ensures gives { (x : List Noted) × Adds (E.noted env.old) x (E.noted env.new) × polls_recv self.old stream.old task result self.new stream.new x }
         ensures half { Self.Stream.receiving stream.new ≡ is_pending result }
         ensures counts { Counts (refusals self.old) (refusals self.new) result };
 
     /// A copy of the first bytes that the stream holds, at most `max_len`.
-    fn peek<E: Env>(&mut self, env: &mut E, stream: &Self::Stream, max_len: usize) -> Result<IoBuf, Error>
+    fn peek<E: Env>(
+        &mut self,
+        env: &mut E,
+        stream: &Self::Stream,
+        max_len: usize,
+    ) -> Result<IoBuf, Error>
         ensures gives { (x : List Noted) × Adds (E.noted env.old) x (E.noted env.new) × peeks self.old stream.now max_len result self.new x }
         ensures counts { Counts (refusals self.old) (refusals self.new) result };
 
@@ -131,19 +160,33 @@ pub trait Network {
         ensures counts { Counts (refusals self.old) (refusals self.new) result };
 
     /// Connects to the listener at an address.
-    fn dial<E: Env>(&mut self, env: &mut E, socket: Addr) -> Result<Reply<(Self::Sink, Self::Stream)>, Error>
+    fn dial<E: Env>(
+        &mut self,
+        env: &mut E,
+        socket: Addr,
+    ) -> Result<Reply<(Self::Sink, Self::Stream)>, Error>
         ensures gives { (x : List Noted) × Adds (E.noted env.old) x (E.noted env.new) × dials self.old socket result self.new x }
         ensures half { AreIdle Self.Sink.sending Self.Stream.receiving result }
         ensures counts { Counts (refusals self.old) (refusals self.new) result };
 
     /// Takes the next connection, with the address that it was dialed from, and is pending where none waits.
-    fn accept<E: Env>(&mut self, env: &mut E, listener: &mut Self::Listener, task: u64) -> Result<Poll<(Addr, Self::Sink, Self::Stream)>, Error>
+    fn accept<E: Env>(
+        &mut self,
+        env: &mut E,
+        listener: &mut Self::Listener,
+        task: u64,
+    ) -> Result<Poll<(Addr, Self::Sink, Self::Stream)>, Error>
         ensures gives { (x : List Noted) × Adds (E.noted env.old) x (E.noted env.new) × accepts self.old listener.old task result self.new listener.new x }
         ensures half { TakesIdle Self.Sink.sending Self.Stream.receiving result }
         ensures counts { Counts (refusals self.old) (refusals self.new) result };
 
     /// Polls an `accept` that was pending.
-    fn poll_accept<E: Env>(&mut self, env: &mut E, listener: &mut Self::Listener, task: u64) -> Result<Poll<(Addr, Self::Sink, Self::Stream)>, Error>
+    fn poll_accept<E: Env>(
+        &mut self,
+        env: &mut E,
+        listener: &mut Self::Listener,
+        task: u64,
+    ) -> Result<Poll<(Addr, Self::Sink, Self::Stream)>, Error>
         ensures gives { (x : List Noted) × Adds (E.noted env.old) x (E.noted env.new) × polls_accept self.old listener.old task result self.new listener.new x }
         ensures half { TakesIdle Self.Sink.sending Self.Stream.receiving result }
         ensures counts { Counts (refusals self.old) (refusals self.new) result };

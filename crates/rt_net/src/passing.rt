@@ -14,7 +14,9 @@ pub struct Passing<N> {
 
 impl<N: Network> Network for Passing<N> {
     type Listener = N::Listener;
+
     type Sink = N::Sink;
+
     type Stream = N::Stream;
 
     ghost use Rattle.std.specs.Prelude.{◌≡◌, List, [], ◌∷◌, ◌⊎◌, Err};
@@ -58,7 +60,13 @@ impl<N: Network> Network for Passing<N> {
 
     ghost tells_woken = { λ s r u. N.tells_woken s.inner r u.inner };
 
-    fn send<E: Env>(&mut self, env: &mut E, sink: &mut N::Sink, bufs: IoBufs, task: u64) -> Reply<Result<Poll<()>, Error>> {
+    fn send<E: Env>(
+        &mut self,
+        env: &mut E,
+        sink: &mut N::Sink,
+        bufs: IoBufs,
+        task: u64,
+    ) -> Reply<Result<Poll<()>, Error>> {
         if env.reserve(1).is_err() {
             return Reply {
                 value: Err(Error::NoMemory),
@@ -73,19 +81,40 @@ impl<N: Network> Network for Passing<N> {
         self.inner.send(env, sink, bufs, task)
     }
 
-    fn poll_send<E: Env>(&mut self, env: &mut E, sink: &mut N::Sink, task: u64) -> Result<Poll<()>, Error> {
+    fn poll_send<E: Env>(
+        &mut self,
+        env: &mut E,
+        sink: &mut N::Sink,
+        task: u64,
+    ) -> Result<Poll<()>, Error> {
         self.inner.poll_send(env, sink, task)
     }
 
-    fn recv<E: Env>(&mut self, env: &mut E, stream: &mut N::Stream, len: usize, task: u64) -> Result<Reply<Poll<IoBufs>>, Error> {
+    fn recv<E: Env>(
+        &mut self,
+        env: &mut E,
+        stream: &mut N::Stream,
+        len: usize,
+        task: u64,
+    ) -> Result<Reply<Poll<IoBufs>>, Error> {
         self.inner.recv(env, stream, len, task)
     }
 
-    fn poll_recv<E: Env>(&mut self, env: &mut E, stream: &mut N::Stream, task: u64) -> Result<Poll<IoBufs>, Error> {
+    fn poll_recv<E: Env>(
+        &mut self,
+        env: &mut E,
+        stream: &mut N::Stream,
+        task: u64,
+    ) -> Result<Poll<IoBufs>, Error> {
         self.inner.poll_recv(env, stream, task)
     }
 
-    fn peek<E: Env>(&mut self, env: &mut E, stream: &N::Stream, max_len: usize) -> Result<IoBuf, Error> {
+    fn peek<E: Env>(
+        &mut self,
+        env: &mut E,
+        stream: &N::Stream,
+        max_len: usize,
+    ) -> Result<IoBuf, Error> {
         self.inner.peek(env, stream, max_len)
     }
 
@@ -109,15 +138,29 @@ impl<N: Network> Network for Passing<N> {
         self.inner.bind(env, socket)
     }
 
-    fn dial<E: Env>(&mut self, env: &mut E, socket: Addr) -> Result<Reply<(N::Sink, N::Stream)>, Error> {
+    fn dial<E: Env>(
+        &mut self,
+        env: &mut E,
+        socket: Addr,
+    ) -> Result<Reply<(N::Sink, N::Stream)>, Error> {
         self.inner.dial(env, socket)
     }
 
-    fn accept<E: Env>(&mut self, env: &mut E, listener: &mut N::Listener, task: u64) -> Result<Poll<(Addr, N::Sink, N::Stream)>, Error> {
+    fn accept<E: Env>(
+        &mut self,
+        env: &mut E,
+        listener: &mut N::Listener,
+        task: u64,
+    ) -> Result<Poll<(Addr, N::Sink, N::Stream)>, Error> {
         self.inner.accept(env, listener, task)
     }
 
-    fn poll_accept<E: Env>(&mut self, env: &mut E, listener: &mut N::Listener, task: u64) -> Result<Poll<(Addr, N::Sink, N::Stream)>, Error> {
+    fn poll_accept<E: Env>(
+        &mut self,
+        env: &mut E,
+        listener: &mut N::Listener,
+        task: u64,
+    ) -> Result<Poll<(Addr, N::Sink, N::Stream)>, Error> {
         self.inner.poll_accept(env, listener, task)
     }
 

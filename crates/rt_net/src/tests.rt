@@ -62,7 +62,11 @@ fn seen<V>(answer: &Result<Poll<V>, Error>) -> Ending {
 
 fn seen_reply<V>(answer: &Result<Reply<Poll<V>>, Error>) -> Ending {
     match answer {
-        Ok(reply) => if let Poll::Pending = reply.value { Ending::Waits } else { Ending::Done },
+        Ok(reply) => if let Poll::Pending = reply.value {
+            Ending::Waits
+        } else {
+            Ending::Done
+        },
         Err(error) => seen_error(error),
     }
 }
@@ -116,7 +120,11 @@ fn send_after_a_given_up_send(rt: HostRuntime) -> Result<(), Fail> {
     let first = seen(&net.send(&mut NoEnv, &mut sink, long, 1).value);
     net.give_up_send(&mut sink);
     let second = seen(&net.send(&mut NoEnv, &mut sink, short, 1).value);
-    let third = if sink.is_sending() { Ending::Other } else { seen(&net.send(&mut NoEnv, &mut sink, last, 1).value) };
+    let third = if sink.is_sending() {
+        Ending::Other
+    } else {
+        seen(&net.send(&mut NoEnv, &mut sink, last, 1).value)
+    };
     let _ = net.close_sink(sink);
     let _ = net.close_stream(stream);
     assert_eq!(rt; first, Ending::Waits);
@@ -131,7 +139,11 @@ fn receive_after_the_sink_closed(rt: HostRuntime) -> Result<(), Fail> {
     let (sink, mut stream) = Channel::init(&mut net).expect(&rt, "room");
     let _ = net.close_sink(sink);
     let first = seen_reply(&net.recv(&mut NoEnv, &mut stream, 1, 1));
-    let second = if stream.is_receiving() { Ending::Other } else { seen_reply(&net.recv(&mut NoEnv, &mut stream, 1, 1)) };
+    let second = if stream.is_receiving() {
+        Ending::Other
+    } else {
+        seen_reply(&net.recv(&mut NoEnv, &mut stream, 1, 1))
+    };
     let _ = net.close_stream(stream);
     assert_eq!(rt; first, Ending::RecvFailed);
     assert_eq!(rt; second, Ending::Closed);
@@ -169,7 +181,9 @@ fn ports_run_out(rt: HostRuntime) -> Result<(), Fail> {
         assert_eq!(rt; dial(&mut net, here(4000)), Ending::ConnectionFailed);
     }
     assert_eq!(rt; dial(&mut net, here(4000)), Ending::PortsExhausted);
-    let listener = net.bind(&mut NoEnv, here(4000)).expect(&rt, "a free address");
+    let listener = net
+        .bind(&mut NoEnv, here(4000))
+        .expect(&rt, "a free address");
     let last = dial(&mut net, here(4000));
     net.close_listener(listener);
     assert_eq!(rt; last, Ending::PortsExhausted);
@@ -180,7 +194,9 @@ fn ports_run_out(rt: HostRuntime) -> Result<(), Fail> {
 fn bound_addresses(rt: HostRuntime) -> Result<(), Fail> {
     let mut net = Net::new(rt.alloc())?;
     assert_eq!(rt; bind(&mut net, here(32768)), Ending::BindFailed);
-    let listener = net.bind(&mut NoEnv, here(61000)).expect(&rt, "a free address");
+    let listener = net
+        .bind(&mut NoEnv, here(61000))
+        .expect(&rt, "a free address");
     let again = bind(&mut net, here(61000));
     net.close_listener(listener);
     assert_eq!(rt; again, Ending::BindFailed);
@@ -189,7 +205,12 @@ fn bound_addresses(rt: HostRuntime) -> Result<(), Fail> {
 }
 
 // Sends, receives and gives up on one channel, which is closed then.
-fn exercise<N: Network>(net: &mut N, mut sink: N::Sink, mut stream: N::Stream, bufs: IoBufs) -> (Ending, bool, bool, Ending)
+fn exercise<N: Network>(
+    net: &mut N,
+    mut sink: N::Sink,
+    mut stream: N::Stream,
+    bufs: IoBufs,
+) -> (Ending, bool, bool, Ending)
     requires sends { N.Sink.sending sink ≡ false }
     requires receives { N.Stream.receiving stream ≡ false }
 {
@@ -208,7 +229,11 @@ fn exercise<N: Network>(net: &mut N, mut sink: N::Sink, mut stream: N::Stream, b
     if !stream.is_receiving() {
         let _ = net.recv(&mut NoEnv, &mut stream, 90, 2);
     }
-    let late = if stream.is_receiving() { seen(&net.poll_recv(&mut NoEnv, &mut stream, 2)) } else { Ending::Other };
+    let late = if stream.is_receiving() {
+        seen(&net.poll_recv(&mut NoEnv, &mut stream, 2))
+    } else {
+        Ending::Other
+    };
     net.give_up_send(&mut sink);
     net.give_up_recv(&mut stream);
     let _ = net.close_sink(sink);
@@ -261,7 +286,9 @@ fn spend(net: &mut Net, taken: Result<Poll<(Addr, Sink, Stream)>, Error>) -> Opt
 #[test]
 fn surface_of_listeners(rt: HostRuntime) -> Result<(), Fail> {
     let mut net = Net::new(rt.alloc())?;
-    let mut listener = net.bind(&mut NoEnv, here(4000)).expect(&rt, "a free address");
+    let mut listener = net
+        .bind(&mut NoEnv, here(4000))
+        .expect(&rt, "a free address");
     let address = net.local_addr(&listener);
     let taken = net.accept(&mut NoEnv, &mut listener, 5);
     let first = spend(&mut net, taken);
@@ -281,8 +308,13 @@ fn surface_of_listeners(rt: HostRuntime) -> Result<(), Fail> {
 #[test]
 fn closed_listener_wakes_a_dialer(rt: HostRuntime) -> Result<(), Fail> {
     let mut net = Net::new(rt.alloc())?;
-    let listener = net.bind(&mut NoEnv, here(4000)).expect(&rt, "a free address");
-    let (sink, mut stream) = net.dial(&mut NoEnv, here(4000)).expect(&rt, "a listener").value;
+    let listener = net
+        .bind(&mut NoEnv, here(4000))
+        .expect(&rt, "a free address");
+    let (sink, mut stream) = net
+        .dial(&mut NoEnv, here(4000))
+        .expect(&rt, "a listener")
+        .value;
     let got = seen_reply(&net.recv(&mut NoEnv, &mut stream, 1, 7));
     net.close_listener(listener);
     let _ = net.close_sink(sink);

@@ -8,7 +8,8 @@ abbrev pub invariant-loop-connection : goal.invariant-loop-connection
 invariant-loop-connection l = record {
   closed : after_closing without_sink without_stream l.channels.list l.waiting.items ≡ after_closing without_sink without_stream l.fn.channels.list l.fn.self;
   woken : l.woken.items ++ woken_by_closing without_sink without_stream l.channels.list l.waiting.items ≡ woken_by_closing without_sink without_stream l.fn.channels.list l.fn.self;
-  room : length l.woken.items + 2 * length l.waiting.items ≤ deque_capacity l.woken }
+  room : length l.woken.items + 2 * length l.waiting.items ≤ deque_capacity l.woken;
+}
 
 abbrev pub decreases-loop-connection : goal.decreases-loop-connection
 decreases-loop-connection l = length l.waiting.items

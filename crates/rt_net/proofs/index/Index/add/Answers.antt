@@ -16,9 +16,9 @@ invariant_of-self-2 c =
     let old = c.self.inside in
     let count : c.len.result ≡ length old.addresses.items = search rules in
     let put : (q : Place) → get eq c.insert.new.self q ≡ cond (eq (place_of c.args.address) q) (Some (length old.addresses.items)) (get eq old.numbers q) =
-        λ q.
-        let rest : Option ℕ = get eq old.numbers q in
-        c.in_ok-insert.ensures.updates.0 q ∙ ap (λ k. cond (eq k q) (Some c.len.result) rest) c.key_of.ensures ∙ ap (λ n. cond (eq (place_of c.args.address) q) (Some n) rest) count in
+    λ q.
+    let rest : Option ℕ = get eq old.numbers q in
+    c.in_ok-insert.ensures.updates.0 q ∙ ap (λ k. cond (eq k q) (Some c.len.result) rest) c.key_of.ensures ∙ ap (λ n. cond (eq (place_of c.args.address) q) (Some n) rest) count in
     let more = indexed-more eq same itself (get eq old.numbers) (get eq c.insert.new.self) old.addresses.items c.args.address c.self.invariant put (λ n h. c.requires n (ap (λ (xs : List Addr). slice_get xs n) (sym c.self.view_is) ∙ h)) in
     let items : old.addresses.items ++ c.args.address ∷ [] ≡ c.push_reserved.new.self.items = search rules in
     subst (λ (xs : List Addr). IsIndexed (get eq c.insert.new.self) xs) items more

@@ -11,5 +11,6 @@ invariant_of-self c =
       within = c.self.invariant.within;
       quiet = quiet;
       answer = λ len started enough.
-        let same : c.args.len ≡ len = cc in
-        absurd (omega (arith, lacks)) }
+          let same : c.args.len ≡ len = cc in
+          absurd (omega (arith, lacks));
+    }

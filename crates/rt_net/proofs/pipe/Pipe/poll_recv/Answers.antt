@@ -17,4 +17,4 @@ returns c =
     let made = c.self.invariant.answer c.in-Some.len c.in-Some.is c.if-self-len.false in
     let bytes = subst (λ (o : Option Chunked). IsSomeAnd o P) (sym c.take.ensures.value ∙ c.in-Some-take.is) made in
     answer-started c.args.self.now c.answer-2.new.self c.in-Some.len c.args.task c.in-Some-take.bytes (search rules) (search rules) (search (rules, bytes))
-        (c.answer-2.ensures ∙ ap (λ x. kept (answered x c.in-Some.len)) c.self.view_is)
+    (c.answer-2.ensures ∙ ap (λ x. kept (answered x c.in-Some.len)) c.self.view_is)
