@@ -1,6 +1,9 @@
 -- What a simulation has run.
-use Rattle.std.specs.Prelude.{◌≡◌, ◌==◌, ◌||◌, ℕ, ℤ, List, [], ◌∷◌, length, slice_get, Bool, Option, Some}
+use Rattle.std.specs.Prelude.{◌≡◌, ◌+◌, ◌==◌, ◌||◌, codes, true, false, ℕ, ℤ, List, [], ◌∷◌, length, slice_get, Bool, Option, Some}
 use Rattle.rt_audit.specs.declared.entry.Entry.{Entry}
+use Rattle.rt_audit.specs.declared.entry.Entry.TheVariants.{Round}
+use Rattle.rt_audit.specs.Journal.{last_time}
+use Rattle.rt_scenario.specs.Words.{is_text}
 use Rattle.rt_model.specs.Walk.{Gives}
 use Rattle.rt_model.specs.Tied.{Steps, with_first}
 use Rattle.rt_world.specs.Failures.{finish_of}
@@ -21,12 +24,12 @@ use Rattle.rt_sim.specs.Script.{script_steps, begun}
 abbrev pub root_steps : RootScript → Steps Script ℤ
 root_steps m = with_first script_steps (λ now heard. Gives tt (begun m))
 
--- a script of these lines ran under this timeout, these are the run's entries, and it came to this
-abbrev pub Ran : Option ℕ → List Line → List Entry → RunResult → Type 0
-Ran timeout lines journal (Ok output) =
-    (m : RootScript) × (kept : Kept) × (m.lines.items ≡ lines) × (kept.journal ≡ journal) × Completes Script ℤ (root_steps m) (first_begin 1000000 0 timeout) [] output kept
-Ran timeout lines journal (Failed error) =
-    (m : RootScript) × (m.lines.items ≡ lines) × Fails Script ℤ (root_steps m) (first_begin 1000000 0 timeout) [] journal (finish_of error)
+-- a script of these lines ran under this timeout, these are the run's entries and its last moment, and it came to this
+abbrev pub Ran : Option ℕ → List Line → List Entry → ℕ → RunResult → Type 0
+Ran timeout lines journal time (Ok output) =
+    (m : RootScript) × (kept : Kept) × (m.lines.items ≡ lines) × (kept.journal ≡ journal) × (kept.time ≡ time) × Completes Script ℤ (root_steps m) (first_begin 1000000 0 timeout) [] output kept
+Ran timeout lines journal time (Failed error) =
+    (m : RootScript) × (m.lines.items ≡ lines) × (last_time journal ≡ time) × Fails Script ℤ (root_steps m) (first_begin 1000000 0 timeout) [] journal (finish_of error)
 
 abbrev pub status_of : RunResult → ℕ
 status_of (Ok output) = 0
@@ -44,20 +47,33 @@ is_run status = is_reported status || ((status == 5) || (status == 7))
 abbrev pub is_read : ℕ → Bool
 is_read status = is_run status || (status == 3)
 
--- the only run that is reported: this result, and all entries of the journal
-pub record Reports (name : List ℕ) (result : RunResult) (o : Outcome) : Type 0 where
+-- the words are the command that there is
+abbrev pub says_run : List (List ℕ) → Bool
+says_run (word ∷ []) = is_text word (codes "run")
+says_run words = false
+
+abbrev pub rounds_in : List Entry → ℕ
+rounds_in [] = 0
+rounds_in (Round order ∷ entries) = rounds_in entries + 1
+rounds_in (entry ∷ entries) = rounds_in entries
+
+-- the only run that is reported: this result and time, and all entries of the journal
+pub record Reports (name : List ℕ) (result : RunResult) (time : ℕ) (o : Outcome) : Type 0 where
   pub report : RunReport
   pub runs : o.runs ≡ report ∷ []
   pub named : report.root ≡ name
   pub comes : report.result ≡ result
   pub from : report.from ≡ 0
   pub to : report.to ≡ length o.journal.entries
+  pub moment : report.time ≡ time
+  pub rounds : report.rounds ≡ rounds_in o.journal.entries
   pub status : o.status ≡ status_of result
 
 -- the scenario's root ran, and is reported
 pub record Simulates (s : Scenario) (o : Outcome) : Type 0 where
   pub script : ScriptText
   pub result : RunResult
+  pub time : ℕ
   pub is_root : slice_get s.scripts s.root ≡ Some script
-  pub ran : Ran s.timeout script.lines o.journal.entries result
-  pub reports : Reports script.name result o
+  pub ran : Ran s.timeout script.lines o.journal.entries time result
+  pub reports : Reports script.name result time o

@@ -1,13 +1,13 @@
 //! The call of the program.
 
-ghost use Rattle.std.specs.Prelude.{◌≡◌, ◌<◌, ◌⊎◌, ◌∷◌, [], ℕ, List, true, length, IfSome};
+ghost use Rattle.std.specs.Prelude.{◌≡◌, ◌<◌, ◌⊎◌, ◌∷◌, [], ℕ, List, true, false, length, map, codes, string_bytes, IfSome};
 ghost use Rattle.rt_base.specs.Outside.{HasRisen, Appends};
 ghost use Rattle.rt_scenario.specs.Scenario.{scenario_of, Whole, BrokenAt};
 ghost use Rattle.rt_scenario.specs.declared.scenario.Scenario.{Scenario};
-ghost use Rattle.rt_scenario.specs.declared.kind.Kind.{Kind};
+ghost use Rattle.rt_scenario.specs.declared.reader.Broken.{Broken};
 ghost use Rattle.rt_sim.specs.Report.{report_text, refusal_text};
 ghost use Rattle.rt_sim.specs.declared.outcome.RunReport.{RunReport};
-ghost use Rattle.rt_sim.specs.Ran.{is_reported, is_run, is_read, Reports, Simulates};
+ghost use Rattle.rt_sim.specs.Ran.{is_reported, is_run, is_read, says_run, rounds_in, Reports, Simulates};
 
 use crate::report::{Unwritten, write_report};
 use crate::{Outcome, RootScript, RunReport, RunResult, Script};
@@ -19,6 +19,9 @@ use std::alloc::Global;
 
 /// How many bytes a scenario may have.
 const LONGEST: usize = 1_048_576;
+
+/// The line for words that are no command.
+const USAGE: &str = "usage: rt_sim run | gen N | load N | workers N\n";
 
 /// Carries out the command of these words: `run` reads a scenario from the source, runs it, and writes the whole
 /// report to the sink.
@@ -32,32 +35,31 @@ pub fn simulate_alone<S: Source, K: Sink8>(
     sink: &mut K,
 ) -> Outcome
     ensures ran { is_reported result.status ≡ true → (bytes : List ℕ) × IfSome (S.left source.old) (λ left. bytes ≡ left) × (s : Scenario) × (scenario_of bytes ≡ Whole s) × Simulates s result }
-    ensures refused { result.status ≡ 3 → (IfSome (S.left source.old) (λ left. LONGEST < length left)) ⊎ ((bytes : List ℕ) × IfSome (S.left source.old) (λ left. bytes ≡ left) × (line : ℕ) × (kind : Kind) × (scenario_of bytes ≡ BrokenAt line kind)) }
+    ensures refused { result.status ≡ 3 → (IfSome (S.left source.old) (λ left. LONGEST < length left) × Appends (K.held sink.old) (codes "error too long\n") (K.held sink.new)) ⊎ ((bytes : List ℕ) × IfSome (S.left source.old) (λ left. bytes ≡ left) × (broken : Broken) × (scenario_of bytes ≡ BrokenAt broken.line broken.kind) × Appends (K.held sink.old) (refusal_text broken) (K.held sink.new)) }
+    ensures usage { result.status ≡ 2 → (says_run (map string_bytes words.now) ≡ false) × Appends (K.held sink.old) (codes "usage: rt_sim run | gen N | load N | workers N\n") (K.held sink.new) }
+    ensures words { says_run (map string_bytes words.now) ≡ false → (result.status ≡ 2) ⊎ (result.status ≡ 5) }
     ensures text { is_reported result.status ≡ true → (run : RunReport) × (result.runs ≡ run ∷ []) × Appends (K.held sink.old) (report_text run result.journal.entries) (K.held sink.new) }
     ensures unwritten { result.status ≡ 5 → HasRisen (K.faults sink.old) (K.faults sink.new) }
     ensures unread { result.status ≡ 4 → HasRisen (S.faults source.old) (S.faults source.new) }
 {
-    let [word] = words else {
-        return refuse(
-            alloc,
-            sink,
-            2,
-            "usage: rt_sim run | gen N | load N | workers N\n",
-        );
-    };
-    if word.as_str() != "run" {
-        return refuse(
-            alloc,
-            sink,
-            2,
-            "usage: rt_sim run | gen N | load N | workers N\n",
-        );
+    if !is_run_command(words) {
+        return refuse(alloc, sink, 2, USAGE);
     }
     match read_whole(alloc, source, LONGEST) {
         Err(Unread::Failed) => nothing(alloc, 4),
         Err(Unread::NoMemory) => nothing(alloc, 7),
         Err(Unread::TooLong) => refuse(alloc, sink, 3, "error too long\n"),
         Ok(bytes) => run_bytes(alloc, bytes.as_slice(), sink),
+    }
+}
+
+/// Whether the words are the command that there is.
+fn is_run_command(words: &[String]) -> bool
+    ensures { result ≡ says_run (map string_bytes words.now) }
+{
+    match words {
+        [word] => word.as_bytes() == b"run".as_slice(),
+        _ => false,
     }
 }
 
@@ -85,7 +87,7 @@ fn refuse<K: Sink8>(alloc: Global, sink: &mut K, status: u8, line: &str) -> Outc
 /// Runs the scenario that these bytes write.
 fn run_bytes<K: Sink8>(alloc: Global, bytes: &[u8], sink: &mut K) -> Outcome
     ensures ran { is_reported result.status ≡ true → (s : Scenario) × (scenario_of bytes.now ≡ Whole s) × Simulates s result }
-    ensures refused { result.status ≡ 3 → (line : ℕ) × (kind : Kind) × (scenario_of bytes.now ≡ BrokenAt line kind) }
+    ensures refused { result.status ≡ 3 → (broken : Broken) × (scenario_of bytes.now ≡ BrokenAt broken.line broken.kind) × Appends (K.held sink.old) (refusal_text broken) (K.held sink.new) }
     ensures statuses { is_read result.status ≡ true }
     ensures text { is_reported result.status ≡ true → (run : RunReport) × (result.runs ≡ run ∷ []) × Appends (K.held sink.old) (report_text run result.journal.entries) (K.held sink.new) }
     ensures unwritten { result.status ≡ 5 → HasRisen (K.faults sink.old) (K.faults sink.new) }
@@ -160,7 +162,7 @@ fn report_run<K: Sink8>(
     time: Nanos,
     journal: Journal,
 ) -> Outcome
-    ensures reports { is_reported result.status ≡ true → Reports root ended result }
+    ensures reports { is_reported result.status ≡ true → Reports root ended time result }
     ensures journal { result.journal.entries ≡ journal.entries }
     ensures statuses { is_run result.status ≡ true }
     ensures text { is_reported result.status ≡ true → (run : RunReport) × (result.runs ≡ run ∷ []) × Appends (K.held sink.old) (report_text run result.journal.entries) (K.held sink.new) }
@@ -200,11 +202,14 @@ fn report_run<K: Sink8>(
     }
 }
 
-fn count_rounds(entries: &[Entry]) -> u64 {
+/// How many rounds there are among the entries.
+fn count_rounds(entries: &[Entry]) -> u64
+    ensures { result ≡ rounds_in entries.now }
+{
     let mut rounds = 0u64;
     for entry in entries {
         if matches!(entry, Entry::Round { .. }) {
-            rounds = rounds.saturating_add(1);
+            rounds += 1;
         }
     }
     rounds
