@@ -1,0 +1,4 @@
+pub mod Clock
+pub mod Order
+pub mod Same
+pub mod Values
