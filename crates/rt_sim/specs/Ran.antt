@@ -1,5 +1,5 @@
 -- What a simulation has run.
-use Rattle.std.specs.Prelude.{◌≡◌, ◌+◌, ◌==◌, ◌||◌, codes, true, false, ℕ, ℤ, List, [], ◌∷◌, length, slice_get, Bool, Option, Some}
+use Rattle.std.specs.Prelude.{◌≡◌, ◌+◌, ◌==◌, ◌||◌, codes, false, ℕ, ℤ, List, [], ◌∷◌, length, slice_get, Bool, Option, Some}
 use Rattle.rt_audit.specs.declared.entry.Entry.{Entry}
 use Rattle.rt_audit.specs.declared.entry.Entry.TheVariants.{Round}
 use Rattle.rt_audit.specs.Journal.{last_time}

@@ -6,6 +6,8 @@ mod outcome;
 mod report;
 mod script;
 mod simulate;
+#[cfg(test)]
+mod tests;
 
 pub use maker::RootScript;
 pub use outcome::{Outcome, RunReport, RunResult};
