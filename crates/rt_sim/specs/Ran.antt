@@ -47,6 +47,10 @@ is_run status = is_reported status || ((status == 5) || (status == 7))
 abbrev pub is_read : ℕ → Bool
 is_read status = is_run status || (status == 3)
 
+-- the statuses of the program's call
+abbrev pub is_status : ℕ → Bool
+is_status status = is_read status || ((status == 2) || (status == 4))
+
 -- the words are the command that there is
 abbrev pub says_run : List (List ℕ) → Bool
 says_run (word ∷ []) = is_text word (codes "run")

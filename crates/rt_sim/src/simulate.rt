@@ -7,7 +7,7 @@ ghost use Rattle.rt_scenario.specs.declared.scenario.Scenario.{Scenario};
 ghost use Rattle.rt_scenario.specs.declared.reader.Broken.{Broken};
 ghost use Rattle.rt_sim.specs.Report.{report_text, refusal_text};
 ghost use Rattle.rt_sim.specs.declared.outcome.RunReport.{RunReport};
-ghost use Rattle.rt_sim.specs.Ran.{is_reported, is_run, is_read, says_run, rounds_in, Reports, Simulates};
+ghost use Rattle.rt_sim.specs.Ran.{is_reported, is_run, is_read, is_status, says_run, rounds_in, Reports, Simulates};
 
 use crate::report::{Unwritten, write_report};
 use crate::{Outcome, RootScript, RunReport, RunResult, Script};
@@ -40,6 +40,7 @@ pub fn simulate_alone<S: Source, K: Sink8>(
     ensures words { says_run (map string_bytes words.now) ≡ false → (result.status ≡ 2) ⊎ (result.status ≡ 5) }
     ensures text { is_reported result.status ≡ true → (run : RunReport) × (result.runs ≡ run ∷ []) × Appends (K.held sink.old) (report_text run result.journal.entries) (K.held sink.new) }
     ensures unwritten { result.status ≡ 5 → HasRisen (K.faults sink.old) (K.faults sink.new) }
+    ensures statuses { is_status result.status ≡ true }
     ensures unread { result.status ≡ 4 → HasRisen (S.faults source.old) (S.faults source.new) }
 {
     if !is_run_command(words) {
