@@ -94,6 +94,13 @@ impl AlarmList {
         }
     }
 
+    /// Whether the alarm of this number is set for this time.
+    pub fn is_set(&self, due: Nanos, number: u64) -> bool
+        ensures { result ≡ is_set self.now.alarms.set due number }
+    {
+        find(self.set.as_slice(), due, number).is_some()
+    }
+
     /// Takes the earliest alarm out.
     pub fn pop(&mut self) -> Alarm
         requires { 0 < length self.old.alarms.set }

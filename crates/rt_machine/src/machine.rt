@@ -1,7 +1,7 @@
 //! The state that a run's journal tells, kept beside it.
 
 ghost use Rattle.std.specs.Prelude.{◌≡◌, ◌≢◌, ◌≤◌, ◌<◌, ◌+◌, ◌∷◌, ◌++◌, ◌^◌, ◌-◌, [], length, IfOk, OnErr, OnOk, true, false, IsTrue, drop, Option, ℕ, map, IfErr, not, ◌↔◌, vec_len, vec_capacity};
-ghost use Rattle.rt_model.specs.Lists.{is_nil, has_number, is_some_number};
+ghost use Rattle.rt_model.specs.Lists.{is_nil};
 ghost use Rattle.rt_model.specs.State.{blank, Making, Visiting, Entered, Polling, Turning, Closing};
 ghost use Rattle.rt_model.specs.Alarms.{fires, skip_to, woken_by};
 ghost use Rattle.rt_model.specs.Causes.{is_late, overflows, from_running, ends_next};
@@ -138,13 +138,6 @@ impl Machine {
         self.short
     }
 
-    /// Marks a call that lacked memory.
-    pub fn mark_short(&mut self)
-        ensures { self.new ≡ lacking self.old }
-    {
-        self.short = true;
-    }
-
     /// Takes the mark off. Answers whether it was there.
     pub fn take_short(&mut self) -> bool
         ensures was { result ≡ self.old.short }
@@ -177,13 +170,6 @@ impl Machine {
         ensures { IsTrue result ↔ (self.now.told.state.numbers.next < 2 ^ 64 - 1) }
     {
         self.next < u64::MAX
-    }
-
-    /// Whether this is the root's number.
-    pub fn is_root(&self, task: u64) -> bool
-        ensures { result ≡ is_some_number task self.now.told.state.root }
-    {
-        self.root == Some(task)
     }
 
     /// The root's number, once it is taken in.
