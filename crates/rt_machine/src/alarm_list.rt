@@ -45,6 +45,13 @@ impl AlarmList {
         self.set.len()
     }
 
+    /// How many were ever set, which is the next one's number.
+    pub fn count(&self) -> u64
+        ensures { result ≡ self.now.alarms.count }
+    {
+        self.count
+    }
+
     /// Whether a number is left for a further alarm.
     pub fn has_number_left(&self) -> bool
         ensures { IsTrue result ↔ (self.now.alarms.count < 2 ^ 64 - 1) }

@@ -159,6 +159,10 @@ without_task ls n = at_listener ls n (λ l. record l { task = None }) (live_list
 abbrev pub without_listener : List ListenerState → ℕ → List ListenerState
 without_listener ls n = at_listener ls n closed_listener (live_listener ls n)
 
+-- no wait for a connection is there while one waits
+abbrev pub IsQuietListener : ListenerState → Type 0
+IsQuietListener l = (t : ℕ) → l.task ≡ Some t → l.waiting ≡ []
+
 -- a call on a listener where it is live, and else what is answered for an unknown token
 abbrev pub AtListener : (ListenerState → ListenerState → Type 0) → Type 0 → List ListenerState → ℕ → List ListenerState → Type 0
 AtListener R unknown old n new =

@@ -1,6 +1,6 @@
 // One listener.
 ghost use Rattle.std.specs.Prelude.{◌≡◌, [], ◌∷◌, ◌++◌, true, false, Some, None, OnErr, IfOk, OnOk};
-ghost use Rattle.rt_net.specs.Network.{Accepts, fresh_listener, closed_listener};
+ghost use Rattle.rt_net.specs.Network.{Accepts, fresh_listener, closed_listener, IsQuietListener};
 
 use crate::backlog::Backlog;
 use crate::connection::Connection;
@@ -40,6 +40,13 @@ impl Acceptor {
             backlog: Backlog::new(alloc),
             task: None,
         }
+    }
+
+    /// What is known of each listener.
+    pub fn facts(&self)
+        ensures { IsQuietListener self.now }
+    {
+        let _ = &self.task;
     }
 
     /// Whether it wasn't closed.

@@ -1,7 +1,7 @@
 // All listeners, by number.
-ghost use Rattle.std.specs.Prelude.{◌≡◌, ℕ, ◌+◌, ◌<◌, ◌≤◌, [], ◌∷◌, ◌++◌, length, is_some, Some, IfOk, OnOk, OnErr, Ok, Err, MatchOption, IsOkAnd, option_map, true, false};
+ghost use Rattle.std.specs.Prelude.{◌≡◌, ℕ, ◌+◌, ◌<◌, ◌≤◌, [], ◌∷◌, ◌++◌, length, is_some, Some, IfOk, OnOk, OnErr, Ok, Err, MatchOption, IsOkAnd, option_map, true, false, slice_get};
 ghost use Rattle.rt_base.specs.declared.error.Error.TheVariants.{UnknownToken};
-ghost use Rattle.rt_net.specs.Network.{live_listener, fresh_listener, waiting_task, with_connection, AtListener, Accepts, without_task, without_listener};
+ghost use Rattle.rt_net.specs.Network.{live_listener, fresh_listener, waiting_task, with_connection, AtListener, Accepts, without_task, without_listener, ListenerState, IsQuietListener};
 
 use crate::acceptor::Acceptor;
 use crate::backlog::Backlog;
@@ -41,6 +41,15 @@ impl Acceptors {
         ensures { result ≡ length self.now.list }
     {
         self.list.len()
+    }
+
+    /// What is known of the listener of this number.
+    pub fn facts(&self, number: u64)
+        ensures { (l : ListenerState) → slice_get self.now.list number ≡ Some l → IsQuietListener l }
+    {
+        if let Some(acceptor) = self.list.get(number as usize) {
+            acceptor.facts();
+        }
     }
 
     /// Takes room for one more.

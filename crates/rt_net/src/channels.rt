@@ -1,7 +1,7 @@
 // All channels, by number.
-ghost use Rattle.std.specs.Prelude.{◌≡◌, ◌+◌, ◌^◌, ◌<◌, ◌≤◌, [], ◌∷◌, ◌++◌, length, OnOk, is_some, Err, MatchOption};
+ghost use Rattle.std.specs.Prelude.{◌≡◌, ◌+◌, ◌^◌, ◌<◌, ◌≤◌, [], ◌∷◌, ◌++◌, length, OnOk, is_some, Err, MatchOption, Some, slice_get};
 ghost use Rattle.rt_base.specs.declared.error.Error.TheVariants.{UnknownToken};
-ghost use Rattle.rt_net.specs.Channel.{fresh, Sends, PollsSend, Receives, PollsReceive, Peeks, Keeps};
+ghost use Rattle.rt_net.specs.Channel.{fresh, Sends, PollsSend, Receives, PollsReceive, Peeks, Keeps, ChannelState, IsQuiet};
 ghost use Rattle.rt_net.specs.Network.{live_sink, live_stream, AtSink, AtStream, with_given_up_send, with_given_up_recv, sink_wakes, stream_wakes};
 ghost use Rattle.rt_net.specs.Table.{without_sink, without_stream};
 
@@ -62,6 +62,15 @@ impl Channels {
     {
         let alloc = *self.pipes.allocator();
         self.pipes.push_reserved(Pipe::new(alloc, buffer_size));
+    }
+
+    /// What is known of the channel of this number.
+    pub fn facts(&self, number: u64)
+        ensures { (c : ChannelState) → slice_get self.now.list number ≡ Some c → IsQuiet c }
+    {
+        if let Some(pipe) = self.pipes.get(number as usize) {
+            pipe.facts();
+        }
     }
 
     // Whether a live sink has the number.

@@ -1,7 +1,7 @@
 // All listeners, by number and by address.
 ghost use Rattle.std.specs.Prelude.{◌≡◌, ◌≢◌, ℕ, [], ◌∷◌, ◌++◌, length, is_some, Some, Ok, Err, OnOk, OnErr, IfOk, IfSome, IfNone, IsOkAnd, option_map, slice_get, true, false};
 ghost use Rattle.rt_base.specs.declared.error.Error.TheVariants.{UnknownToken, BindFailed, NoMemory};
-ghost use Rattle.rt_net.specs.Network.{live_listener, fresh_listener, addresses, waiting_task, with_connection, AtListener, Accepts, without_task, without_listener, IsLiveAt};
+ghost use Rattle.rt_net.specs.Network.{live_listener, fresh_listener, addresses, waiting_task, with_connection, AtListener, Accepts, without_task, without_listener, IsLiveAt, ListenerState, IsQuietListener};
 
 use crate::acceptors::Acceptors;
 use crate::backlog::Backlog;
@@ -45,6 +45,13 @@ impl Listeners {
         ensures { result ≡ length self.now }
     {
         self.acceptors.len()
+    }
+
+    /// What is known of the listener of this number.
+    pub fn facts(&self, number: u64)
+        ensures { (l : ListenerState) → slice_get self.now number ≡ Some l → IsQuietListener l }
+    {
+        self.acceptors.facts(number);
     }
 
     /// Whether one was bound at this address.

@@ -1,8 +1,8 @@
 // The network in memory.
-ghost use Rattle.std.specs.Prelude.{◌≡◌, ℕ, ◌+◌, ◌<◌, ◌≤◌, ◌↔◌, [], ◌∷◌, ◌++◌, length, IsTrue, IfOk, OnErr, Ok, Err, Some, None, MatchOption, MatchResult, IsErrOf};
+ghost use Rattle.std.specs.Prelude.{◌≡◌, ℕ, ◌+◌, ◌<◌, ◌≤◌, ◌↔◌, [], ◌∷◌, ◌++◌, length, IsTrue, IfOk, OnErr, Ok, Err, Some, None, MatchOption, MatchResult, IsErrOf, slice_get};
 ghost use Rattle.rt_base.specs.declared.error.Error.TheVariants.{NoMemory, UnknownToken};
-ghost use Rattle.rt_net.specs.Channel.{fresh, Keeps, Receives, PollsReceive};
-ghost use Rattle.rt_net.specs.Network.{live_listener, AtStream, with_given_up_send, with_given_up_recv, sink_wakes, stream_wakes};
+ghost use Rattle.rt_net.specs.Channel.{fresh, Keeps, Receives, PollsReceive, ChannelState, IsQuiet};
+ghost use Rattle.rt_net.specs.Network.{ListenerState, IsQuietListener, live_listener, AtStream, with_given_up_send, with_given_up_recv, sink_wakes, stream_wakes};
 ghost use Rattle.rt_net.specs.Table.{without_sink, without_stream};
 ghost use Rattle.rt_net.specs.Calls.{OnChannels, NetSends, NetPollsSend, NetPeeks, NetBinds, NetDials, NetAccepts, NetGivesAcceptUp, NetTellsWoken, IsDialerAddress, closed_at, idle_sink, idle_stream, localhost};
 ghost use Rattle.rt_net.specs.Kept.{empty_net};
@@ -67,6 +67,15 @@ impl Net {
             woken: VecDeque::new(alloc),
             refusals: 0,
         })
+    }
+
+    /// What is known of each network: at the channel and the listener of this number, nobody waits for what is there.
+    pub fn facts(&self, number: u64)
+        ensures channel { (c : ChannelState) → slice_get self.now.state.channels number ≡ Some c → IsQuiet c }
+        ensures listener { (l : ListenerState) → slice_get self.now.state.listeners number ≡ Some l → IsQuietListener l }
+    {
+        self.channels.facts(number);
+        self.listeners.facts(number);
     }
 
     // Counts a refusal.

@@ -1,6 +1,6 @@
 // One channel: the bytes that were not answered yet, and who waits at its two ends.
 ghost use Rattle.std.specs.Prelude.{◌≡◌, ℕ, ◌+◌, ◌-◌, ◌<◌, ◌≤◌, min, [], ◌++◌, length, take, drop, OnOk, OnErr, IfOk, Ok, Err, Some, None, true, false};
-ghost use Rattle.rt_net.specs.Channel.{fresh, is_open, receiver_task, with_ended_sink, Sends, PollsSend, failed, closed_sink, closed_stream, given_up_send, given_up_recv, sent, appended, handed_task, is_drained, Settles, kept, answered, pulled, drained_task, moved, failed_recv, parked, Receives, PollsReceive, Peeks, Keeps, freed, held, left, IsNextAnswer};
+ghost use Rattle.rt_net.specs.Channel.{fresh, is_open, receiver_task, with_ended_sink, Sends, PollsSend, failed, closed_sink, closed_stream, given_up_send, given_up_recv, sent, appended, handed_task, is_drained, Settles, kept, answered, pulled, drained_task, moved, failed_recv, parked, Receives, PollsReceive, Peeks, Keeps, freed, held, left, IsNextAnswer, IsQuiet};
 
 use crate::byte_queue::ByteQueue;
 use crate::half::{Half, Parked};
@@ -54,6 +54,13 @@ impl Pipe {
             receiving: None,
             sending: false,
         }
+    }
+
+    /// What is known of each channel.
+    pub fn facts(&self)
+        ensures { IsQuiet self.now }
+    {
+        let _ = &self.bytes;
     }
 
     /// Whether the sink wasn't closed.
