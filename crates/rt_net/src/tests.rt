@@ -296,6 +296,7 @@ fn surface_of_listeners(rt: HostRuntime) -> Result<(), Fail> {
     let dialed = dial(&mut net, here(4000));
     let taken = net.poll_accept(&mut NoEnv, &mut listener, 6);
     let second = spend(&mut net, taken);
+    net.facts(0);
     net.close_listener(listener);
     assert_eq!(rt; address.port, 4000);
     assert_eq!(rt; first, Some(0));
