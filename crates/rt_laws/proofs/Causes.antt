@@ -1,5 +1,5 @@
 -- What stands where a run has reached its cause, and where tasks are visited.
-use Rattle.std.proofs.Common.{◌≡◌, ◌≢◌, ◌⊎◌, inl, inr, ℕ, List, [], ◌∷◌, ◌++◌, drop, Option, Some, None, Bool, true, false, leb, ◌-◌, ◌^◌, ◌&&◌, refl, arith}
+use Rattle.std.proofs.Common.{◌≡◌, ◌≢◌, ◌⊎◌, inl, inr, ℕ, List, [], ◌∷◌, ◌++◌, drop, Option, Some, None, Bool, true, false, leb, ◌-◌, ◌^◌, ◌&&◌, refl, arith, Contains}
 use Rattle.rt_audit.specs.declared.answer.AnswerKind.{AnswerKind}
 use Rattle.rt_audit.specs.declared.answer.AnswerKind.TheVariants.{Pending, Ready, NoMemory}
 use Rattle.rt_audit.specs.declared.finish.FinishCause.{FinishCause}
@@ -15,6 +15,7 @@ use Rattle.rt_model.specs.Effects.{after, after_all, answered, entered, left_of}
 use Rattle.rt_model.specs.Rules.{May, MayAnswer, MayRound, MayClose, IsLawful}
 use Rattle.rt_laws.proofs.Clock.{lawful-front, lawful-tail}
 use Rattle.rt_laws.proofs.Endings.{run_cause}
+use Rattle.rt_laws.proofs.Rounds.{contains-from_has}
 
 -- tasks are visited before the deadline, and what ends a round is the root's answer or want of memory
 abbrev pub IsSoundAt : Phase → Clock → Type 0
@@ -71,11 +72,11 @@ runs-visited running [] rest task h = absurd (cc)
 runs-visited running (k ∷ left) rest task h = grind (arith, runs-visited running left rest task)
 
 module _ (x y : List Entry) (task : ℕ) (l : IsLawful blank (x ++ Visit task ∷ y)) where
-  pub run_visited : has_number task (after_all blank x).running ≡ true
+  pub run_visited : Contains (after_all blank x).running task
   run_visited =
       let s = after_all blank x in
       let m = (lawful-tail blank x (Visit task ∷ y) l).0.1 in
-      runs-visited s.running (left_of s.phase) (drop 1 (from_running s.running (left_of s.phase))) task m.1
+      contains-from_has task s.running (runs-visited s.running (left_of s.phase) (drop 1 (from_running s.running (left_of s.phase))) task m.1)
 
   pub run_visited_early : is_late (after_all blank x).clock ≡ false
   run_visited_early =

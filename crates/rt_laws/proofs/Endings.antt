@@ -107,19 +107,19 @@ clock-all s (e ∷ x) h = clock-all (after s e) x h.1 ∙ clock-entry s e h.0
 
 -- behind a cleanup
 module _ (x y : List Entry) (l : IsLawful blank (x ++ Cleanup ∷ y)) where
-  abbrev at_end : State
-  at_end = after_all blank x
+  abbrev closes : State
+  closes = after_all blank x
 
-  cleaned : AllByRecursion IsOfCleanup y × EndsFor (reached at_end) (after_all (after at_end Cleanup) y).phase
+  cleaned : AllByRecursion IsOfCleanup y × EndsFor (reached closes) (after_all (after closes Cleanup) y).phase
   unfolding after
-  cleaned = ends-all (reached at_end) (after at_end Cleanup) y refl refl (lawful-tail blank x (Cleanup ∷ y) l).1
+  cleaned = ends-all (reached closes) (after closes Cleanup) y refl refl (lawful-tail blank x (Cleanup ∷ y) l).1
 
   pub run_cleaned : All IsOfCleanup y
   run_cleaned = All-from_recursion IsOfCleanup y cleaned.0
 
   pub run_still : (after_all blank (x ++ Cleanup ∷ y)).clock ≡ (after_all blank x).clock
   unfolding after
-  run_still = rw (after_all-append blank x (Cleanup ∷ y)) (clock-all (after at_end Cleanup) y cleaned.0)
+  run_still = rw (after_all-append blank x (Cleanup ∷ y)) (clock-all (after closes Cleanup) y cleaned.0)
 
 pub run_cause : (x y : List Entry) (cause : FinishCause) → IsLawful blank (x ++ Cleanup ∷ y) → (after_all blank (x ++ Cleanup ∷ y)).phase ≡ Finished cause → cause ≢ OutOfMemory → reached (after_all blank x) ≡ Some cause
 run_cause x y cause l h n =

@@ -4,6 +4,7 @@ pub mod Each
 pub mod Endings
 pub mod Numbers
 pub mod Order
+pub mod Rounds
 pub mod Same
 pub mod Stays
 pub mod Timely

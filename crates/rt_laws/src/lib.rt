@@ -6,11 +6,10 @@ ghost use Rattle.rt_audit.specs.declared.call.Call.TheVariants.{SleepPoll};
 ghost use Rattle.rt_audit.specs.declared.reply.CallReply.{CallReply};
 ghost use Rattle.rt_audit.specs.declared.reply.CallReply.TheVariants.{PendingAt, Ready};
 ghost use Rattle.rt_audit.specs.declared.entry.Entry.{Entry};
-ghost use Rattle.rt_audit.specs.declared.entry.Entry.TheVariants.{Call, Wake, Visit, Skip, Fire, Cleanup};
+ghost use Rattle.rt_audit.specs.declared.entry.Entry.TheVariants.{Call, Wake, Round, Visit, Advance, Skip, Fire, Cleanup};
 ghost use Rattle.rt_audit.specs.declared.finish.FinishCause.{FinishCause};
 ghost use Rattle.rt_audit.specs.declared.finish.FinishCause.TheVariants.{Timeout, Stalled, TimeOverflow, NoMemory};
 ghost use Rattle.rt_model.specs.declared.alarm.Alarm.{Alarm};
-ghost use Rattle.rt_model.specs.Lists.{has_number};
 ghost use Rattle.rt_model.specs.State.{State, Fixed, Blank, Turning, Finished, blank};
 ghost use Rattle.rt_model.specs.Causes.{is_late, overflows, reached};
 ghost use Rattle.rt_model.specs.Effects.{after_all};
@@ -78,8 +77,13 @@ pub fn an_alarm_wakes_its_task()
 /// A task is visited while it runs, and before the deadline.
 #[tactic(auto, using(crate::proofs::Causes::run_visited, crate::proofs::Causes::run_visited_early))]
 pub fn a_task_is_visited_while_it_runs()
-    ensures runs { (x y : List Entry) (task : ℕ) → IsLawful blank (x ++ Visit task ∷ y) → has_number task (after_all blank x).running ≡ true }
+    ensures runs { (x y : List Entry) (task : ℕ) → IsLawful blank (x ++ Visit task ∷ y) → Contains (after_all blank x).running task }
     ensures before_the_deadline { (x y : List Entry) (task : ℕ) → IsLawful blank (x ++ Visit task ∷ y) → is_late (after_all blank x).clock ≡ false }
+{}
+
+/// Before a clock step a round visits each task that was ready when it began, and runs.
+pub fn a_round_visits_whoever_is_ready()
+    ensures { (x y z : List Entry) (order : List ℕ) (now task : ℕ) → IsLawful blank (x ++ Round order ∷ (y ++ Advance now ∷ z)) → let s = after_all blank x in Contains s.ready task → Contains s.running task → Contains y (Visit task) }
 {}
 
 /// Behind a cleanup tasks only end: none is visited, nothing wakes, and the clock stands still.
