@@ -70,6 +70,10 @@ pub lawful-tail : (s : State) (xs ys : List Entry) → IsLawful s (xs ++ ys) →
 lawful-tail s [] ys l = l
 lawful-tail s (x ∷ xs) ys l = lawful-tail (after s x) xs ys l.1
 
+pub lawful-front : (s : State) (xs ys : List Entry) → IsLawful s (xs ++ ys) → IsLawful s xs
+lawful-front s [] ys l = tt
+lawful-front s (x ∷ xs) ys l = (l.0, lawful-front (after s x) xs ys l.1)
+
 pub later : (s : State) (xs ys : List Entry) → s.phase ≢ Blank → IsLawful s (xs ++ ys) → (after_all s xs).clock.time ≤ (after_all s (xs ++ ys)).clock.time
 later s xs ys h l = rw (after_all-append s xs ys) (later-all (after_all s xs) ys (all-begun s xs h) (lawful-tail s xs ys l))
 
@@ -83,7 +87,7 @@ no-answer task Ended m = let a = m.0 in grind arith
 no-answer task _ m = m
 
 -- behind its first entry, a run isn't blank
-start-begins : (e : Entry) → May blank e → (after blank e).phase ≢ Blank
+pub start-begins : (e : Entry) → May blank e → (after blank e).phase ≢ Blank
 unfolding blank after
 start-begins (Start next now deadline cycle) m = λ b. cc
 start-begins (Call by call reply) m = absurd m.1.0

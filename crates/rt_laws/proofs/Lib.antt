@@ -1,4 +1,11 @@
+pub mod Causes
 pub mod Clock
+pub mod Each
+pub mod Endings
+pub mod Numbers
 pub mod Order
+pub mod Rounds
 pub mod Same
+pub mod Stays
+pub mod Timely
 pub mod Values

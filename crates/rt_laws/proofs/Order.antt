@@ -1,5 +1,6 @@
 -- Alarms stay in order of their due times.
-use Rattle.std.proofs.Common.{◌≡◌, ◌≤◌, ◌<◌, ℕ, zero, suc, sym, List, [], ◌∷◌, ◌++◌, drop, Option, Some, refl, arith, All}
+use Rattle.std.proofs.Common.{◌≡◌, ◌≤◌, ◌<◌, ℕ, sym, List, [], ◌∷◌, ◌++◌, drop, Option, Some, refl, arith, All}
+use Rattle.std.proofs.lemmas.List.Elements.{All-from_recursion}
 use Rattle.rt_audit.specs.declared.call.Call.{Call}
 use Rattle.rt_audit.specs.declared.call.Call.TheVariants.{CloseNode, Wake as WakeCall, SleepPoll}
 use Rattle.rt_audit.specs.declared.reply.CallReply.{CallReply}
@@ -13,40 +14,30 @@ use Rattle.rt_model.specs.Effects.{after, after_all, alarms_after, alarms_called
 use Rattle.rt_model.specs.Rules.{IsLawful}
 use Rattle.rt_laws.specs.Earliest.{IsEarliest}
 use Rattle.rt_laws.proofs.Clock.{lawful-tail}
+use Rattle.rt_laws.proofs.Each.{Each, each-with, each-rewoken}
 
 -- none of them is due before this time
 abbrev pub NoneBefore : ℕ → List Alarm → Type 0
-NoneBefore due [] = Unit {0}
-NoneBefore due (a ∷ set) = (due ≤ a.due) × NoneBefore due set
+NoneBefore due set = Each (λ at number. due ≤ at) set
 
-none-before : (due : ℕ) (set : List Alarm) → NoneBefore due set → All (λ (b : Alarm). due ≤ b.due) set
-none-before due [] h k d l = absurd (omega arith)
-none-before due (a ∷ set) h zero d l = h.0
-none-before due (a ∷ set) h (suc k) d l = none-before due set h.1 k d (omega arith)
+pub none-before : (due : ℕ) (set : List Alarm) → NoneBefore due set → All (λ (b : Alarm). due ≤ b.due) set
+none-before due set h = All-from_recursion (λ (b : Alarm). due ≤ b.due) set h
 
 abbrev pub AreOrdered : List Alarm → Type 0
 AreOrdered [] = Unit {0}
 AreOrdered (a ∷ rest) = NoneBefore a.due rest × AreOrdered rest
 
-none-sooner : (m n : ℕ) (xs : List Alarm) → m ≤ n → NoneBefore n xs → NoneBefore m xs
+pub none-sooner : (m n : ℕ) (xs : List Alarm) → m ≤ n → NoneBefore n xs → NoneBefore m xs
 none-sooner m n [] h k = tt
 none-sooner m n (x ∷ xs) h k = let a = k.0 in (omega arith, none-sooner m n xs h k.1)
 
-none-with : (m : ℕ) (a : Alarm) (xs : List Alarm) → m ≤ a.due → NoneBefore m xs → NoneBefore m (with_alarm a xs)
-none-with m a [] h k = (h, tt)
-none-with m a (x ∷ xs) h k = grind (arith, none-with m a xs h k.1)
-
 order-with : (a : Alarm) (xs : List Alarm) → AreOrdered xs → AreOrdered (with_alarm a xs)
 order-with a [] h = (tt, tt)
-order-with a (x ∷ xs) h = grind (arith, order-with a xs h.1, none-with x.due a xs, none-sooner a.due x.due xs)
-
-none-rewoken : (m due number : ℕ) (task : Option ℕ) (xs : List Alarm) → NoneBefore m xs → NoneBefore m (rewoken due number task xs)
-none-rewoken m due number task [] k = tt
-none-rewoken m due number task (x ∷ xs) k = grind (arith, none-rewoken m due number task xs k.1)
+order-with a (x ∷ xs) h = grind (arith, order-with a xs h.1, each-with (λ at number. x.due ≤ at) a xs, none-sooner a.due x.due xs)
 
 order-rewoken : (due number : ℕ) (task : Option ℕ) (xs : List Alarm) → AreOrdered xs → AreOrdered (rewoken due number task xs)
 order-rewoken due number task [] h = tt
-order-rewoken due number task (x ∷ xs) h = grind (arith, order-rewoken due number task xs h.1, none-rewoken x.due due number task xs h.0)
+order-rewoken due number task (x ∷ xs) h = grind (arith, order-rewoken due number task xs h.1, each-rewoken (λ at told. x.due ≤ at) due number task xs h.0)
 
 order-slept : (a : Alarms) (by : Option ℕ) (due number : ℕ) → AreOrdered a.set → AreOrdered (slept a by due number).set
 order-slept a by due number h = grind (arith, order-with (record { due = due; number = number; task = by }) a.set h, order-rewoken due number by a.set h)
@@ -68,7 +59,7 @@ order-entry a (Fire number) h = order-drop a.set h
 order-entry a Cleanup h = tt
 order-entry a _ h = h
 
-order-after : (s : State) (e : Entry) → AreOrdered s.alarms.set → AreOrdered (after s e).alarms.set
+pub order-after : (s : State) (e : Entry) → AreOrdered s.alarms.set → AreOrdered (after s e).alarms.set
 unfolding after
 order-after s e h = order-entry s.alarms e h
 

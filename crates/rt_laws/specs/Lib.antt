@@ -1,1 +1,2 @@
+pub mod Cleanup
 pub mod Earliest

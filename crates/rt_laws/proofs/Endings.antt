@@ -1,0 +1,130 @@
+-- A cleanup only ends tasks, and a run ends for the cause that it had reached.
+use Rattle.std.proofs.Common.{◌≡◌, ◌≢◌, ◌⊎◌, inl, inr, ℕ, List, [], ◌∷◌, ◌++◌, Option, Some, Bool, true, false, refl, sym, ap, ◌∙◌, All}
+use Rattle.std.specs.List.{AllByRecursion}
+use Rattle.std.proofs.lemmas.List.Elements.{All-from_recursion}
+use Rattle.rt_audit.specs.declared.call.Call.{Call}
+use Rattle.rt_audit.specs.declared.call.Call.TheVariants.{CloseNode, Wake as WakeCall, SleepPoll}
+use Rattle.rt_audit.specs.declared.reply.CallReply.{CallReply}
+use Rattle.rt_audit.specs.declared.answer.AnswerKind.{AnswerKind}
+use Rattle.rt_audit.specs.declared.answer.AnswerKind.TheVariants.{Pending, Ready, NoMemory, Ended}
+use Rattle.rt_audit.specs.declared.finish.FinishCause.{FinishCause}
+use Rattle.rt_audit.specs.declared.finish.FinishCause.TheVariants.{NoMemory as OutOfMemory}
+use Rattle.rt_audit.specs.declared.entry.Entry.{Entry}
+use Rattle.rt_audit.specs.declared.entry.Entry.TheVariants.{Start, Call as CallEntry, Event, Wake, Draw, Root, Round, Visit, Answer, NodeEnd, Advance, Skip, Fire, Cleanup, Crash, Finish}
+use Rattle.rt_model.specs.State.{State, Phase, Between, Turning, Closing, Crashed, Finished, Nodes, blank}
+use Rattle.rt_model.specs.Causes.{reached, ends_next}
+use Rattle.rt_model.specs.Effects.{after, after_all, is_closing, due_called, cause_of, answered}
+use Rattle.rt_model.specs.Rules.{May, CallsAt, MayAnswer, MayRound, MayClose, MayCrash, MayFinish, IsLawful}
+use Rattle.rt_model.proofs.Append.{after_all-append}
+use Rattle.rt_laws.specs.Cleanup.{IsOfCleanup}
+use Rattle.rt_laws.proofs.Clock.{lawful-tail}
+
+-- in a cleanup that began for this cause, if it had one, or behind it
+abbrev pub EndsFor : Option FinishCause → Phase → Type 0
+EndsFor cause (Closing of) = of ≡ cause
+EndsFor cause (Crashed of) = of ≡ cause
+EndsFor cause (Finished end) = (end ≡ OutOfMemory) ⊎ (cause ≡ Some end)
+EndsFor cause _ = ⊥
+
+module _ (cause : Option FinishCause) where
+  call-closing : (p : Phase) (nodes : Nodes) (next by : Option ℕ) → EndsFor cause p → CallsAt p nodes next by → is_closing p ≡ true
+  call-closing (Closing of) nodes next by k m = refl
+  call-closing (Crashed of) nodes next by k m = absurd m
+  call-closing (Finished end) nodes next by k m = absurd m
+  call-closing _ nodes next by k m = absurd k
+
+  no-round : (p : Phase) (s : State) → EndsFor cause p → MayRound p s → ⊥
+  no-round Between s k m = k
+  no-round Turning s k m = k
+  no-round _ s k m = m
+
+  no-cleanup : (p : Phase) → EndsFor cause p → MayClose p → ⊥
+  no-cleanup (Closing of) k m = m
+  no-cleanup (Crashed of) k m = m
+  no-cleanup (Finished end) k m = m
+  no-cleanup _ k m = k
+
+  crash-ends : (p : Phase) (nodes : Nodes) (running : List ℕ) → EndsFor cause p → MayCrash p nodes running → cause_of p ≡ cause
+  crash-ends (Closing of) nodes running k m = k
+  crash-ends _ nodes running k m = absurd m
+
+  finish-ends : (p : Phase) (end : FinishCause) → EndsFor cause p → MayFinish p end → (end ≡ OutOfMemory) ⊎ (cause ≡ Some end)
+  finish-ends (Crashed of) end k m = elim m [ inl h ↦ inl h | inr h ↦ inr (sym k ∙ h) ]
+  finish-ends _ end k m = absurd m
+
+  answer-ends : (s : State) (task : ℕ) (kind : AnswerKind) → EndsFor cause s.phase → MayAnswer s task kind → IsOfCleanup (Answer task kind) × EndsFor cause (answered s.phase kind)
+  answer-ends s task Pending k m = absurd (rw m at k)
+  answer-ends s task Ready k m = absurd (rw m at k)
+  answer-ends s task NoMemory k m = absurd (rw m at k)
+  answer-ends s task Ended k m = (tt, k)
+  answer-ends s task _ k m = absurd m
+
+  owes-none : (call : Call) (reply : CallReply) → due_called true call reply ≡ []
+  owes-none (WakeCall task) reply = refl
+  owes-none (SleepPoll due) reply = refl
+  owes-none (CloseNode node) reply = refl
+
+  owes-called : (closing : Bool) (call : Call) (reply : CallReply) → closing ≡ true → due_called closing call reply ≡ []
+  owes-called true call reply h = owes-none call reply
+  owes-called false call reply h = absurd (cc)
+
+  ends-entry : (s : State) (e : Entry) → s.owed ≡ [] → EndsFor cause s.phase → May s e → IsOfCleanup e × ((after s e).owed ≡ []) × EndsFor cause (after s e).phase
+  unfolding after
+  ends-entry s (Start next now deadline cycle) o k m = absurd (rw m.1 at k)
+  ends-entry s (CallEntry by call reply) o k m = (tt, owes-called (is_closing s.phase) call reply (call-closing s.phase s.nodes (ends_next s.running s.root) by k m.1.0), k)
+  ends-entry s (Event label fields) o k m = absurd (rw m.1.0 at k)
+  ends-entry s (Wake task) o k m = absurd (cc)
+  ends-entry s (Draw value) o k m = absurd m.1
+  ends-entry s (Root task) o k m = absurd (rw m.1.0 at k)
+  ends-entry s (Round order) o k m = absurd (no-round s.phase s k m.1.0)
+  ends-entry s (Visit task) o k m = absurd (rw m.1.0 at k)
+  ends-entry s (Answer task kind) o k m = let a = answer-ends s task kind k m.1 in (a.0, refl, a.1)
+  ends-entry s (NodeEnd node) o k m = (tt, refl, k)
+  ends-entry s (Advance now) o k m = absurd (rw m.1.0 at k)
+  ends-entry s (Skip now) o k m = absurd (rw m.1.0 at k)
+  ends-entry s (Fire alarm) o k m = absurd (rw m.1.0 at k)
+  ends-entry s Cleanup o k m = absurd (no-cleanup s.phase k m.1)
+  ends-entry s (Crash choices) o k m = (tt, refl, crash-ends s.phase s.nodes s.running k m.1.0)
+  ends-entry s (Finish end) o k m = (tt, refl, finish-ends s.phase end k m.1)
+
+  ends-all : (s : State) (x : List Entry) → s.owed ≡ [] → EndsFor cause s.phase → IsLawful s x → AllByRecursion IsOfCleanup x × EndsFor cause (after_all s x).phase
+  ends-all s [] o k l = (tt, k)
+  ends-all s (e ∷ x) o k l =
+      let h = ends-entry s e o k l.0 in
+      let rest = ends-all (after s e) x h.1 h.2 l.1 in
+      ((h.0, rest.0), rest.1)
+
+clock-entry : (s : State) (e : Entry) → IsOfCleanup e → (after s e).clock ≡ s.clock
+unfolding after
+clock-entry s (Start next now deadline cycle) h = absurd h
+clock-entry s (Advance now) h = absurd h
+clock-entry s (Skip now) h = absurd h
+clock-entry s _ h = refl
+
+clock-all : (s : State) (x : List Entry) → AllByRecursion IsOfCleanup x → (after_all s x).clock ≡ s.clock
+clock-all s [] h = refl
+clock-all s (e ∷ x) h = clock-all (after s e) x h.1 ∙ clock-entry s e h.0
+
+-- behind a cleanup
+module _ (x y : List Entry) (l : IsLawful blank (x ++ Cleanup ∷ y)) where
+  abbrev closes : State
+  closes = after_all blank x
+
+  cleaned : AllByRecursion IsOfCleanup y × EndsFor (reached closes) (after_all (after closes Cleanup) y).phase
+  unfolding after
+  cleaned = ends-all (reached closes) (after closes Cleanup) y refl refl (lawful-tail blank x (Cleanup ∷ y) l).1
+
+  pub run_cleaned : All IsOfCleanup y
+  run_cleaned = All-from_recursion IsOfCleanup y cleaned.0
+
+  pub run_still : (after_all blank (x ++ Cleanup ∷ y)).clock ≡ (after_all blank x).clock
+  unfolding after
+  run_still = rw (after_all-append blank x (Cleanup ∷ y)) (clock-all (after closes Cleanup) y cleaned.0)
+
+pub run_cause : (x y : List Entry) (cause : FinishCause) → IsLawful blank (x ++ Cleanup ∷ y) → (after_all blank (x ++ Cleanup ∷ y)).phase ≡ Finished cause → cause ≢ OutOfMemory → reached (after_all blank x) ≡ Some cause
+run_cause x y cause l h n =
+    let s = after_all blank x in
+    let k = (cleaned x y l).1 in
+    let e : (after_all (after s Cleanup) y).phase ≡ Finished cause = ap (λ (s : State). s.phase) (sym (after_all-append blank x (Cleanup ∷ y))) ∙ h in
+    let z : EndsFor (reached s) (Finished cause) = rw e at k in
+    elim z [ inl m ↦ absurd (n m) | inr m ↦ m ]
