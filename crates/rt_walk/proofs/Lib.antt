@@ -1,0 +1,4 @@
+pub mod Alarms
+pub mod Members
+pub mod Permutations
+pub mod Prefixes

@@ -1,0 +1,14 @@
+//! Walks over the entries of a journal, and says whether each may come where it stands.
+#![tactic(auto)]
+
+mod alarm_set;
+mod first;
+mod left;
+mod may;
+mod numbers;
+mod stage;
+mod step;
+mod walker;
+
+pub use first::first_unlawful;
+pub use walker::Walker;
