@@ -1,5 +1,5 @@
 -- One alarm in the place of another.
-use Rattle.std.proofs.Common.{◌≡◌, ◌<◌, ◌+◌, ℕ, zero, suc, List, [], ◌∷◌, ◌++◌, ap, refl, length, take, drop, get_or, arith, eq-eqb, Option, slice_set}
+use Rattle.std.proofs.Common.{◌≡◌, ◌<◌, ℕ, zero, suc, List, [], ◌∷◌, ◌++◌, ap, refl, length, take, drop, get_or, arith, eq-eqb, Option, slice_set}
 use Rattle.rt_model.specs.declared.alarm.Alarm.{Alarm}
 use Rattle.rt_model.specs.Alarms.{rewoken}
 

@@ -2,3 +2,4 @@ pub mod Alarms
 pub mod Members
 pub mod Permutations
 pub mod Prefixes
+pub mod Quiet

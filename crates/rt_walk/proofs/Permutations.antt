@@ -1,5 +1,5 @@
 -- A list in order is the only one of its permutations that is.
-use Rattle.std.proofs.Common.{◌≡◌, ◌≤◌, ◌<◌, ◌+◌, ℕ, zero, suc, Bool, List, [], ◌∷◌, refl, ap, sym, length, get_or, arith, eqb, if◌then◌else◌, ◌↔◌, IsTrue}
+use Rattle.std.proofs.Common.{◌≡◌, ◌≤◌, ◌<◌, ◌+◌, ℕ, suc, Bool, List, [], ◌∷◌, refl, ap, sym, length, get_or, arith, eqb, if◌then◌else◌, ◌↔◌, IsTrue}
 use Rattle.std.specs.Cmp.Lexicographic.{pointwise}
 use Rattle.std.specs.List.{sum_by}
 use Rattle.std.specs.List.Sorted.{IsPermutation, IsNonDecreasing, IsSorted}
@@ -25,8 +25,8 @@ at-most k (x ∷ xs) h = (h 0 (omega arith), at-most k xs (λ i l. h (suc i) (om
 ascends : (xs : List ℕ) → IsNonDecreasing xs → Ascends xs
 ascends [] h = tt
 ascends (x ∷ xs) h = (
-    at-most x xs (λ i l. h 0 (suc i) 0 (omega arith) (omega arith)),
-    ascends xs (λ i j d l m. h (suc i) (suc j) d (omega arith) (omega arith)),
+  at-most x xs (λ i l. h 0 (suc i) 0 (omega arith) (omega arith)),
+  ascends xs (λ i j d l m. h (suc i) (suc j) d (omega arith) (omega arith)),
 )
 
 -- how often a number stands in a list
@@ -57,20 +57,20 @@ one (x ∷ xs) (y ∷ ys) h j e =
     let above : y ≤ x = no-less y x (y ∷ ys) (omega arith, j.0) (rw (← e x) t) in
     let same : x ≡ y = omega arith in
     let rest : (k : ℕ) → sum_by (is_it k) xs ≡ sum_by (is_it k) ys =
-        λ k. let a = sum_by-cons (is_it k) x xs in let b = sum_by-cons (is_it k) y ys in let c = e k in let d : is_it k x ≡ is_it k y = ap (is_it k) same in omega arith in
+    λ k. let a = sum_by-cons (is_it k) x xs in let b = sum_by-cons (is_it k) y ys in let c = e k in let d : is_it k x ≡ is_it k y = ap (is_it k) same in omega arith in
     let tails = one xs ys h.1 j.1 rest in
     cc
 
 sorted-one : (xs ys : List ℕ) → IsPermutation xs ys → IsSorted nat_cmp xs → IsSorted nat_cmp ys → xs ≡ ys
 sorted-one xs ys p s t =
     one xs ys (ascends xs (IsNonDecreasingBy-from_sort (λ x. x) xs s)) (ascends ys (IsNonDecreasingBy-from_sort (λ x. x) ys t))
-        (λ k. sym (sum_by-IsPermutation (is_it k) xs ys p))
+    (λ k. sym (sum_by-IsPermutation (is_it k) xs ys p))
 
 -- permutations of two lists in order: they are one list exactly where the two are permutations of one another
 permutation-sorted : (xs ys us vs : List ℕ) → IsPermutation xs us → IsPermutation ys vs → IsSorted nat_cmp us → IsSorted nat_cmp vs → (us ≡ vs) ↔ IsPermutation xs ys
 permutation-sorted xs ys us vs p q s t = (
-    λ e. IsPermutation-trans xs us ys p (rw e (IsPermutation-sym ys vs q)),
-    λ r. sorted-one us vs (IsPermutation-trans us xs vs (IsPermutation-sym xs us p) (IsPermutation-trans xs ys vs r q)) s t,
+  λ e. IsPermutation-trans xs us ys p (rw e (IsPermutation-sym ys vs q)),
+  λ r. sorted-one us vs (IsPermutation-trans us xs vs (IsPermutation-sym xs us p) (IsPermutation-trans xs ys vs r q)) s t,
 )
 
 pub permutation-decides : (xs ys us vs : List ℕ) (r : Bool) → IsPermutation xs us → IsPermutation ys vs → IsSorted nat_cmp us → IsSorted nat_cmp vs → r ≡ pointwise eqb us vs → IsTrue r ↔ IsPermutation xs ys

@@ -1,5 +1,4 @@
 -- Where a walker stands, as the phase that it stands for.
-use Rattle.std.specs.Prelude.{ℕ, List}
 use Rattle.rt_model.specs.State.{Phase, Blank, Making, Between, Visiting, Entered, Polling, Turning, Over, Closing, Crashed, Finished}
 use Rattle.rt_walk.specs.declared.stage.Stage.{Stage}
 use Rattle.rt_walk.specs.declared.stage.Stage.TheVariants.{Blank as IsBlank, Making as IsMaking, Between as IsBetween, Visiting as IsVisiting, Entered as IsEntered, Polling as IsPolling, Turning as IsTurning, Over as IsOver, Closing as IsClosing, Crashed as IsCrashed, Finished as IsFinished}

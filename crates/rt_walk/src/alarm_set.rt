@@ -96,12 +96,7 @@ impl AlarmSet {
 
     /// A sleep was told this number: that of a new alarm, or of its own. Where no number is left for a further
     /// alarm it answers want of memory, as a run does.
-    pub fn sleep(
-        &mut self,
-        task: Option<u64>,
-        due: Nanos,
-        number: u64,
-    ) -> Result<(), NoMemory>
+    pub fn sleep(&mut self, task: Option<u64>, due: Nanos, number: u64) -> Result<(), NoMemory>
         ensures { OnOk result (self.new ≡ slept self.old task due number) }
     {
         if number != self.count {

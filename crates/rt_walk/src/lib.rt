@@ -8,6 +8,8 @@ mod may;
 mod numbers;
 mod stage;
 mod step;
+#[cfg(test)]
+mod tests;
 mod walker;
 
 pub use first::first_unlawful;

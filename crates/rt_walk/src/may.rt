@@ -3,12 +3,13 @@
 ghost use Rattle.std.specs.Prelude.{◌≡◌, ◌↔◌, ◌⊎◌, [], IfOk, IsTrue, true};
 ghost use Rattle.std.specs.Int.{to_be_bytes, w128};
 ghost use Rattle.rt_audit.specs.declared.entry.Entry.TheVariants.{Event, Root, Visit, Answer, NodeEnd, Advance, Skip, Fire, Crash, Finish};
-ghost use Rattle.rt_model.specs.State.{Polling};
+ghost use Rattle.rt_model.specs.State.{Polling, State};
 ghost use Rattle.rt_model.specs.Alarms.{is_set};
 ghost use Rattle.rt_model.specs.Causes.{ends_next};
 ghost use Rattle.rt_model.specs.Effects.{is_ended, left_of};
 ghost use Rattle.rt_model.specs.Events.{task_fields};
 ghost use Rattle.rt_model.specs.Rules.{Answers, May, MayAnswer, MayCall, MayFree, MayRound};
+ghost use Rattle.rt_walk.specs.Quiet.{quiet};
 
 use crate::Walker;
 use crate::numbers::{ends_next, first_running, has_number, is_permutation};
@@ -18,8 +19,10 @@ use rt_base::{Choice, Error, Items, MAX_TIME, Nanos, NoMemory, Text};
 
 impl Walker {
     /// Whether the entry may come next. It takes memory where a round's order is compared with the ready list.
+    #[tactic(auto, using(crate::proofs::Quiet::quiet_laws))]
     pub fn may(&self, entry: &Entry) -> Result<bool, NoMemory>
-        ensures { IfOk result (λ may. IsTrue may ↔ May self.now entry.now) }
+        ensures here { IfOk result (λ may. IsTrue may ↔ May self.now entry.now) }
+        ensures alike { IfOk result (λ may. (s : State) → quiet s ≡ self.now → (IsTrue may ↔ May s entry.now)) }
     {
         match self.owed {
             // the wakes of an event come first
@@ -39,11 +42,7 @@ impl Walker {
             Entry::Root { task } => self.may_root(*task),
             Entry::Round { order } => {
                 self.may_round()
-                    && is_permutation(
-                        self.allocator(),
-                        self.ready.as_slice(),
-                        order.as_slice(),
-                    )?
+                    && is_permutation(self.allocator(), self.ready.as_slice(), order.as_slice())?
             }
             Entry::Visit { task } => self.may_visit(*task),
             Entry::Answer { task, kind } => self.may_answer(*task, *kind),

@@ -3,6 +3,7 @@
 ghost use Rattle.std.specs.Prelude.{◌≡◌, OnOk, ℕ, List};
 ghost use Rattle.rt_audit.specs.declared.entry.Entry.TheVariants.{Start, Call as CallEntry, Event, Wake, Root, Round, Visit, Answer, NodeEnd, Advance, Skip, Fire, Cleanup, Crash, Finish};
 ghost use Rattle.rt_base.specs.declared.choice.Choice.{Choice};
+ghost use Rattle.rt_model.specs.State.{State};
 ghost use Rattle.rt_model.specs.Effects.{after};
 ghost use Rattle.rt_walk.specs.Quiet.{quiet};
 
@@ -19,8 +20,10 @@ use std::mem;
 impl Walker {
     /// Takes an entry in. Where memory is lacking, or no number is left for a further alarm, nothing is known of the
     /// walker any more.
+    #[tactic(auto, using(crate::proofs::Quiet::quiet_laws), unfolding(rt_model::specs::Effects::after))]
     pub fn step(&mut self, entry: &Entry) -> Result<(), NoMemory>
-        ensures { OnOk result (self.new ≡ quiet (after self.old entry.now)) }
+        ensures here { OnOk result (self.new ≡ quiet (after self.old entry.now)) }
+        ensures alike { OnOk result ((s : State) → quiet s ≡ self.old → self.new ≡ quiet (after s entry.now)) }
     {
         match entry {
             Entry::Start {

@@ -7,6 +7,6 @@ use Rattle.rt_walk.proofs.first.first_unlawful.Given as goal
 
 abbrev pub invariant-loop-place : goal.invariant-loop-place
 invariant-loop-place l = record {
-  walked : l.walker ≡ quiet (after_all blank (take l.place l.entries));
+  walked : quiet (after_all blank (take l.place l.entries)) ≡ l.walker;
   lawful : IsLawful blank (take l.place l.entries);
 }
