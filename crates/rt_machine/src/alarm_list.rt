@@ -45,13 +45,6 @@ impl AlarmList {
         self.set.len()
     }
 
-    /// How many were ever set, which is the next one's number.
-    pub fn count(&self) -> u64
-        ensures { result ≡ self.now.alarms.count }
-    {
-        self.count
-    }
-
     /// Whether a number is left for a further alarm.
     pub fn has_number_left(&self) -> bool
         ensures { IsTrue result ↔ (self.now.alarms.count < 2 ^ 64 - 1) }
@@ -99,13 +92,6 @@ impl AlarmList {
                 }
             }
         }
-    }
-
-    /// Whether the alarm of this number is set for this time.
-    pub fn is_set(&self, due: Nanos, number: u64) -> bool
-        ensures { result ≡ is_set self.now.alarms.set due number }
-    {
-        find(self.set.as_slice(), due, number).is_some()
     }
 
     /// Takes the earliest alarm out.

@@ -1,0 +1,5 @@
+pub mod Alarms
+pub mod Members
+pub mod Permutations
+pub mod Prefixes
+pub mod Quiet

@@ -1,0 +1,18 @@
+-- What a walker keeps of a state.
+use Rattle.std.specs.Prelude.{[]}
+use Rattle.rt_model.specs.State.{State}
+
+-- the state without its calls under way: no rule asks for them
+abbrev pub quiet : State → State
+quiet s = record {
+  clock = s.clock;
+  phase = s.phase;
+  numbers = s.numbers;
+  root = s.root;
+  running = s.running;
+  ready = s.ready;
+  alarms = s.alarms;
+  nodes = s.nodes;
+  owed = s.owed;
+  turns = [];
+}

@@ -1,0 +1,244 @@
+//! What may come next.
+
+ghost use Rattle.std.specs.Prelude.{◌≡◌, ◌↔◌, ◌⊎◌, [], IfOk, IsTrue, true};
+ghost use Rattle.std.specs.Int.{to_be_bytes, w128};
+ghost use Rattle.rt_audit.specs.declared.entry.Entry.TheVariants.{Event, Root, Visit, Answer, NodeEnd, Advance, Skip, Fire, Crash, Finish};
+ghost use Rattle.rt_model.specs.State.{Polling, State};
+ghost use Rattle.rt_model.specs.Alarms.{is_set};
+ghost use Rattle.rt_model.specs.Causes.{ends_next};
+ghost use Rattle.rt_model.specs.Effects.{is_ended, left_of};
+ghost use Rattle.rt_model.specs.Events.{task_fields};
+ghost use Rattle.rt_model.specs.Rules.{Answers, May, MayAnswer, MayCall, MayFree, MayRound};
+ghost use Rattle.rt_walk.specs.Quiet.{quiet};
+
+use crate::Walker;
+use crate::numbers::{ends_next, first_running, has_number, is_permutation};
+use crate::stage::Stage;
+use rt_audit::{AnswerKind, Call, CallReply, Entry, FinishCause};
+use rt_base::{Choice, Error, Items, MAX_TIME, Nanos, NoMemory, Text};
+
+impl Walker {
+    /// Whether the entry may come next. It takes memory where a round's order is compared with the ready list.
+    #[tactic(auto, using(crate::proofs::Quiet::quiet_laws))]
+    pub fn may(&self, entry: &Entry) -> Result<bool, NoMemory>
+        ensures here { IfOk result (λ may. IsTrue may ↔ May self.now entry.now) }
+        ensures alike { IfOk result (λ may. (s : State) → quiet s ≡ self.now → (IsTrue may ↔ May s entry.now)) }
+    {
+        match self.owed {
+            // the wakes of an event come first
+            Some(owed) => Ok(matches!(entry, Entry::Wake { task } if *task == owed)),
+            None => self.may_unowed(entry),
+        }
+    }
+
+    fn may_unowed(&self, entry: &Entry) -> Result<bool, NoMemory>
+        ensures { IfOk result (λ may. IsTrue may ↔ MayFree self.now entry.now) }
+    {
+        Ok(match entry {
+            Entry::Start { .. } => matches!(self.stage, Stage::Blank),
+            Entry::Call { by, call, reply } => self.may_call(*by) && self.answers(*call, reply),
+            Entry::Event { label, fields } => self.may_event(label, fields),
+            Entry::Wake { .. } | Entry::Draw { .. } => false,
+            Entry::Root { task } => self.may_root(*task),
+            Entry::Round { order } => {
+                self.may_round()
+                    && is_permutation(self.allocator(), self.ready.as_slice(), order.as_slice())?
+            }
+            Entry::Visit { task } => self.may_visit(*task),
+            Entry::Answer { task, kind } => self.may_answer(*task, *kind),
+            Entry::NodeEnd { node } => self.may_end_node(*node),
+            Entry::Advance { now } => self.may_advance(*now),
+            Entry::Skip { now } => self.may_skip(*now),
+            Entry::Fire { alarm } => self.may_fire(*alarm),
+            Entry::Cleanup => self.stage.may_close(),
+            Entry::Crash { choices } => self.may_crash(choices),
+            Entry::Finish { cause } => self.may_finish(*cause),
+        })
+    }
+
+    /// Whether this is who makes the calls here.
+    fn may_call(&self, by: Option<u64>) -> bool
+        ensures { IsTrue result ↔ MayCall self.now by }
+    {
+        match &self.stage {
+            Stage::Making => by.is_none(),
+            Stage::Polling { task, .. } => by == Some(*task),
+            Stage::Closing { .. } => self.has_ended() && by == self.ends_next(),
+            _ => false,
+        }
+    }
+
+    /// Whether the end of node 0 was asked for.
+    fn has_ended(&self) -> bool
+        ensures { result ≡ is_ended self.now.nodes 0 }
+    {
+        has_number(self.ends.as_slice(), 0)
+    }
+
+    /// The task that a cleanup ends next.
+    fn ends_next(&self) -> Option<u64>
+        ensures { result ≡ ends_next self.now.running self.now.root }
+    {
+        ends_next(self.running.as_slice(), self.root)
+    }
+
+    /// Whether the call may have this reply.
+    fn answers(&self, call: Call, reply: &CallReply) -> bool
+        ensures { IsTrue result ↔ Answers self.now call reply.now }
+    {
+        match (call, reply) {
+            (Call::CloseNode { node }, CallReply::Done) => has_number(self.live.as_slice(), node),
+            (Call::Wake { task }, CallReply::Done) => self.was_given(task),
+            (Call::Wake { task }, CallReply::Refused { error }) => {
+                matches!(error.error(), Error::UnknownToken) && !self.was_given(task)
+            }
+            (Call::SleepPoll { due }, CallReply::Ready) => due <= self.time,
+            (Call::SleepPoll { due }, CallReply::PendingAt { alarm }) => {
+                self.time < due && self.may_sleep(due, *alarm)
+            }
+            _ => false,
+        }
+    }
+
+    /// Whether a sleep may be told this number: the next, or that of its own alarm.
+    fn may_sleep(&self, due: Nanos, alarm: u64) -> bool
+        ensures { IsTrue result ↔ ((alarm ≡ self.now.alarms.count) ⊎ (is_set self.now.alarms.set due alarm ≡ true)) }
+    {
+        alarm == self.alarms.count() || self.alarms.is_set(due, alarm)
+    }
+
+    fn may_event(&self, label: &Text, fields: &Items<Items<u8>>) -> bool
+        ensures { IsTrue result ↔ MayFree self.now (Event label.now fields.now) }
+    {
+        match &self.stage {
+            Stage::Entered { task, .. } => {
+                label.as_str() == "process_task" && are_task_fields(fields.as_slice(), *task)
+            }
+            _ => false,
+        }
+    }
+
+    fn may_root(&self, task: u64) -> bool
+        ensures { IsTrue result ↔ MayFree self.now (Root task) }
+    {
+        matches!(self.stage, Stage::Making) && task as u128 == self.next && task < u64::MAX
+    }
+
+    fn may_round(&self) -> bool
+        ensures { IsTrue result ↔ MayRound self.now.phase self.now }
+    {
+        match self.stage {
+            Stage::Between => !self.is_late(),
+            Stage::Turning => {
+                !self.ready.is_empty() && !self.is_late() && self.fires().is_none()
+            }
+            _ => false,
+        }
+    }
+
+    fn may_visit(&self, task: u64) -> bool
+        ensures { IsTrue result ↔ MayFree self.now (Visit task) }
+    {
+        match &self.stage {
+            Stage::Visiting { left } => {
+                first_running(self.running.as_slice(), left.as_slice()) == Some(task)
+            }
+            _ => false,
+        }
+    }
+
+    fn may_answer(&self, task: u64, kind: AnswerKind) -> bool
+        ensures { IsTrue result ↔ MayFree self.now (Answer task kind) }
+    {
+        match kind {
+            AnswerKind::Pending | AnswerKind::Ready | AnswerKind::NoMemory => self.polls(task),
+            AnswerKind::Ended => self.may_end(task),
+            AnswerKind::Panicked | AnswerKind::Stopped => false,
+        }
+    }
+
+    /// Whether this task is polled.
+    fn polls(&self, task: u64) -> bool
+        ensures { IsTrue result ↔ (self.now.phase ≡ Polling task (left_of self.now.phase)) }
+    {
+        match &self.stage {
+            Stage::Polling { task: polled, .. } => *polled == task,
+            _ => false,
+        }
+    }
+
+    /// Whether a cleanup ends this task next.
+    fn may_end(&self, task: u64) -> bool
+        ensures { IsTrue result ↔ MayAnswer self.now task AnswerKind.Ended }
+    {
+        self.stage.is_closing() && self.has_ended() && self.ends_next() == Some(task)
+    }
+
+    fn may_end_node(&self, node: u64) -> bool
+        ensures { IsTrue result ↔ MayFree self.now (NodeEnd node) }
+    {
+        node == 0 && self.stage.is_closing() && !self.has_ended()
+    }
+
+    fn may_advance(&self, now: Nanos) -> bool
+        ensures { IsTrue result ↔ MayFree self.now (Advance now) }
+    {
+        match &self.stage {
+            Stage::Visiting { left } => {
+                first_running(self.running.as_slice(), left.as_slice()).is_none()
+                    && self.time.checked_add(self.cycle) == Some(now)
+                    && now <= MAX_TIME
+            }
+            _ => false,
+        }
+    }
+
+    fn may_skip(&self, now: Nanos) -> bool
+        ensures { IsTrue result ↔ MayFree self.now (Skip now) }
+    {
+        matches!(self.stage, Stage::Turning) && self.skip_to() == Some(now)
+    }
+
+    fn may_fire(&self, alarm: u64) -> bool
+        ensures { IsTrue result ↔ MayFree self.now (Fire alarm) }
+    {
+        matches!(self.stage, Stage::Turning) && !self.is_late() && self.fires() == Some(alarm)
+    }
+
+    fn may_crash(&self, choices: &Items<Choice>) -> bool
+        ensures { IsTrue result ↔ MayFree self.now (Crash choices.now) }
+    {
+        self.stage.is_closing()
+            && self.has_ended()
+            && self.running.is_empty()
+            && choices.as_slice().is_empty()
+    }
+
+    fn may_finish(&self, cause: FinishCause) -> bool
+        ensures { IsTrue result ↔ MayFree self.now (Finish cause) }
+    {
+        match &self.stage {
+            Stage::Crashed { cause: reached } => {
+                matches!(cause, FinishCause::NoMemory) || *reached == Some(cause)
+            }
+            _ => false,
+        }
+    }
+}
+
+/// Whether these are the fields of the event of a visit.
+fn are_task_fields(fields: &[Items<u8>], task: u64) -> bool
+    ensures { IsTrue result ↔ (fields.now ≡ task_fields task []) }
+{
+    match fields {
+        [number, label] => is_number(number.as_slice(), task) && label.as_slice().is_empty(),
+        _ => false,
+    }
+}
+
+/// Whether these are the 16 bytes of a task's number.
+fn is_number(bytes: &[u8], task: u64) -> bool
+    ensures { IsTrue result ↔ (bytes.now ≡ to_be_bytes w128 task) }
+{
+    bytes == (task as u128).to_be_bytes().as_slice()
+}

@@ -1,0 +1,635 @@
+// Whole journals, and damaged copies of them.
+
+use crate::{Walker, first_unlawful};
+use rt_audit::{AnswerKind, Call, CallReply, Entry, FinishCause, Refusal};
+use rt_base::{Choice, Error, Items, Nanos, NoMemory, Text};
+use std::alloc::Global;
+use std::test::Fail;
+
+/// A line of a journal whose only task is 0, as far as the lines differ.
+#[derive(Clone, Copy)]
+enum Line {
+    /// With this deadline, from time 0 and number 0 on, with a cycle of a millisecond.
+    Start(Option<Nanos>),
+    Root(u64),
+    Round(&'static [u64]),
+    Visit(u64),
+    /// The event of a visit of this task.
+    Event(u8),
+    /// A sleep of ten milliseconds that is over.
+    Slept(u64),
+    /// A sleep of ten milliseconds that is told this alarm.
+    Sleeps(u64, u64),
+    WakeDone(u64),
+    WakeUnknown(u64),
+    WakeClosed(u64),
+    CloseNode,
+    Wake(u64),
+    Draw,
+    Answer(u64, AnswerKind),
+    NodeEnd(u64),
+    Advance(Nanos),
+    Skip(Nanos),
+    Fire(u64),
+    Cleanup,
+    Crash,
+    CrashKept,
+    Finish(FinishCause),
+}
+
+/// The entry of a line.
+fn entry(alloc: Global, line: Line) -> Result<Entry, NoMemory> {
+    Ok(match line {
+        Line::Start(deadline) => Entry::Start {
+            next: 0,
+            now: 0,
+            deadline,
+            cycle: 1_000_000,
+        },
+        Line::Root(task) => Entry::Root { task },
+        Line::Round(order) => Entry::Round {
+            order: Items::of(order.to_vec(alloc)?),
+        },
+        Line::Visit(task) => Entry::Visit { task },
+        Line::Event(task) => event(alloc, task)?,
+        Line::Slept(task) => sleep(task, CallReply::Ready),
+        Line::Sleeps(task, alarm) => sleep(task, CallReply::PendingAt { alarm }),
+        Line::WakeDone(task) => wake(task, CallReply::Done),
+        Line::WakeUnknown(task) => refused_wake(alloc, task, Error::UnknownToken)?,
+        Line::WakeClosed(task) => refused_wake(alloc, task, Error::Closed)?,
+        Line::CloseNode => Entry::Call {
+            by: Some(0),
+            call: Call::CloseNode { node: 0 },
+            reply: CallReply::Done,
+        },
+        Line::Wake(task) => Entry::Wake { task },
+        Line::Draw => Entry::Draw { value: 0 },
+        Line::Answer(task, kind) => Entry::Answer { task, kind },
+        Line::NodeEnd(node) => Entry::NodeEnd { node },
+        Line::Advance(now) => Entry::Advance { now },
+        Line::Skip(now) => Entry::Skip { now },
+        Line::Fire(alarm) => Entry::Fire { alarm },
+        Line::Cleanup => Entry::Cleanup,
+        Line::Crash => crash(Vec::new(alloc)),
+        Line::CrashKept => crash(vec![in alloc; Choice::Kept]?),
+        Line::Finish(cause) => Entry::Finish { cause },
+    })
+}
+
+fn event(alloc: Global, task: u8) -> Result<Entry, NoMemory> {
+    let mut number = vec![in alloc; 0u8; 15]?;
+    number.push(task)?;
+    let mut fields = Vec::new(alloc);
+    fields.push(Items::of(number))?;
+    fields.push(Items::of(Vec::new(alloc)))?;
+    Ok(Entry::Event {
+        label: Text::of("process_task".to_owned(alloc)?),
+        fields: Items::of(fields),
+    })
+}
+
+fn sleep(task: u64, reply: CallReply) -> Entry {
+    Entry::Call {
+        by: Some(task),
+        call: Call::SleepPoll { due: 10_000_000 },
+        reply,
+    }
+}
+
+fn wake(task: u64, reply: CallReply) -> Entry {
+    Entry::Call {
+        by: Some(0),
+        call: Call::Wake { task },
+        reply,
+    }
+}
+
+fn refused_wake(alloc: Global, task: u64, error: Error) -> Result<Entry, NoMemory> {
+    let error = Refusal::new(alloc, error)?;
+    Ok(wake(task, CallReply::Refused { error }))
+}
+
+fn crash(choices: Vec<Choice>) -> Entry {
+    Entry::Crash {
+        choices: Items::of(choices),
+    }
+}
+
+/// The place of the first line that may not come where it stands.
+fn first_of(alloc: Global, lines: &[Line]) -> Result<Option<usize>, NoMemory> {
+    let mut entries = Vec::new(alloc);
+    for line in lines {
+        entries.push(entry(alloc, *line)?)?;
+    }
+    first_unlawful(alloc, entries.as_slice())
+}
+
+/// Whether each front of the journal is lawful, and the whole.
+fn is_accepted(alloc: Global, lines: &[Line]) -> Result<bool, NoMemory> {
+    for place in 0..lines.len() {
+        if first_of(alloc, &lines[..place])?.is_some() {
+            return Ok(false);
+        }
+    }
+    Ok(first_of(alloc, lines)?.is_none())
+}
+
+/// What is damaged at a place.
+#[derive(Clone, Copy)]
+enum Damage {
+    Missing,
+    Instead(Line),
+    Before(Line),
+}
+
+/// The journal with this damage.
+fn damaged(
+    alloc: Global,
+    lines: &[Line],
+    at: usize,
+    damage: Damage,
+) -> Result<Vec<Line>, NoMemory> {
+    let mut lines = lines.to_vec(alloc)?;
+    if lines.len() < at {
+        return Ok(lines);
+    }
+    if at < lines.len() && !matches!(damage, Damage::Before(_)) {
+        lines.remove(at);
+    }
+    match damage {
+        Damage::Missing => {}
+        Damage::Instead(line) | Damage::Before(line) => lines.insert(at, line)?,
+    }
+    Ok(lines)
+}
+
+/// The first of these damaged copies, if any, that isn't refused at its place.
+fn not_refused(
+    alloc: Global,
+    lines: &[Line],
+    copies: &[(&'static str, usize, Damage, usize)],
+) -> Result<Option<&'static str>, NoMemory> {
+    for (name, at, damage, place) in copies {
+        let copy = damaged(alloc, lines, *at, *damage)?;
+        if first_of(alloc, copy.as_slice())? != Some(*place) {
+            return Ok(Some(*name));
+        }
+    }
+    Ok(None)
+}
+
+/// A root that is ready at its first visit.
+const READY: [Line; 12] = [
+    Line::Start(None),
+    Line::Root(0),
+    Line::Round(&[0]),
+    Line::Visit(0),
+    Line::Event(0),
+    Line::Answer(0, AnswerKind::Ready),
+    Line::Cleanup,
+    Line::NodeEnd(0),
+    Line::CloseNode,
+    Line::Answer(0, AnswerKind::Ended),
+    Line::Crash,
+    Line::Finish(FinishCause::Completed),
+];
+
+/// A root that sleeps to its alarm.
+const SLEEP: [Line; 22] = [
+    Line::Start(None),
+    Line::Root(0),
+    Line::Round(&[0]),
+    Line::Visit(0),
+    Line::Event(0),
+    Line::Sleeps(0, 0),
+    Line::Answer(0, AnswerKind::Pending),
+    Line::Advance(1_000_000),
+    Line::Skip(10_000_000),
+    Line::Fire(0),
+    Line::Wake(0),
+    Line::Round(&[0]),
+    Line::Visit(0),
+    Line::Event(0),
+    Line::Slept(0),
+    Line::Answer(0, AnswerKind::Ready),
+    Line::Cleanup,
+    Line::NodeEnd(0),
+    Line::CloseNode,
+    Line::Answer(0, AnswerKind::Ended),
+    Line::Crash,
+    Line::Finish(FinishCause::Completed),
+];
+
+/// A root that sleeps to the deadline.
+const LATE: [Line; 15] = [
+    Line::Start(Some(10_000_000)),
+    Line::Root(0),
+    Line::Round(&[0]),
+    Line::Visit(0),
+    Line::Event(0),
+    Line::Sleeps(0, 0),
+    Line::Answer(0, AnswerKind::Pending),
+    Line::Advance(1_000_000),
+    Line::Skip(10_000_000),
+    Line::Cleanup,
+    Line::NodeEnd(0),
+    Line::CloseNode,
+    Line::Answer(0, AnswerKind::Ended),
+    Line::Crash,
+    Line::Finish(FinishCause::Timeout),
+];
+
+/// A root that wakes itself twice and then waits, and ends for want of anything to do.
+const STALL: [Line; 25] = [
+    Line::Start(None),
+    Line::Root(0),
+    Line::Round(&[0]),
+    Line::Visit(0),
+    Line::Event(0),
+    Line::WakeDone(0),
+    Line::Wake(0),
+    Line::WakeUnknown(1),
+    Line::WakeDone(0),
+    Line::Wake(0),
+    Line::Answer(0, AnswerKind::Pending),
+    Line::Advance(1_000_000),
+    Line::Round(&[0, 0]),
+    Line::Visit(0),
+    Line::Event(0),
+    Line::Answer(0, AnswerKind::Pending),
+    Line::Visit(0),
+    Line::Event(0),
+    Line::Answer(0, AnswerKind::Pending),
+    Line::Advance(2_000_000),
+    Line::Cleanup,
+    Line::NodeEnd(0),
+    Line::Answer(0, AnswerKind::Ended),
+    Line::Crash,
+    Line::Finish(FinishCause::Stalled),
+];
+
+/// A run that is cut off before its first round.
+const CUT: [Line; 8] = [
+    Line::Start(None),
+    Line::Root(0),
+    Line::Cleanup,
+    Line::NodeEnd(0),
+    Line::CloseNode,
+    Line::Answer(0, AnswerKind::Ended),
+    Line::Crash,
+    Line::Finish(FinishCause::NoMemory),
+];
+
+#[test]
+fn one_ready_root(rt: HostRuntime) -> Result<(), Fail> {
+    assert!(rt; is_accepted(rt.alloc(), &READY)?);
+    Ok(())
+}
+
+#[test]
+fn sleeps_to_its_alarm(rt: HostRuntime) -> Result<(), Fail> {
+    assert!(rt; is_accepted(rt.alloc(), &SLEEP)?);
+    Ok(())
+}
+
+#[test]
+fn deadline_before_the_alarm(rt: HostRuntime) -> Result<(), Fail> {
+    assert!(rt; is_accepted(rt.alloc(), &LATE)?);
+    Ok(())
+}
+
+#[test]
+fn wakes_itself_and_stalls(rt: HostRuntime) -> Result<(), Fail> {
+    assert!(rt; is_accepted(rt.alloc(), &STALL)?);
+    Ok(())
+}
+
+#[test]
+fn cut_off_for_want_of_memory(rt: HostRuntime) -> Result<(), Fail> {
+    assert!(rt; is_accepted(rt.alloc(), &CUT)?);
+    Ok(())
+}
+
+#[test]
+fn damaged_visits(rt: HostRuntime) -> Result<(), Fail> {
+    let copies = [
+        ("a cut-off front", 0, Damage::Missing, 0),
+        ("two starts", 1, Damage::Before(Line::Start(None)), 1),
+        (
+            "another number for the root",
+            1,
+            Damage::Instead(Line::Root(1)),
+            1,
+        ),
+        ("two roots", 2, Damage::Before(Line::Root(1)), 2),
+        ("a draw", 2, Damage::Before(Line::Draw), 2),
+        (
+            "a round without a number",
+            2,
+            Damage::Instead(Line::Round(&[])),
+            2,
+        ),
+        (
+            "a round with a number twice",
+            2,
+            Damage::Instead(Line::Round(&[0, 0])),
+            2,
+        ),
+        (
+            "a round with another number",
+            2,
+            Damage::Instead(Line::Round(&[1])),
+            2,
+        ),
+        (
+            "a visit of another task",
+            3,
+            Damage::Instead(Line::Visit(1)),
+            3,
+        ),
+        ("a visit without its event", 4, Damage::Missing, 4),
+        (
+            "the event of another task",
+            4,
+            Damage::Instead(Line::Event(1)),
+            4,
+        ),
+        ("two events", 5, Damage::Before(Line::Event(0)), 5),
+        (
+            "another task's answer",
+            5,
+            Damage::Instead(Line::Answer(1, AnswerKind::Ready)),
+            5,
+        ),
+        (
+            "an end in place of an answer",
+            5,
+            Damage::Instead(Line::Answer(0, AnswerKind::Ended)),
+            5,
+        ),
+        (
+            "a panic",
+            5,
+            Damage::Instead(Line::Answer(0, AnswerKind::Panicked)),
+            5,
+        ),
+    ];
+    assert_eq!(rt; not_refused(rt.alloc(), &READY, &copies)?, None);
+    Ok(())
+}
+
+#[test]
+fn damaged_cleanups(rt: HostRuntime) -> Result<(), Fail> {
+    let copies = [
+        (
+            "an advance once the root is ready",
+            6,
+            Damage::Before(Line::Advance(1_000_000)),
+            6,
+        ),
+        ("two cleanups", 7, Damage::Before(Line::Cleanup), 7),
+        ("a node that doesn't end", 7, Damage::Missing, 7),
+        (
+            "another node's end",
+            7,
+            Damage::Instead(Line::NodeEnd(1)),
+            7,
+        ),
+        ("two ends of a node", 8, Damage::Before(Line::NodeEnd(0)), 8),
+        (
+            "a context that is closed twice",
+            9,
+            Damage::Before(Line::CloseNode),
+            9,
+        ),
+        ("a task that doesn't end", 9, Damage::Missing, 9),
+        (
+            "the end of another task",
+            9,
+            Damage::Instead(Line::Answer(1, AnswerKind::Ended)),
+            9,
+        ),
+        (
+            "a call of a dead task",
+            10,
+            Damage::Before(Line::Slept(0)),
+            10,
+        ),
+        ("no crash", 10, Damage::Missing, 10),
+        (
+            "a crash with a choice",
+            10,
+            Damage::Instead(Line::CrashKept),
+            10,
+        ),
+        (
+            "a wrong cause",
+            11,
+            Damage::Instead(Line::Finish(FinishCause::Timeout)),
+            11,
+        ),
+        (
+            "an entry after the finish",
+            12,
+            Damage::Before(Line::Cleanup),
+            12,
+        ),
+    ];
+    assert_eq!(rt; not_refused(rt.alloc(), &READY, &copies)?, None);
+    Ok(())
+}
+
+#[test]
+fn damaged_sleeps(rt: HostRuntime) -> Result<(), Fail> {
+    let copies = [
+        (
+            "a call by another task",
+            5,
+            Damage::Instead(Line::Sleeps(1, 0)),
+            5,
+        ),
+        (
+            "a sleep that ends too soon",
+            5,
+            Damage::Instead(Line::Slept(0)),
+            5,
+        ),
+        (
+            "another alarm's number",
+            5,
+            Damage::Instead(Line::Sleeps(0, 1)),
+            5,
+        ),
+        (
+            "an advance by another cycle",
+            7,
+            Damage::Instead(Line::Advance(2_000_000)),
+            7,
+        ),
+        ("no advance", 7, Damage::Missing, 7),
+        (
+            "two advances",
+            8,
+            Damage::Before(Line::Advance(2_000_000)),
+            8,
+        ),
+        (
+            "a skip to a sooner moment",
+            8,
+            Damage::Instead(Line::Skip(9_999_999)),
+            8,
+        ),
+        (
+            "a skip to a later moment",
+            8,
+            Damage::Instead(Line::Skip(10_000_001)),
+            8,
+        ),
+        ("a fire before its skip", 8, Damage::Missing, 8),
+        ("two skips", 9, Damage::Before(Line::Skip(10_000_000)), 9),
+    ];
+    assert_eq!(rt; not_refused(rt.alloc(), &SLEEP, &copies)?, None);
+    Ok(())
+}
+
+#[test]
+fn damaged_fires(rt: HostRuntime) -> Result<(), Fail> {
+    let copies = [
+        ("another alarm's fire", 9, Damage::Instead(Line::Fire(1)), 9),
+        (
+            "a round with an alarm due",
+            9,
+            Damage::Instead(Line::Round(&[0])),
+            9,
+        ),
+        ("a missing wake", 10, Damage::Missing, 10),
+        (
+            "a wake of another task",
+            10,
+            Damage::Instead(Line::Wake(1)),
+            10,
+        ),
+        (
+            "a wake that nobody owes",
+            11,
+            Damage::Before(Line::Wake(0)),
+            11,
+        ),
+        (
+            "a fire of an alarm that is gone",
+            11,
+            Damage::Before(Line::Fire(0)),
+            11,
+        ),
+        (
+            "a second round with its number missing",
+            11,
+            Damage::Instead(Line::Round(&[])),
+            11,
+        ),
+        (
+            "a visit of a task that doesn't run",
+            12,
+            Damage::Instead(Line::Visit(1)),
+            12,
+        ),
+        (
+            "a sleep that goes on past its end",
+            14,
+            Damage::Instead(Line::Sleeps(0, 1)),
+            14,
+        ),
+    ];
+    assert_eq!(rt; not_refused(rt.alloc(), &SLEEP, &copies)?, None);
+    Ok(())
+}
+
+#[test]
+fn damaged_deadlines(rt: HostRuntime) -> Result<(), Fail> {
+    let copies = [
+        ("a late fire", 9, Damage::Before(Line::Fire(0)), 9),
+        (
+            "a round at the deadline",
+            9,
+            Damage::Before(Line::Round(&[0])),
+            9,
+        ),
+        (
+            "a late cause that is ok",
+            14,
+            Damage::Instead(Line::Finish(FinishCause::Completed)),
+            14,
+        ),
+        (
+            "a late cause that is a stall",
+            14,
+            Damage::Instead(Line::Finish(FinishCause::Stalled)),
+            14,
+        ),
+        (
+            "a start without the deadline",
+            0,
+            Damage::Instead(Line::Start(None)),
+            14,
+        ),
+        (
+            "a start with a later deadline",
+            0,
+            Damage::Instead(Line::Start(Some(10_000_001))),
+            14,
+        ),
+    ];
+    assert_eq!(rt; not_refused(rt.alloc(), &LATE, &copies)?, None);
+    Ok(())
+}
+
+#[test]
+fn damaged_wakes(rt: HostRuntime) -> Result<(), Fail> {
+    let copies = [
+        ("a wake that isn't carried out", 6, Damage::Missing, 6),
+        (
+            "a refused wake of a task that is there",
+            5,
+            Damage::Instead(Line::WakeUnknown(0)),
+            5,
+        ),
+        (
+            "a wake of a task that isn't there",
+            7,
+            Damage::Instead(Line::WakeDone(1)),
+            7,
+        ),
+        (
+            "a wake that is refused for another reason",
+            7,
+            Damage::Instead(Line::WakeClosed(1)),
+            7,
+        ),
+        (
+            "a round with a number once that was woken twice",
+            12,
+            Damage::Instead(Line::Round(&[0])),
+            12,
+        ),
+        (
+            "a third visit of two",
+            19,
+            Damage::Before(Line::Visit(0)),
+            19,
+        ),
+    ];
+    assert_eq!(rt; not_refused(rt.alloc(), &STALL, &copies)?, None);
+    Ok(())
+}
+
+#[test]
+fn surface(rt: HostRuntime) -> Result<(), Fail> {
+    let alloc = rt.alloc();
+    let start = entry(alloc, Line::Start(None))?;
+    let mut walker = Walker::new(alloc);
+    assert!(rt; walker.may(&start)?);
+    walker.step(&start)?;
+    assert!(rt; !walker.may(&start)?);
+    assert_eq!(rt; first_unlawful(alloc, &[])?, None);
+    Ok(())
+}

@@ -1,0 +1,164 @@
+//! The state that the entries of a journal tell, walked entry by entry.
+
+ghost use Rattle.std.specs.Prelude.{◌≡◌, ◌↔◌, ◌&&◌, IfOk, OnOk, IsTrue};
+ghost use Rattle.rt_model.specs.State.{blank};
+ghost use Rattle.rt_model.specs.Alarms.{fires, skip_to};
+ghost use Rattle.rt_model.specs.Lists.{is_nil};
+ghost use Rattle.rt_model.specs.Causes.{from_running, is_late, overflows, reached, turning_cause, where_true};
+ghost use Rattle.rt_model.specs.Rules.{May, WasGiven};
+ghost use Rattle.rt_model.specs.Effects.{after};
+ghost use Rattle.rt_walk.specs.Quiet.{quiet};
+
+use crate::alarm_set::AlarmSet;
+use crate::numbers::first_running;
+use crate::stage::Stage;
+use rt_audit::{Entry, FinishCause};
+use rt_base::{MAX_TIME, Nanos, NoMemory};
+use std::alloc::Global;
+use std::marker::Model;
+
+/// What the entries of a journal tell so far. Contracts see the state of a run without its calls under way.
+#[derive(Drop)]
+pub struct Walker {
+    pub(crate) time: Nanos,
+    pub(crate) start: Nanos,
+    pub(crate) cycle: Nanos,
+    pub(crate) deadline: Option<Nanos>,
+    pub(crate) stage: Stage,
+    pub(crate) first: u64,
+    // wide enough for the number behind the last one
+    pub(crate) next: u128,
+    pub(crate) root: Option<u64>,
+    pub(crate) running: Vec<u64>,
+    pub(crate) ready: Vec<u64>,
+    pub(crate) alarms: AlarmSet,
+    pub(crate) live: Vec<u64>,
+    pub(crate) ends: Vec<u64>,
+    pub(crate) owed: Option<u64>,
+}
+
+impl Model for Walker {
+    ghost use Rattle.std.specs.Prelude.{[]};
+    ghost use Rattle.rt_model.specs.Lists.{those};
+    ghost use Rattle.rt_model.specs.State.{State};
+    ghost use Rattle.rt_walk.specs.Stage.{phase_of};
+
+    ghost Value = { State };
+
+    ghost view = { λ w. record { clock = record { time = w.time; fixed = record { start = w.start; cycle = w.cycle; deadline = w.deadline; first = w.first } }; phase = phase_of w.stage; numbers = record { first = w.first; next = w.next }; root = w.root; running = w.running.items; ready = w.ready.items; alarms = w.alarms; nodes = record { live = w.live.items; ends = w.ends.items }; owed = those w.owed; turns = [] } };
+}
+
+#[tactic(auto, unfolding(rt_model::specs::Effects::after, rt_model::specs::State::blank))]
+impl Walker {
+    /// Before a run.
+    pub fn new(alloc: Global) -> Walker
+        ensures { result ≡ blank }
+    {
+        Walker {
+            time: 0,
+            start: 0,
+            cycle: 0,
+            deadline: None,
+            stage: Stage::Blank,
+            first: 0,
+            next: 0,
+            root: None,
+            running: Vec::new(alloc),
+            ready: Vec::new(alloc),
+            alarms: AlarmSet::new(alloc),
+            live: Vec::new(alloc),
+            ends: Vec::new(alloc),
+            owed: None,
+        }
+    }
+
+    /// The allocator that the lists keep.
+    pub(crate) fn allocator(&self) -> Global {
+        *self.ready.allocator()
+    }
+
+    /// Whether the deadline is there.
+    pub(crate) fn is_late(&self) -> bool
+        ensures { result ≡ is_late self.now.clock }
+    {
+        match self.deadline {
+            None => false,
+            Some(deadline) => deadline <= self.time,
+        }
+    }
+
+    /// Whether a cycle more would pass the last moment.
+    pub(crate) fn overflows(&self) -> bool
+        ensures { result ≡ overflows self.now.clock }
+    {
+        self.time > MAX_TIME || MAX_TIME - self.time < self.cycle
+    }
+
+    /// The moment that time skips to, if it skips.
+    pub(crate) fn skip_to(&self) -> Option<Nanos>
+        ensures { result ≡ skip_to self.now.ready self.now.alarms.set self.now.clock.time }
+    {
+        if self.ready.is_empty() {
+            self.alarms.ahead(self.time)
+        } else {
+            None
+        }
+    }
+
+    /// The number of the alarm that goes off now.
+    pub(crate) fn fires(&self) -> Option<u64>
+        ensures { result ≡ fires self.now.alarms.set self.now.clock.time }
+    {
+        self.alarms.fires(self.time)
+    }
+
+    /// Whether the number was given to a task of this run.
+    pub(crate) fn was_given(&self, task: u64) -> bool
+        ensures { IsTrue result ↔ WasGiven self.now.numbers task }
+    {
+        self.first <= task && (task as u128) < self.next
+    }
+
+    #[tactic(auto, using(crate::proofs::Members::front_laws))]
+    /// The cause that is reached where these numbers are left of a round.
+    fn round_cause(&self, left: &[u64]) -> Option<FinishCause>
+        ensures { result ≡ where_true (is_nil (from_running self.now.running left.now) && overflows self.now.clock) FinishCause.TimeOverflow }
+    {
+        let is_over = first_running(self.running.as_slice(), left).is_none();
+        if is_over && self.overflows() {
+            Some(FinishCause::TimeOverflow)
+        } else {
+            None
+        }
+    }
+
+    /// The cause that is reached in a clock step.
+    fn turning_cause(&self) -> Option<FinishCause>
+        ensures { result ≡ turning_cause (skip_to self.now.ready self.now.alarms.set self.now.clock.time) (is_late self.now.clock) (fires self.now.alarms.set self.now.clock.time) self.now.ready self.now.alarms.set }
+    {
+        if self.skip_to().is_some() {
+            None
+        } else if self.is_late() {
+            Some(FinishCause::Timeout)
+        } else if self.fires().is_none() && self.ready.is_empty() && self.alarms.is_empty() {
+            Some(FinishCause::Stalled)
+        } else {
+            None
+        }
+    }
+
+    /// The cause that the run has reached, if it has.
+    pub(crate) fn reached(&self) -> Option<FinishCause>
+        ensures { result ≡ reached self.now }
+    {
+        match &self.stage {
+            Stage::Making if self.next >= u64::MAX as u128 => Some(FinishCause::TooManyTasks),
+            Stage::Between if self.is_late() => Some(FinishCause::Timeout),
+            Stage::Visiting { left } => self.round_cause(left.as_slice()),
+            Stage::Turning => self.turning_cause(),
+            Stage::Over { cause } | Stage::Finished { cause } => Some(*cause),
+            Stage::Closing { cause } | Stage::Crashed { cause } => *cause,
+            _ => None,
+        }
+    }
+}
