@@ -32,8 +32,8 @@ pub fn simulate_alone<S: Source, K: Sink8>(
     source: &mut S,
     sink: &mut K,
 ) -> Outcome
-    ensures ends { (asked : Asked) × IsAsked (map string_bytes words.now) (S.left source.old) asked × Ends asked result (K.held sink.old) (K.held sink.new) }
-    ensures ended { (result.status ≡ 0) ⊎ ((result.status ≡ 3) ⊎ (result.status ≡ 6)) → IfSome (S.left source.old) (λ left. length left ≤ LONGEST → S.left source.new ≡ Some []) }
+    ensures report { (asked : Asked) × IsAsked (map string_bytes words.now) (S.left source.old) asked × Ends asked result (K.held sink.old) (K.held sink.new) }
+    ensures to_the_end { (result.status ≡ 0) ⊎ ((result.status ≡ 3) ⊎ (result.status ≡ 6)) → IfSome (S.left source.old) (λ left. length left ≤ LONGEST → S.left source.new ≡ Some []) }
     ensures words { says_run (map string_bytes words.now) ≡ false → (result.status ≡ 2) ⊎ (result.status ≡ 5) }
     ensures unread { result.status ≡ 4 → HasRisen (S.faults source.old) (S.faults source.new) × (sink.new ≡ sink.old) }
     ensures unwritten { result.status ≡ 5 → HasRisen (K.faults sink.old) (K.faults sink.new) }
