@@ -47,6 +47,7 @@ pub record Reports (name : List ℕ) (result : RunResult) (time : ℕ) (o : Outc
   pub comes : report.result ≡ result
   pub from : report.from ≡ 0
   pub to : report.to ≡ length o.journal.entries
+  pub digest : report.digest ≡ 0 ∷ 0 ∷ 0 ∷ 0 ∷ []
   pub moment : report.time ≡ time
   pub rounds : report.rounds ≡ rounds_in o.journal.entries
   pub status : o.status ≡ status_of result
