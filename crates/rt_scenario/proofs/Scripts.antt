@@ -1,8 +1,8 @@
-use Rattle.std.proofs.Common.{◌≡◌, ℕ, suc, ◌+◌, ◌<◌, Bool, true, false, cond, if◌then◌else◌, List, [], ◌∷◌, ◌++◌, length, Option, Some, None, is_some, Ok, Err, refl, sym, ap, ◌∙◌, arith, add-one}
+use Rattle.std.proofs.Common.{◌≡◌, ℕ, suc, ◌+◌, ◌<◌, ◌≤◌, Bool, true, false, cond, if◌then◌else◌, List, [], ◌∷◌, ◌++◌, length, Option, Some, None, is_some, IfSome, Ok, Err, refl, sym, ap, ◌∙◌, arith, add-one}
 use Rattle.std.specs.Option.{option_map, option_copied}
 use Rattle.std.specs.Borrow.{Bor}
 use Rattle.rt_scenario.specs.Words.{is_text}
-use Rattle.rt_scenario.specs.Scenario.{Draft, script_at, with_line, row, step_row}
+use Rattle.rt_scenario.specs.Scenario.{Draft, CanRun, script_at, with_line, row, step_row}
 use Rattle.rt_scenario.specs.Open.{open_scripts}
 use Rattle.rt_scenario.specs.declared.draft.OpenScript.{OpenScript}
 use Rattle.std.specs.Cmp.Lexicographic.{same_text}
@@ -88,3 +88,22 @@ module _ (closed : List ScriptText) (t : ScriptText) (name : List ℕ) (n : ℕ)
       e ∙ opened_at q (is_text name q) refl
       ∙ ap (λ m. place_or (script_at closed q) (place_last closed m q)) (sym named)
       ∙ sym (script_at_push closed t q)
+
+some_same : (i j : ℕ) → Some i ≡ Some j → i ≡ j
+some_same i j e = cc
+
+-- a place that lies so far from the front lies within
+bound_by : (b : Bool) (o : Option ℕ) (n place : ℕ) → ((i : ℕ) → o ≡ Some i → i < n) → (if b then Some 0 else option_map (λ k. k + 1) o) ≡ Some place → place < suc n
+bound_by true o n place h e = omega (arith, some_same 0 place e)
+bound_by false None n place h e = absurd (cc)
+bound_by false (Some i) n place h e = omega (arith, h i refl, some_same (i + 1) place e)
+
+-- a script that is found is there
+pub script_at_bound : (ss : List ScriptText) (name : List ℕ) (place : ℕ) → script_at ss name ≡ Some place → place < length ss
+script_at_bound [] name place e = absurd (cc)
+script_at_bound (s ∷ ss) name place e = bound_by (is_text s.name name) (script_at ss name) (length ss) place (λ i h. script_at_bound ss name i h) e
+
+-- a script that can be run can be run among more
+pub can_run_more : (xs ys : List ScriptText) (timeout root : Option ℕ) → length xs ≤ length ys → IfSome root (CanRun xs timeout) → IfSome root (CanRun ys timeout)
+can_run_more xs ys timeout None more can = tt
+can_run_more xs ys timeout (Some place) more can = (omega (arith, can.0), can.1)

@@ -1,5 +1,5 @@
 -- How a scenario is read: line by line from the top, up to the first line that breaks a rule.
-use Rattle.std.specs.Prelude.{ℕ, ◌+◌, ◌-◌, ◌==◌, ◌&&◌, ◌||◌, not, nat_lt, nat_le, Bool, true, false, if◌then◌else◌, List, [], ◌∷◌, ◌++◌, length, take, slice_index, codes, Option, Some, None, is_some, is_none, Result, Ok, Err, ℤ}
+use Rattle.std.specs.Prelude.{◌≡◌, ◌<◌, ℕ, ◌+◌, ◌-◌, ◌==◌, ◌&&◌, ◌||◌, not, nat_lt, nat_le, Bool, true, false, if◌then◌else◌, List, [], ◌∷◌, ◌++◌, length, take, slice_index, codes, Option, Some, None, is_some, is_none, Result, Ok, Err, ℤ}
 use Rattle.std.specs.Option.{option_map}
 use Rattle.std.specs.List.{list_all, list_any}
 use Rattle.rt_base.specs.Label.{is_label}
@@ -86,6 +86,10 @@ done_row d = Ok (record d { is_open = false })
 abbrev pub is_runnable : Option ℕ → Bool
 is_runnable None = true
 is_runnable (Some n) = nat_le n MAX_TIME
+
+-- the script at this place can be run: it is there, and the limit can be kept
+abbrev pub CanRun : List ScriptText → Option ℕ → ℕ → Type 0
+CanRun scripts timeout place = (place < length scripts) × (is_runnable timeout ≡ true)
 
 abbrev pub found_row : Draft → Option ℕ → Result Draft Kind
 found_row d None = Err kind.Missing

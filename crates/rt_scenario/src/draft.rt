@@ -1,8 +1,8 @@
 // What the lines so far say.
-ghost use Rattle.std.specs.Prelude.{◌≡◌, true, false, ◌<◌, ◌==◌, not, length, Some, None, Ok, Err, MatchOption, MatchResult, List, ℕ, [], ◌∷◌, ◌≢◌};
+ghost use Rattle.std.specs.Prelude.{◌≡◌, true, false, ◌<◌, ◌==◌, not, length, Some, None, Ok, Err, IfSome, MatchOption, MatchResult, List, ℕ, [], ◌∷◌, ◌≢◌};
 ghost use Rattle.rt_scenario.specs.Lines.{words_of, words_in};
 ghost use Rattle.rt_scenario.specs.Numbers.{number_of, value_of};
-ghost use Rattle.rt_scenario.specs.Scenario.{Draft, blank, is_placed, row, after_line, after_text, after_words, timeout_row, script_row, step_row, sleep_row, end_row, done_row, run_row};
+ghost use Rattle.rt_scenario.specs.Scenario.{Draft, blank, CanRun, is_placed, row, after_line, after_text, after_words, timeout_row, script_row, step_row, sleep_row, end_row, done_row, run_row};
 ghost use Rattle.rt_scenario.specs.Answers.{Answers, Finishes, IsBare};
 
 use crate::kind::Kind;
@@ -39,9 +39,9 @@ pub struct OpenScript {
 }
 
 impl Model for Draft {
-    ghost use Rattle.std.specs.Prelude.{◌≡◌, ℕ, List, ◌++◌, is_some};
+    ghost use Rattle.std.specs.Prelude.{◌≡◌, ℕ, List, ◌++◌, is_some, IfSome};
     ghost use Rattle.std.specs.BTreeMap.{get_by_text};
-    ghost use Rattle.rt_scenario.specs.Scenario.{Draft, script_at};
+    ghost use Rattle.rt_scenario.specs.Scenario.{Draft, script_at, CanRun};
 
     ghost Value = { Draft };
 
@@ -49,7 +49,7 @@ impl Model for Draft {
 
     ghost view = { λ d. record { timeout = d.timeout; scripts = d.closed.items ++ open_scripts d.current; is_open = is_some d.current; root = d.root } };
 
-    ghost invariant = { λ d. (name : List ℕ) → get_by_text d.places name ≡ script_at (d.closed.items ++ open_scripts d.current) name };
+    ghost invariant = { λ d. ((name : List ℕ) → get_by_text d.places name ≡ script_at (d.closed.items ++ open_scripts d.current) name) × IfSome d.root (CanRun (d.closed.items ++ open_scripts d.current) d.timeout) };
 }
 
 impl Draft {
@@ -67,7 +67,8 @@ impl Draft {
 
     /// The scenario, or `None` where a script isn't closed or nothing is run.
     pub fn finish(self) -> Option<Scenario>
-        ensures { Finishes self result }
+        ensures says { Finishes self result }
+        ensures runs { IfSome result (λ s. CanRun s.scripts s.timeout s.root) }
     {
         let Draft {
             timeout,
@@ -175,6 +176,7 @@ impl Draft {
     }
 
     fn set_timeout(&mut self, word: &[u8]) -> Result<(), Stop>
+        requires { self.old.root ≡ None }
         ensures { Answers (timeout_row self.old (number_of word.now)) result self.new }
     {
         let Some(timeout) = numbers::number_of(word) else {

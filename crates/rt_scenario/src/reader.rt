@@ -1,5 +1,6 @@
 // Reads a whole scenario.
-ghost use Rattle.rt_scenario.specs.Scenario.{scenario_of};
+ghost use Rattle.std.specs.Prelude.{IfOk};
+ghost use Rattle.rt_scenario.specs.Scenario.{scenario_of, CanRun};
 ghost use Rattle.rt_scenario.specs.Answers.{Reads};
 
 use crate::draft::Draft;
@@ -28,7 +29,8 @@ pub enum Refusal {
 ///
 /// Where a script isn't closed at the end, or nothing is run, the line after the last is broken.
 pub fn read_scenario(alloc: Global, bytes: &[u8]) -> Result<Scenario, Refusal>
-    ensures { Reads (scenario_of bytes.now) result }
+    ensures says { Reads (scenario_of bytes.now) result }
+    ensures runs { IfOk result (λ s. CanRun s.scripts s.timeout s.root) }
 {
     let mut draft = Draft::new(alloc);
     let mut line = 1u64;

@@ -1,3 +1,4 @@
-pub mod Scripts
+pub mod Ends
 pub mod Runs
+pub mod Scripts
 pub mod Written

@@ -1,3 +1,4 @@
+pub mod Asked
 pub mod Did
 pub mod Ran
 pub mod Report

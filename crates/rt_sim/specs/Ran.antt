@@ -1,9 +1,8 @@
 -- What a simulation has run.
-use Rattle.std.specs.Prelude.{◌≡◌, ◌+◌, ◌==◌, ◌||◌, codes, false, ℕ, ℤ, List, [], ◌∷◌, length, slice_get, Bool, Option, Some}
+use Rattle.std.specs.Prelude.{◌≡◌, ◌+◌, ℕ, ℤ, List, [], ◌∷◌, length, slice_get, Option, Some}
 use Rattle.rt_audit.specs.declared.entry.Entry.{Entry}
 use Rattle.rt_audit.specs.declared.entry.Entry.TheVariants.{Round}
 use Rattle.rt_audit.specs.Journal.{last_time}
-use Rattle.rt_scenario.specs.Words.{is_text}
 use Rattle.rt_model.specs.Walk.{Gives}
 use Rattle.rt_model.specs.Tied.{Steps, with_first}
 use Rattle.rt_world.specs.Failures.{finish_of}
@@ -35,27 +34,6 @@ abbrev pub status_of : RunResult → ℕ
 status_of (Ok output) = 0
 status_of (Failed error) = 6
 
--- the statuses of a run that is reported whole
-abbrev pub is_reported : ℕ → Bool
-is_reported status = (status == 0) || (status == 6)
-
--- the statuses of a scenario that was read
-abbrev pub is_run : ℕ → Bool
-is_run status = is_reported status || ((status == 5) || (status == 7))
-
--- the statuses of bytes that were read
-abbrev pub is_read : ℕ → Bool
-is_read status = is_run status || (status == 3)
-
--- the statuses of the program's call
-abbrev pub is_status : ℕ → Bool
-is_status status = is_read status || ((status == 2) || (status == 4))
-
--- the words are the command that there is
-abbrev pub says_run : List (List ℕ) → Bool
-says_run (word ∷ []) = is_text word (codes "run")
-says_run words = false
-
 abbrev pub rounds_in : List Entry → ℕ
 rounds_in [] = 0
 rounds_in (Round order ∷ entries) = rounds_in entries + 1
@@ -69,6 +47,7 @@ pub record Reports (name : List ℕ) (result : RunResult) (time : ℕ) (o : Outc
   pub comes : report.result ≡ result
   pub from : report.from ≡ 0
   pub to : report.to ≡ length o.journal.entries
+  pub digest : report.digest ≡ 0 ∷ 0 ∷ 0 ∷ 0 ∷ []
   pub moment : report.time ≡ time
   pub rounds : report.rounds ≡ rounds_in o.journal.entries
   pub status : o.status ≡ status_of result

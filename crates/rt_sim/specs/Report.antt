@@ -7,7 +7,7 @@ use Rattle.rt_audit.specs.Lines.{line_of}
 use Rattle.rt_world.specs.declared.run_error.RunError.{RunError}
 use Rattle.rt_world.specs.declared.run_error.RunError.TheVariants.{Timeout, Stalled, TimeOverflow, TooManyTasks, NoMemory}
 use Rattle.rt_scenario.specs.KindWords.{kind_word}
-use Rattle.rt_scenario.specs.declared.reader.Broken.{Broken}
+use Rattle.rt_scenario.specs.declared.kind.Kind.{Kind}
 use Rattle.rt_sim.specs.declared.outcome.RunResult.{RunResult}
 use Rattle.rt_sim.specs.declared.outcome.RunResult.TheVariants.{Ok, Failed}
 use Rattle.rt_sim.specs.declared.outcome.RunReport.{RunReport}
@@ -34,10 +34,27 @@ entries_text (entry ∷ entries) = (line_of entry ++ codes "\n") ++ entries_text
 abbrev pub report_text : RunReport → List Entry → List ℕ
 report_text run entries = (codes "run " ++ (run.root ++ codes "\n")) ++ (entries_text entries ++ (result_text run.result ++ numbers_text run))
 
+-- one report after another, each with all entries of the journal
+abbrev pub reports_text : List RunReport → List Entry → List ℕ
+reports_text [] entries = []
+reports_text (run ∷ runs) entries = report_text run entries ++ reports_text runs entries
+
 -- a text was written from the one place to the other, up to what is still in the buffer
 abbrev pub IsWritten : Option (List ℕ) → List ℕ → Option (List ℕ) → List ℕ → Type 0
 IsWritten before text after buffer = (written : List ℕ) × Appends before written after × (written ++ buffer ≡ text)
 
--- the line of a refused scenario
-abbrev pub refusal_text : Broken → List ℕ
-refusal_text broken = codes "error " ++ (decimal broken.line ++ (codes " " ++ (kind_word broken.kind ++ codes "\n")))
+-- the first bytes of a text were written from the one place to the other
+abbrev pub IsPart : Option (List ℕ) → List ℕ → Option (List ℕ) → Type 0
+IsPart before text after = (rest : List ℕ) × IsWritten before text after rest
+
+-- the line for words that are no command
+abbrev pub usage_text : List ℕ
+usage_text = codes "usage: rt_sim run | gen N | load N | workers N\n"
+
+-- the line for an input with too many bytes
+abbrev pub too_long_text : List ℕ
+too_long_text = codes "error too long\n"
+
+-- the line for a scenario that is broken at a line
+abbrev pub refusal_text : ℕ → Kind → List ℕ
+refusal_text line kind = codes "error " ++ (decimal line ++ (codes " " ++ (kind_word kind ++ codes "\n")))

@@ -1,9 +1,9 @@
 //! The report of a run, written through a buffer.
 
-ghost use Rattle.std.specs.Prelude.{◌≡◌, ◌≤◌, ◌++◌, Err, OnOk, codes, string_bytes};
+ghost use Rattle.std.specs.Prelude.{◌≡◌, ◌≤◌, ◌++◌, Err, OnOk, OnErr, codes, string_bytes};
 ghost use Rattle.rt_base.specs.Outside.{Appends, HasRisen};
 ghost use Rattle.rt_audit.specs.Lines.{line_of};
-ghost use Rattle.rt_sim.specs.Report.{report_text, entries_text, result_text, numbers_text, word_of, IsWritten};
+ghost use Rattle.rt_sim.specs.Report.{report_text, entries_text, result_text, numbers_text, word_of, IsWritten, IsPart};
 
 use crate::{RunReport, RunResult};
 use rt_audit::Entry;
@@ -56,6 +56,9 @@ impl From<Failed> for Unwritten {
 }
 
 /// Writes the report of a run, whose entries these are.
+///
+/// Where it isn't written whole, its first bytes have been.
+#[tactic(auto, using(crate::proofs::Written::unwritten))]
 pub fn write_report<K: Sink8>(
     alloc: Global,
     sink: &mut K,
@@ -63,6 +66,7 @@ pub fn write_report<K: Sink8>(
     entries: &[Entry],
 ) -> Result<(), Unwritten>
     ensures whole { OnOk result (Appends (K.held sink.old) (report_text run.now entries.now) (K.held sink.new)) }
+    ensures part { OnErr result (IsPart (K.held sink.old) (report_text run.now entries.now) (K.held sink.new)) }
     ensures cause { result ≡ Err Unwritten.Failed → HasRisen (K.faults sink.old) (K.faults sink.new) }
     ensures counted { K.faults sink.old ≤ K.faults sink.new }
 {
@@ -85,6 +89,7 @@ fn write_entries<K: Sink8>(
     entries: &[Entry],
 ) -> Result<(), Unwritten>
     ensures written { OnOk result (IsWritten (K.held sink.old) (string_bytes buffer.old ++ entries_text entries.now) (K.held sink.new) (string_bytes buffer.new)) }
+    ensures part { OnErr result (IsPart (K.held sink.old) (string_bytes buffer.old ++ entries_text entries.now) (K.held sink.new)) }
     ensures cause { result ≡ Err Unwritten.Failed → HasRisen (K.faults sink.old) (K.faults sink.new) }
     ensures counted { K.faults sink.old ≤ K.faults sink.new }
 {
@@ -95,7 +100,7 @@ fn write_entries<K: Sink8>(
 }
 
 /// Puts the line of an entry into the buffer, and writes the buffer out where it is full.
-#[tactic(auto, using(crate::proofs::Written::written_out))]
+#[tactic(auto, using(crate::proofs::Written::written_out, crate::proofs::Written::unwritten))]
 fn write_entry<K: Sink8>(
     alloc: Global,
     sink: &mut K,
@@ -103,6 +108,7 @@ fn write_entry<K: Sink8>(
     entry: &Entry,
 ) -> Result<(), Unwritten>
     ensures written { OnOk result (IsWritten (K.held sink.old) (string_bytes buffer.old ++ (line_of entry.now ++ codes "\n")) (K.held sink.new) (string_bytes buffer.new)) }
+    ensures part { OnErr result (IsPart (K.held sink.old) (string_bytes buffer.old ++ (line_of entry.now ++ codes "\n")) (K.held sink.new)) }
     ensures cause { result ≡ Err Unwritten.Failed → HasRisen (K.faults sink.old) (K.faults sink.new) }
     ensures counted { K.faults sink.old ≤ K.faults sink.new }
 {

@@ -1,13 +1,11 @@
 //! The call of the program.
 
-ghost use Rattle.std.specs.Prelude.{◌≡◌, ◌<◌, ◌⊎◌, ◌∷◌, [], ℕ, List, true, false, length, map, codes, string_bytes, IfSome};
-ghost use Rattle.rt_base.specs.Outside.{HasRisen, Appends};
-ghost use Rattle.rt_scenario.specs.Scenario.{scenario_of, Whole, BrokenAt};
-ghost use Rattle.rt_scenario.specs.declared.scenario.Scenario.{Scenario};
-ghost use Rattle.rt_scenario.specs.declared.reader.Broken.{Broken};
-ghost use Rattle.rt_sim.specs.Report.{report_text, refusal_text};
-ghost use Rattle.rt_sim.specs.declared.outcome.RunReport.{RunReport};
-ghost use Rattle.rt_sim.specs.Ran.{is_reported, is_run, is_read, is_status, says_run, rounds_in, Reports, Simulates};
+ghost use Rattle.std.specs.Prelude.{◌≡◌, ◌≢◌, ◌<◌, ◌≤◌, ◌⊎◌, ◌∷◌, [], false, Some, IfSome, length, map, vec_len, vec_capacity, string_bytes};
+ghost use Rattle.rt_base.specs.Outside.{HasRisen};
+ghost use Rattle.rt_scenario.specs.Scenario.{scenario_of, CanRun, Whole, BrokenAt};
+ghost use Rattle.rt_sim.specs.Asked.{Asked, Reads, IsAsked, Refuses, EndsAs, Ends, says_run};
+ghost use Rattle.rt_sim.specs.Ran.{rounds_in, status_of, Reports};
+ghost use Rattle.rt_sim.specs.Report.{reports_text};
 
 use crate::report::{Unwritten, write_report};
 use crate::{Outcome, RootScript, RunReport, RunResult, Script};
@@ -34,14 +32,11 @@ pub fn simulate_alone<S: Source, K: Sink8>(
     source: &mut S,
     sink: &mut K,
 ) -> Outcome
-    ensures ran { is_reported result.status ≡ true → (bytes : List ℕ) × IfSome (S.left source.old) (λ left. bytes ≡ left) × (s : Scenario) × (scenario_of bytes ≡ Whole s) × Simulates s result }
-    ensures refused { result.status ≡ 3 → (IfSome (S.left source.old) (λ left. LONGEST < length left) × Appends (K.held sink.old) (codes "error too long\n") (K.held sink.new)) ⊎ ((bytes : List ℕ) × IfSome (S.left source.old) (λ left. bytes ≡ left) × (broken : Broken) × (scenario_of bytes ≡ BrokenAt broken.line broken.kind) × Appends (K.held sink.old) (refusal_text broken) (K.held sink.new)) }
-    ensures usage { result.status ≡ 2 → (says_run (map string_bytes words.now) ≡ false) × Appends (K.held sink.old) (codes "usage: rt_sim run | gen N | load N | workers N\n") (K.held sink.new) }
+    ensures report { (asked : Asked) × IsAsked (map string_bytes words.now) (S.left source.old) asked × Ends asked result (K.held sink.old) (K.held sink.new) }
+    ensures to_the_end { (result.status ≡ 0) ⊎ ((result.status ≡ 3) ⊎ (result.status ≡ 6)) → IfSome (S.left source.old) (λ left. length left ≤ LONGEST → S.left source.new ≡ Some []) }
     ensures words { says_run (map string_bytes words.now) ≡ false → (result.status ≡ 2) ⊎ (result.status ≡ 5) }
-    ensures text { is_reported result.status ≡ true → (run : RunReport) × (result.runs ≡ run ∷ []) × Appends (K.held sink.old) (report_text run result.journal.entries) (K.held sink.new) }
+    ensures unread { result.status ≡ 4 → HasRisen (S.faults source.old) (S.faults source.new) × (sink.new ≡ sink.old) }
     ensures unwritten { result.status ≡ 5 → HasRisen (K.faults sink.old) (K.faults sink.new) }
-    ensures statuses { is_status result.status ≡ true }
-    ensures unread { result.status ≡ 4 → HasRisen (S.faults source.old) (S.faults source.new) }
 {
     if !is_run_command(words) {
         return refuse(alloc, sink, 2, USAGE);
@@ -66,18 +61,30 @@ fn is_run_command(words: &[String]) -> bool
 
 /// An outcome without runs.
 fn nothing(alloc: Global, status: u8) -> Outcome
-    ensures { result.status ≡ status }
+    ensures { Refuses status result }
+{
+    unreported(alloc, status, Journal::new(alloc))
+}
+
+/// An outcome whose runs aren't reported.
+fn unreported(alloc: Global, status: u8, journal: Journal) -> Outcome
+    ensures status { result.status ≡ status }
+    ensures runs { result.runs ≡ [] }
+    ensures journal { result.journal ≡ journal }
 {
     Outcome {
         status,
         runs: Items::of(Vec::new(alloc)),
-        journal: Journal::new(alloc),
+        journal,
     }
 }
 
 /// Writes a line, and answers a status.
 fn refuse<K: Sink8>(alloc: Global, sink: &mut K, status: u8, line: &str) -> Outcome
-    ensures said { ((result.status ≡ status) × Appends (K.held sink.old) line.now (K.held sink.new)) ⊎ ((result.status ≡ 5) × HasRisen (K.faults sink.old) (K.faults sink.new)) }
+    requires { status < 4 }
+    ensures ends { EndsAs (Refuses status) line.now result (K.held sink.old) (K.held sink.new) }
+    ensures statuses { (result.status ≡ status) ⊎ (result.status ≡ 5) }
+    ensures unwritten { result.status ≡ 5 → HasRisen (K.faults sink.old) (K.faults sink.new) }
 {
     match write_whole(sink, line.as_bytes()) {
         Ok(()) => nothing(alloc, status),
@@ -87,10 +94,8 @@ fn refuse<K: Sink8>(alloc: Global, sink: &mut K, status: u8, line: &str) -> Outc
 
 /// Runs the scenario that these bytes write.
 fn run_bytes<K: Sink8>(alloc: Global, bytes: &[u8], sink: &mut K) -> Outcome
-    ensures ran { is_reported result.status ≡ true → (s : Scenario) × (scenario_of bytes.now ≡ Whole s) × Simulates s result }
-    ensures refused { result.status ≡ 3 → (broken : Broken) × (scenario_of bytes.now ≡ BrokenAt broken.line broken.kind) × Appends (K.held sink.old) (refusal_text broken) (K.held sink.new) }
-    ensures statuses { is_read result.status ≡ true }
-    ensures text { is_reported result.status ≡ true → (run : RunReport) × (result.runs ≡ run ∷ []) × Appends (K.held sink.old) (report_text run result.journal.entries) (K.held sink.new) }
+    ensures ends { Ends (Reads (scenario_of bytes.now)) result (K.held sink.old) (K.held sink.new) }
+    ensures read { result.status ≢ 4 }
     ensures unwritten { result.status ≡ 5 → HasRisen (K.faults sink.old) (K.faults sink.new) }
 {
     match read_scenario(alloc, bytes) {
@@ -101,7 +106,9 @@ fn run_bytes<K: Sink8>(alloc: Global, bytes: &[u8], sink: &mut K) -> Outcome
 }
 
 fn refuse_broken<K: Sink8>(alloc: Global, sink: &mut K, broken: Broken) -> Outcome
-    ensures said { ((result.status ≡ 3) × Appends (K.held sink.old) (refusal_text broken) (K.held sink.new)) ⊎ (((result.status ≡ 5) × HasRisen (K.faults sink.old) (K.faults sink.new)) ⊎ (result.status ≡ 7)) }
+    ensures ends { Ends (Reads (BrokenAt broken.line broken.kind)) result (K.held sink.old) (K.held sink.new) }
+    ensures read { result.status ≢ 4 }
+    ensures unwritten { result.status ≡ 5 → HasRisen (K.faults sink.old) (K.faults sink.new) }
 {
     let Broken { line, kind } = broken;
     match format!(in alloc; "error {line} {kind}\n") {
@@ -112,9 +119,9 @@ fn refuse_broken<K: Sink8>(alloc: Global, sink: &mut K, broken: Broken) -> Outco
 
 /// Runs the root of a scenario.
 fn run_scenario<K: Sink8>(alloc: Global, scenario: Scenario, sink: &mut K) -> Outcome
-    ensures ran { is_reported result.status ≡ true → Simulates scenario result }
-    ensures statuses { is_run result.status ≡ true }
-    ensures text { is_reported result.status ≡ true → (run : RunReport) × (result.runs ≡ run ∷ []) × Appends (K.held sink.old) (report_text run result.journal.entries) (K.held sink.new) }
+    requires { CanRun scenario.scripts scenario.timeout scenario.root }
+    ensures ends { Ends (Reads (Whole scenario)) result (K.held sink.old) (K.held sink.new) }
+    ensures read { result.status ≢ 4 }
     ensures unwritten { result.status ≡ 5 → HasRisen (K.faults sink.old) (K.faults sink.new) }
 {
     let Scenario {
@@ -123,12 +130,9 @@ fn run_scenario<K: Sink8>(alloc: Global, scenario: Scenario, sink: &mut K) -> Ou
         root,
     } = scenario;
     let mut scripts = scripts.into_inner();
-    if root >= scripts.len() {
-        return nothing(alloc, 7);
-    }
     let script = scripts.swap_remove(root);
     let Ok(runner) = Runner::new(Config::new().with_timeout(timeout)) else {
-        return nothing(alloc, 7);
+        unreachable!();
     };
     let name = script.name;
     let maker = RootScript::new(script.lines.into_inner());
@@ -142,11 +146,7 @@ fn run_scenario<K: Sink8>(alloc: Global, scenario: Scenario, sink: &mut K) -> Ou
         Err(failure) => {
             let Failure { cause, journal } = failure;
             if cause == RunError::NoMemory {
-                return Outcome {
-                    status: 7,
-                    runs: Items::of(Vec::new(alloc)),
-                    journal,
-                };
+                return unreported(alloc, 7, journal);
             }
             let time = journal.last_time();
             report_run(alloc, sink, name, RunResult::Failed(cause), time, journal)
@@ -163,16 +163,15 @@ fn report_run<K: Sink8>(
     time: Nanos,
     journal: Journal,
 ) -> Outcome
-    ensures reports { is_reported result.status ≡ true → Reports root ended time result }
-    ensures journal { result.journal.entries ≡ journal.entries }
-    ensures statuses { is_run result.status ≡ true }
-    ensures text { is_reported result.status ≡ true → (run : RunReport) × (result.runs ≡ run ∷ []) × Appends (K.held sink.old) (report_text run result.journal.entries) (K.held sink.new) }
+    ensures ends { EndsAs (Reports root ended time) (reports_text result.runs result.journal.entries) result (K.held sink.old) (K.held sink.new) }
+    ensures journal { result.journal ≡ journal }
+    ensures read { result.status ≢ 4 }
     ensures unwritten { result.status ≡ 5 → HasRisen (K.faults sink.old) (K.faults sink.new) }
 {
-    let status = match &ended {
-        RunResult::Ok(_) => 0,
-        RunResult::Failed(_) => 6,
+    let Ok(place) = Vec::with_capacity(alloc, 1) else {
+        return unreported(alloc, 7, journal);
     };
+    let status = status_of(&ended);
     let run = RunReport {
         root,
         result: ended,
@@ -182,24 +181,38 @@ fn report_run<K: Sink8>(
         time,
         rounds: count_rounds(journal.entries()),
     };
-    let written = write_report(alloc, sink, &run, journal.entries());
-    let mut runs = Vec::new(alloc);
-    if runs.push(run).is_err() {
-        return Outcome {
-            status: 7,
-            runs: Items::of(Vec::new(alloc)),
-            journal,
-        };
+    match write_report(alloc, sink, &run, journal.entries()) {
+        Ok(()) => reported(place, run, status, journal),
+        Err(Unwritten::Failed) => reported(place, run, 5, journal),
+        Err(Unwritten::NoMemory) => reported(place, run, 7, journal),
     }
-    let status = match written {
-        Ok(()) => status,
-        Err(Unwritten::Failed) => 5,
-        Err(Unwritten::NoMemory) => 7,
-    };
+}
+
+/// An outcome with this run, for which there is a place.
+fn reported(place: Vec<RunReport>, run: RunReport, status: u8, journal: Journal) -> Outcome
+    requires empty { vec_len place ≡ 0 }
+    requires room { 0 < vec_capacity place }
+    ensures status { result.status ≡ status }
+    ensures runs { result.runs ≡ run ∷ [] }
+    ensures journal { result.journal ≡ journal }
+{
+    let mut runs = place;
+    runs.push_reserved(run);
     Outcome {
         status,
         runs: Items::of(runs),
         journal,
+    }
+}
+
+/// The status of a run whose report was written.
+fn status_of(ended: &RunResult) -> u8
+    ensures is { result ≡ status_of ended.now }
+    ensures statuses { (result ≡ 0) ⊎ (result ≡ 6) }
+{
+    match ended {
+        RunResult::Ok(_) => 0,
+        RunResult::Failed(_) => 6,
     }
 }
 
