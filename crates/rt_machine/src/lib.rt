@@ -5,6 +5,8 @@ mod alarm_list;
 mod event;
 mod machine;
 mod run_journal;
+#[cfg(test)]
+mod tests;
 
 pub use alarm_list::AlarmList;
 pub use machine::Machine;

@@ -9,6 +9,8 @@ mod rounds;
 mod run_error;
 mod task;
 mod tasks;
+#[cfg(test)]
+mod tests;
 mod turns;
 mod visits;
 mod world;
