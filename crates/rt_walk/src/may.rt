@@ -1,8 +1,8 @@
 //! What may come next.
 
-ghost use Rattle.std.specs.Prelude.{◌≡◌, ◌↔◌, ◌⊎◌, [], IfOk, IsTrue, true};
+ghost use Rattle.std.specs.Prelude.{◌≡◌, ◌↔◌, ◌⊎◌, [], IfOk, OnErr, IsTrue, List, ℕ, true};
 ghost use Rattle.std.specs.Int.{to_be_bytes, w128};
-ghost use Rattle.rt_audit.specs.declared.entry.Entry.TheVariants.{Event, Root, Visit, Answer, NodeEnd, Advance, Skip, Fire, Crash, Finish};
+ghost use Rattle.rt_audit.specs.declared.entry.Entry.TheVariants.{Event, Root, Round, Visit, Answer, NodeEnd, Advance, Skip, Fire, Crash, Finish};
 ghost use Rattle.rt_model.specs.State.{Polling, State};
 ghost use Rattle.rt_model.specs.Alarms.{is_set};
 ghost use Rattle.rt_model.specs.Causes.{ends_next};
@@ -23,6 +23,7 @@ impl Walker {
     pub fn may(&self, entry: &Entry) -> Result<bool, NoMemory>
         ensures here { IfOk result (λ may. IsTrue may ↔ May self.now entry.now) }
         ensures alike { IfOk result (λ may. (s : State) → quiet s ≡ self.now → (IsTrue may ↔ May s entry.now)) }
+        ensures err { OnErr result ((order : List ℕ) × (entry.now ≡ Round order)) }
     {
         match self.owed {
             // the wakes of an event come first
@@ -32,7 +33,8 @@ impl Walker {
     }
 
     fn may_unowed(&self, entry: &Entry) -> Result<bool, NoMemory>
-        ensures { IfOk result (λ may. IsTrue may ↔ MayFree self.now entry.now) }
+        ensures ok { IfOk result (λ may. IsTrue may ↔ MayFree self.now entry.now) }
+        ensures err { OnErr result ((order : List ℕ) × (entry.now ≡ Round order)) }
     {
         Ok(match entry {
             Entry::Start { .. } => matches!(self.stage, Stage::Blank),
