@@ -1,9 +1,8 @@
 -- How calls end.
-use Rattle.std.proofs.Common.{◌≡◌, ◌≤◌, ◌<◌, ◌+◌, ℕ, zero, suc, List, [], ◌∷◌, length, Option, Some, None, IfSome, true, false, refl, ap, inl, inr, arith}
+use Rattle.std.proofs.Common.{◌≡◌, ◌<◌, ◌+◌, ℕ, zero, suc, List, [], ◌∷◌, length, Option, Some, None, IfSome, true, false, refl, ap, inl, inr, arith}
 use Rattle.std.specs.Prelude.{nat_lt}
 use Rattle.std.proofs.lemmas.Bool.Decides.{nat_tests}
-use Rattle.rt_scenario.specs.Scenario.{scenario_of}
-use Rattle.rt_sim.specs.Asked.{Asked, NoCommand, TooLong, Reads, asked_of, says_run, IsAsked, EndsAs}
+use Rattle.rt_sim.specs.Asked.{Asked, NoCommand, TooLong, asked_of, says_run, IsAsked, EndsAs}
 use Rattle.rt_sim.specs.declared.outcome.Outcome.{Outcome}
 
 -- what is so of the outcome under each status is so of its end
@@ -34,13 +33,7 @@ long_input limit (Some left) h = (left, refl, h)
 more : (limit n : ℕ) → limit < n → nat_lt limit n ≡ true
 more limit n h = grind (arith, nat_tests)
 
-no_more : (limit n : ℕ) → n ≤ limit → nat_lt limit n ≡ false
-no_more limit n h = grind (arith, nat_tests)
-
 pub too_long : (words : List (List ℕ)) (told : Option (List ℕ)) → says_run words ≡ true → IfSome told (λ left. 1048576 < length left) → IsAsked words told TooLong
 too_long words told run h =
     let input = long_input 1048576 told h in
     (input.0, input.1, (rw (run, more 1048576 (length input.0) input.2) refl))
-
-pub was_read : (words : List (List ℕ)) (told : Option (List ℕ)) (bytes : List ℕ) → says_run words ≡ true → IfSome told (λ left. bytes ≡ left) → length bytes ≤ 1048576 → IsAsked words told (Reads (scenario_of bytes))
-was_read words told bytes run is h = (bytes, is, (rw (run, no_more 1048576 (length bytes) h) refl))

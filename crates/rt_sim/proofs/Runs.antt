@@ -1,14 +1,11 @@
 -- Runs that begin as a runner says.
-use Rattle.std.proofs.Common.{◌≡◌, ℕ, List, [], subst, ℤ, slice_index_or, slice_get, Option, Some, None, Ok, true, false, ltb, ◌<◌, ◌+◌, length, refl, arith}
+use Rattle.std.proofs.Common.{◌≡◌, ℕ, List, [], subst, ℤ, slice_index_or, slice_get, Option, Some, ◌<◌, length, refl}
 use Rattle.std.proofs.lemmas.Option.{slice_get_read}
-use Rattle.std.proofs.lemmas.Bool.Decides.{nat_tests}
 use Rattle.rt_audit.specs.declared.entry.Entry.{Entry}
 use Rattle.rt_audit.specs.declared.finish.FinishCause.{FinishCause}
 use Rattle.rt_model.specs.State.{Fixed}
 use Rattle.rt_model.specs.Tied.{Steps}
-use Rattle.rt_base.specs.declared.time.TheConstants.{MAX_TIME}
-use Rattle.rt_core.specs.Starting.{Starting, Kept, assert_of}
-use Rattle.rt_scenario.specs.Scenario.{is_runnable}
+use Rattle.rt_core.specs.Starting.{Starting, Kept}
 use Rattle.rt_core.specs.Outcome.{Completes, Fails}
 use Rattle.rt_sim.specs.declared.script.Script.{Script}
 
@@ -24,11 +21,3 @@ fails-as p begin one other cause same fails = subst (λ journal. Fails Script �
 -- the element that was taken out of a copy
 pub was-there : {V : Type 0} (xs ys : List V) (place : ℕ) (x : V) → xs ≡ ys → place < length xs → x ≡ slice_index_or xs place x → slice_get ys place ≡ Some x
 was-there xs ys place x same h value = subst (λ list. slice_get list place ≡ Some x) same (slice_get_read xs (length xs) place x refl h value)
-
--- a limit that can be kept is no setting that a runner refuses
-within : (n : ℕ) → is_runnable (Some n) ≡ true → ltb MAX_TIME (0 + n) ≡ false
-within n h = grind (arith, nat_tests)
-
-pub runnable : (timeout : Option ℕ) → is_runnable timeout ≡ true → assert_of 1000000 0 timeout ≡ Ok tt
-runnable None h = refl
-runnable (Some n) h = rw (within n h) refl

@@ -5,14 +5,12 @@ use Rattle.rt_base.specs.declared.time.TheConstants.{MAX_TIME}
 use Rattle.rt_base.specs.declared.error.Error.{Error}
 use Rattle.rt_base.specs.declared.error.Error.TheVariants.{UnknownToken, NoMemory as LacksMemory}
 use Rattle.rt_audit.specs.declared.call.Call.TheVariants.{Wake, SleepPoll}
-use Rattle.rt_audit.specs.declared.reply.CallReply.TheVariants.{Done, PendingAt, Ready as IsReady, Refused}
+use Rattle.rt_audit.specs.declared.reply.CallReply.TheVariants.{Ready as IsReady, Refused}
 use Rattle.rt_model.specs.declared.answer.Answer.{Answer}
 use Rattle.rt_model.specs.declared.answer.Answer.TheVariants.{Pending, Ready, NoMemory}
-use Rattle.rt_model.specs.State.{Alarms}
-use Rattle.rt_model.specs.Alarms.{alarm_of}
-use Rattle.rt_model.specs.Walk.{Plainly, Sleeping, Heard, Walks, Gives as Now}
+use Rattle.rt_model.specs.Walk.{Plainly, Sleeping, Heard, Walks}
 use Rattle.rt_model.proofs.Walks.{walks-then, walks-same}
-use Rattle.rt_machine.specs.Calls.{turn_in, slept_number}
+use Rattle.rt_machine.specs.Calls.{turn_in}
 use Rattle.rt_world.specs.World.{World}
 use Rattle.rt_world.specs.Calls.{Kept, Made, WakeRefused}
 use Rattle.rt_scenario.specs.declared.line.Line.{Line}
@@ -21,7 +19,7 @@ use Rattle.rt_world.specs.Polls.{Polls}
 use Rattle.rt_sim.specs.declared.script.Script.{Script}
 use Rattle.rt_sim.specs.declared.script.Waits.{Waits}
 use Rattle.rt_sim.specs.declared.script.Waits.TheVariants.{Nothing, Sleeps}
-use Rattle.rt_sim.specs.Script.{Steps, goes_on, lines_from, polled, rouses, sleeps, yields, passed, asleep}
+use Rattle.rt_sim.specs.Script.{Steps, goes_on, lines_from, polled, rouses, sleeps, yields, passed}
 use Rattle.rt_sim.specs.Did.{Gives, Leads, GoneBy, PolledBy, rest_of}
 
 -- where nothing was called, and the steps are the same
@@ -54,31 +52,12 @@ slept-over s due alarm on old new made = record {
   leads = λ more nodes answer left end k. walks-then (sleeps s due alarm on) on (Sleeping due alarm) (turn_in old.told.state (SleepPoll due) IsReady) more nodes answer left old.held end refl (refl, tt) (λ heard. refl) (rw made.held at k);
 }
 
-own-alarm : (time due : ℕ) (alarms : Alarms) (alarm : Option ℕ) (number : ℕ) → Some number ≡ slept_number time alarms due alarm → number ≡ alarm_of alarms due alarm
-own-alarm time due alarms alarm number h = grind arith
-
--- one that isn't over
-pub slept-waits : (s : Script) (time due number : ℕ) (alarm : Option ℕ) (on : Steps) (old new : World Script ℤ) → Some number ≡ slept_number time old.told.state.alarms due alarm → Made Script ℤ old new (SleepPoll due) (PendingAt number) → Gives (sleeps s due alarm on) old new Pending (asleep s due number)
-slept-waits s time due number alarm on old new told made = record {
-  turns = turn_in old.told.state (SleepPoll due) (PendingAt number) ∷ [];
-  is = made.turns;
-  walks = ((refl, own-alarm time due old.told.state.alarms alarm number told), (refl, refl, made.held));
-}
-
 -- the steps of a line, told apart by whether its sleep would end too late
 pub late : (lines : List Line) (s : Script) (time task duration : ℕ) → MAX_TIME < time + duration → (heard : List (Heard ℤ)) → goes_on (Sleep duration ∷ lines) s time task heard ≡ goes_on lines (passed s (negsuc 10)) time task heard
 late lines s time task duration h heard = grind arith
 
 pub in-time : (lines : List Line) (s : Script) (time task duration : ℕ) → time + duration ≤ MAX_TIME → (heard : List (Heard ℤ)) → goes_on (Sleep duration ∷ lines) s time task heard ≡ sleeps s (time + duration) None (goes_on lines (passed s (pos 0)) time task) heard
 in-time lines s time task duration h heard = grind arith
-
--- a yield
-pub gave-way : (s : Script) (task : ℕ) (on : Steps) (old new : World Script ℤ) → Made Script ℤ old new (Wake task) Done → Gives (yields s task on) old new Pending (passed s (pos 0))
-gave-way s task on old new made = record {
-  turns = turn_in old.told.state (Wake task) Done ∷ [];
-  is = made.turns;
-  walks = (refl, (refl, refl, made.held));
-}
 
 pub way-refused : (s : Script) (task : ℕ) (on : Steps) (old new : World Script ℤ) → Made Script ℤ old new (Wake task) (Refused UnknownToken) → Leads (yields s task on) on old new
 way-refused s task on old new made = record {
@@ -100,14 +79,6 @@ same-gives f g a b answer left same one = leads-gives f g a a b answer left (lea
 pub sleep-over : (lines rest : List Line) (s : Script) (time task duration : ℕ) (old new : World Script ℤ) → lines ≡ Sleep duration ∷ rest → time + duration ≤ MAX_TIME → Made Script ℤ old new (SleepPoll (time + duration)) IsReady → Leads (goes_on lines s time task) (goes_on rest (passed s (pos 0)) time task) old new
 sleep-over lines rest s time task duration old new e h made =
     rw e (same-leads _ _ _ old new (in-time rest s time task duration h) (slept-over s (time + duration) None (goes_on rest (passed s (pos 0)) time task) old new made))
-
-pub sleep-waits : (lines rest : List Line) (s : Script) (time task duration number : ℕ) (old new : World Script ℤ) → lines ≡ Sleep duration ∷ rest → time + duration ≤ MAX_TIME → Some number ≡ slept_number time old.told.state.alarms (time + duration) None → Made Script ℤ old new (SleepPoll (time + duration)) (PendingAt number) → Gives (goes_on lines s time task) old new Pending (asleep s (time + duration) number)
-sleep-waits lines rest s time task duration number old new e h told made =
-    rw e (same-gives _ _ old new Pending _ (in-time rest s time task duration h) (slept-waits s time (time + duration) number None (goes_on rest (passed s (pos 0)) time task) old new told made))
-
-pub yield-waits : (lines rest : List Line) (s : Script) (time task : ℕ) (old new : World Script ℤ) → lines ≡ Yield ∷ rest → Made Script ℤ old new (Wake task) Done → Gives (goes_on lines s time task) old new Pending (passed s (pos 0))
-yield-waits lines rest s time task old new e made =
-    rw e (gave-way s task (goes_on rest (passed s (negsuc 11)) time task) old new made)
 
 pub yield-refused : (lines rest : List Line) (s : Script) (time task : ℕ) (old new : World Script ℤ) → lines ≡ Yield ∷ rest → Made Script ℤ old new (Wake task) (Refused UnknownToken) → Leads (goes_on lines s time task) (goes_on rest (passed s (negsuc 11)) time task) old new
 yield-refused lines rest s time task old new e made =
@@ -158,9 +129,6 @@ roused-leads s due alarm on old new made = record {
 in-reach : (s : Script) (due alarm time task : ℕ) → due ≤ MAX_TIME → (heard : List (Heard ℤ)) → polled (Sleeps due alarm) s time task heard ≡ rouses s due alarm (goes_on (lines_from s) (record s { waits = Nothing }) time task) heard
 in-reach s due alarm time task h heard = grind arith
 
-out-of-reach : (s : Script) (due alarm time task : ℕ) → MAX_TIME < due → (heard : List (Heard ℤ)) → polled (Sleeps due alarm) s time task heard ≡ Now Pending s
-out-of-reach s due alarm time task h heard = grind arith
-
 roused-gives : (s : Script) (due alarm time mid_time task : ℕ) (old mid new : World Script ℤ) (answer : Answer ℤ) (left : Script) → due ≤ MAX_TIME → mid_time ≡ time → Made Script ℤ old mid (SleepPoll due) IsReady → Gives (rest_of (record s { waits = Nothing }) mid_time task) mid new answer left → Gives (polled (Sleeps due alarm) s time task) old new answer left
 roused-gives s due alarm time mid_time task old mid new answer left within at made g =
     let on : Steps = goes_on (lines_from s) (record s { waits = Nothing }) time task in
@@ -176,23 +144,6 @@ pub roused-over : (s : Script) (due alarm time mid_time task : ℕ) (old mid new
 roused-over s due alarm time mid_time task old mid new Pending left e within at made g = by-waits (Sleeps due alarm) s time task old new Pending left e (roused-gives s due alarm time mid_time task old mid new Pending left within at made g)
 roused-over s due alarm time mid_time task old mid new (Ready o) left e within at made g = by-waits (Sleeps due alarm) s time task old new (Ready o) left e (roused-gives s due alarm time mid_time task old mid new (Ready o) left within at made g)
 roused-over s due alarm time mid_time task old mid new NoMemory left e within at made g = tt
-
-pub roused-waits : (s : Script) (due alarm time task number : ℕ) (old new : World Script ℤ) → s.waits ≡ Sleeps due alarm → due ≤ MAX_TIME → Some number ≡ slept_number time old.told.state.alarms due (Some alarm) → Made Script ℤ old new (SleepPoll due) (PendingAt number) → PolledBy time task s (record s { waits = Sleeps due number }) old new Pending
-roused-waits s due alarm time task number old new e within told made =
-    let on : Steps = goes_on (lines_from s) (record s { waits = Nothing }) time task in
-    by-waits (Sleeps due alarm) s time task old new Pending (record s { waits = Sleeps due number }) e
-    (same-gives (polled (Sleeps due alarm) s time task) (rouses s due alarm on) old new Pending (record s { waits = Sleeps due number }) (in-reach s due alarm time task within)
-    (record {
-      turns = turn_in old.told.state (SleepPoll due) (PendingAt number) ∷ [];
-      is = made.turns;
-      walks = ((refl, own-alarm time due old.told.state.alarms (Some alarm) number told), (refl, refl, made.held));
-    }))
-
-pub never-roused : (s : Script) (due alarm time task : ℕ) (w : World Script ℤ) → s.waits ≡ Sleeps due alarm → MAX_TIME < due → PolledBy time task s s w w Pending
-never-roused s due alarm time task w e late =
-    by-waits (Sleeps due alarm) s time task w w Pending s e
-    (same-gives (polled (Sleeps due alarm) s time task) (λ heard. Now Pending s) w w Pending s (out-of-reach s due alarm time task late)
-    (record { turns = []; is = sym (append-nil w.told.state.turns); walks = (refl, refl, refl) }))
 
 -- from the first call of a poll on, what was given is what the poll does
 given-polls : (steps : Steps) (old new : World Script ℤ) (answer : Answer ℤ) (left : Script) → old.told.state.turns ≡ [] → Gives steps old new answer left → Walks steps old.held new.told.state.turns new.told.state.nodes answer left new.held

@@ -1,6 +1,6 @@
 -- A walk over the front of a list of entries.
-use Rattle.std.proofs.Common.{◌≡◌, ◌≤◌, ◌<◌, ◌+◌, ℕ, zero, suc, Some, List, [], ◌∷◌, ◌++◌, refl, ap, sym, arith, take, length, get_or, ◌∙◌}
-use Rattle.std.proofs.lemmas.List.{take_more, take_all}
+use Rattle.std.proofs.Common.{◌≡◌, ◌<◌, ◌+◌, ℕ, zero, suc, Some, List, [], ◌∷◌, ◌++◌, refl, ap, sym, arith, take, length, get_or, ◌∙◌}
+use Rattle.std.proofs.lemmas.List.{take_more}
 use Rattle.std.proofs.lemmas.Option.{slice_get-get_or, slice_get_within, get_or_from_slice_get}
 use Rattle.rt_audit.specs.declared.entry.Entry.{Entry}
 use Rattle.rt_model.specs.State.{State, blank}
@@ -28,9 +28,6 @@ breaks-here xs i e l there before breaks = record {
   before = before;
   breaks = breaks;
 }
-
-pub lawful-whole : (xs : List Entry) (i : ℕ) → length xs ≤ i → IsLawful blank (take i xs) → IsLawful blank xs
-lawful-whole xs i l h = rw (take_all i xs l) at h
 
 -- each entry of a lawful list may come where it stands
 lawful-there : (s : State) (xs : List Entry) (i : ℕ) (d : Entry) → i < length xs → IsLawful s xs → May (after_all s (take i xs)) (get_or xs i d)

@@ -53,8 +53,8 @@ impl Left {
         &self.numbers.as_slice()[self.passed..]
     }
 
-    #[tactic(auto, using(crate::proofs::Members::number_laws))]
     /// Passes over the numbers that don't run, and over the first that does.
+    #[tactic(auto, using(crate::proofs::Members::number_laws))]
     pub fn pass(&mut self, running: &[u64])
         ensures { self.new ≡ drop 1 (from_running running.now self.old) }
     {

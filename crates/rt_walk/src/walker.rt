@@ -119,8 +119,8 @@ impl Walker {
         self.first <= task && (task as u128) < self.next
     }
 
-    #[tactic(auto, using(crate::proofs::Members::front_laws))]
     /// The cause that is reached where these numbers are left of a round.
+    #[tactic(auto, using(crate::proofs::Members::front_laws))]
     fn round_cause(&self, left: &[u64]) -> Option<FinishCause>
         ensures { result ≡ where_true (is_nil (from_running self.now.running left.now) && overflows self.now.clock) FinishCause.TimeOverflow }
     {
