@@ -46,11 +46,6 @@ below_high m a i (p ∷ rest) h =
     let others = below_high m a (suc i) rest (omega arith) in
     rw (times_below m a i p rest) (elim (is_child a p) as (λ b. cond b (cond (eqb i m) 1 0 + times m (below i (suc i) rest)) 0 + times m (below a (suc i) rest) ≡ 0) [ true ↦ grind (arith, nat_tests) | false ↦ omega arith ])
 
--- of two siblings' or strangers' subtrees one at most has a number, and has it once
-hit_bound : (b : Bool) → cond b 1 0 ≤ 1
-hit_bound true = omega arith
-hit_bound false = omega arith
-
 pub below_apart : (m a b i : ℕ) (rest : List (Option ℕ)) → a ≢ b → a < i → b < i → times m (below a i rest) + times m (below b i rest) ≤ 1
 below_apart m a b i [] ne ha hb = omega arith
 below_apart m a b i (None ∷ rest) ne ha hb = below_apart m a b (suc i) rest ne (omega arith) (omega arith)

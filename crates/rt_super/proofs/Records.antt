@@ -6,7 +6,7 @@ use Rattle.std.proofs.lemmas.List.{map-append, length-map}
 use Rattle.std.proofs.lemmas.List.Folds.{list_any-append, find-append}
 use Rattle.std.proofs.lemmas.Option.{slice_get_past, slice_get_within}
 use Rattle.std.proofs.lemmas.Bool.Decides.{nat_tests}
-use Rattle.rt_super.specs.Ancestry.{NodeState, TreeRecord, node_at, is_known, is_live, live_task, task_on, links, subtree, stands_in, was_born_ended, is_ended, newly_ended, tasks_on, new_node, with_child, changed, with_end}
+use Rattle.rt_super.specs.Ancestry.{NodeState, TreeRecord, node_at, is_known, live_task, task_on, links, subtree, stands_in, was_born_ended, is_ended, newly_ended, tasks_on, new_node, with_child, changed, with_end}
 use Rattle.rt_super.specs.Kept.{KeptNode, Kept, StandsFor, IsChild, placed, parents_of, is_marked, kept_of, with_node}
 use Rattle.rt_super.proofs.Below.{below, stands_new, or_false}
 
@@ -26,13 +26,6 @@ pub is_known_kept : (k : Kept) (r : TreeRecord) (n : ℕ) → StandsFor k r → 
 is_known_kept k r n s = by (node_at r n) (s.nodes n)
   where
     by : (o : Option NodeState) → option_map kept_of o ≡ slice_get k.nodes n → is_some o ≡ is_some (slice_get k.nodes n)
-    by None e = rw (← e) refl
-    by (Some x) e = rw (← e) refl
-
-pub is_live_kept : (k : Kept) (r : TreeRecord) (n : ℕ) → StandsFor k r → is_live r n ≡ option_map_or (λ x. x.live) (slice_get k.nodes n) false
-is_live_kept k r n s = by (node_at r n) (s.nodes n)
-  where
-    by : (o : Option NodeState) → option_map kept_of o ≡ slice_get k.nodes n → option_map_or (λ x. x.live) o false ≡ option_map_or (λ x. x.live) (slice_get k.nodes n) false
     by None e = rw (← e) refl
     by (Some x) e = rw (← e) refl
 

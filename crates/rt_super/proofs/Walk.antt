@@ -1,5 +1,5 @@
 -- The walk of an end: what it has passed, and what is still to come.
-use Rattle.std.proofs.Common.{◌≡◌, ◌≢◌, ℕ, zero, suc, ◌+◌, ◌<◌, ◌≤◌, Bool, true, false, not, ◌||◌, eqb, List, [], ◌∷◌, ◌++◌, length, reverse, get_or, set, refl, sym, ap, subst, ◌∙◌, arith, Option, Some, None, filter, filter_map, append_assoc, length-append}
+use Rattle.std.proofs.Common.{◌≡◌, ◌≢◌, ℕ, zero, suc, ◌+◌, ◌<◌, ◌≤◌, Bool, true, false, not, ◌||◌, eqb, List, [], ◌∷◌, ◌++◌, length, reverse, get_or, set, refl, sym, ap, ◌∙◌, arith, Option, Some, None, filter, filter_map, append_assoc, length-append}
 use Rattle.std.specs.List.{list_any, flat_map, AllByRecursion, IsDistinct, cons_option}
 use Rattle.std.specs.Option.{option_to_list}
 use Rattle.std.proofs.lemmas.List.{append-nil, reverse-append, reverse-reverse, get_or-set_same, get_or-set_other, length-set, length-reverse}
@@ -122,14 +122,6 @@ marked_where_stands was (x ∷ xs) m h = by (eqb x m) refl (marked_where_stands 
     by true e rest = let same : x ≡ m = grind (arith, nat_tests) in let on : was m ≡ true = rw same at h.0 in rw on refl
     by false e rest = rest
 
-pub walk_begin : (parents : List (Option ℕ)) (tasks : ℕ → Option ℕ) (was : ℕ → Bool) (first : List ℕ) (n : ℕ) → IsWalk parents tasks was first n was (n ∷ []) first
-walk_begin parents tasks was first n = record {
-  done = [];
-  order = append-nil (subtree (placed 0 parents) n);
-  marks = λ m. sym (or_false (was m));
-  noted = sym (append-nil first);
-}
-
 -- the next one's place in the order
 pub walk_order : (parents : List (Option ℕ)) (tasks : ℕ → Option ℕ) (was : ℕ → Bool) (first : List ℕ) (n v : ℕ) (mark : ℕ → Bool) (pending flags : List ℕ) (w : IsWalk parents tasks was first n mark (pending ++ v ∷ []) flags) → w.done ++ (subtree (placed 0 parents) v ++ flat_map (subtree (placed 0 parents)) (reverse pending)) ≡ subtree (placed 0 parents) n
 walk_order parents tasks was first n v mark pending flags w = rw (reverse-append pending (v ∷ [])) at w.order
@@ -209,13 +201,6 @@ walk_mark parents tasks was first n v mark after pending flags w older off marke
     more : (m : ℕ) → mark m ≡ (was m || stands_in w.done m) → (mark m || eqb v m) ≡ (was m || stands_in (w.done ++ v ∷ []) m)
     more m e = rw (e, stands-append m w.done (v ∷ [])) (shift (was m) (stands_in w.done m) (eqb v m))
 
--- nothing is left to come
-pub walk_end_marks : (parents : List (Option ℕ)) (tasks : ℕ → Option ℕ) (was : ℕ → Bool) (first : List ℕ) (n : ℕ) (mark : ℕ → Bool) (flags : List ℕ) → IsWalk parents tasks was first n mark [] flags → (m : ℕ) → mark m ≡ (was m || stands_in (subtree (placed 0 parents) n) m)
-walk_end_marks parents tasks was first n mark flags w m = subst (λ (xs : List ℕ). mark m ≡ (was m || stands_in xs m)) (sym (append-nil w.done) ∙ w.order) (w.marks m)
-
-pub walk_end_flags : (parents : List (Option ℕ)) (tasks : ℕ → Option ℕ) (was : ℕ → Bool) (first : List ℕ) (n : ℕ) (mark : ℕ → Bool) (flags : List ℕ) → IsWalk parents tasks was first n mark [] flags → flags ≡ first ++ fresh tasks was (subtree (placed 0 parents) n)
-walk_end_flags parents tasks was first n mark flags w = subst (λ (xs : List ℕ). flags ≡ first ++ fresh tasks was xs) (sym (append-nil w.done) ∙ w.order) w.noted
-
 -- those pending are no more than the places
 pub walk_room : (parents : List (Option ℕ)) (tasks : ℕ → Option ℕ) (was : ℕ → Bool) (first : List ℕ) (n : ℕ) (mark : ℕ → Bool) (pending flags : List ℕ) → IsWalk parents tasks was first n mark pending flags → AreOlder 0 parents → n < length parents → length pending ≤ length parents
 walk_room parents tasks was first n mark pending flags w older known =
@@ -227,10 +212,6 @@ walk_room parents tasks was first n mark pending flags w older known =
     omega arith
 
 -- the pending ones' subtrees get shorter
-
-pub walk_shorter : (under : ℕ → List ℕ) (pending : List ℕ) (v : ℕ) → length (flat_map (λ c. c ∷ under c) (reverse pending)) < length (flat_map (λ c. c ∷ under c) (reverse (pending ++ v ∷ [])))
-walk_shorter under pending v =
-    rw (reverse-append pending (v ∷ [])) (omega (arith, length-append (v ∷ under v) (flat_map (λ c. c ∷ under c) (reverse pending))))
 
 pub walk_shorter_by_one : (parents : List (Option ℕ)) (pending : List ℕ) (v : ℕ) → AreOlder 0 parents → length (flat_map (subtree (placed 0 parents)) (reverse (pending ++ reverse (children_from v 0 parents)))) < length (flat_map (subtree (placed 0 parents)) (reverse (pending ++ v ∷ [])))
 walk_shorter_by_one parents pending v older =
