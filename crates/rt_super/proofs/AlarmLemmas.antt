@@ -1,6 +1,6 @@
 -- Alarms in the order of (due, number).
-use Rattle.std.proofs.Common.{◌≡◌, ℕ, zero, suc, ◌<◌, Bool, true, false, cond, ◌||◌, ◌&&◌, eqb, ltb, List, [], ◌∷◌, map, refl, sym, ap, ◌∙◌, arith, Option, Some, None}
-use Rattle.std.specs.List.{AllByRecursion, All}
+use Rattle.std.proofs.Common.{◌≡◌, ℕ, zero, suc, ◌<◌, Bool, true, false, cond, ◌||◌, ◌&&◌, eqb, ltb, leb, List, [], ◌∷◌, map, refl, sym, ap, ◌∙◌, arith, Option, Some, None}
+use Rattle.std.specs.List.{AllByRecursion, All, slice_get}
 use Rattle.std.specs.List.Sorted.{IsStrictlySortedBy}
 use Rattle.std.specs.Option.{option_map}
 use Rattle.std.specs.Ordering.{nat_cmp, ordering_then, match_ordering, is_eq}
@@ -10,8 +10,10 @@ use Rattle.std.specs.declared.cmp.Ordering.TheVariants.{Less, Equal, Greater}
 use Rattle.std.specs.BTreeMap.{insert_entry, is_at}
 use Rattle.std.specs.Map.{set_value, keys_of, lookup}
 use Rattle.std.proofs.lemmas.Bool.Decides.{nat_tests}
-use Rattle.rt_super.specs.Alarms.{Alarm, is_before, AreInOrder, with_alarm, alarm_at, waking}
-use Rattle.rt_super.specs.AlarmsInside.{alarm_of, alarms_of, AreOnce}
+use Rattle.rt_super.specs.declared.waker.TheConstants.{NOBODY}
+use Rattle.rt_super.specs.Wakers.{waker_of, number_for}
+use Rattle.rt_super.specs.Alarms.{Alarm, is_before, AreInOrder, AreOnce, with_alarm, alarm_at, first_due, due_first, waking}
+use Rattle.rt_super.specs.AlarmsInside.{alarm_of, alarms_of}
 
 -- how the map compares its keys
 abbrev pub key_cmp : ℕ × ℕ → ℕ × ℕ → Ordering
@@ -48,14 +50,14 @@ before_cmp false true true = refl
 before_cmp false true false = refl
 before_cmp false false z = refl
 
-pub set_in_place : (es : List ((ℕ × ℕ) × ℕ)) (due number task : ℕ) → alarm_at (alarms_of es) number ≡ None → alarms_of (insert_entry key_cmp es (due, number) task) ≡ with_alarm (record { due = due; number = number; task = task }) (alarms_of es)
+pub set_in_place : (es : List ((ℕ × ℕ) × ℕ)) (due number task : ℕ) → alarm_at (alarms_of es) number ≡ None → alarms_of (insert_entry key_cmp es (due, number) task) ≡ with_alarm (record { due = due; number = number; task = waker_of task }) (alarms_of es)
 set_in_place [] due number task fresh = refl
 set_in_place (e ∷ es) due number task fresh = by (eqb e.0.1 number) refl (set_in_place es due number task)
   where
     flip : (a b : ℕ) → eqb a b ≡ false → eqb b a ≡ false
     flip a b h = grind (arith, nat_tests)
 
-    by : (b : Bool) → eqb e.0.1 number ≡ b → (alarm_at (alarms_of es) number ≡ None → alarms_of (insert_entry key_cmp es (due, number) task) ≡ with_alarm (record { due = due; number = number; task = task }) (alarms_of es)) → alarms_of (match_ordering (key_cmp (due, number) e.0) (((due, number), task) ∷ e ∷ es) ((e.0, task) ∷ es) (e ∷ insert_entry key_cmp es (due, number) task)) ≡ cond (ltb due e.0.0 || (eqb due e.0.0 && ltb number e.0.1)) (record { due = due; number = number; task = task } ∷ alarm_of e ∷ alarms_of es) (alarm_of e ∷ with_alarm (record { due = due; number = number; task = task }) (alarms_of es))
+    by : (b : Bool) → eqb e.0.1 number ≡ b → (alarm_at (alarms_of es) number ≡ None → alarms_of (insert_entry key_cmp es (due, number) task) ≡ with_alarm (record { due = due; number = number; task = waker_of task }) (alarms_of es)) → alarms_of (match_ordering (key_cmp (due, number) e.0) (((due, number), task) ∷ e ∷ es) ((e.0, task) ∷ es) (e ∷ insert_entry key_cmp es (due, number) task)) ≡ cond (ltb due e.0.0 || (eqb due e.0.0 && ltb number e.0.1)) (record { due = due; number = number; task = waker_of task } ∷ alarm_of e ∷ alarms_of es) (alarm_of e ∷ with_alarm (record { due = due; number = number; task = waker_of task }) (alarms_of es))
     by true h ih = let some : cond (eqb e.0.1 number) (Some (alarm_of e)) (alarm_at (alarms_of es) number) ≡ Some (alarm_of e) = rw h refl in absurd (none_some (sym some ∙ fresh))
       where
         none_some : Some (alarm_of e) ≡ None → ⊥
@@ -67,7 +69,7 @@ set_in_place (e ∷ es) due number task fresh = by (eqb e.0.1 number) refl (set_
         let same : key_cmp (due, number) e.0 ≡ cond (ltb due e.0.0 || (eqb due e.0.0 && ltb number e.0.1)) Less Greater = rw apart (before_cmp (ltb due e.0.0) (eqb due e.0.0) (ltb number e.0.1)) in
         rw same (place (ltb due e.0.0 || (eqb due e.0.0 && ltb number e.0.1)) rest)
       where
-        place : (b : Bool) → alarms_of (insert_entry key_cmp es (due, number) task) ≡ with_alarm (record { due = due; number = number; task = task }) (alarms_of es) → alarms_of (match_ordering (cond b Less Greater) (((due, number), task) ∷ e ∷ es) ((e.0, task) ∷ es) (e ∷ insert_entry key_cmp es (due, number) task)) ≡ cond b (record { due = due; number = number; task = task } ∷ alarm_of e ∷ alarms_of es) (alarm_of e ∷ with_alarm (record { due = due; number = number; task = task }) (alarms_of es))
+        place : (b : Bool) → alarms_of (insert_entry key_cmp es (due, number) task) ≡ with_alarm (record { due = due; number = number; task = waker_of task }) (alarms_of es) → alarms_of (match_ordering (cond b Less Greater) (((due, number), task) ∷ e ∷ es) ((e.0, task) ∷ es) (e ∷ insert_entry key_cmp es (due, number) task)) ≡ cond b (record { due = due; number = number; task = waker_of task } ∷ alarm_of e ∷ alarms_of es) (alarm_of e ∷ with_alarm (record { due = due; number = number; task = waker_of task }) (alarms_of es))
         place true r = refl
         place false r = ap (λ xs. alarm_of e ∷ xs) r
 
@@ -118,13 +120,13 @@ AreOnce-with_alarm a (b ∷ xs) fresh once = by (eqb b.number a.number) refl (Ar
 
 -- an alarm that wakes another task
 
-waking_number : (n t : ℕ) (a : Alarm) → (waking n t a).number ≡ a.number
+waking_number : (n : ℕ) (t : Option ℕ) (a : Alarm) → (waking n t a).number ≡ a.number
 waking_number n t a = elim (eqb a.number n) as (λ b. (cond b (record { due = a.due; number = a.number; task = t }) a).number ≡ a.number) [ true ↦ refl | false ↦ refl ]
 
-waking_due : (n t : ℕ) (a : Alarm) → (waking n t a).due ≡ a.due
+waking_due : (n : ℕ) (t : Option ℕ) (a : Alarm) → (waking n t a).due ≡ a.due
 waking_due n t a = elim (eqb a.number n) as (λ b. (cond b (record { due = a.due; number = a.number; task = t }) a).due ≡ a.due) [ true ↦ refl | false ↦ refl ]
 
-pub alarm_at-waking : (n t q : ℕ) (xs : List Alarm) → alarm_at (map (waking n t) xs) q ≡ option_map (waking n t) (alarm_at xs q)
+pub alarm_at-waking : (n : ℕ) (t : Option ℕ) (q : ℕ) (xs : List Alarm) → alarm_at (map (waking n t) xs) q ≡ option_map (waking n t) (alarm_at xs q)
 alarm_at-waking n t q [] = refl
 alarm_at-waking n t q (a ∷ xs) =
     ap (λ k. cond (eqb k q) (Some (waking n t a)) (alarm_at (map (waking n t) xs) q)) (waking_number n t a)
@@ -135,15 +137,15 @@ alarm_at-waking n t q (a ∷ xs) =
     both true = refl
     both false = refl
 
-pub dues-waking : (n t : ℕ) (o : Option Alarm) → option_map (λ a. a.due) (option_map (waking n t) o) ≡ option_map (λ a. a.due) o
+pub dues-waking : (n : ℕ) (t : Option ℕ) (o : Option Alarm) → option_map (λ a. a.due) (option_map (waking n t) o) ≡ option_map (λ a. a.due) o
 dues-waking n t None = refl
 dues-waking n t (Some a) = ap (λ d. Some d) (waking_due n t a)
 
-pub AreOnce-waking : (n t : ℕ) (xs : List Alarm) → AreOnce xs → AreOnce (map (waking n t) xs)
+pub AreOnce-waking : (n : ℕ) (t : Option ℕ) (xs : List Alarm) → AreOnce xs → AreOnce (map (waking n t) xs)
 AreOnce-waking n t [] once = tt
 AreOnce-waking n t (a ∷ xs) once = (ap (λ k. alarm_at (map (waking n t) xs) k) (waking_number n t a) ∙ alarm_at-waking n t a.number xs ∙ ap (λ o. option_map (waking n t) o) once.0, AreOnce-waking n t xs once.1)
 
-pub waking_none : (n t : ℕ) (xs : List Alarm) → alarm_at xs n ≡ None → map (waking n t) xs ≡ xs
+pub waking_none : (n : ℕ) (t : Option ℕ) (xs : List Alarm) → alarm_at xs n ≡ None → map (waking n t) xs ≡ xs
 waking_none n t [] none = refl
 waking_none n t (a ∷ xs) none = by (eqb a.number n) refl (waking_none n t xs)
   where
@@ -163,23 +165,23 @@ other_key Greater z = refl
 same_key : (d n : ℕ) → is_eq (ordering_then (nat_cmp d d) (nat_cmp n n)) ≡ true
 same_key d n = rw (← nat_cmp_is d d Equal refl, ← nat_cmp_is n n Equal refl) refl
 
-pub set_value_waking : (es : List ((ℕ × ℕ) × ℕ)) (due n t : ℕ) → AreOnce (alarms_of es) → option_map (λ a. a.due) (alarm_at (alarms_of es) n) ≡ Some due → alarms_of (set_value (is_at (key_cmp (due, n))) es t) ≡ map (waking n t) (alarms_of es)
+pub set_value_waking : (es : List ((ℕ × ℕ) × ℕ)) (due n t : ℕ) → AreOnce (alarms_of es) → option_map (λ a. a.due) (alarm_at (alarms_of es) n) ≡ Some due → alarms_of (set_value (is_at (key_cmp (due, n))) es t) ≡ map (waking n (waker_of t)) (alarms_of es)
 set_value_waking [] due n t once at = refl
 set_value_waking (e ∷ es) due n t once at = by (eqb e.0.1 n) refl (set_value_waking es due n t once.1)
   where
-    by : (b : Bool) → eqb e.0.1 n ≡ b → (option_map (λ a. a.due) (alarm_at (alarms_of es) n) ≡ Some due → alarms_of (set_value (is_at (key_cmp (due, n))) es t) ≡ map (waking n t) (alarms_of es)) → alarms_of (cond (is_at (key_cmp (due, n)) e.0) ((e.0, t) ∷ es) (e ∷ set_value (is_at (key_cmp (due, n))) es t)) ≡ waking n t (alarm_of e) ∷ map (waking n t) (alarms_of es)
+    by : (b : Bool) → eqb e.0.1 n ≡ b → (option_map (λ a. a.due) (alarm_at (alarms_of es) n) ≡ Some due → alarms_of (set_value (is_at (key_cmp (due, n))) es t) ≡ map (waking n (waker_of t)) (alarms_of es)) → alarms_of (cond (is_at (key_cmp (due, n)) e.0) ((e.0, t) ∷ es) (e ∷ set_value (is_at (key_cmp (due, n))) es t)) ≡ waking n (waker_of t) (alarm_of e) ∷ map (waking n (waker_of t)) (alarms_of es)
     by true h ih =
         let same : n ≡ e.0.1 = grind (arith, nat_tests) in
         let found : Some e.0.0 ≡ Some due = rw (h) at at in
         let moment : due ≡ e.0.0 = cc in
         let test : is_eq (ordering_then (nat_cmp due e.0.0) (nat_cmp n e.0.1)) ≡ true = rw (moment, same) (same_key e.0.0 e.0.1) in
-        let woken : waking n t (alarm_of e) ≡ alarm_of (e.0, t) = rw h refl in
-        let rest : map (waking n t) (alarms_of es) ≡ alarms_of es = waking_none n t (alarms_of es) (rw same once.0) in
+        let woken : waking n (waker_of t) (alarm_of e) ≡ alarm_of (e.0, t) = rw h refl in
+        let rest : map (waking n (waker_of t)) (alarms_of es) ≡ alarms_of es = waking_none n (waker_of t) (alarms_of es) (rw same once.0) in
         rw (test, woken, rest) refl
     by false h ih =
         let apart : eqb n e.0.1 ≡ false = grind (arith, nat_tests) in
         let test : is_eq (ordering_then (nat_cmp due e.0.0) (nat_cmp n e.0.1)) ≡ false = rw apart (other_key (nat_cmp due e.0.0) (ltb n e.0.1)) in
-        let same : waking n t (alarm_of e) ≡ alarm_of e = rw h refl in
+        let same : waking n (waker_of t) (alarm_of e) ≡ alarm_of e = rw h refl in
         rw (test, same, ih (rw (h) at at)) refl
 
 pub set_value_none : (test : ℕ × ℕ → Bool) (es : List ((ℕ × ℕ) × ℕ)) (t : ℕ) → lookup test es ≡ None → set_value test es t ≡ es
@@ -222,3 +224,19 @@ dues_set a xs q fresh = both (eqb a.number q) ∙ ap (λ o. option_map (λ x. x.
 
 pub given_set : (a : Alarm) (xs : List Alarm) (n : ℕ) → alarm_at xs a.number ≡ None → alarm_at xs n ≡ None → a.number < n → alarm_at (with_alarm a xs) n ≡ None
 given_set a xs n fresh none later = let apart : eqb a.number n ≡ false = grind (arith, nat_tests) in alarm_at-with_alarm a xs n fresh ∙ ap (λ b. cond b (Some a) (alarm_at xs n)) apart ∙ none
+
+pub number_for-waker_of : (t : ℕ) → number_for (waker_of t) ≡ t
+number_for-waker_of t = by (eqb t NOBODY) refl
+  where
+    by : (b : Bool) → eqb t NOBODY ≡ b → number_for (cond b None (Some t)) ≡ t
+    by true e = grind (arith, nat_tests)
+    by false e = refl
+
+-- the first alarm, where the map shows its entry
+pub first_due_is : (es : List ((ℕ × ℕ) × ℕ)) (e : (ℕ × ℕ) × ℕ) → slice_get es 0 ≡ Some e → first_due (alarms_of es) ≡ Some e.0.0
+first_due_is [] e at = cc
+first_due_is (x ∷ xs) e at = let same : x ≡ e = cc in rw same refl
+
+pub due_first_is : (es : List ((ℕ × ℕ) × ℕ)) (e : (ℕ × ℕ) × ℕ) (now : ℕ) → slice_get es 0 ≡ Some e → due_first (alarms_of es) now ≡ cond (leb e.0.0 now) (Some (alarm_of e)) None
+due_first_is [] e now at = cc
+due_first_is (x ∷ xs) e now at = let same : x ≡ e = cc in rw same refl

@@ -6,8 +6,8 @@ use Rattle.std.proofs.lemmas.List.{map-append, length-map}
 use Rattle.std.proofs.lemmas.List.Folds.{list_any-append, find-append}
 use Rattle.std.proofs.lemmas.Option.{slice_get_past, slice_get_within}
 use Rattle.std.proofs.lemmas.Bool.Decides.{nat_tests}
-use Rattle.rt_super.specs.Ancestry.{NodeState, TreeRecord, node_at, is_known, live_task, task_on, links, subtree, stands_in, was_born_ended, is_ended, newly_ended, tasks_on, new_node, with_child, changed, with_end}
-use Rattle.rt_super.specs.Kept.{KeptNode, Kept, StandsFor, IsChild, placed, parents_of, is_marked, kept_of, with_node}
+use Rattle.rt_super.specs.Ancestry.{NodeState, TreeRecord, node_at, is_known, live_task, task_on, links, nodes_below, subtree, stands_in, was_born_ended, is_ended, newly_ended, tasks_on, new_node, with_new, with_child, changed, with_end}
+use Rattle.rt_super.specs.Kept.{KeptNode, Kept, Matches, StandsFor, IsFree, IsChild, live_task_at, placed, parents_of, is_marked, kept_of, with_node}
 use Rattle.rt_super.proofs.Below.{below, stands_new, or_false}
 
 -- tests that agree
@@ -22,14 +22,14 @@ filter_map_same f g h (x ∷ xs) = rw (h x, filter_map_same f g h xs) refl
 
 -- what is kept of a node
 
-pub is_known_kept : (k : Kept) (r : TreeRecord) (n : ℕ) → StandsFor k r → is_known r n ≡ is_some (slice_get k.nodes n)
+pub is_known_kept : (k : Kept) (r : TreeRecord) (n : ℕ) → Matches k r → is_known r n ≡ is_some (slice_get k.nodes n)
 is_known_kept k r n s = by (node_at r n) (s.nodes n)
   where
     by : (o : Option NodeState) → option_map kept_of o ≡ slice_get k.nodes n → is_some o ≡ is_some (slice_get k.nodes n)
     by None e = rw (← e) refl
     by (Some x) e = rw (← e) refl
 
-pub task_kept : (k : Kept) (r : TreeRecord) (n : ℕ) → StandsFor k r → task_on r n ≡ option_and_then (λ x. x.task) (slice_get k.nodes n)
+pub task_kept : (k : Kept) (r : TreeRecord) (n : ℕ) → Matches k r → task_on r n ≡ option_and_then (λ x. x.task) (slice_get k.nodes n)
 task_kept k r n s = by (node_at r n) (s.nodes n)
   where
     by : (o : Option NodeState) → option_map kept_of o ≡ slice_get k.nodes n → option_and_then (λ x. x.task) o ≡ option_and_then (λ x. x.task) (slice_get k.nodes n)
@@ -43,7 +43,7 @@ or_end true a s = refl
 or_end false true s = refl
 or_end false false s = or_false s
 
-pub record_end : (k after : Kept) (r : TreeRecord) (n : ℕ) → StandsFor k r → n < length k.nodes → after.nodes ≡ k.nodes → ((m : ℕ) → is_marked after.ended m ≡ (is_marked k.ended m || stands_in (subtree (placed 0 (parents_of k.nodes)) n) m)) → after.flags ≡ k.flags ++ filter_map (λ m. option_and_then (λ x. x.task) (slice_get k.nodes m)) (filter (λ m. not (is_marked k.ended m)) (subtree (placed 0 (parents_of k.nodes)) n)) → StandsFor after (with_end r n)
+pub record_end : (k after : Kept) (r : TreeRecord) (n : ℕ) → Matches k r → n < length k.nodes → after.nodes ≡ k.nodes → ((m : ℕ) → is_marked after.ended m ≡ (is_marked k.ended m || stands_in (subtree (placed 0 (parents_of k.nodes)) n) m)) → after.flags ≡ k.flags ++ filter_map (λ m. option_and_then (λ x. x.task) (slice_get k.nodes m)) (filter (λ m. not (is_marked k.ended m)) (subtree (placed 0 (parents_of k.nodes)) n)) → Matches after (with_end r n)
 record_end k after r n s known nodes marks flags =
     let there : is_known r n ≡ true = is_known_kept k r n s ∙ within k.nodes n known in
     let more : TreeRecord = record { nodes = r.nodes; ends = r.ends ++ n ∷ []; flags = r.flags ++ tasks_on r (newly_ended r n) } in
@@ -51,7 +51,7 @@ record_end k after r n s known nodes marks flags =
     let fresh : tasks_on r (newly_ended r n) ≡ filter_map (λ m. option_and_then (λ x. x.task) (slice_get k.nodes m)) (filter (λ m. not (is_marked k.ended m)) (subtree (placed 0 (parents_of k.nodes)) n)) =
     filter_map_same (task_on r) (λ m. option_and_then (λ x. x.task) (slice_get k.nodes m)) (λ m. task_kept k r m s) (newly_ended r n)
     ∙ ap (λ xs. filter_map (λ m. option_and_then (λ x. x.task) (slice_get k.nodes m)) xs) (filter_same (λ m. not (is_ended r m)) (λ m. not (is_marked k.ended m)) (λ m. ap not (s.ended m)) (subtree (links r) n) ∙ ap (λ ls. filter (λ m. not (is_marked k.ended m)) (subtree ls n)) s.order) in
-    let stood : StandsFor after more = record {
+    let stood : Matches after more = record {
       order = s.order ∙ ap (λ xs. placed 0 (parents_of xs)) (sym nodes);
       nodes = λ m. s.nodes m ∙ ap (λ xs. slice_get xs m) (sym nodes);
       ended = λ m. ended m;
@@ -69,7 +69,7 @@ record_end k after r n s known nodes marks flags =
         rw (list_any-append (λ e. stands_in (subtree (links r) e) m) r.ends (n ∷ []), or_end (was_born_ended r m) (list_any (λ e. stands_in (subtree (links r) e) m) r.ends) (stands_in (subtree (links r) n) m))
         (ap (λ b. b || stands_in (subtree (links r) n) m) (s.ended m) ∙ ap (λ ls. is_marked k.ended m || stands_in (subtree ls n) m) s.order ∙ sym (marks m))
 
-pub record_end_past : (k : Kept) (r : TreeRecord) (n : ℕ) → StandsFor k r → length k.nodes ≤ n → StandsFor k (with_end r n)
+pub record_end_past : (k : Kept) (r : TreeRecord) (n : ℕ) → Matches k r → length k.nodes ≤ n → Matches k (with_end r n)
 record_end_past k r n s past =
     let there : is_known r n ≡ false = is_known_kept k r n s ∙ ap is_some (slice_get_past k.nodes n past) in
     let is : with_end r n ≡ r = rw there refl in
@@ -119,75 +119,116 @@ any_spread f g h c e (x ∷ xs) = rw (e x, any_spread f g h c e xs) (spread (f x
     spread false true p false false = refl
     spread false false p q c = refl
 
-or_child : (bn en bq eq c : Bool) → ((bn || (c && (bq || eq))) || (en || (eq && c))) ≡ ((bn || en) || (c && (bq || eq)))
-or_child true en bq eq c = refl
-or_child false true true eq true = refl
-or_child false true false true true = refl
-or_child false true false false true = refl
-or_child false true bq eq false = refl
-or_child false false true true true = refl
-or_child false false true false true = refl
-or_child false false false true true = refl
-or_child false false false false true = refl
-or_child false false bq true false = refl
-or_child false false bq false false = refl
+any_same : (f h : ℕ → Bool) → ((e : ℕ) → h e ≡ f e) → (xs : List ℕ) → list_any h xs ≡ list_any f xs
+any_same f h e [] = refl
+any_same f h e (x ∷ xs) = rw (e x, any_same f h e xs) refl
 
-pub record_child : (k : Kept) (r : TreeRecord) (parent : ℕ) → StandsFor k r → length k.ended ≡ length k.nodes → IsChild r (with_node k (Some parent) (is_marked k.ended parent)) parent (length k.nodes) (is_marked k.ended parent)
-record_child k r parent s lengths = record {
-  fresh = is_known_kept k r (length k.nodes) s ∙ ap is_some (slice_get_past k.nodes (length k.nodes) (omega arith));
-  flag = sym (s.ended parent);
-  free = free;
-  stands = record {
-    order = order;
-    nodes = λ n. rw (find-append (λ x. eqb x.number n) r.nodes (new_node (length k.nodes) (Some parent) (is_ended r parent) ∷ []), slice_push k.nodes (record { parent = Some parent; live = true; task = None }) n) (nodes n (node_at r n) (s.nodes n));
-    ended = λ n. ended n;
-    flags = s.flags;
-  };
+-- nothing stands below a node because of one without a parent
+below_alone : (a n : ℕ) (xs : List (ℕ × Option ℕ)) → nodes_below a (xs ++ (n, None) ∷ []) ≡ nodes_below a xs
+below_alone a n [] = refl
+below_alone a n (x ∷ xs) = rw (below_alone x.0 n xs, below_alone a n xs) refl
+
+or_turned : (a b c : Bool) → ((a || b) || c) ≡ ((a || c) || b)
+or_turned true b c = refl
+or_turned false true true = refl
+or_turned false true false = refl
+or_turned false false true = refl
+or_turned false false false = refl
+
+-- a parent that isn't ended
+abbrev pub Lasts : TreeRecord → Option ℕ → Type 0
+Lasts r None = Unit {0}
+Lasts r (Some parent) = is_ended r parent ≡ false
+
+record_new : (k : Kept) (r : TreeRecord) (p : Option ℕ) (flag : Bool) → Matches k r → length k.ended ≡ length k.nodes → Lasts r p → Matches (with_node k p flag) (with_new r (length k.nodes) p flag)
+record_new k r p flag s lengths lasts = record {
+  order = order;
+  nodes = λ n. rw (find-append (λ x. eqb x.number n) r.nodes (new ∷ []), slice_push k.nodes (record { parent = p; live = true; task = None }) n) (nodes n (node_at r n) (s.nodes n));
+  ended = λ n. rw (birth n, last, others p lasts n, or_turned (was_born_ended r n) (eqb (length k.nodes) n && flag) (by_ends n), s.ended n, ← lengths) (sym (marked_push k.ended flag n));
+  flags = s.flags;
 }
   where
-    unknown : (o : Option NodeState) → option_map kept_of o ≡ slice_get k.nodes (length k.nodes) → o ≡ None
-    unknown None e = refl
-    unknown (Some x) e = none_some (e ∙ slice_get_past k.nodes (length k.nodes) (omega arith))
-      where
-        none_some : Some (kept_of x) ≡ None → Some x ≡ None
-        none_some h = cc
+    new : NodeState
+    new = new_node (length k.nodes) p flag
 
-    free : live_task (with_child r (length k.nodes) parent) (length k.nodes) ≡ None
-    free =
-        let new = new_node (length k.nodes) (Some parent) (is_ended r parent) in
-        let same : eqb (length k.nodes) (length k.nodes) ≡ true = grind (arith, nat_tests) in
-        let at : node_at (with_child r (length k.nodes) parent) (length k.nodes) ≡ Some new = find-append (λ x. eqb x.number (length k.nodes)) r.nodes (new ∷ []) ∙ ap (λ o. option_or o (cond (eqb (length k.nodes) (length k.nodes)) (Some new) None)) (unknown (node_at r (length k.nodes)) (s.nodes (length k.nodes))) ∙ ap (λ b. option_or None (cond b (Some new) None)) same in
-        rw at refl
+    last : links (with_new r (length k.nodes) p flag) ≡ links r ++ (length k.nodes, p) ∷ []
+    last = map-append {B = ℕ × Option ℕ} (λ x. (x.number, x.parent)) r.nodes (new ∷ [])
 
-    order : links (with_child r (length k.nodes) parent) ≡ placed 0 (parents_of (k.nodes ++ record { parent = Some parent; live = true; task = None } ∷ []))
+    order : links (with_new r (length k.nodes) p flag) ≡ placed 0 (parents_of (k.nodes ++ record { parent = p; live = true; task = None } ∷ []))
     order =
         let e : 0 + length (parents_of k.nodes) ≡ length k.nodes = omega (arith, length-map k.nodes (λ x. x.parent)) in
-        rw (map-append {B = ℕ × Option ℕ} (λ x. (x.number, x.parent)) r.nodes (new_node (length k.nodes) (Some parent) (is_ended r parent) ∷ []), map-append (λ x. x.parent) k.nodes (record { parent = Some parent; live = true; task = None } ∷ []), placed_push 0 (parents_of k.nodes) (Some parent), e, s.order) refl
+        rw (last, map-append (λ x. x.parent) k.nodes (record { parent = p; live = true; task = None } ∷ []), placed_push 0 (parents_of k.nodes) p, e, s.order) refl
 
-    nodes : (n : ℕ) (o : Option NodeState) → option_map kept_of o ≡ slice_get k.nodes n → option_map kept_of (option_or o (cond (eqb (length k.nodes) n) (Some (new_node (length k.nodes) (Some parent) (is_ended r parent))) None)) ≡ option_or (slice_get k.nodes n) (cond (eqb (length k.nodes) n) (Some (record { parent = Some parent; live = true; task = None })) None)
-    nodes n None e = rw (← e) (elim (eqb (length k.nodes) n) as (λ b. option_map kept_of (cond b (Some (new_node (length k.nodes) (Some parent) (is_ended r parent))) None) ≡ cond b (Some (record { parent = Some parent; live = true; task = None })) None) [ true ↦ refl | false ↦ refl ])
+    nodes : (n : ℕ) (o : Option NodeState) → option_map kept_of o ≡ slice_get k.nodes n → option_map kept_of (option_or o (cond (eqb (length k.nodes) n) (Some new) None)) ≡ option_or (slice_get k.nodes n) (cond (eqb (length k.nodes) n) (Some (record { parent = p; live = true; task = None })) None)
+    nodes n None e = rw (← e) (elim (eqb (length k.nodes) n) as (λ b. option_map kept_of (cond b (Some new) None) ≡ cond b (Some (record { parent = p; live = true; task = None })) None) [ true ↦ refl | false ↦ refl ])
     nodes n (Some x) e = rw (← e) refl
 
-    born : (n : ℕ) (o : Option NodeState) → option_map kept_of o ≡ slice_get k.nodes n → option_map_or (λ x. x.born_ended) (option_or o (cond (eqb (length k.nodes) n) (Some (new_node (length k.nodes) (Some parent) (is_ended r parent))) None)) false ≡ (option_map_or (λ x. x.born_ended) o false || (eqb (length k.nodes) n && is_ended r parent))
-    born n None e = elim (eqb (length k.nodes) n) as (λ b. option_map_or (λ x. x.born_ended) (cond b (Some (new_node (length k.nodes) (Some parent) (is_ended r parent))) None) false ≡ (b && is_ended r parent)) [ true ↦ refl | false ↦ refl ]
+    born : (n : ℕ) (o : Option NodeState) → option_map kept_of o ≡ slice_get k.nodes n → option_map_or (λ x. x.born_ended) (option_or o (cond (eqb (length k.nodes) n) (Some new) None)) false ≡ (option_map_or (λ x. x.born_ended) o false || (eqb (length k.nodes) n && flag))
+    born n None e = elim (eqb (length k.nodes) n) as (λ b. option_map_or (λ x. x.born_ended) (cond b (Some new) None) false ≡ (b && flag)) [ true ↦ refl | false ↦ refl ]
     born n (Some x) e =
         let within = slice_get_within k.nodes n (kept_of x) (sym e) in
         let other : eqb (length k.nodes) n ≡ false = grind (arith, nat_tests) in
         rw other (sym (or_false x.born_ended))
 
-    ended : (n : ℕ) → is_ended (with_child r (length k.nodes) parent) n ≡ is_marked (k.ended ++ is_marked k.ended parent ∷ []) n
-    ended n =
+    birth : (n : ℕ) → was_born_ended (with_new r (length k.nodes) p flag) n ≡ (was_born_ended r n || (eqb (length k.nodes) n && flag))
+    birth n = ap (λ o. option_map_or (λ x. x.born_ended) o false) (find-append (λ x. eqb x.number n) r.nodes (new ∷ [])) ∙ born n (node_at r n) (s.nodes n)
+
+    by_ends : ℕ → Bool
+    by_ends n = list_any (λ e. stands_in (subtree (links r) e) n) r.ends
+
+    others : (p : Option ℕ) → Lasts r p → (n : ℕ) → list_any (λ e. stands_in (subtree (links r ++ (length k.nodes, p) ∷ []) e) n) r.ends ≡ by_ends n
+    others None lasts n = any_same (λ e. stands_in (subtree (links r) e) n) (λ e. stands_in (subtree (links r ++ (length k.nodes, None) ∷ []) e) n) (λ e. ap (λ xs. stands_in (e ∷ xs) n) (below_alone e (length k.nodes) (links r))) r.ends
+    others (Some q) lasts n =
         let ps = parents_of k.nodes in
-        let ls : links (with_child r (length k.nodes) parent) ≡ placed 0 (ps ++ Some parent ∷ []) = order ∙ ap (λ xs. placed 0 xs) (map-append (λ x. x.parent) k.nodes (record { parent = Some parent; live = true; task = None } ∷ [])) in
-        let last : 0 + length ps ≡ length k.nodes = omega (arith, length-map k.nodes (λ x. x.parent)) in
-        let each : (e : ℕ) → stands_in (subtree (placed 0 (ps ++ Some parent ∷ [])) e) n ≡ (stands_in (subtree (placed 0 ps) e) n || (stands_in (subtree (placed 0 ps) e) parent && eqb (length k.nodes) n)) = λ e. rw (stands_new n e 0 parent ps, last) (or_first (eqb e n) (stands_in (below e 0 ps) n) (stands_in (subtree (placed 0 ps) e) parent && eqb (length k.nodes) n)) in
-        let any = any_spread (λ e. stands_in (subtree (placed 0 ps) e) n) (λ e. stands_in (subtree (placed 0 ps) e) parent) (λ e. stands_in (subtree (placed 0 (ps ++ Some parent ∷ [])) e) n) (eqb (length k.nodes) n) each r.ends in
-        let birth = ap (λ o. option_map_or (λ x. x.born_ended) o false) (find-append (λ x. eqb x.number n) r.nodes (new_node (length k.nodes) (Some parent) (is_ended r parent) ∷ [])) ∙ born n (node_at r n) (s.nodes n) in
-        rw (birth, ls, any, ← s.order, or_child (was_born_ended r n) (list_any (λ e. stands_in (subtree (links r) e) n) r.ends) (was_born_ended r parent) (list_any (λ e. stands_in (subtree (links r) e) parent) r.ends) (eqb (length k.nodes) n), marked_push k.ended (is_marked k.ended parent) n, s.ended n, s.ended parent, lengths) refl
+        let at : 0 + length ps ≡ length k.nodes = omega (arith, length-map k.nodes (λ x. x.parent)) in
+        let all : links r ++ (length k.nodes, Some q) ∷ [] ≡ placed 0 (ps ++ Some q ∷ []) = rw (placed_push 0 ps (Some q), at, s.order) refl in
+        let each : (e : ℕ) → stands_in (subtree (placed 0 (ps ++ Some q ∷ [])) e) n ≡ (stands_in (subtree (placed 0 ps) e) n || (stands_in (subtree (placed 0 ps) e) q && eqb (length k.nodes) n)) = λ e. rw (stands_new n e 0 q ps, at) (or_first (eqb e n) (stands_in (below e 0 ps) n) (stands_in (subtree (placed 0 ps) e) q && eqb (length k.nodes) n)) in
+        let any = any_spread (λ e. stands_in (subtree (placed 0 ps) e) n) (λ e. stands_in (subtree (placed 0 ps) e) q) (λ e. stands_in (subtree (placed 0 (ps ++ Some q ∷ [])) e) n) (eqb (length k.nodes) n) each r.ends in
+        let none : list_any (λ e. stands_in (subtree (placed 0 ps) e) q) r.ends ≡ false = rw (← s.order) (right (was_born_ended r q) (list_any (λ e. stands_in (subtree (links r) e) q) r.ends) lasts) in
+        rw (all, any, none, ← s.order) (or_false (by_ends n))
       where
         or_first : (a b c : Bool) → (a || (b || c)) ≡ ((a || b) || c)
         or_first true b c = refl
         or_first false b c = refl
+
+        right : (a b : Bool) → (a || b) ≡ false → b ≡ false
+        right true b e = cc
+        right false b e = e
+
+pub live_task_kept : (k : Kept) (r : TreeRecord) (n : ℕ) → Matches k r → live_task r n ≡ live_task_at k n
+live_task_kept k r n s = by (node_at r n) (s.nodes n)
+  where
+    by : (o : Option NodeState) → option_map kept_of o ≡ slice_get k.nodes n → cond (option_map_or (λ x. x.live) o false) (option_and_then (λ x. x.task) o) None ≡ live_task_at k n
+    by None e = rw (← e) refl
+    by (Some x) e = rw (← e) refl
+
+-- a new node has no task
+pub free_new : (k : Kept) (p : Option ℕ) (flag : Bool) → live_task_at (with_node k p flag) (length k.nodes) ≡ None
+free_new k p flag =
+    let at = slice_push k.nodes (record { parent = p; live = true; task = None }) (length k.nodes) in
+    let past = slice_get_past k.nodes (length k.nodes) (omega arith) in
+    let same : eqb (length k.nodes) (length k.nodes) ≡ true = grind (arith, nat_tests) in
+    rw (at, past, same) refl
+
+-- for callers that have a record
+pub free_in : (k : Kept) (r : TreeRecord) (n : ℕ) → StandsFor k r → live_task r n ≡ None → IsFree k n
+unfolding StandsFor IsFree
+free_in k r n s none = sym (live_task_kept k r n s) ∙ none
+
+pub record_child : (k : Kept) (r : TreeRecord) (parent : ℕ) → Matches k r → length k.ended ≡ length k.nodes → IsChild r (with_node k (cond (is_marked k.ended parent) None (Some parent)) (is_marked k.ended parent)) parent (length k.nodes) (is_marked k.ended parent)
+unfolding StandsFor
+record_child k r parent s lengths =
+    let stands = record_new k r (cond (is_ended r parent) None (Some parent)) (is_ended r parent) s lengths (lasting (is_ended r parent) refl) in
+    record {
+      fresh = is_known_kept k r (length k.nodes) s ∙ ap is_some (slice_get_past k.nodes (length k.nodes) (omega arith));
+      flag = sym (s.ended parent);
+      free = live_task_kept _ (with_child r (length k.nodes) parent) (length k.nodes) stands ∙ free_new k (cond (is_ended r parent) None (Some parent)) (is_ended r parent);
+      stands = rw (← s.ended parent) stands;
+    }
+  where
+    lasting : (b : Bool) → is_ended r parent ≡ b → Lasts r (cond b None (Some parent))
+    lasting true e = tt
+    lasting false e = e
 
 -- a changed node
 
@@ -255,7 +296,7 @@ pub record Keeps (change : NodeState → NodeState) : Type 0 where
   pub parent : (x : NodeState) → (change x).parent ≡ x.parent
   pub born : (x : NodeState) → (change x).born_ended ≡ x.born_ended
 
-pub record_changed : (change : NodeState → NodeState) (k : Kept) (r : TreeRecord) (n : ℕ) (y : KeptNode) → Keeps change → StandsFor k r → ((x : NodeState) → slice_get k.nodes n ≡ Some (kept_of x) → kept_of (change x) ≡ y) → StandsFor (record { nodes = set k.nodes n y; ended = k.ended; flags = k.flags }) (changed change n r)
+pub record_changed : (change : NodeState → NodeState) (k : Kept) (r : TreeRecord) (n : ℕ) (y : KeptNode) → Keeps change → Matches k r → ((x : NodeState) → slice_get k.nodes n ≡ Some (kept_of x) → kept_of (change x) ≡ y) → Matches (record { nodes = set k.nodes n y; ended = k.ended; flags = k.flags }) (changed change n r)
 record_changed change k r n y keeps s kept = record {
   order = order;
   nodes = λ m. rw (find_same m (turned change n) number r.nodes, set_get k.nodes n m y) (nodes m (node_at r m) refl (s.nodes m));

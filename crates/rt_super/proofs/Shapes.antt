@@ -1,5 +1,5 @@
 -- The parts of the nodes' list that a change leaves.
-use Rattle.std.proofs.Common.{◌≡◌, ◌≢◌, ℕ, zero, suc, ◌+◌, ◌<◌, ◌≤◌, Bool, true, false, cond, not, ◌||◌, ◌&&◌, eqb, List, [], ◌∷◌, ◌++◌, length, map, get_or, set, refl, sym, ap, ◌∙◌, arith, Option, Some, None, IsTrue, Result, Ok, Err, filter, filter_map}
+use Rattle.std.proofs.Common.{◌≡◌, ◌≢◌, ℕ, zero, suc, ◌+◌, ◌<◌, ◌≤◌, Bool, true, false, cond, not, ◌||◌, ◌&&◌, eqb, List, [], ◌∷◌, ◌++◌, length, map, get_or, set, refl, sym, ap, ◌∙◌, arith, Option, Some, None, Result, Ok, Err, filter, filter_map}
 use Rattle.std.specs.Result.{OnErr}
 use Rattle.std.proofs.Math.Seq.{map-set_same}
 use Rattle.std.specs.List.{slice_get}
@@ -9,7 +9,7 @@ use Rattle.std.proofs.lemmas.Option.{slice_get-map, slice_get_within, slice_get-
 use Rattle.std.proofs.lemmas.Bool.Decides.{nat_tests}
 use Rattle.rt_super.specs.Ancestry.{NodeState, TreeRecord, is_child, subtree, stands_in, with_end, with_release, changed}
 use Rattle.rt_super.specs.Ending.{task_at, fresh_tasks}
-use Rattle.rt_super.specs.Kept.{KeptNode, Kept, StandsFor, kept_of, live_at, placed, parents_of, is_marked}
+use Rattle.rt_super.specs.Kept.{KeptNode, Kept, Matches, kept_of, live_at, placed, parents_of, is_marked}
 use Rattle.rt_super.specs.Inside.{kept_node, parents, children_lists, children_from, adopted, IsOlder, AreOlder, IsSound, marks_set}
 use Rattle.rt_super.specs.declared.node.Node.{Node}
 use Rattle.rt_super.proofs.Below.{below, below_closed}
@@ -59,12 +59,12 @@ pub marks_set-push : (ended : List Bool) (flag : Bool) → marks_set ended ≤ m
 marks_set-push [] flag = omega arith
 marks_set-push (b ∷ bs) flag = omega (arith, marks_set-push bs flag)
 
--- a flag that a parent's mark sets
-abbrev pub Follows : List Bool → Option ℕ → Bool → Type 0
-Follows ended None flag = Unit {0}
-Follows ended (Some p) flag = is_marked ended p ≡ true → flag ≡ true
+-- a parent that isn't marked
+abbrev pub IsUnmarked : List Bool → Option ℕ → Type 0
+IsUnmarked ended None = Unit {0}
+IsUnmarked ended (Some p) = is_marked ended p ≡ false
 
-pub sound_push : (ps : List (Option ℕ)) (ls : List (List ℕ)) (ended : List Bool) (parent : Option ℕ) (flag : Bool) → IsSound ps ls ended → IsOlder parent (length ps) → Follows ended parent flag → IsSound (ps ++ parent ∷ []) (adopted ls parent (length ps) ++ [] ∷ []) (ended ++ flag ∷ [])
+pub sound_push : (ps : List (Option ℕ)) (ls : List (List ℕ)) (ended : List Bool) (parent : Option ℕ) (flag : Bool) → IsSound ps ls ended → IsOlder parent (length ps) → IsUnmarked ended parent → IsSound (ps ++ parent ∷ []) (adopted ls parent (length ps) ++ [] ∷ []) (ended ++ flag ∷ [])
 sound_push ps ls ended parent flag s older follows = record {
   lengths = omega (arith, length_push ended flag, length_push ps parent, s.lengths);
   same = omega (arith, length_push (adopted ls parent (length ps)) [], length_push ps parent, length-adopted ls parent (length ps), s.same);
@@ -110,15 +110,17 @@ sound_push ps ls ended parent flag s older follows = record {
         marked_push ended flag (0 + k) ∙ or_left (is_marked ended (0 + k)) (eqb (length ended) (0 + k) && flag) (s.closed k q is marked)
     closed k q None there at on = by (eqb (length ps) k) refl parent at older follows
       where
-        by : (b : Bool) → eqb (length ps) k ≡ b → (p : Option ℕ) → cond b (Some p) None ≡ Some (Some q) → IsOlder p (length ps) → Follows ended p flag → is_marked (ended ++ flag ∷ []) (0 + k) ≡ true
+        by : (b : Bool) → eqb (length ps) k ≡ b → (p : Option ℕ) → cond b (Some p) None ≡ Some (Some q) → IsOlder p (length ps) → IsUnmarked ended p → is_marked (ended ++ flag ∷ []) (0 + k) ≡ true
         by false e p at' o f = cc
         by true e None at' o f = cc
         by true e (Some p) at' o f =
             let same : p ≡ q = cc in
             let other : eqb (length ended) q ≡ false = let l = s.lengths in let w : p < length ps = o in grind (arith, nat_tests) in
             let marked : is_marked ended p ≡ true = rw same (first (is_marked ended q) (eqb (length ended) q) flag on other) in
-            let here : eqb (length ended) (0 + k) ≡ true = let l = s.lengths in grind (arith, nat_tests) in
-            marked_push ended flag (0 + k) ∙ or_right (is_marked ended (0 + k)) (eqb (length ended) (0 + k) && flag) (rw here (f marked))
+            absurd (both (sym marked ∙ f))
+          where
+            both : true ≡ false → ⊥
+            both h = cc
 
 -- an end
 pub sound_end : (ps : List (Option ℕ)) (ls : List (List ℕ)) (ended after : List Bool) (n : ℕ) → IsSound ps ls ended → length after ≡ length ended → ((m : ℕ) → is_marked after m ≡ (is_marked ended m || stands_in (subtree (placed 0 ps) n) m)) → IsSound ps ls after
@@ -166,7 +168,7 @@ children_set nodes p child x y known at more =
     map-set (λ z. z.children.items) nodes p y ∙ ap (λ l. set (children_lists nodes) p l) (more ∙ ap (λ l. l ++ child ∷ []) (sym had))
 
 -- an end, for what is kept
-pub stands_end : (nodes : List Node) (ended after : List Bool) (flags more : List ℕ) (r : TreeRecord) (n : ℕ) → StandsFor (record { nodes = map kept_node nodes; ended = ended; flags = flags }) r → n < length nodes → ((m : ℕ) → is_marked after m ≡ (is_marked ended m || stands_in (subtree (placed 0 (parents nodes)) n) m)) → more ≡ flags ++ fresh_tasks nodes ended (subtree (placed 0 (parents nodes)) n) → StandsFor (record { nodes = map kept_node nodes; ended = after; flags = more }) (with_end r n)
+pub stands_end : (nodes : List Node) (ended after : List Bool) (flags more : List ℕ) (r : TreeRecord) (n : ℕ) → Matches (record { nodes = map kept_node nodes; ended = ended; flags = flags }) r → n < length nodes → ((m : ℕ) → is_marked after m ≡ (is_marked ended m || stands_in (subtree (placed 0 (parents nodes)) n) m)) → more ≡ flags ++ fresh_tasks nodes ended (subtree (placed 0 (parents nodes)) n) → Matches (record { nodes = map kept_node nodes; ended = after; flags = more }) (with_end r n)
 stands_end nodes ended after flags more r n s known marks noted =
     record_end (record { nodes = map kept_node nodes; ended = ended; flags = flags }) (record { nodes = map kept_node nodes; ended = after; flags = more }) r n s
     (omega (arith, length-map nodes kept_node, known))
@@ -192,7 +194,7 @@ parents_same A B e = sym (parents_kept A) ∙ ap parents_of e ∙ parents_kept B
 pub kept_added : (A B : List Node) (x : Node) → map kept_node A ≡ map kept_node B → map kept_node (A ++ x ∷ []) ≡ map kept_node B ++ kept_node x ∷ []
 kept_added A B x e = map-append kept_node A (x ∷ []) ∙ ap (λ ks. ks ++ kept_node x ∷ []) e
 
-pub sound_added : (A B : List Node) (x : Node) (ended : List Bool) (flag : Bool) (n : ℕ) → IsSound (parents B) (children_lists B) ended → map kept_node A ≡ map kept_node B → children_lists A ≡ adopted (children_lists B) x.parent n → x.children.items ≡ [] → n ≡ length B → IsOlder x.parent (length B) → Follows ended x.parent flag → IsSound (parents (A ++ x ∷ [])) (children_lists (A ++ x ∷ [])) (ended ++ flag ∷ [])
+pub sound_added : (A B : List Node) (x : Node) (ended : List Bool) (flag : Bool) (n : ℕ) → IsSound (parents B) (children_lists B) ended → map kept_node A ≡ map kept_node B → children_lists A ≡ adopted (children_lists B) x.parent n → x.children.items ≡ [] → n ≡ length B → IsOlder x.parent (length B) → IsUnmarked ended x.parent → IsSound (parents (A ++ x ∷ [])) (children_lists (A ++ x ∷ [])) (ended ++ flag ∷ [])
 sound_added A B x ended flag n s kept lists none place older follows =
     let count : length (parents B) ≡ length B = length-map B (λ y. y.parent) in
     let pushed = sound_push (parents B) (children_lists B) ended x.parent flag s (rw count older) follows in
@@ -206,16 +208,16 @@ pub older_of : (p : Option ℕ) (n : ℕ) → ((x : ℕ) → p ≡ Some x → x 
 older_of None n h = tt
 older_of (Some q) n h = h q refl
 
-pub follows_of : (ended : List Bool) (p : Option ℕ) (flag : Bool) → ((x : ℕ) → p ≡ Some x → IsTrue (is_marked ended x) → flag ≡ true) → Follows ended p flag
-follows_of ended None flag h = tt
-follows_of ended (Some q) flag h = h q refl
+pub unmarked_of : (ended : List Bool) (p : Option ℕ) → ((x : ℕ) → p ≡ Some x → is_marked ended x ≡ false) → IsUnmarked ended p
+unmarked_of ended None h = tt
+unmarked_of ended (Some q) h = h q refl
 
 -- other nodes with the same shape
 pub sound_same : (A B : List Node) (ended : List Bool) → IsSound (parents B) (children_lists B) ended → map kept_node A ≡ map kept_node B → children_lists A ≡ children_lists B → IsSound (parents A) (children_lists A) ended
 sound_same A B ended s kept lists = rw (parents_same A B kept, lists) s
 
 -- a node is changed, for what is kept
-pub stands_changed : (change : NodeState → NodeState) (kept : KeptNode → KeptNode) (nodes : List Node) (ended : List Bool) (flags : List ℕ) (r : TreeRecord) (n : ℕ) (x y : Node) → Keeps change → ((z : NodeState) → kept_of (change z) ≡ kept (kept_of z)) → StandsFor (record { nodes = map kept_node nodes; ended = ended; flags = flags }) r → n < length nodes → x ≡ get_or nodes n x → kept_node y ≡ kept (kept_node x) → StandsFor (record { nodes = map kept_node (set nodes n y); ended = ended; flags = flags }) (changed change n r)
+pub stands_changed : (change : NodeState → NodeState) (kept : KeptNode → KeptNode) (nodes : List Node) (ended : List Bool) (flags : List ℕ) (r : TreeRecord) (n : ℕ) (x y : Node) → Keeps change → ((z : NodeState) → kept_of (change z) ≡ kept (kept_of z)) → Matches (record { nodes = map kept_node nodes; ended = ended; flags = flags }) r → n < length nodes → x ≡ get_or nodes n x → kept_node y ≡ kept (kept_node x) → Matches (record { nodes = map kept_node (set nodes n y); ended = ended; flags = flags }) (changed change n r)
 stands_changed change kept nodes ended flags r n x y keeps same s known at new =
     rw (map-set kept_node nodes n y) (record_changed change (record { nodes = map kept_node nodes; ended = ended; flags = flags }) r n (kept_node y) keeps s (λ z found. agrees z found))
   where
@@ -229,7 +231,7 @@ stands_changed change kept nodes ended flags r n x y keeps same s known at new =
         same z ∙ ap kept one ∙ sym new
 
 -- a node that isn't live is released
-pub stands_released : (k : Kept) (r : TreeRecord) (n : ℕ) → StandsFor k r → live_at k n ≡ false → StandsFor k (with_release r n)
+pub stands_released : (k : Kept) (r : TreeRecord) (n : ℕ) → Matches k r → live_at k n ≡ false → Matches k (with_release r n)
 stands_released k r n s dead =
     let blank : KeptNode = record { parent = None; live = false; task = None } in
     let stood = record_changed (λ x. record x { live = false }) k r n (get_or k.nodes n blank) (record { number = λ x. refl; parent = λ x. refl; born = λ x. refl }) s (λ z found. agrees z found blank) in

@@ -95,13 +95,18 @@ tasks_on r nodes = filter_map (task_on r) nodes
 
 -- what the calls do to the record
 
--- a new node, born ended where its parent is ended
-abbrev pub with_child : TreeRecord → ℕ → ℕ → TreeRecord
-with_child r number parent = record {
-  nodes = r.nodes ++ new_node number (Some parent) (is_ended r parent) ∷ [];
+-- a new node with this parent
+abbrev pub with_new : TreeRecord → ℕ → Option ℕ → Bool → TreeRecord
+with_new r number parent born_ended = record {
+  nodes = r.nodes ++ new_node number parent born_ended ∷ [];
   ends = r.ends;
   flags = r.flags;
 }
+
+-- a new child: of an ended node it is born ended, without a parent
+abbrev pub with_child : TreeRecord → ℕ → ℕ → TreeRecord
+with_child r number parent =
+    with_new r number (if is_ended r parent then None else Some parent) (is_ended r parent)
 
 -- the record with this node changed
 abbrev pub changed : (NodeState → NodeState) → ℕ → TreeRecord → TreeRecord

@@ -1,3 +1,4 @@
+pub mod Wakers
 pub mod Slots
 pub mod Ancestry
 pub mod Kept

@@ -3,7 +3,7 @@ use Rattle.std.specs.Prelude.{ℕ, Bool, true, false, List, Option, Some, None, 
 use Rattle.rt_base.specs.declared.poll.Poll.{Poll}
 use Rattle.rt_base.specs.declared.poll.Poll.TheVariants.{Ready, Pending}
 use Rattle.rt_super.specs.declared.slot_state.SlotState.{SlotState}
-use Rattle.rt_super.specs.declared.slot_state.SlotState.TheVariants.{Open, Full, Closed, GivenUp}
+use Rattle.rt_super.specs.declared.slot_state.SlotState.TheVariants.{Open, Full, Closed, Aborted, GivenUp}
 
 -- the task that waits at an open slot
 abbrev pub waiting_of : {V : Type 0} → Option (SlotState V) → Option ℕ
@@ -15,6 +15,15 @@ abbrev pub is_held : {V : Type 0} → Option (SlotState V) → Bool
 is_held None = false
 is_held (Some GivenUp) = false
 is_held (Some _) = true
+
+-- whether the slot was added and waits for its value or its closing
+abbrev pub is_open : {V : Type 0} → Option (SlotState V) → Bool
+is_open (Some (Open waiting)) = true
+is_open _ = false
+
+abbrev pub is_aborted : {V : Type 0} → Option (SlotState V) → Bool
+is_aborted (Some Aborted) = true
+is_aborted _ = false
 
 -- the slots with this one changed; a slot that isn't there stays away
 abbrev pub changed_at : {V : Type 0} → List (SlotState V) → ℕ → (SlotState V → SlotState V) → List (SlotState V)
@@ -30,17 +39,22 @@ abbrev pub without_value : {V : Type 0} → SlotState V → SlotState V
 without_value (Open waiting) = Closed
 without_value state = state
 
+-- an abort: whatever came before, unless the slot was given up
+abbrev pub with_abort : {V : Type 0} → SlotState V → SlotState V
+with_abort GivenUp = GivenUp
+with_abort _ = Aborted
+
 -- what a poll answers: a value, that none comes any more, or that neither is known yet
 abbrev pub poll_answer : {V : Type 0} → Option (SlotState V) → Poll (Option V)
 poll_answer (Some (Full value)) = Ready (Some value)
 poll_answer (Some (Open waiting)) = Pending
 poll_answer _ = Ready None
 
--- after a poll: an open slot knows the task that waits, and a value is gone
-abbrev pub after_poll : {V : Type 0} → ℕ → SlotState V → SlotState V
-after_poll task (Open waiting) = Open (Some task)
-after_poll task (Full value) = Closed
-after_poll task state = state
+-- after a poll: an open slot knows who waits, and a value is gone
+abbrev pub after_poll : {V : Type 0} → Option ℕ → SlotState V → SlotState V
+after_poll waiting (Open before) = Open waiting
+after_poll waiting (Full value) = Closed
+after_poll waiting state = state
 
 -- the value that nobody took yet
 abbrev pub value_in : {V : Type 0} → SlotState V → Option V

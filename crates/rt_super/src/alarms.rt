@@ -1,6 +1,7 @@
 // When sleepers wake.
-ghost use Rattle.std.specs.Prelude.{◌≡◌, ◌<◌, length, slice_get, option_map, IfOk, OnOk, OnErr, ◌==◌};
-ghost use Rattle.rt_super.specs.Alarms.{no_alarms, alarm_set, alarm_rewoken, alarm_at, due_first, alarm_popped, AreInOrder};
+ghost use Rattle.std.specs.Prelude.{◌≡◌, length, option_map, IfOk, OnOk, OnErr, ◌==◌};
+ghost use Rattle.rt_super.specs.Wakers.{waker_of, number_for};
+ghost use Rattle.rt_super.specs.Alarms.{no_alarms, alarm_set, alarm_rewoken, due_at, first_due, due_first, alarm_popped, alarms_cleared, AreSet};
 
 use rt_base::{Nanos, NoMemory};
 use std::alloc::Global;
@@ -8,12 +9,13 @@ use std::collections::{BTreeMap, HashMap};
 use std::marker::Model;
 
 /// The alarms that are set. Each has a due time in nanoseconds, a number, and the task that it
-/// wakes. Alarms are numbered from 0 in the order of `set`.
+/// wakes, if it wakes one: `NOBODY` in its place stands for none. Alarms are numbered from 0 in the
+/// order of `set`.
 ///
 /// Only `set` takes memory.
 #[derive(Drop)]
 pub struct Alarms {
-    /// The task that each alarm wakes, by due time and number.
+    /// Whom each alarm wakes, by due time and number.
     tasks: BTreeMap<(Nanos, u64), u64>,
     /// The due time of each alarm, by number.
     dues: HashMap<u64, Nanos>,
@@ -26,9 +28,9 @@ impl Model for Alarms {
 
     ghost Value = { AlarmList };
 
-    ghost use Rattle.rt_super.specs.AlarmsInside.{alarms_of, IsWhole};
+    ghost use Rattle.rt_super.specs.AlarmsInside.{list_of, IsWhole};
 
-    ghost view = { λ a. record { alarms = alarms_of a.tasks.entries; count = a.count } };
+    ghost view = { list_of };
 
     ghost invariant = { IsWhole };
 }
@@ -49,7 +51,7 @@ impl Alarms {
     /// also where the numbers have run out.
     pub fn set(&mut self, due: Nanos, task: u64) -> Result<u64, NoMemory>
         ensures number { IfOk result (λ alarm. alarm ≡ self.old.count) }
-        ensures added { OnOk result (self.new ≡ alarm_set self.old due task) }
+        ensures added { OnOk result (self.new ≡ alarm_set self.old due (waker_of task)) }
         ensures refused { OnErr result (self.new ≡ self.old) }
     {
         if self.count == u64::MAX {
@@ -71,34 +73,41 @@ impl Alarms {
 
     /// Lets a live alarm wake another task. Nothing where no live alarm has the number.
     pub fn rewake(&mut self, alarm: u64, task: u64)
-        ensures { self.new ≡ alarm_rewoken self.old alarm task }
+        ensures { self.new ≡ alarm_rewoken self.old alarm (waker_of task) }
     {
         let Some(due) = self.due_of(alarm) else {
             return;
         };
-        let Some(waked) = self.tasks.get_mut(&(due, alarm)) else {
+        let Some(woken) = self.tasks.get_mut(&(due, alarm)) else {
             return;
         };
-        *waked = task;
+        *woken = task;
     }
 
     /// When the least alarm is due.
     pub fn earliest(&self) -> Option<Nanos>
-        ensures first { result ≡ option_map (λ a. a.due) (slice_get self.now.alarms 0) }
-        ensures ordered { AreInOrder self.now.alarms }
+        ensures first { result ≡ first_due self.now.alarms }
+        ensures set { AreSet self.now }
     {
-        match self.tasks.first_key_value() {
-            Some((key, _)) => Some(key.0),
-            None => None,
-        }
+        let (key, _) = self.tasks.first_key_value()?;
+        Some(key.0)
+    }
+
+    /// The number of the least alarm by due time and number, if it is due.
+    pub fn due(&self, now: Nanos) -> Option<u64>
+        ensures first { result ≡ option_map (λ a. a.number) (due_first self.now.alarms now) }
+        ensures set { AreSet self.now }
+    {
+        let (key, _) = self.tasks.first_key_value()?;
+        if key.0 <= now { Some(key.1) } else { None }
     }
 
     /// Takes the least alarm by due time and number, if it is due, and answers its number and its
     /// task.
     pub fn pop_due(&mut self, now: Nanos) -> Option<(u64, u64)>
-        ensures first { result ≡ option_map (λ a. (a.number, a.task)) (due_first self.old.alarms now) }
+        ensures first { result ≡ option_map (λ a. (a.number, number_for a.task)) (due_first self.old.alarms now) }
         ensures popped { self.new ≡ alarm_popped self.old now }
-        ensures ordered { AreInOrder self.old.alarms }
+        ensures set { AreSet self.old }
     {
         if self.earliest()? > now {
             return None;
@@ -106,6 +115,22 @@ impl Alarms {
         let ((_, number), task) = self.tasks.pop_first()?;
         self.dues.remove(&number);
         Some((number, task))
+    }
+
+    /// Takes all alarms out. The numbers go on where they were.
+    pub fn clear(&mut self)
+        ensures { self.new ≡ alarms_cleared self.old }
+    {
+        self.tasks.clear();
+        self.dues.clear();
+    }
+
+    /// How many alarms are set.
+    pub fn len(&self) -> usize
+        ensures count { result ≡ length self.now.alarms }
+        ensures set { AreSet self.now }
+    {
+        self.tasks.len()
     }
 
     /// Whether no alarm is set.
@@ -117,7 +142,8 @@ impl Alarms {
 
     /// When a live alarm is due.
     pub fn due_of(&self, alarm: u64) -> Option<Nanos>
-        ensures { result ≡ option_map (λ a. a.due) (alarm_at self.now.alarms alarm) }
+        ensures due { result ≡ due_at self.now.alarms alarm }
+        ensures set { AreSet self.now }
     {
         self.dues.get(&alarm).copied()
     }

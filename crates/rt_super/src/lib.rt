@@ -7,10 +7,12 @@ mod node;
 mod slot_state;
 mod slots;
 mod tree;
+mod waker;
 
 pub use alarms::Alarms;
 pub use slots::Slots;
 pub use tree::Tree;
+pub use waker::NOBODY;
 
 #[cfg(test)]
 mod tests;

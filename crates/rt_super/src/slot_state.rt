@@ -1,6 +1,6 @@
 // What became of one slot.
-ghost use Rattle.std.specs.Prelude.{◌≡◌, Some, None, IsTrue};
-ghost use Rattle.rt_super.specs.Slots.{waiting_of, is_held, with_value, without_value, poll_answer, after_poll, value_in};
+ghost use Rattle.std.specs.Prelude.{◌≡◌, Option, Some, None, ℕ, IsTrue};
+ghost use Rattle.rt_super.specs.Slots.{waiting_of, is_held, with_value, without_value, with_abort, poll_answer, after_poll, value_in};
 
 use rt_base::Poll;
 use std::mem;
@@ -14,6 +14,8 @@ pub enum SlotState<V> {
     Full(V),
     /// No value comes any more, or it was taken.
     Closed,
+    /// An abort was asked for, and no value is given, even if one had come.
+    Aborted,
     /// Nobody takes a value any more.
     GivenUp,
 }
@@ -28,6 +30,7 @@ impl<V> SlotState<V> {
             SlotState::Full(value) => Some(value),
             SlotState::Open(_) => None,
             SlotState::Closed => None,
+            SlotState::Aborted => None,
             SlotState::GivenUp => None,
         }
     }
@@ -45,22 +48,24 @@ impl<V> SlotState<V> {
             SlotState::Open(_) => waiting,
             SlotState::Full(_value) => unreachable!(),
             SlotState::Closed => unreachable!(),
+            SlotState::Aborted => unreachable!(),
             SlotState::GivenUp => unreachable!(),
         }
     }
 
-    /// Answers the value, or lets the task wait.
-    pub fn poll(&mut self, task: u64) -> Poll<Option<V>>
+    /// Answers the value, or lets a task or nobody wait.
+    pub fn poll(&mut self, waker: Option<u64>) -> Poll<Option<V>>
         requires held { IsTrue (is_held (Some self.old)) }
         ensures answer { result ≡ poll_answer (Some self.old) }
-        ensures after { self.new ≡ after_poll task self.old }
+        ensures after { self.new ≡ after_poll waker self.old }
     {
         match self {
             SlotState::Open(waiting) => {
-                *waiting = Some(task);
+                *waiting = waker;
                 Poll::Pending
             }
-            _ => Poll::Ready(self.take()),
+            SlotState::Full(_) => Poll::Ready(self.take()),
+            _ => Poll::Ready(None),
         }
     }
 }
@@ -76,6 +81,20 @@ impl<V: Drop> SlotState<V> {
             _ => return None,
         };
         *self = SlotState::Full(value);
+        waiting
+    }
+
+    /// Aborts a slot that wasn't given up, and answers the task that waits.
+    pub fn abort(&mut self) -> Option<u64>
+        ensures waiting { result ≡ waiting_of (Some self.old) }
+        ensures aborted { self.new ≡ with_abort self.old }
+    {
+        let waiting = match self {
+            SlotState::Open(waiting) => *waiting,
+            SlotState::GivenUp => return None,
+            _ => None,
+        };
+        *self = SlotState::Aborted;
         waiting
     }
 }

@@ -1,14 +1,17 @@
 // One-time results, each with a number.
-ghost use Rattle.std.specs.Prelude.{◌≡◌, ◌++◌, ◌∷◌, [], length, slice_get, IfOk, OnErr, IsTrue};
-ghost use Rattle.rt_super.specs.Slots.{waiting_of, is_held, changed_at, with_value, without_value, poll_answer, after_poll};
+ghost use Rattle.std.specs.Prelude.{◌≡◌, ◌++◌, ◌∷◌, [], ℕ, length, slice_get, IfOk, OnErr, IsTrue, false};
+ghost use Rattle.rt_super.specs.Wakers.{waker_of};
+ghost use Rattle.rt_super.specs.Slots.{waiting_of, is_held, is_open, is_aborted, changed_at, with_value, without_value, with_abort, poll_answer, after_poll};
 
 use crate::slot_state::SlotState;
+use crate::waker::waker;
 use rt_base::{NoMemory, Poll};
 use std::alloc::Global;
 use std::marker::Model;
 
 /// Places for results that come once. A slot has two sides: one gives the value or closes, and
-/// one polls until it gives up. Slots are numbered from 0 in the order of `add`.
+/// one polls until it gives up. An abort lets the value go, whichever side asks for it. Slots are
+/// numbered from 0 in the order of `add`.
 ///
 /// Only `add` takes memory.
 #[derive(Drop)]
@@ -47,13 +50,24 @@ impl<V> Slots<V> {
         Ok(slot)
     }
 
-    /// Whether the slot was added and not given up.
+    /// Whether the slot was added and not given up. Nobody waits at any slot that isn't open.
     pub fn holds(&self, slot: u64) -> bool
-        ensures { result ≡ is_held (slice_get self.now slot) }
+        ensures held { result ≡ is_held (slice_get self.now slot) }
+        ensures waiting { (n : ℕ) → is_open (slice_get self.now n) ≡ false → waiting_of (slice_get self.now n) ≡ None }
     {
         match self.states.get(slot as usize) {
             None | Some(SlotState::GivenUp) => false,
             Some(_) => true,
+        }
+    }
+
+    /// Whether an abort of the slot was asked for, and it wasn't given up since.
+    pub fn is_aborted(&self, slot: u64) -> bool
+        ensures { result ≡ is_aborted (slice_get self.now slot) }
+    {
+        match self.states.get(slot as usize) {
+            Some(SlotState::Aborted) => true,
+            _ => false,
         }
     }
 
@@ -71,13 +85,14 @@ impl<V> Slots<V> {
     }
 
     /// Asks for the value in the name of a task, which waits where neither a value nor the closing
-    /// came yet. A value is given once; after it, and after the closing, the answer is None.
+    /// came yet; `NOBODY` asks in nobody's name, and then nobody waits. A value is given once;
+    /// after it, after the closing and after an abort, the answer is None.
     pub fn poll(&mut self, slot: u64, task: u64) -> Poll<Option<V>>
         requires held { IsTrue (is_held (slice_get self.old slot)) }
         ensures answer { result ≡ poll_answer (slice_get self.old slot) }
-        ensures after { self.new ≡ changed_at self.old slot (after_poll task) }
+        ensures after { self.new ≡ changed_at self.old slot (after_poll (waker_of task)) }
     {
-        self.states[slot as usize].poll(task)
+        self.states[slot as usize].poll(waker(task))
     }
 }
 
@@ -90,6 +105,19 @@ impl<V: Drop> Slots<V> {
     {
         if slot < self.states.len() as u64 {
             self.states[slot as usize].put(value)
+        } else {
+            None
+        }
+    }
+
+    /// Aborts a slot, whatever came, unless it was given up, and answers the task that waits for
+    /// it. A value in it is let go, so `V` is `Drop`.
+    pub fn abort(&mut self, slot: u64) -> Option<u64>
+        ensures waiting { result ≡ waiting_of (slice_get self.old slot) }
+        ensures aborted { self.new ≡ changed_at self.old slot with_abort }
+    {
+        if slot < self.states.len() as u64 {
+            self.states[slot as usize].abort()
         } else {
             None
         }

@@ -1,19 +1,12 @@
-// Each call once, and how ends reach down a tree.
-ghost use Rattle.std.specs.Prelude.{OnOk, IfOk};
-ghost use Rattle.rt_super.specs.Ancestry.{TreeRecord};
-ghost use Rattle.rt_super.specs.Kept.{StandsFor};
-
-use crate::{Alarms, Slots, Tree};
+// Each call once, how ends reach down a tree, and many of each.
+use crate::{Alarms, NOBODY, Slots, Tree};
 use rt_base::{Error, Poll};
 use std::alloc::Global;
 use std::process::Abort;
 use std::test::Fail;
 
 /// A child with a task on it.
-fn grow(tree: &mut Tree, parent: u64, task: u64) -> Result<u64, Error>
-    requires { (r : TreeRecord) × StandsFor tree.old r }
-    ensures { OnOk result ((r : TreeRecord) × StandsFor tree.new r) }
-{
+fn grow(tree: &mut Tree, parent: u64, task: u64) -> Result<u64, Error> {
     let (node, _) = tree.child(parent)?;
     let _ = tree.register(node, task)?;
     Ok(node)
@@ -27,9 +20,9 @@ fn surface(rt: HostRuntime) -> Result<(), Fail> {
     assert_eq!(rt; tree.task_of(child), Some(7));
     tree.end(child);
     assert_eq!(rt; tree.next_flag(), Some(7));
-    assert!(rt; tree.is_ended(child));
+    assert!(rt; tree.is_ended(child) && tree.lives(child));
     tree.release(child);
-    assert!(rt; !tree.is_ended(child));
+    assert!(rt; !tree.is_ended(child) && !tree.lives(child) && tree.has_ended(child));
     surface_of_alarms(&rt, rt.alloc())?;
     surface_of_slots(&rt, rt.alloc())
 }
@@ -41,8 +34,16 @@ fn surface_of_alarms(rt: &impl Abort, alloc: Global) -> Result<(), Fail> {
     alarms.rewake(alarm, 2);
     assert_eq!(rt; alarms.earliest(), Some(30));
     assert_eq!(rt; alarms.due_of(alarm), Some(30));
+    assert_eq!(rt; alarms.due(29), None);
     assert_eq!(rt; alarms.pop_due(29), None);
+    assert_eq!(rt; alarms.due(30), Some(alarm));
     assert_eq!(rt; alarms.pop_due(30), Some((alarm, 2)));
+    let next = alarms.set(40, NOBODY)?;
+    assert_eq!(rt; alarms.len(), 1);
+    assert_eq!(rt; alarms.pop_due(40), Some((next, NOBODY)));
+    let last = alarms.set(50, 1)?;
+    alarms.clear();
+    assert!(rt; last == 2 && alarms.is_empty());
     Ok(())
 }
 
@@ -53,6 +54,9 @@ fn surface_of_slots(rt: &impl Abort, alloc: Global) -> Result<(), Fail> {
     assert_eq!(rt; slots.poll(slot, 3), Poll::Pending);
     assert_eq!(rt; slots.put(slot, 9), Some(3));
     assert_eq!(rt; slots.close(slot), None);
+    assert_eq!(rt; slots.abort(slot), None);
+    assert!(rt; slots.is_aborted(slot));
+    assert_eq!(rt; slots.poll(slot, NOBODY), Poll::Ready(None));
     slots.give_up(slot);
     assert!(rt; !slots.holds(slot));
     Ok(())
@@ -88,5 +92,36 @@ fn deep_chain_is_flagged(rt: HostRuntime) -> Result<(), Fail> {
     }
     assert_eq!(rt; tree.next_flag(), None);
     assert!(rt; tree.is_ended(last));
+    Ok(())
+}
+
+#[test]
+fn many_alarms_go_off_in_order(rt: HostRuntime) -> Result<(), Fail> {
+    let mut alarms = Alarms::new(rt.alloc());
+    for task in 0..4_000 {
+        let _ = alarms.set(4_000 - task as u128, task)?;
+    }
+    for alarm in 0..4_000 {
+        assert_eq!(rt; alarms.pop_due(4_000), Some((3_999 - alarm, 3_999 - alarm)));
+    }
+    assert!(rt; alarms.is_empty());
+    Ok(())
+}
+
+#[test]
+fn many_slots_give_their_values(rt: HostRuntime) -> Result<(), Fail> {
+    let mut slots: Slots<u64> = Slots::new(rt.alloc());
+    for task in 0..4_000 {
+        let slot = slots.add()?;
+        if slots.holds(slot) {
+            assert_eq!(rt; slots.poll(slot, task), Poll::Pending);
+        }
+        assert_eq!(rt; slots.put(slot, task), Some(task));
+    }
+    for slot in 0..4_000 {
+        if slots.holds(slot) {
+            assert_eq!(rt; slots.poll(slot, NOBODY), Poll::Ready(Some(slot)));
+        }
+    }
     Ok(())
 }

@@ -1,7 +1,7 @@
 // Which contexts end with which.
-ghost use Rattle.std.specs.Prelude.{◌≡◌, ◌⊎◌, ◌<◌, ◌≤◌, ◌↔◌, ℕ, length, slice_get, Ok, Err, None, IfOk, IfErr, IsOk, OnErr, OnOk, IsTrue, true, false, map, vec_capacity};
-ghost use Rattle.rt_super.specs.Ancestry.{TreeRecord, first_record, IsLive, IsEnded, is_live, is_ended, is_known, live_task, with_child, with_task, with_release, with_end, with_flag_taken};
-ghost use Rattle.rt_super.specs.Kept.{StandsFor, HasNoTask, IsChild, live_at, with_node, is_marked};
+ghost use Rattle.std.specs.Prelude.{◌≡◌, ◌⊎◌, ◌<◌, ◌≤◌, ◌↔◌, length, slice_get, Err, None, IfOk, IfErr, OnErr, OnOk, IsTrue, true, false, map, drop, vec_capacity};
+ghost use Rattle.rt_super.specs.Ancestry.{TreeRecord, first_record, IsLive, IsEnded, is_live, is_ended, live_task, with_child, with_task, with_release, with_end, with_flag_taken};
+ghost use Rattle.rt_super.specs.Kept.{StandsFor, IsFree, IsChild, live_at, with_node, is_marked};
 ghost use Rattle.rt_super.specs.Inside.{kept_node, children_lists, adopted};
 ghost use Rattle.std.specs.Option.{ForSome};
 ghost use Rattle.std.specs.VecDeque.{deque_capacity};
@@ -43,6 +43,7 @@ impl Model for Tree {
     ghost invariant = { IsWhole };
 }
 
+#[tactic(auto, unfolding(crate::specs::Kept::StandsFor, crate::specs::Kept::IsFree))]
 impl Tree {
     /// A tree of one node, which isn't ended.
     pub fn new(alloc: Global) -> Result<Tree, NoMemory>
@@ -73,12 +74,30 @@ impl Tree {
         self.is_live(node) && self.ended[node as usize]
     }
 
+    /// Whether the node was made and not released.
+    pub fn lives(&self, node: u64) -> bool
+        ensures { (r : TreeRecord) → StandsFor self.now r → result ≡ is_live r node }
+    {
+        self.is_live(node)
+    }
+
+    /// Whether the node, live or released, was ended, as `is_ended` tells it of a live one.
+    pub fn has_ended(&self, node: u64) -> bool
+        ensures { (r : TreeRecord) → StandsFor self.now r → result ≡ is_ended r node }
+    {
+        match self.ended.get(node as usize) {
+            Some(ended) => *ended,
+            None => false,
+        }
+    }
+
     /// Makes a node below a live one, and answers its number and whether its parent is ended; then
-    /// the child is born ended.
+    /// the child is born ended, and stands below nothing.
     ///
     /// Errors: `UnknownToken` where the parent isn't live, `NoMemory`.
     pub fn child(&mut self, parent: u64) -> Result<(u64, bool), Error>
         ensures made { (r : TreeRecord) → StandsFor self.old r → IfOk result (λ made. IsChild r self.new parent made.0 made.1) }
+        ensures free { IfOk result (λ made. IsFree self.new made.0) }
         ensures unknown { (r : TreeRecord) → StandsFor self.old r → (result ≡ Err Error.UnknownToken) ↔ (is_live r parent ≡ false) }
         ensures causes { IfErr result (λ e. (e ≡ Error.UnknownToken) ⊎ (e ≡ Error.NoMemory)) }
         ensures refused { OnErr result (self.new ≡ self.old) }
@@ -87,7 +106,7 @@ impl Tree {
             return Err(Error::UnknownToken);
         }
         let ended = self.ended[parent as usize];
-        let number = self.add(Some(parent), ended)?;
+        let number = self.add((!ended).then_some(parent), ended)?;
         Ok((number, ended))
     }
 
@@ -95,7 +114,7 @@ impl Tree {
     ///
     /// Error: `UnknownToken` where the node isn't live.
     pub fn register(&mut self, node: u64, task: u64) -> Result<bool, Error>
-        requires free { HasNoTask self.old node }
+        requires free { IsFree self.old node }
         ensures put { (r : TreeRecord) → StandsFor self.old r → IfOk result (λ ended. (ended ≡ is_ended r node) × StandsFor self.new (with_task r node task)) }
         ensures unknown { (r : TreeRecord) → StandsFor self.old r → (result ≡ Err Error.UnknownToken) ↔ (is_live r node ≡ false) }
         ensures causes { IfErr result (λ e. e ≡ Error.UnknownToken) }
@@ -108,9 +127,10 @@ impl Tree {
         Ok(self.ended[node as usize])
     }
 
-    /// The task on a live node.
+    /// The task on a live node. Where there is none, `register` may put one.
     pub fn task_of(&self, node: u64) -> Option<u64>
-        ensures { (r : TreeRecord) → StandsFor self.now r → result ≡ live_task r node }
+        ensures task { (r : TreeRecord) → StandsFor self.now r → result ≡ live_task r node }
+        ensures free { (result ≡ None) ↔ IsFree self.now node }
     {
         if self.is_live(node) {
             self.nodes[node as usize].task
@@ -141,6 +161,8 @@ impl Tree {
     pub fn next_flag(&mut self) -> Option<u64>
         ensures first { (r : TreeRecord) → StandsFor self.old r → result ≡ slice_get r.flags 0 }
         ensures taken { (r : TreeRecord) → StandsFor self.old r → StandsFor self.new (with_flag_taken r) }
+        ensures head { result ≡ slice_get self.old.flags 0 }
+        ensures rest { self.new ≡ record self.old { flags = drop 1 self.old.flags } }
     {
         self.flags.pop_front()
     }
@@ -169,7 +191,7 @@ impl Tree {
     /// Adds a live node without a task.
     fn add(&mut self, parent: Option<u64>, ended: bool) -> Result<u64, NoMemory>
         requires older { ForSome parent (λ p. p < length self.old.nodes) }
-        requires closed { ForSome parent (λ p. IsTrue (is_marked self.old.ended p) → ended ≡ true) }
+        requires closed { ForSome parent (λ p. is_marked self.old.ended p ≡ false) }
         ensures number { IfOk result (λ number. number ≡ length self.old.nodes) }
         ensures added { OnOk result (self.new ≡ with_node self.old parent ended) }
         ensures refused { OnErr result (self.new ≡ self.old) }

@@ -2,7 +2,7 @@ use Rattle.std.proofs.Common.{◌≡◌, arith, length, refl, ap, ◌∙◌, map
 use Rattle.std.proofs.lemmas.List.{length-map, length_push}
 use Rattle.rt_super.specs.Inside.{kept_node, children_lists, adopted}
 use Rattle.rt_super.proofs.Walk.{marks_set-le}
-use Rattle.rt_super.proofs.Shapes.{marks_set-push, length_kept, sound_added, kept_added, sound_same, older_of, follows_of}
+use Rattle.rt_super.proofs.Shapes.{marks_set-push, length_kept, sound_added, kept_added, sound_same, older_of, unmarked_of}
 use Rattle.rt_super.proofs.tree.Tree.add.Goals as goal
 
 pub reserve_flags-requires : goal.reserve_flags-requires
@@ -29,7 +29,7 @@ invariant_of-self-2 c =
     let older = rw (← c.self.view_is) at c.requires.older in
     let closed = rw (← c.self.view_is) at c.requires.closed in
     record {
-      sound = rw (c.push_reserved.ensures.items, c.push_reserved-2.ensures.items, c.reserve-2.ensures.items) (sound_added c.adopt.new.nodes.items c.self.inside.nodes.items _ c.self.inside.ended.items c.args.ended c.len-number.result c.self.invariant.sound kept lists c.new-children.ensures.items (omega (arith, c.len-number.ensures)) (older_of c.args.parent (length c.self.inside.nodes.items) (λ x e. omega (arith, older x e, length-map c.self.inside.nodes.items kept_node))) (follows_of c.self.inside.ended.items c.args.parent c.args.ended closed));
+      sound = rw (c.push_reserved.ensures.items, c.push_reserved-2.ensures.items, c.reserve-2.ensures.items) (sound_added c.adopt.new.nodes.items c.self.inside.nodes.items _ c.self.inside.ended.items c.args.ended c.len-number.result c.self.invariant.sound kept lists c.new-children.ensures.items (omega (arith, c.len-number.ensures)) (older_of c.args.parent (length c.self.inside.nodes.items) (λ x e. omega (arith, older x e, length-map c.self.inside.nodes.items kept_node))) (unmarked_of c.self.inside.ended.items c.args.parent closed));
       flags = rw (c.push_reserved-2.ensures.items, c.reserve-2.ensures.items, c.reserve_flags.ensures.items) (omega (arith, c.self.invariant.flags, marks_set-push c.self.inside.ended.items c.args.ended));
       pending = c.reserve-3.ensures.items ∙ c.self.invariant.pending;
       visits = rw (c.push_reserved.ensures.items, length_push) (omega (arith, count, c.in_ok-reserve-3.ensures.ok));

@@ -4,6 +4,7 @@ use Rattle.rt_super.specs.Ancestry.{is_ended}
 use Rattle.rt_super.specs.Inside.{kept_node}
 use Rattle.rt_super.specs.declared.node.Node.{Node}
 use Rattle.rt_super.proofs.Shapes.{children_set_same, parents_set_same, stands_changed}
+use Rattle.rt_super.specs.Kept.{StandsFor}
 use Rattle.rt_super.proofs.tree.Tree.register.Goals as goal
 
 pub invariant_of-self : goal.invariant_of-self
@@ -18,6 +19,7 @@ invariant_of-self c =
     }
 
 pub returns-clause-put : goal.returns-clause-put
+unfolding StandsFor
 returns-clause-put c = λ r s.
     let y : Node = record { parent = c.index_mut.result.now.parent; live = c.index_mut.result.now.live; task = Some c.args.task; children = c.index_mut.result.now.children } in
     let known = rw (← c.self.view_is) at (c.is_live.ensures.known c.if-not-is_live.false) in
