@@ -18,6 +18,7 @@ pub mod name;
 pub mod no_memory;
 pub mod poll;
 pub mod refused;
+mod retried;
 pub mod safe_sink;
 pub mod safe_source;
 pub mod sink;

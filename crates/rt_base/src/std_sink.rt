@@ -2,8 +2,9 @@
 ghost use Rattle.std.specs.Prelude.{◌≡◌, None};
 
 use crate::failed::Failed;
+use crate::retried::write_retried;
 use crate::sink::Sink8;
-use std::io::{Print, Stdout};
+use std::io::Stdout;
 use std::marker::Model;
 use std::rt::HostRuntime;
 
@@ -40,15 +41,6 @@ impl Sink8 for StdSink {
     ghost faults = { λ s. s };
 
     fn write(&mut self, piece: &[u8]) -> Result<usize, Failed> {
-        if piece.is_empty() {
-            return Ok(0);
-        }
-        match self.stdout.write_some(piece) {
-            Ok(count) if count > 0 => Ok(count),
-            _ => {
-                self.errors = self.errors.saturating_add(1);
-                Err(Failed)
-            }
-        }
+        write_retried(&mut self.stdout, &mut self.errors, piece)
     }
 }

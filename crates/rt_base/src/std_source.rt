@@ -2,8 +2,9 @@
 ghost use Rattle.std.specs.Prelude.{◌≡◌, None};
 
 use crate::failed::Failed;
+use crate::retried::read_retried;
 use crate::source::Source;
-use std::io::{Read, Stdin};
+use std::io::Stdin;
 use std::marker::Model;
 use std::rt::HostRuntime;
 
@@ -40,12 +41,6 @@ impl Source for StdSource {
     ghost faults = { λ s. s };
 
     fn read(&mut self, buf: &mut [u8]) -> Result<usize, Failed> {
-        match self.stdin.read(buf) {
-            Ok(count) => Ok(count),
-            Err(_) => {
-                self.errors = self.errors.saturating_add(1);
-                Err(Failed)
-            }
-        }
+        read_retried(&mut self.stdin, &mut self.errors, buf)
     }
 }

@@ -1,5 +1,6 @@
 // What no clause says: printed texts, and that calls succeed where there is memory.
 
+use crate::retried::{read_retried, write_retried};
 use crate::{
     Addr, Choice, Env, Error, Event, Execution, Failed, Ip, Items, ListSink, ListSource, MAX_TIME,
     MetricError, Name, NoEnv, NoMemory, Poll, Refused, SafeSink, SafeSource, Sink8, Source,
@@ -7,6 +8,8 @@ use crate::{
     validate_label, write_whole,
 };
 use std::alloc::Global;
+use std::io;
+use std::io::{Read, Write};
 use std::process::Abort;
 use std::test::Fail;
 
@@ -122,6 +125,98 @@ fn standard_input_and_output(rt: HostRuntime) {
     let mut output = StdSink::new(&rt);
     assert_eq!(rt; output.write(b""), Ok(0));
     assert_eq!(rt; output.write(b"\n"), Ok(1));
+}
+
+/// A reader or a writer whose first calls fail with this number of the system.
+#[derive(Drop)]
+struct Failing<T> {
+    inner: T,
+    first: u8,
+    number: i32,
+}
+
+impl<T> Failing<T> {
+    fn fail(&mut self) -> io::Result<()> {
+        match self.first.checked_sub(1) {
+            None => Ok(()),
+            Some(left) => {
+                self.first = left;
+                Err(io::Error::from_raw_os_error(self.number))
+            }
+        }
+    }
+}
+
+impl<R: Read> Read for Failing<R> {
+    fn read(&mut self, buf: &mut [u8]) -> io::Result<usize> {
+        self.fail()?;
+        self.inner.read(buf)
+    }
+}
+
+impl<W: Write> Write for Failing<W> {
+    fn write(&mut self, buf: &[u8]) -> io::Result<usize> {
+        self.fail()?;
+        self.inner.write(buf)
+    }
+
+    fn flush(&mut self) -> io::Result<()> {
+        self.inner.flush()
+    }
+}
+
+#[test]
+fn calls_that_a_signal_cut_short_are_made_again(rt: HostRuntime) {
+    let (cut_short, broken) = (4, 5);
+    for (first, number, answer, counted) in [
+        (0, cut_short, Ok(3), 0),
+        (1, cut_short, Ok(3), 1),
+        (63, cut_short, Ok(3), 63),
+        (64, cut_short, Err(Failed), 64),
+        (1, broken, Err(Failed), 1),
+    ] {
+        let mut reader = Failing {
+            inner: b"run".as_slice(),
+            first,
+            number,
+        };
+        let mut errors = 0;
+        let mut piece = [0u8; 4];
+        let read = read_retried(&mut reader, &mut errors, &mut piece);
+        assert_eq!(rt; (read, errors), (answer, counted), "reads at {first}");
+        let mut writer = Failing {
+            inner: Vec::new(rt.alloc()),
+            first,
+            number,
+        };
+        errors = 0;
+        let written = write_retried(&mut writer, &mut errors, b"run");
+        assert_eq!(rt; (written, errors), (answer, counted), "writes at {first}");
+        assert_eq!(rt; writer.inner.len(), answer.unwrap_or(0));
+    }
+}
+
+#[test]
+fn a_mebibyte(rt: HostRuntime) -> Result<(), Fail> {
+    let alloc = rt.alloc();
+    let size = 1_048_576;
+    let bytes = vec![in alloc; b'a'; size]?;
+    let mut safe = SafeSink::new(alloc);
+    assert_eq!(rt; write_whole(&mut safe, bytes.as_slice()), Ok(()));
+    assert!(rt; safe.as_slice() == bytes.as_slice());
+    let mut list = ListSink::new(alloc, Vec::new(alloc), 1000);
+    assert_eq!(rt; write_whole(&mut list, bytes.as_slice()), Ok(()));
+    assert!(rt; list.as_slice() == bytes.as_slice());
+    let word = text(alloc, str::from_utf8(bytes.as_slice())?)?;
+    assert!(rt; word.clone_value()? == word);
+    let mut short = ListSource::new(bytes.clone()?, Vec::new(alloc), 1000);
+    assert!(rt; read_whole(alloc, &mut short, size)? == bytes);
+    let mut source = SafeSource::new(bytes);
+    assert_eq!(rt;
+        read_whole(alloc, &mut source, size - 1).err(),
+        Some(Unread::TooLong)
+    );
+    Ok(())
 }
 
 #[test]
