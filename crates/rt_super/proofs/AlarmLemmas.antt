@@ -10,8 +10,7 @@ use Rattle.std.specs.declared.cmp.Ordering.TheVariants.{Less, Equal, Greater}
 use Rattle.std.specs.BTreeMap.{insert_entry, is_at}
 use Rattle.std.specs.Map.{set_value, keys_of, lookup}
 use Rattle.std.proofs.lemmas.Bool.Decides.{nat_tests}
-use Rattle.rt_super.specs.declared.waker.TheConstants.{NOBODY}
-use Rattle.rt_super.specs.Wakers.{waker_of, number_for}
+use Rattle.rt_super.specs.Wakers.{waker_of}
 use Rattle.rt_super.specs.Alarms.{Alarm, is_before, AreInOrder, AreOnce, with_alarm, alarm_at, first_due, due_first, waking}
 use Rattle.rt_super.specs.AlarmsInside.{alarm_of, alarms_of}
 
@@ -224,13 +223,6 @@ dues_set a xs q fresh = both (eqb a.number q) ∙ ap (λ o. option_map (λ x. x.
 
 pub given_set : (a : Alarm) (xs : List Alarm) (n : ℕ) → alarm_at xs a.number ≡ None → alarm_at xs n ≡ None → a.number < n → alarm_at (with_alarm a xs) n ≡ None
 given_set a xs n fresh none later = let apart : eqb a.number n ≡ false = grind (arith, nat_tests) in alarm_at-with_alarm a xs n fresh ∙ ap (λ b. cond b (Some a) (alarm_at xs n)) apart ∙ none
-
-pub number_for-waker_of : (t : ℕ) → number_for (waker_of t) ≡ t
-number_for-waker_of t = by (eqb t NOBODY) refl
-  where
-    by : (b : Bool) → eqb t NOBODY ≡ b → number_for (cond b None (Some t)) ≡ t
-    by true e = grind (arith, nat_tests)
-    by false e = refl
 
 -- the first alarm, where the map shows its entry
 pub first_due_is : (es : List ((ℕ × ℕ) × ℕ)) (e : (ℕ × ℕ) × ℕ) → slice_get es 0 ≡ Some e → first_due (alarms_of es) ≡ Some e.0.0

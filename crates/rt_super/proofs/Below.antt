@@ -4,7 +4,7 @@ use Rattle.std.specs.List.{flat_map, slice_get, AllByRecursion}
 use Rattle.std.proofs.lemmas.List.Folds.{list_any-append}
 use Rattle.std.proofs.lemmas.Bool.Decides.{nat_tests}
 use Rattle.rt_super.specs.Ancestry.{is_child, nodes_below, stands_in}
-use Rattle.rt_super.specs.Kept.{placed}
+use Rattle.rt_super.specs.Inside.{placed}
 use Rattle.rt_super.specs.Inside.{children_from, IsOlder, AreOlder, IsClosed}
 
 -- what stands below a, among the places from i on

@@ -8,7 +8,7 @@ use Rattle.std.proofs.lemmas.Grind.{flat_map-append}
 use Rattle.std.proofs.lemmas.Bool.Decides.{nat_tests}
 use Rattle.std.proofs.lemmas.Map.Steps.{length-le_from_distinct_below}
 use Rattle.rt_super.specs.Ancestry.{nodes_below, subtree, stands_in}
-use Rattle.rt_super.specs.Kept.{placed, is_marked}
+use Rattle.rt_super.specs.Inside.{placed, is_marked}
 use Rattle.rt_super.specs.Inside.{children_from, AreOlder, IsClosed, marks_set}
 use Rattle.rt_super.proofs.Below.{below, times, times-append, stands-times, stands-append, below_once_in, below_self, below_high, below_by_children, below_marked, or_false}
 

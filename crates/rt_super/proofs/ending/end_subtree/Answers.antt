@@ -3,7 +3,7 @@ use Rattle.std.specs.List.{slice_get}
 use Rattle.std.proofs.lemmas.List.{length-map, length-reverse}
 use Rattle.std.proofs.lemmas.Option.{slice_get-get_or, slice_get-map, get_or_from_slice_get}
 use Rattle.std.specs.Option.{option_map}
-use Rattle.rt_super.specs.Kept.{is_marked}
+use Rattle.rt_super.specs.Inside.{is_marked}
 use Rattle.rt_super.specs.Inside.{parents, children_lists, children_from}
 use Rattle.rt_super.specs.Ending.{task_at}
 use Rattle.rt_super.proofs.Walk.{walk_within, walk_skip, walk_mark, walk_room, is_marked-set, marks_set-set, marks_set-lt, walk_shorter_by_one, few_flags}
