@@ -3,17 +3,12 @@ use Rattle.std.proofs.Common.{◌≡◌, ℕ, zero, suc, ◌+◌, ◌<◌, ◌�
 use Rattle.std.specs.List.{list_any, find, slice_get}
 use Rattle.std.specs.Option.{option_map, option_map_or, option_or, option_and_then, is_some}
 use Rattle.std.proofs.lemmas.List.{map-append, length-map}
-use Rattle.std.proofs.lemmas.List.Elements.{filter_agree}
 use Rattle.std.proofs.lemmas.List.Folds.{list_any-append, find-append}
 use Rattle.std.proofs.lemmas.Option.{slice_get_past, slice_get_within}
 use Rattle.std.proofs.lemmas.Bool.Decides.{nat_tests}
 use Rattle.rt_super.specs.Ancestry.{NodeState, TreeRecord, node_at, is_known, is_live, live_task, task_on, links, nodes_below, subtree, stands_in, was_born_ended, is_ended, newly_ended, tasks_on, new_node, with_new, changed, with_end}
 use Rattle.rt_super.specs.Inside.{Matches, placed, is_marked, state_of}
 use Rattle.rt_super.proofs.Below.{below, stands_new, or_false}
-
-filter_map_same : (f g : ℕ → Option ℕ) → ((m : ℕ) → f m ≡ g m) → (xs : List ℕ) → filter_map f xs ≡ filter_map g xs
-filter_map_same f g h [] = refl
-filter_map_same f g h (x ∷ xs) = rw (h x, filter_map_same f g h xs) refl
 
 -- tests of places
 
@@ -73,10 +68,6 @@ any_spread f g h c e (x ∷ xs) = rw (e x, any_spread f g h c e xs) (spread (f x
     spread false true p true false = refl
     spread false true p false false = refl
     spread false false p q c = refl
-
-any_same : (f h : ℕ → Bool) → ((e : ℕ) → h e ≡ f e) → (xs : List ℕ) → list_any h xs ≡ list_any f xs
-any_same f h e [] = refl
-any_same f h e (x ∷ xs) = rw (e x, any_same f h e xs) refl
 
 -- nothing stands below a node because of one without a parent
 below_alone : (a n : ℕ) (xs : List (ℕ × Option ℕ)) → nodes_below a (xs ++ (n, None) ∷ []) ≡ nodes_below a xs
@@ -168,9 +159,7 @@ module _ (ps : List (Option ℕ)) (states : List (Bool × Option ℕ)) (ended : 
       let there : is_known r n ≡ true = known_kept n ∙ within states n known in
       let flagged : TreeRecord = record { nodes = r.nodes; ends = r.ends ++ n ∷ []; flags = r.flags ++ tasks_on r (newly_ended r n) } in
       let is : with_end r n ≡ flagged = rw there refl in
-      let fresh : tasks_on r (newly_ended r n) ≡ filter_map tasks (filter (λ m. not (is_marked ended m)) (subtree (placed 0 ps) n)) =
-      filter_map_same (task_on r) tasks (λ m. task_kept m ∙ sym (same m)) (newly_ended r n)
-      ∙ ap (λ xs. filter_map tasks xs) (filter_agree (λ m. not (is_ended r m)) (λ m. not (is_marked ended m)) (λ m. ap not (s.ended m)) (subtree (links r) n) ∙ ap (λ ls. filter (λ m. not (is_marked ended m)) (subtree ls n)) s.order) in
+      let fresh : tasks_on r (newly_ended r n) ≡ filter_map tasks (filter (λ m. not (is_marked ended m)) (subtree (placed 0 ps) n)) = λ i. filter_map (λ m. (task_kept m ∙ sym (same m)) i) (filter (λ m. not (s.ended m i)) (subtree (s.order i) n)) in
       let right : Matches ps states after more flagged = record {
         order = s.order;
         nodes = s.nodes;
@@ -235,7 +224,7 @@ module _ (ps : List (Option ℕ)) (states : List (Bool × Option ℕ)) (ended : 
       by_ends n = list_any (λ e. stands_in (subtree (links r) e) n) r.ends
 
       others : (p : Option ℕ) → Lasts r p → (n : ℕ) → list_any (λ e. stands_in (subtree (links r ++ (length states, p) ∷ []) e) n) r.ends ≡ by_ends n
-      others None lasts n = any_same (λ e. stands_in (subtree (links r) e) n) (λ e. stands_in (subtree (links r ++ (length states, None) ∷ []) e) n) (λ e. ap (λ xs. stands_in (e ∷ xs) n) (below_alone e (length states) (links r))) r.ends
+      others None lasts n = λ i. list_any (λ e. stands_in (e ∷ below_alone e (length states) (links r) i) n) r.ends
       others (Some q) lasts n =
           let all : links r ++ (length states, Some q) ∷ [] ≡ placed 0 (ps ++ Some q ∷ []) = rw (placed_push 0 ps (Some q), at, s.order) refl in
           let each : (e : ℕ) → stands_in (subtree (placed 0 (ps ++ Some q ∷ [])) e) n ≡ (stands_in (subtree (placed 0 ps) e) n || (stands_in (subtree (placed 0 ps) e) q && eqb (length states) n)) = λ e. rw (stands_new n e 0 q ps, at) (or_first (eqb e n) (stands_in (below e 0 ps) n) (stands_in (subtree (placed 0 ps) e) q && eqb (length states) n)) in

@@ -54,13 +54,21 @@ pub marks_set-push : (ended : List Bool) (flag : Bool) → marks_set ended ≤ m
 marks_set-push [] flag = omega arith
 marks_set-push (b ∷ bs) flag = omega (arith, marks_set-push bs flag)
 
+or_left : (a b : Bool) → a ≡ true → (a || b) ≡ true
+or_left true b e = refl
+or_left false b e = cc
+
+or_right : (a b : Bool) → b ≡ true → (a || b) ≡ true
+or_right true b e = refl
+or_right false b e = e
+
 -- a parent that isn't marked
 abbrev pub IsUnmarked : List Bool → Option ℕ → Type 0
 IsUnmarked ended None = Unit {0}
 IsUnmarked ended (Some p) = is_marked ended p ≡ false
 
 pub sound_push : (ps : List (Option ℕ)) (ls : List (List ℕ)) (ended : List Bool) (parent : Option ℕ) (flag : Bool) → IsSound ps ls ended → IsOlder parent (length ps) → IsUnmarked ended parent → IsSound (ps ++ parent ∷ []) (adopted ls parent (length ps) ++ [] ∷ []) (ended ++ flag ∷ [])
-sound_push ps ls ended parent flag s older follows = record {
+sound_push ps ls ended parent flag s older unmarked = record {
   lengths = omega (arith, length_push ended flag, length_push ps parent, s.lengths);
   same = omega (arith, length_push (adopted ls parent (length ps)) [], length_push ps parent, length-adopted ls parent (length ps), s.same);
   older = older_push 0 ps parent s.older (let e : 0 + length ps ≡ length ps = omega arith in rw e older);
@@ -82,14 +90,6 @@ sound_push ps ls ended parent flag s older follows = record {
             let other : n ≢ p = grind (arith, nat_tests) in
             get_or-set_other ls p n (get_or ls p [] ++ length ps ∷ []) [] other ∙ s.lists n ∙ sym (append-nil (children_from n 0 ps))
 
-    or_left : (a b : Bool) → a ≡ true → (a || b) ≡ true
-    or_left true b e = refl
-    or_left false b e = cc
-
-    or_right : (a b : Bool) → b ≡ true → (a || b) ≡ true
-    or_right true b e = refl
-    or_right false b e = e
-
     first : (a b c : Bool) → (a || (b && c)) ≡ true → b ≡ false → a ≡ true
     first true b c e f = refl
     first false true c e f = cc
@@ -103,7 +103,7 @@ sound_push ps ls ended parent flag s older follows = record {
         let other : eqb (length ended) q ≡ false = let l = s.lengths in grind (arith, nat_tests) in
         let marked = first (is_marked ended q) (eqb (length ended) q) flag on other in
         marked_push ended flag (0 + k) ∙ or_left (is_marked ended (0 + k)) (eqb (length ended) (0 + k) && flag) (s.closed k q is marked)
-    closed k q None there at on = by (eqb (length ps) k) refl parent at older follows
+    closed k q None there at on = by (eqb (length ps) k) refl parent at older unmarked
       where
         by : (b : Bool) → eqb (length ps) k ≡ b → (p : Option ℕ) → cond b (Some p) None ≡ Some (Some q) → IsOlder p (length ps) → IsUnmarked ended p → is_marked (ended ++ flag ∷ []) (0 + k) ≡ true
         by false e p at' o f = cc
@@ -127,14 +127,6 @@ sound_end ps ls ended after n s lengths marks = record {
   closed = λ k q at on. marks (0 + k) ∙ by k q at (is_marked ended q) (stands_in (subtree (placed 0 ps) n) q) refl refl (sym (marks q) ∙ on);
 }
   where
-    or_left : (a b : Bool) → a ≡ true → (a || b) ≡ true
-    or_left true b e = refl
-    or_left false b e = cc
-
-    or_right : (a b : Bool) → b ≡ true → (a || b) ≡ true
-    or_right true b e = refl
-    or_right false b e = e
-
     by : (k q : ℕ) → slice_get ps k ≡ Some (Some q) → (a b : Bool) → is_marked ended q ≡ a → stands_in (subtree (placed 0 ps) n) q ≡ b → (a || b) ≡ true → (is_marked ended (0 + k) || stands_in (subtree (placed 0 ps) n) (0 + k)) ≡ true
     by k q at true b e f h = or_left (is_marked ended (0 + k)) (stands_in (subtree (placed 0 ps) n) (0 + k)) (s.closed k q at e)
     by k q at false true e f h = or_right (is_marked ended (0 + k)) (stands_in (subtree (placed 0 ps) n) (0 + k)) (or_right (eqb n (0 + k)) (stands_in (below n 0 ps) (0 + k)) (below_closed n 0 k q ps s.older at f))
