@@ -6,9 +6,9 @@ use Rattle.std.proofs.lemmas.List.{map-append, length-map}
 use Rattle.std.proofs.lemmas.List.Folds.{list_any-append, find-append}
 use Rattle.std.proofs.lemmas.Option.{slice_get_past, slice_get_within}
 use Rattle.std.proofs.lemmas.Bool.Decides.{nat_tests}
-use Rattle.rt_super.specs.Ancestry.{NodeState, TreeRecord, node_at, is_known, is_live, live_task, task_on, links, nodes_below, subtree, stands_in, was_born_ended, is_ended, newly_ended, tasks_on, new_node, with_new, changed, with_end}
+use Rattle.rt_super.specs.Ancestry.{NodeState, TreeRecord, node_at, is_known, is_live, live_task, task_on, links, is_child, nodes_below, subtree, stands_in, was_born_ended, is_ended, newly_ended, tasks_on, new_node, with_new, changed, with_end}
 use Rattle.rt_super.specs.Inside.{Matches, placed, is_marked, state_of}
-use Rattle.rt_super.proofs.Below.{below, stands_new, or_false}
+use Rattle.rt_super.proofs.Below.{stands-append, or_false}
 
 -- tests of places
 
@@ -58,16 +58,27 @@ slice_set (x ∷ xs) (suc n) (suc m) y = slice_set xs n m y ∙ ap (λ b. cond b
 
 -- what a new node ends with
 
-any_spread : (f g h : ℕ → Bool) (c : Bool) → ((e : ℕ) → h e ≡ (f e || (g e && c))) → (xs : List ℕ) → list_any h xs ≡ (list_any f xs || (list_any g xs && c))
-any_spread f g h c e [] = refl
-any_spread f g h c e (x ∷ xs) = rw (e x, any_spread f g h c e xs) (spread (f x) (g x) (list_any f xs) (list_any g xs) c)
+neither : (a b : Bool) → (a || b) ≡ false → (a ≡ false) × (b ≡ false)
+neither true b e = (cc, cc)
+neither false b e = (refl, e)
+
+-- a new node adds nothing to what stands below another, unless its parent stands there
+below_new : (a n q : ℕ) (xs : List (ℕ × Option ℕ)) → stands_in (a ∷ nodes_below a xs) q ≡ false → nodes_below a (xs ++ (n, Some q) ∷ []) ≡ nodes_below a xs
+below_new a n q [] apart = rw ((neither (eqb a q) false apart).0) refl
+below_new a n q (x ∷ xs) apart = by (is_child a x.1) apart (λ h. below_new a n q xs h) (λ h. below_new x.0 n q xs h)
   where
-    spread : (a b p q c : Bool) → ((a || (b && c)) || (p || (q && c))) ≡ ((a || p) || ((b || q) && c))
-    spread true b p q c = refl
-    spread false true p q true = elim p as (λ k. true ≡ (k || true)) [ true ↦ refl | false ↦ refl ]
-    spread false true p true false = refl
-    spread false true p false false = refl
-    spread false false p q c = refl
+    by : (b : Bool) → stands_in (a ∷ cond b ((x.0 ∷ nodes_below x.0 xs) ++ nodes_below a xs) (nodes_below a xs)) q ≡ false → (stands_in (a ∷ nodes_below a xs) q ≡ false → nodes_below a (xs ++ (n, Some q) ∷ []) ≡ nodes_below a xs) → (stands_in (x.0 ∷ nodes_below x.0 xs) q ≡ false → nodes_below x.0 (xs ++ (n, Some q) ∷ []) ≡ nodes_below x.0 xs) → cond b ((x.0 ∷ nodes_below x.0 (xs ++ (n, Some q) ∷ [])) ++ nodes_below a (xs ++ (n, Some q) ∷ [])) (nodes_below a (xs ++ (n, Some q) ∷ [])) ≡ cond b ((x.0 ∷ nodes_below x.0 xs) ++ nodes_below a xs) (nodes_below a xs)
+    by true h others first =
+        let parts = neither (eqb a q) (stands_in ((x.0 ∷ nodes_below x.0 xs) ++ nodes_below a xs) q) h in
+        let halves = neither (stands_in (x.0 ∷ nodes_below x.0 xs) q) (stands_in (nodes_below a xs) q) (sym (stands-append q (x.0 ∷ nodes_below x.0 xs) (nodes_below a xs)) ∙ parts.1) in
+        rw (first halves.0, others (rw (parts.0) halves.1)) refl
+    by false h others first = others h
+
+any_new : (xs : List (ℕ × Option ℕ)) (n q m : ℕ) (ends : List ℕ) → list_any (λ e. stands_in (subtree xs e) q) ends ≡ false → list_any (λ e. stands_in (subtree (xs ++ (n, Some q) ∷ []) e) m) ends ≡ list_any (λ e. stands_in (subtree xs e) m) ends
+any_new xs n q m [] none = refl
+any_new xs n q m (e ∷ ends) none =
+    let parts = neither (stands_in (subtree xs e) q) (list_any (λ e. stands_in (subtree xs e) q) ends) none in
+    rw (below_new e n q xs parts.0, any_new xs n q m ends parts.1) refl
 
 -- nothing stands below a node because of one without a parent
 below_alone : (a n : ℕ) (xs : List (ℕ × Option ℕ)) → nodes_below a (xs ++ (n, None) ∷ []) ≡ nodes_below a xs
@@ -225,20 +236,7 @@ module _ (ps : List (Option ℕ)) (states : List (Bool × Option ℕ)) (ended : 
 
       others : (p : Option ℕ) → Lasts r p → (n : ℕ) → list_any (λ e. stands_in (subtree (links r ++ (length states, p) ∷ []) e) n) r.ends ≡ by_ends n
       others None lasts n = λ i. list_any (λ e. stands_in (e ∷ below_alone e (length states) (links r) i) n) r.ends
-      others (Some q) lasts n =
-          let all : links r ++ (length states, Some q) ∷ [] ≡ placed 0 (ps ++ Some q ∷ []) = rw (placed_push 0 ps (Some q), at, s.order) refl in
-          let each : (e : ℕ) → stands_in (subtree (placed 0 (ps ++ Some q ∷ [])) e) n ≡ (stands_in (subtree (placed 0 ps) e) n || (stands_in (subtree (placed 0 ps) e) q && eqb (length states) n)) = λ e. rw (stands_new n e 0 q ps, at) (or_first (eqb e n) (stands_in (below e 0 ps) n) (stands_in (subtree (placed 0 ps) e) q && eqb (length states) n)) in
-          let any = any_spread (λ e. stands_in (subtree (placed 0 ps) e) n) (λ e. stands_in (subtree (placed 0 ps) e) q) (λ e. stands_in (subtree (placed 0 (ps ++ Some q ∷ [])) e) n) (eqb (length states) n) each r.ends in
-          let none : list_any (λ e. stands_in (subtree (placed 0 ps) e) q) r.ends ≡ false = rw (← s.order) (right (was_born_ended r q) (list_any (λ e. stands_in (subtree (links r) e) q) r.ends) lasts) in
-          rw (all, any, none, ← s.order) (or_false (by_ends n))
-        where
-          or_first : (a b c : Bool) → (a || (b || c)) ≡ ((a || b) || c)
-          or_first true b c = refl
-          or_first false b c = refl
-
-          right : (a b : Bool) → (a || b) ≡ false → b ≡ false
-          right true b e = cc
-          right false b e = e
+      others (Some q) lasts n = any_new (links r) (length states) q n r.ends (neither (was_born_ended r q) (list_any (λ e. stands_in (subtree (links r) e) q) r.ends) lasts).1
 
   pub record_changed : (change : NodeState → NodeState) (n : ℕ) (y : Bool × Option ℕ) → Keeps change → ((x : NodeState) → slice_get states n ≡ Some (state_of x) → state_of (change x) ≡ y) → Matches ps (set states n y) ended flags (changed change n r)
   record_changed change n y keeps kept = record {
