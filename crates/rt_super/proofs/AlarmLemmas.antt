@@ -10,8 +10,7 @@ use Rattle.std.specs.declared.cmp.Ordering.TheVariants.{Less, Equal, Greater}
 use Rattle.std.specs.BTreeMap.{insert_entry, is_at}
 use Rattle.std.specs.Map.{set_value, keys_of, lookup}
 use Rattle.std.proofs.lemmas.Bool.Decides.{nat_tests}
-use Rattle.rt_super.specs.declared.waker.TheConstants.{NOBODY}
-use Rattle.rt_super.specs.Wakers.{waker_of, number_for}
+use Rattle.rt_super.specs.Wakers.{waker_of}
 use Rattle.rt_super.specs.Alarms.{Alarm, is_before, AreInOrder, AreOnce, with_alarm, alarm_at, first_due, due_first, waking}
 use Rattle.rt_super.specs.AlarmsInside.{alarm_of, alarms_of}
 
@@ -42,6 +41,14 @@ in_order (e ∷ es) h = (all_of (λ b. is_before (alarm_of e) b ≡ true) (alarm
     each [] k = tt
     each (f ∷ fs) k = (less_before (ltb e.0.0 f.0.0) (eqb e.0.0 f.0.0) (ltb e.0.1 f.0.1) (eqb e.0.1 f.0.1) k.0, each fs k.1)
 
+-- a look-up that finds nothing goes past the first
+not_first : {X : Type 0} (b : Bool) (x : X) (o : Option X) → cond b (Some x) o ≡ None → (b ≡ false) × (o ≡ None)
+not_first true x o none = (cc, cc)
+not_first false x o none = (refl, none)
+
+eqb_flip : (a b : ℕ) → eqb a b ≡ false → eqb b a ≡ false
+eqb_flip a b h = grind (arith, nat_tests)
+
 -- a new alarm
 
 before_cmp : (x y z : Bool) → ordering_then (cond x Less (cond y Equal Greater)) (cond z Less (cond false Equal Greater)) ≡ cond (x || (y && z)) Less Greater
@@ -52,71 +59,43 @@ before_cmp false false z = refl
 
 pub set_in_place : (es : List ((ℕ × ℕ) × ℕ)) (due number task : ℕ) → alarm_at (alarms_of es) number ≡ None → alarms_of (insert_entry key_cmp es (due, number) task) ≡ with_alarm (record { due = due; number = number; task = waker_of task }) (alarms_of es)
 set_in_place [] due number task fresh = refl
-set_in_place (e ∷ es) due number task fresh = by (eqb e.0.1 number) refl (set_in_place es due number task)
+set_in_place (e ∷ es) due number task fresh =
+    let apart = not_first (eqb e.0.1 number) (alarm_of e) (alarm_at (alarms_of es) number) fresh in
+    let same : key_cmp (due, number) e.0 ≡ cond (ltb due e.0.0 || (eqb due e.0.0 && ltb number e.0.1)) Less Greater = rw (eqb_flip e.0.1 number apart.0) (before_cmp (ltb due e.0.0) (eqb due e.0.0) (ltb number e.0.1)) in
+    rw same (place (ltb due e.0.0 || (eqb due e.0.0 && ltb number e.0.1)) (set_in_place es due number task apart.1))
   where
-    flip : (a b : ℕ) → eqb a b ≡ false → eqb b a ≡ false
-    flip a b h = grind (arith, nat_tests)
-
-    by : (b : Bool) → eqb e.0.1 number ≡ b → (alarm_at (alarms_of es) number ≡ None → alarms_of (insert_entry key_cmp es (due, number) task) ≡ with_alarm (record { due = due; number = number; task = waker_of task }) (alarms_of es)) → alarms_of (match_ordering (key_cmp (due, number) e.0) (((due, number), task) ∷ e ∷ es) ((e.0, task) ∷ es) (e ∷ insert_entry key_cmp es (due, number) task)) ≡ cond (ltb due e.0.0 || (eqb due e.0.0 && ltb number e.0.1)) (record { due = due; number = number; task = waker_of task } ∷ alarm_of e ∷ alarms_of es) (alarm_of e ∷ with_alarm (record { due = due; number = number; task = waker_of task }) (alarms_of es))
-    by true h ih = let some : cond (eqb e.0.1 number) (Some (alarm_of e)) (alarm_at (alarms_of es) number) ≡ Some (alarm_of e) = rw h refl in absurd (none_some (sym some ∙ fresh))
-      where
-        none_some : Some (alarm_of e) ≡ None → ⊥
-        none_some k = cc
-    by false h ih =
-        let later : alarm_at (alarms_of es) number ≡ None = rw (h) at fresh in
-        let rest = ih later in
-        let apart : eqb number e.0.1 ≡ false = flip e.0.1 number h in
-        let same : key_cmp (due, number) e.0 ≡ cond (ltb due e.0.0 || (eqb due e.0.0 && ltb number e.0.1)) Less Greater = rw apart (before_cmp (ltb due e.0.0) (eqb due e.0.0) (ltb number e.0.1)) in
-        rw same (place (ltb due e.0.0 || (eqb due e.0.0 && ltb number e.0.1)) rest)
-      where
-        place : (b : Bool) → alarms_of (insert_entry key_cmp es (due, number) task) ≡ with_alarm (record { due = due; number = number; task = waker_of task }) (alarms_of es) → alarms_of (match_ordering (cond b Less Greater) (((due, number), task) ∷ e ∷ es) ((e.0, task) ∷ es) (e ∷ insert_entry key_cmp es (due, number) task)) ≡ cond b (record { due = due; number = number; task = waker_of task } ∷ alarm_of e ∷ alarms_of es) (alarm_of e ∷ with_alarm (record { due = due; number = number; task = waker_of task }) (alarms_of es))
-        place true r = refl
-        place false r = ap (λ xs. alarm_of e ∷ xs) r
+    place : (b : Bool) → alarms_of (insert_entry key_cmp es (due, number) task) ≡ with_alarm (record { due = due; number = number; task = waker_of task }) (alarms_of es) → alarms_of (match_ordering (cond b Less Greater) (((due, number), task) ∷ e ∷ es) ((e.0, task) ∷ es) (e ∷ insert_entry key_cmp es (due, number) task)) ≡ cond b (record { due = due; number = number; task = waker_of task } ∷ alarm_of e ∷ alarms_of es) (alarm_of e ∷ with_alarm (record { due = due; number = number; task = waker_of task }) (alarms_of es))
+    place true r = refl
+    place false r = ap (λ xs. alarm_of e ∷ xs) r
 
 pub alarm_at-with_alarm : (a : Alarm) (xs : List Alarm) (q : ℕ) → alarm_at xs a.number ≡ None → alarm_at (with_alarm a xs) q ≡ cond (eqb a.number q) (Some a) (alarm_at xs q)
 alarm_at-with_alarm a [] q fresh = refl
-alarm_at-with_alarm a (b ∷ xs) q fresh = by (eqb b.number a.number) refl (alarm_at-with_alarm a xs q)
+alarm_at-with_alarm a (b ∷ xs) q fresh =
+    let apart = not_first (eqb b.number a.number) b (alarm_at xs a.number) fresh in
+    place (is_before a b) apart.0 (alarm_at-with_alarm a xs q apart.1)
   where
-    by : (t : Bool) → eqb b.number a.number ≡ t → (alarm_at xs a.number ≡ None → alarm_at (with_alarm a xs) q ≡ cond (eqb a.number q) (Some a) (alarm_at xs q)) → alarm_at (cond (is_before a b) (a ∷ b ∷ xs) (b ∷ with_alarm a xs)) q ≡ cond (eqb a.number q) (Some a) (cond (eqb b.number q) (Some b) (alarm_at xs q))
-    by true h ih = let some : cond (eqb b.number a.number) (Some b) (alarm_at xs a.number) ≡ Some b = rw h refl in absurd (none_some (sym some ∙ fresh))
+    swap : (x y : Bool) → eqb b.number a.number ≡ false → eqb a.number q ≡ x → eqb b.number q ≡ y → cond y (Some b) (cond x (Some a) (alarm_at xs q)) ≡ cond x (Some a) (cond y (Some b) (alarm_at xs q))
+    swap true true apart e f = absurd (both (grind (arith, nat_tests)))
       where
-        none_some : Some b ≡ None → ⊥
-        none_some k = cc
-    by false h ih = place (is_before a b) (ih (rw (h) at fresh))
-      where
-        swap : (x y : Bool) → eqb a.number q ≡ x → eqb b.number q ≡ y → alarm_at (with_alarm a xs) q ≡ cond x (Some a) (alarm_at xs q) → cond y (Some b) (alarm_at (with_alarm a xs) q) ≡ cond x (Some a) (cond y (Some b) (alarm_at xs q))
-        swap true true e f r = absurd (both (grind (arith, nat_tests)))
-          where
-            both : eqb b.number a.number ≡ true → ⊥
-            both k = cc
-        swap true false e f r = r
-        swap false true e f r = refl
-        swap false false e f r = r
+        both : true ≡ false → ⊥
+        both k = cc
+    swap true false apart e f = refl
+    swap false y apart e f = refl
 
-        place : (t : Bool) → alarm_at (with_alarm a xs) q ≡ cond (eqb a.number q) (Some a) (alarm_at xs q) → alarm_at (cond t (a ∷ b ∷ xs) (b ∷ with_alarm a xs)) q ≡ cond (eqb a.number q) (Some a) (cond (eqb b.number q) (Some b) (alarm_at xs q))
-        place true r = refl
-        place false r = swap (eqb a.number q) (eqb b.number q) refl refl r
+    place : (t : Bool) → eqb b.number a.number ≡ false → alarm_at (with_alarm a xs) q ≡ cond (eqb a.number q) (Some a) (alarm_at xs q) → alarm_at (cond t (a ∷ b ∷ xs) (b ∷ with_alarm a xs)) q ≡ cond (eqb a.number q) (Some a) (cond (eqb b.number q) (Some b) (alarm_at xs q))
+    place true apart later = refl
+    place false apart later = ap (λ o. cond (eqb b.number q) (Some b) o) later ∙ swap (eqb a.number q) (eqb b.number q) apart refl refl
 
 pub AreOnce-with_alarm : (a : Alarm) (xs : List Alarm) → alarm_at xs a.number ≡ None → AreOnce xs → AreOnce (with_alarm a xs)
 AreOnce-with_alarm a [] fresh once = (refl, tt)
-AreOnce-with_alarm a (b ∷ xs) fresh once = by (eqb b.number a.number) refl (AreOnce-with_alarm a xs)
+AreOnce-with_alarm a (b ∷ xs) fresh once =
+    let apart = not_first (eqb b.number a.number) b (alarm_at xs a.number) fresh in
+    let none = alarm_at-with_alarm a xs b.number apart.1 ∙ ap (λ k. cond k (Some a) (alarm_at xs b.number)) (eqb_flip b.number a.number apart.0) ∙ once.0 in
+    place (is_before a b) (none, AreOnce-with_alarm a xs apart.1 once.1)
   where
-    by : (t : Bool) → eqb b.number a.number ≡ t → (alarm_at xs a.number ≡ None → AreOnce xs → AreOnce (with_alarm a xs)) → AreOnce (cond (is_before a b) (a ∷ b ∷ xs) (b ∷ with_alarm a xs))
-    by true h ih = let some : cond (eqb b.number a.number) (Some b) (alarm_at xs a.number) ≡ Some b = rw h refl in absurd (none_some (sym some ∙ fresh))
-      where
-        none_some : Some b ≡ None → ⊥
-        none_some k = cc
-    by false h ih = place (is_before a b)
-      where
-        later : alarm_at xs a.number ≡ None
-        later = rw (h) at fresh
-
-        flip : eqb a.number b.number ≡ false
-        flip = grind (arith, nat_tests)
-
-        place : (t : Bool) → AreOnce (cond t (a ∷ b ∷ xs) (b ∷ with_alarm a xs))
-        place true = (fresh, once)
-        place false = (alarm_at-with_alarm a xs b.number later ∙ ap (λ k. cond k (Some a) (alarm_at xs b.number)) flip ∙ once.0, ih later once.1)
+    place : (t : Bool) → AreOnce (b ∷ with_alarm a xs) → AreOnce (cond t (a ∷ b ∷ xs) (b ∷ with_alarm a xs))
+    place true later = (fresh, once)
+    place false later = later
 
 -- an alarm that wakes another task
 
@@ -147,14 +126,7 @@ AreOnce-waking n t (a ∷ xs) once = (ap (λ k. alarm_at (map (waking n t) xs) k
 
 pub waking_none : (n : ℕ) (t : Option ℕ) (xs : List Alarm) → alarm_at xs n ≡ None → map (waking n t) xs ≡ xs
 waking_none n t [] none = refl
-waking_none n t (a ∷ xs) none = by (eqb a.number n) refl (waking_none n t xs)
-  where
-    by : (b : Bool) → eqb a.number n ≡ b → (alarm_at xs n ≡ None → map (waking n t) xs ≡ xs) → waking n t a ∷ map (waking n t) xs ≡ a ∷ xs
-    by true h ih = let some : cond (eqb a.number n) (Some a) (alarm_at xs n) ≡ Some a = rw h refl in absurd (none_some (sym some ∙ none))
-      where
-        none_some : Some a ≡ None → ⊥
-        none_some k = cc
-    by false h ih = let same : waking n t a ≡ a = rw h refl in rw (same, ih (rw (h) at none)) refl
+waking_none n t (a ∷ xs) none = let apart = not_first (eqb a.number n) a (alarm_at xs n) none in rw (apart.0, waking_none n t xs apart.1) refl
 
 other_key : (o : Ordering) (z : Bool) → is_eq (ordering_then o (cond z Less (cond false Equal Greater))) ≡ false
 other_key Less z = refl
@@ -186,14 +158,7 @@ set_value_waking (e ∷ es) due n t once at = by (eqb e.0.1 n) refl (set_value_w
 
 pub set_value_none : (test : ℕ × ℕ → Bool) (es : List ((ℕ × ℕ) × ℕ)) (t : ℕ) → lookup test es ≡ None → set_value test es t ≡ es
 set_value_none test [] t none = refl
-set_value_none test (e ∷ es) t none = by (test e.0) refl (set_value_none test es t)
-  where
-    by : (b : Bool) → test e.0 ≡ b → (lookup test es ≡ None → set_value test es t ≡ es) → cond (test e.0) ((e.0, t) ∷ es) (e ∷ set_value test es t) ≡ e ∷ es
-    by true h ih = let some : cond (test e.0) (Some e.1) (lookup test es) ≡ Some e.1 = rw h refl in absurd (none_some (sym some ∙ none))
-      where
-        none_some : Some e.1 ≡ None → ⊥
-        none_some k = cc
-    by false h ih = rw (h, ih (rw (h) at none)) refl
+set_value_none test (e ∷ es) t none = let apart = not_first (test e.0) e.1 (lookup test es) none in rw (apart.0, set_value_none test es t apart.1) refl
 
 pub none_from_due : (o : Option Alarm) → option_map (λ a. a.due) o ≡ None → o ≡ None
 none_from_due None e = refl
@@ -202,11 +167,7 @@ none_from_due (Some a) e = cc
 -- the parts of what is kept, after a call
 
 pub tail_none : (a : Alarm) (rest : List Alarm) (n : ℕ) → alarm_at (a ∷ rest) n ≡ None → alarm_at rest n ≡ None
-tail_none a rest n none = by (eqb a.number n) none
-  where
-    by : (b : Bool) → cond b (Some a) (alarm_at rest n) ≡ None → alarm_at rest n ≡ None
-    by true h = cc
-    by false h = h
+tail_none a rest n none = (not_first (eqb a.number n) a (alarm_at rest n) none).1
 
 pub dues_tail : (a : Alarm) (rest : List Alarm) (q : ℕ) → alarm_at rest a.number ≡ None → cond (eqb a.number q) None (option_map (λ x. x.due) (alarm_at (a ∷ rest) q)) ≡ option_map (λ x. x.due) (alarm_at rest q)
 dues_tail a rest q gone = by (eqb a.number q) refl
@@ -224,13 +185,6 @@ dues_set a xs q fresh = both (eqb a.number q) ∙ ap (λ o. option_map (λ x. x.
 
 pub given_set : (a : Alarm) (xs : List Alarm) (n : ℕ) → alarm_at xs a.number ≡ None → alarm_at xs n ≡ None → a.number < n → alarm_at (with_alarm a xs) n ≡ None
 given_set a xs n fresh none later = let apart : eqb a.number n ≡ false = grind (arith, nat_tests) in alarm_at-with_alarm a xs n fresh ∙ ap (λ b. cond b (Some a) (alarm_at xs n)) apart ∙ none
-
-pub number_for-waker_of : (t : ℕ) → number_for (waker_of t) ≡ t
-number_for-waker_of t = by (eqb t NOBODY) refl
-  where
-    by : (b : Bool) → eqb t NOBODY ≡ b → number_for (cond b None (Some t)) ≡ t
-    by true e = grind (arith, nat_tests)
-    by false e = refl
 
 -- the first alarm, where the map shows its entry
 pub first_due_is : (es : List ((ℕ × ℕ) × ℕ)) (e : (ℕ × ℕ) × ℕ) → slice_get es 0 ≡ Some e → first_due (alarms_of es) ≡ Some e.0.0

@@ -1,10 +1,10 @@
 -- What stands below a place.
-use Rattle.std.proofs.Common.{◌≡◌, ◌≢◌, ℕ, zero, suc, ◌+◌, ◌<◌, ◌≤◌, Bool, true, false, cond, ◌||◌, ◌&&◌, eqb, List, [], ◌∷◌, ◌++◌, length, drop, refl, sym, ◌∙◌, subst, arith, Option, Some, None}
+use Rattle.std.proofs.Common.{◌≡◌, ◌≢◌, ℕ, zero, suc, ◌+◌, ◌<◌, ◌≤◌, Bool, true, false, cond, ◌||◌, eqb, List, [], ◌∷◌, ◌++◌, length, drop, refl, sym, ◌∙◌, subst, arith, Option, Some, None}
 use Rattle.std.specs.List.{flat_map, slice_get, AllByRecursion}
 use Rattle.std.proofs.lemmas.List.Folds.{list_any-append}
 use Rattle.std.proofs.lemmas.Bool.Decides.{nat_tests}
 use Rattle.rt_super.specs.Ancestry.{is_child, nodes_below, stands_in}
-use Rattle.rt_super.specs.Kept.{placed}
+use Rattle.rt_super.specs.Inside.{placed}
 use Rattle.rt_super.specs.Inside.{children_from, IsOlder, AreOlder, IsClosed}
 
 -- what stands below a, among the places from i on
@@ -105,34 +105,12 @@ below_by_children under a i (p ∷ rest) o same =
       | false ↦ others
     ]
 
--- whatever two tests say
-or_spread : (im xm ym iq xq aq yq f : Bool) → ((im || (xm || ((iq || xq) && f))) || (ym || ((aq || yq) && f))) ≡ (((im || xm) || ym) || ((aq || ((iq || xq) || yq)) && f))
-or_spread true xm ym iq xq aq yq f = refl
-or_spread false true ym iq xq aq yq f = refl
-or_spread false false ym true xq true yq true = elim ym as (λ y. (true || (y || true)) ≡ (y || true)) [ true ↦ refl | false ↦ refl ]
-or_spread false false ym iq xq aq yq f = grind arith
-
 pub stands-append : (m : ℕ) (xs ys : List ℕ) → stands_in (xs ++ ys) m ≡ (stands_in xs m || stands_in ys m)
 stands-append m xs ys = list_any-append (λ x. eqb x m) xs ys
 
 pub or_false : (b : Bool) → (b || false) ≡ b
 or_false true = refl
 or_false false = refl
-
--- a new youngest place stands below what its parent is, or stands below
-pub stands_new : (m a i q : ℕ) (rest : List (Option ℕ)) → stands_in (below a i (rest ++ Some q ∷ [])) m ≡ (stands_in (below a i rest) m || (stands_in (a ∷ below a i rest) q && eqb (i + length rest) m))
-stands_new m a i q [] =
-    let e : i + 0 ≡ i = omega arith in
-    elim (eqb a q) as (λ b. stands_in (cond b ((i ∷ []) ++ []) []) m ≡ (false || ((b || false) && eqb (i + 0) m))) [ true ↦ rw e (or_false (eqb i m)) | false ↦ refl ]
-stands_new m a i q (p ∷ rest) =
-    let e : i + suc (length rest) ≡ suc i + length rest = omega arith in
-    let more = rest ++ Some q ∷ [] in
-    let first = stands_new m i (suc i) q rest in
-    let others = stands_new m a (suc i) q rest in
-    elim (is_child a p) as (λ b. stands_in (cond b ((i ∷ below i (suc i) more) ++ below a (suc i) more) (below a (suc i) more)) m ≡ (stands_in (cond b ((i ∷ below i (suc i) rest) ++ below a (suc i) rest) (below a (suc i) rest)) m || (stands_in (a ∷ cond b ((i ∷ below i (suc i) rest) ++ below a (suc i) rest) (below a (suc i) rest)) q && eqb (i + suc (length rest)) m))) [
-      | true ↦ rw (stands-append m (i ∷ below i (suc i) more) (below a (suc i) more), stands-append m (i ∷ below i (suc i) rest) (below a (suc i) rest), stands-append q (i ∷ below i (suc i) rest) (below a (suc i) rest), e, first, others) (or_spread (eqb i m) (stands_in (below i (suc i) rest) m) (stands_in (below a (suc i) rest) m) (eqb i q) (stands_in (below i (suc i) rest) q) (eqb a q) (stands_in (below a (suc i) rest) q) (eqb (suc i + length rest) m))
-      | false ↦ rw e others
-    ]
 
 -- where the marks are closed, what stands below a marked place is marked
 pub AllByRecursion-append : {X : Type 0} (P : X → Type 0) (xs ys : List X) → AllByRecursion P xs → AllByRecursion P ys → AllByRecursion P (xs ++ ys)

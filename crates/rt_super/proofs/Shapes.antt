@@ -1,23 +1,18 @@
 -- The parts of the nodes' list that a change leaves.
-use Rattle.std.proofs.Common.{◌≡◌, ◌≢◌, ℕ, zero, suc, ◌+◌, ◌<◌, ◌≤◌, Bool, true, false, cond, not, ◌||◌, ◌&&◌, eqb, List, [], ◌∷◌, ◌++◌, length, map, get_or, set, refl, sym, ap, ◌∙◌, arith, Option, Some, None, Result, Ok, Err, filter, filter_map}
+use Rattle.std.proofs.Common.{◌≡◌, ◌≢◌, ℕ, zero, suc, ◌+◌, ◌<◌, ◌≤◌, Bool, true, false, cond, ◌||◌, ◌&&◌, eqb, List, [], ◌∷◌, ◌++◌, length, map, get_or, set, refl, sym, ap, ◌∙◌, arith, Option, Some, None, Result, Ok, Err}
 use Rattle.std.specs.Result.{OnErr}
 use Rattle.std.proofs.Math.Seq.{map-set_same}
 use Rattle.std.specs.List.{slice_get}
-use Rattle.std.specs.Option.{option_map, option_map_or, option_and_then, option_or}
+use Rattle.std.specs.Option.{option_map, option_and_then, option_or}
 use Rattle.std.proofs.lemmas.List.{map-append, length-map, get_or-set_same, get_or-set_other, append-nil, length-set, length_push, map-set, set-get_or}
-use Rattle.std.proofs.lemmas.Option.{slice_get-map, slice_get_within, slice_get-get_or, get_or_from_slice_get}
+use Rattle.std.proofs.lemmas.Option.{slice_get-map, slice_get_within, slice_get_past, slice_get-get_or, get_or_from_slice_get}
 use Rattle.std.proofs.lemmas.Bool.Decides.{nat_tests}
-use Rattle.rt_super.specs.Ancestry.{NodeState, TreeRecord, is_child, subtree, stands_in, with_end, with_release, changed}
-use Rattle.rt_super.specs.Ending.{task_at, fresh_tasks}
-use Rattle.rt_super.specs.Kept.{KeptNode, Kept, Matches, kept_of, live_at, placed, parents_of, is_marked}
-use Rattle.rt_super.specs.Inside.{kept_node, parents, children_lists, children_from, adopted, IsOlder, AreOlder, IsSound, marks_set}
+use Rattle.rt_super.specs.Ancestry.{NodeState, TreeRecord, is_ended, is_child, subtree, stands_in, with_new, changed}
+use Rattle.rt_super.specs.Ending.{task_at}
+use Rattle.rt_super.specs.Inside.{Matches, state_of, placed, is_marked, parents, states, children_lists, children_from, adopted, IsOlder, AreOlder, IsSound, marks_set}
 use Rattle.rt_super.specs.declared.node.Node.{Node}
 use Rattle.rt_super.proofs.Below.{below, below_closed}
-use Rattle.rt_super.proofs.Records.{slice_push, marked_push, record_end, filter_map_same, record_changed, Keeps}
-
-pub parents_kept : (nodes : List Node) → parents_of (map kept_node nodes) ≡ parents nodes
-parents_kept [] = refl
-parents_kept (x ∷ xs) = rw (parents_kept xs) refl
+use Rattle.rt_super.proofs.Records.{Lasts, Keeps, slice_push, marked_push, record_new, record_changed}
 
 -- a new place
 
@@ -59,13 +54,21 @@ pub marks_set-push : (ended : List Bool) (flag : Bool) → marks_set ended ≤ m
 marks_set-push [] flag = omega arith
 marks_set-push (b ∷ bs) flag = omega (arith, marks_set-push bs flag)
 
+or_left : (a b : Bool) → a ≡ true → (a || b) ≡ true
+or_left true b e = refl
+or_left false b e = cc
+
+or_right : (a b : Bool) → b ≡ true → (a || b) ≡ true
+or_right true b e = refl
+or_right false b e = e
+
 -- a parent that isn't marked
 abbrev pub IsUnmarked : List Bool → Option ℕ → Type 0
 IsUnmarked ended None = Unit {0}
 IsUnmarked ended (Some p) = is_marked ended p ≡ false
 
 pub sound_push : (ps : List (Option ℕ)) (ls : List (List ℕ)) (ended : List Bool) (parent : Option ℕ) (flag : Bool) → IsSound ps ls ended → IsOlder parent (length ps) → IsUnmarked ended parent → IsSound (ps ++ parent ∷ []) (adopted ls parent (length ps) ++ [] ∷ []) (ended ++ flag ∷ [])
-sound_push ps ls ended parent flag s older follows = record {
+sound_push ps ls ended parent flag s older unmarked = record {
   lengths = omega (arith, length_push ended flag, length_push ps parent, s.lengths);
   same = omega (arith, length_push (adopted ls parent (length ps)) [], length_push ps parent, length-adopted ls parent (length ps), s.same);
   older = older_push 0 ps parent s.older (let e : 0 + length ps ≡ length ps = omega arith in rw e older);
@@ -87,14 +90,6 @@ sound_push ps ls ended parent flag s older follows = record {
             let other : n ≢ p = grind (arith, nat_tests) in
             get_or-set_other ls p n (get_or ls p [] ++ length ps ∷ []) [] other ∙ s.lists n ∙ sym (append-nil (children_from n 0 ps))
 
-    or_left : (a b : Bool) → a ≡ true → (a || b) ≡ true
-    or_left true b e = refl
-    or_left false b e = cc
-
-    or_right : (a b : Bool) → b ≡ true → (a || b) ≡ true
-    or_right true b e = refl
-    or_right false b e = e
-
     first : (a b c : Bool) → (a || (b && c)) ≡ true → b ≡ false → a ≡ true
     first true b c e f = refl
     first false true c e f = cc
@@ -108,7 +103,7 @@ sound_push ps ls ended parent flag s older follows = record {
         let other : eqb (length ended) q ≡ false = let l = s.lengths in grind (arith, nat_tests) in
         let marked = first (is_marked ended q) (eqb (length ended) q) flag on other in
         marked_push ended flag (0 + k) ∙ or_left (is_marked ended (0 + k)) (eqb (length ended) (0 + k) && flag) (s.closed k q is marked)
-    closed k q None there at on = by (eqb (length ps) k) refl parent at older follows
+    closed k q None there at on = by (eqb (length ps) k) refl parent at older unmarked
       where
         by : (b : Bool) → eqb (length ps) k ≡ b → (p : Option ℕ) → cond b (Some p) None ≡ Some (Some q) → IsOlder p (length ps) → IsUnmarked ended p → is_marked (ended ++ flag ∷ []) (0 + k) ≡ true
         by false e p at' o f = cc
@@ -132,14 +127,6 @@ sound_end ps ls ended after n s lengths marks = record {
   closed = λ k q at on. marks (0 + k) ∙ by k q at (is_marked ended q) (stands_in (subtree (placed 0 ps) n) q) refl refl (sym (marks q) ∙ on);
 }
   where
-    or_left : (a b : Bool) → a ≡ true → (a || b) ≡ true
-    or_left true b e = refl
-    or_left false b e = cc
-
-    or_right : (a b : Bool) → b ≡ true → (a || b) ≡ true
-    or_right true b e = refl
-    or_right false b e = e
-
     by : (k q : ℕ) → slice_get ps k ≡ Some (Some q) → (a b : Bool) → is_marked ended q ≡ a → stands_in (subtree (placed 0 ps) n) q ≡ b → (a || b) ≡ true → (is_marked ended (0 + k) || stands_in (subtree (placed 0 ps) n) (0 + k)) ≡ true
     by k q at true b e f h = or_left (is_marked ended (0 + k)) (stands_in (subtree (placed 0 ps) n) (0 + k)) (s.closed k q at e)
     by k q at false true e f h = or_right (is_marked ended (0 + k)) (stands_in (subtree (placed 0 ps) n) (0 + k)) (or_right (eqb n (0 + k)) (stands_in (below n 0 ps) (0 + k)) (below_closed n 0 k q ps s.older at f))
@@ -150,16 +137,24 @@ pub on_err : {T E P : Type 0} (r : Result T E) → P → OnErr r P
 on_err (Ok x) p = tt
 on_err (Err e) p = p
 
--- a node is replaced by one with other children
+-- the state of a node, and its task
 
-pub kept_set : (nodes : List Node) (p : ℕ) (x y : Node) → x ≡ get_or nodes p x → kept_node y ≡ kept_node x → map kept_node (set nodes p y) ≡ map kept_node nodes
-kept_set nodes p x y at same = map-set_same kept_node nodes p y x (same ∙ ap kept_node at)
+pub count_states : (nodes : List Node) → length (states nodes) ≡ length nodes
+count_states nodes = length-map {B = Bool × Option ℕ} nodes (λ x. (x.live, x.task))
 
-pub children_set_same : (nodes : List Node) (p : ℕ) (x y : Node) → x ≡ get_or nodes p x → y.children.items ≡ x.children.items → children_lists (set nodes p y) ≡ children_lists nodes
-children_set_same nodes p x y at same = map-set_same (λ z. z.children.items) nodes p y x (same ∙ ap (λ z. z.children.items) at)
+pub state_at : (nodes : List Node) (n : ℕ) → slice_get (states nodes) n ≡ option_map {U = Bool × Option ℕ} (λ x. (x.live, x.task)) (slice_get nodes n)
+state_at nodes n = slice_get-map {B = Bool × Option ℕ} (λ x. (x.live, x.task)) nodes n
 
-pub parents_set_same : (nodes : List Node) (p : ℕ) (x y : Node) → x ≡ get_or nodes p x → y.parent ≡ x.parent → parents (set nodes p y) ≡ parents nodes
-parents_set_same nodes p x y at same = map-set_same (λ z. z.parent) nodes p y x (same ∙ ap (λ z. z.parent) at)
+pub task_state : (nodes : List Node) (n : ℕ) → task_at nodes n ≡ option_and_then (λ x. x.1) (slice_get (states nodes) n)
+task_state nodes n = same (slice_get nodes n) ∙ ap (λ o. option_and_then (λ x. x.1) o) (sym (state_at nodes n))
+  where
+    same : (o : Option Node) → option_and_then (λ x. x.task) o ≡ option_and_then (λ x. x.1) (option_map {U = Bool × Option ℕ} (λ x. (x.live, x.task)) o)
+    same None = refl
+    same (Some x) = refl
+
+-- a node is replaced by one that is the same to f
+pub set_keeps : {X : Type 0} (f : Node → X) (nodes : List Node) (p : ℕ) (x y : Node) → x ≡ get_or nodes p x → f y ≡ f x → map f (set nodes p y) ≡ map f nodes
+set_keeps f nodes p x y at same = map-set_same f nodes p y x (same ∙ ap f at)
 
 pub children_set : (nodes : List Node) (p child : ℕ) (x y : Node) → p < length nodes → x ≡ get_or nodes p x → y.children.items ≡ x.children.items ++ child ∷ [] → children_lists (set nodes p y) ≡ adopted (children_lists nodes) (Some p) child
 children_set nodes p child x y known at more =
@@ -167,78 +162,62 @@ children_set nodes p child x y known at more =
     let had : get_or (children_lists nodes) p [] ≡ x.children.items = get_or_from_slice_get (children_lists nodes) p x.children.items [] (slice_get-map (λ z. z.children.items) nodes p ∙ ap (λ o. option_map (λ z. z.children.items) o) there) in
     map-set (λ z. z.children.items) nodes p y ∙ ap (λ l. set (children_lists nodes) p l) (more ∙ ap (λ l. l ++ child ∷ []) (sym had))
 
--- an end, for what is kept
-pub stands_end : (nodes : List Node) (ended after : List Bool) (flags more : List ℕ) (r : TreeRecord) (n : ℕ) → Matches (record { nodes = map kept_node nodes; ended = ended; flags = flags }) r → n < length nodes → ((m : ℕ) → is_marked after m ≡ (is_marked ended m || stands_in (subtree (placed 0 (parents nodes)) n) m)) → more ≡ flags ++ fresh_tasks nodes ended (subtree (placed 0 (parents nodes)) n) → Matches (record { nodes = map kept_node nodes; ended = after; flags = more }) (with_end r n)
-stands_end nodes ended after flags more r n s known marks noted =
-    record_end (record { nodes = map kept_node nodes; ended = ended; flags = flags }) (record { nodes = map kept_node nodes; ended = after; flags = more }) r n s
-    (omega (arith, length-map nodes kept_node, known))
-    refl
-    (λ m. marks m ∙ ap (λ ps. is_marked ended m || stands_in (subtree (placed 0 ps) n) m) (sym (parents_kept nodes)))
-    (noted ∙ ap (λ ts. flags ++ ts) (filter_map_same (task_at nodes) (λ m. option_and_then (λ x. x.task) (slice_get (map kept_node nodes) m)) task (filter (λ m. not (is_marked ended m)) (subtree (placed 0 (parents nodes)) n)) ∙ ap (λ ps. filter_map (λ m. option_and_then (λ x. x.task) (slice_get (map kept_node nodes) m)) (filter (λ m. not (is_marked ended m)) (subtree (placed 0 ps) n))) (sym (parents_kept nodes))))
-  where
-    same : (o : Option Node) → option_and_then (λ x. x.task) o ≡ option_and_then (λ x. x.task) (option_map kept_node o)
-    same None = refl
-    same (Some x) = refl
+-- a node more
 
-    task : (m : ℕ) → task_at nodes m ≡ option_and_then (λ x. x.task) (slice_get (map kept_node nodes) m)
-    task m = same (slice_get nodes m) ∙ ap (λ o. option_and_then (λ x. x.task) o) (sym (slice_get-map kept_node nodes m))
-
--- a node more, for what is kept
-
-pub length_kept : (A B : List Node) → map kept_node A ≡ map kept_node B → length A ≡ length B
-length_kept A B e = sym (length-map A kept_node) ∙ ap length e ∙ length-map B kept_node
-
-parents_same : (A B : List Node) → map kept_node A ≡ map kept_node B → parents A ≡ parents B
-parents_same A B e = sym (parents_kept A) ∙ ap parents_of e ∙ parents_kept B
-
-pub kept_added : (A B : List Node) (x : Node) → map kept_node A ≡ map kept_node B → map kept_node (A ++ x ∷ []) ≡ map kept_node B ++ kept_node x ∷ []
-kept_added A B x e = map-append kept_node A (x ∷ []) ∙ ap (λ ks. ks ++ kept_node x ∷ []) e
-
-pub sound_added : (A B : List Node) (x : Node) (ended : List Bool) (flag : Bool) (n : ℕ) → IsSound (parents B) (children_lists B) ended → map kept_node A ≡ map kept_node B → children_lists A ≡ adopted (children_lists B) x.parent n → x.children.items ≡ [] → n ≡ length B → IsOlder x.parent (length B) → IsUnmarked ended x.parent → IsSound (parents (A ++ x ∷ [])) (children_lists (A ++ x ∷ [])) (ended ++ flag ∷ [])
-sound_added A B x ended flag n s kept lists none place older follows =
+pub sound_added : (A B : List Node) (x : Node) (ended : List Bool) (flag : Bool) (n : ℕ) → IsSound (parents B) (children_lists B) ended → parents A ≡ parents B → children_lists A ≡ adopted (children_lists B) x.parent n → x.children.items ≡ [] → n ≡ length B → IsOlder x.parent (length B) → IsUnmarked ended x.parent → IsSound (parents (A ++ x ∷ [])) (children_lists (A ++ x ∷ [])) (ended ++ flag ∷ [])
+sound_added A B x ended flag n s same lists none place older unmarked =
     let count : length (parents B) ≡ length B = length-map B (λ y. y.parent) in
-    let pushed = sound_push (parents B) (children_lists B) ended x.parent flag s (rw count older) follows in
+    let pushed = sound_push (parents B) (children_lists B) ended x.parent flag s (rw count older) unmarked in
     let at : n ≡ length (parents B) = place ∙ sym count in
-    let ps : parents (A ++ x ∷ []) ≡ parents B ++ x.parent ∷ [] = map-append (λ y. y.parent) A (x ∷ []) ∙ ap (λ qs. qs ++ x.parent ∷ []) (parents_same A B kept) in
+    let ps : parents (A ++ x ∷ []) ≡ parents B ++ x.parent ∷ [] = map-append (λ y. y.parent) A (x ∷ []) ∙ ap (λ qs. qs ++ x.parent ∷ []) same in
     let first : children_lists (A ++ x ∷ []) ≡ children_lists A ++ x.children.items ∷ [] = map-append (λ y. y.children.items) A (x ∷ []) in
     let ls : children_lists (A ++ x ∷ []) ≡ adopted (children_lists B) x.parent (length (parents B)) ++ [] ∷ [] = first ∙ ap (λ l. children_lists A ++ l ∷ []) none ∙ ap (λ l. l ++ [] ∷ []) (lists ∙ ap (λ k. adopted (children_lists B) x.parent k) at) in
     rw (ps, ls) pushed
+
+pub right_added : (A B : List Node) (x : Node) (ended : List Bool) (flag : Bool) (flags : List ℕ) (r : TreeRecord) (n : ℕ) → Matches (parents B) (states B) ended flags r → parents A ≡ parents B → states A ≡ states B → x.live ≡ true → x.task ≡ None → length ended ≡ length (parents B) → n ≡ length B → Lasts r x.parent → Matches (parents (A ++ x ∷ [])) (states (A ++ x ∷ [])) (ended ++ flag ∷ []) flags (with_new r n x.parent flag)
+right_added A B x ended flag flags r n s same states_same live task lengths place lasts =
+    let count : length (parents B) ≡ length B = length-map B (λ y. y.parent) in
+    let counts = count_states B in
+    let at : n ≡ length (states B) = place ∙ sym counts in
+    let ps : parents (A ++ x ∷ []) ≡ parents B ++ x.parent ∷ [] = map-append (λ y. y.parent) A (x ∷ []) ∙ ap (λ qs. qs ++ x.parent ∷ []) same in
+    let new : Bool × Option ℕ = (x.live, x.task) in
+    let blank : Bool × Option ℕ = (true, None) in
+    let is : new ≡ blank = rw (live, task) refl in
+    let ss : states (A ++ x ∷ []) ≡ states B ++ blank ∷ [] = map-append {B = Bool × Option ℕ} (λ y. (y.live, y.task)) A (x ∷ []) ∙ ap (λ l. l ++ new ∷ []) states_same ∙ ap (λ z. states B ++ z ∷ []) is in
+    rw (ps, ss, at) (record_new _ _ _ _ r s x.parent flag (omega arith) (omega arith) lasts)
 
 pub older_of : (p : Option ℕ) (n : ℕ) → ((x : ℕ) → p ≡ Some x → x < n) → IsOlder p n
 older_of None n h = tt
 older_of (Some q) n h = h q refl
 
-pub unmarked_of : (ended : List Bool) (p : Option ℕ) → ((x : ℕ) → p ≡ Some x → is_marked ended x ≡ false) → IsUnmarked ended p
-unmarked_of ended None h = tt
-unmarked_of ended (Some q) h = h q refl
+pub lasts_of : (r : TreeRecord) (p : Option ℕ) → ((x : ℕ) → p ≡ Some x → is_ended r x ≡ false) → Lasts r p
+lasts_of r None h = tt
+lasts_of r (Some q) h = h q refl
 
--- other nodes with the same shape
-pub sound_same : (A B : List Node) (ended : List Bool) → IsSound (parents B) (children_lists B) ended → map kept_node A ≡ map kept_node B → children_lists A ≡ children_lists B → IsSound (parents A) (children_lists A) ended
-sound_same A B ended s kept lists = rw (parents_same A B kept, lists) s
+pub unmarked_of : (ended : List Bool) (r : TreeRecord) (p : Option ℕ) → ((m : ℕ) → is_ended r m ≡ is_marked ended m) → Lasts r p → IsUnmarked ended p
+unmarked_of ended r None e h = tt
+unmarked_of ended r (Some q) e h = sym (e q) ∙ h
 
--- a node is changed, for what is kept
-pub stands_changed : (change : NodeState → NodeState) (kept : KeptNode → KeptNode) (nodes : List Node) (ended : List Bool) (flags : List ℕ) (r : TreeRecord) (n : ℕ) (x y : Node) → Keeps change → ((z : NodeState) → kept_of (change z) ≡ kept (kept_of z)) → Matches (record { nodes = map kept_node nodes; ended = ended; flags = flags }) r → n < length nodes → x ≡ get_or nodes n x → kept_node y ≡ kept (kept_node x) → Matches (record { nodes = map kept_node (set nodes n y); ended = ended; flags = flags }) (changed change n r)
-stands_changed change kept nodes ended flags r n x y keeps same s known at new =
-    rw (map-set kept_node nodes n y) (record_changed change (record { nodes = map kept_node nodes; ended = ended; flags = flags }) r n (kept_node y) keeps s (λ z found. agrees z found))
+-- a node is changed
+pub right_changed : (change : NodeState → NodeState) (nodes : List Node) (ended : List Bool) (flags : List ℕ) (r : TreeRecord) (n : ℕ) (x y : Node) → Keeps change → ((z : NodeState) → z.live ≡ x.live → z.task ≡ x.task → state_of (change z) ≡ (y.live, y.task)) → Matches (parents nodes) (states nodes) ended flags r → n < length nodes → x ≡ get_or nodes n x → Matches (parents nodes) (states (set nodes n y)) ended flags (changed change n r)
+right_changed change nodes ended flags r n x y keeps same s known at =
+    rw (map-set {B = Bool × Option ℕ} (λ z. (z.live, z.task)) nodes n y) (record_changed _ _ _ _ r s change n (y.live, y.task) keeps (λ z found. agrees z found))
   where
-    there : slice_get (map kept_node nodes) n ≡ Some (kept_node x)
-    there = slice_get-map kept_node nodes n ∙ ap (λ o. option_map kept_node o) (slice_get-get_or nodes n x known ∙ ap (λ z. Some z) (sym at))
+    there : slice_get (states nodes) n ≡ Some (x.live, x.task)
+    there = state_at nodes n ∙ ap (λ o. option_map {U = Bool × Option ℕ} (λ z. (z.live, z.task)) o) (slice_get-get_or nodes n x known ∙ ap (λ z. Some z) (sym at))
 
-    agrees : (z : NodeState) → slice_get (map kept_node nodes) n ≡ Some (kept_of z) → kept_of (change z) ≡ kept_node y
+    agrees : (z : NodeState) → slice_get (states nodes) n ≡ Some (state_of z) → state_of (change z) ≡ (y.live, y.task)
     agrees z found =
-        let both : Some (kept_of z) ≡ Some (kept_node x) = sym found ∙ there in
-        let one : kept_of z ≡ kept_node x = cc in
-        same z ∙ ap kept one ∙ sym new
+        let both : Some (state_of z) ≡ Some (x.live, x.task) = sym found ∙ there in
+        let one : state_of z ≡ (x.live, x.task) = cc in
+        same z (ap (λ w. w.0) one) (ap (λ w. w.1) one)
 
--- a node that isn't live is released
-pub stands_released : (k : Kept) (r : TreeRecord) (n : ℕ) → Matches k r → live_at k n ≡ false → Matches k (with_release r n)
-stands_released k r n s dead =
-    let blank : KeptNode = record { parent = None; live = false; task = None } in
-    let stood = record_changed (λ x. record x { live = false }) k r n (get_or k.nodes n blank) (record { number = λ x. refl; parent = λ x. refl; born = λ x. refl }) s (λ z found. agrees z found blank) in
-    rw (set-get_or k.nodes n blank) at stood
+-- what was never made isn't changed
+pub right_unchanged : (change : NodeState → NodeState) (nodes : List Node) (ended : List Bool) (flags : List ℕ) (r : TreeRecord) (n : ℕ) → Keeps change → Matches (parents nodes) (states nodes) ended flags r → length nodes ≤ n → Matches (parents nodes) (states nodes) ended flags (changed change n r)
+right_unchanged change nodes ended flags r n keeps s past =
+    let blank : Bool × Option ℕ = (false, None) in
+    let stays = record_changed _ _ _ _ r s change n (get_or (states nodes) n blank) keeps (λ z found. absurd (none_some (sym found ∙ slice_get_past (states nodes) n (omega (arith, count_states nodes))))) in
+    rw (set-get_or (states nodes) n blank) at stays
   where
-    agrees : (z : NodeState) → slice_get k.nodes n ≡ Some (kept_of z) → (blank : KeptNode) → kept_of (record z { live = false }) ≡ get_or k.nodes n blank
-    agrees z found blank =
-        let here = get_or_from_slice_get k.nodes n (kept_of z) blank found in
-        let off : false ≡ z.live = sym dead ∙ ap (λ o. option_map_or (λ x. x.live) o false) found in
-        rw (here, off) refl
+    none_some : {X : Type 0} {x : X} → Some x ≡ None → ⊥
+    none_some h = cc

@@ -1,15 +1,17 @@
 -- The walk of an end: what it has passed, and what is still to come.
 use Rattle.std.proofs.Common.{◌≡◌, ◌≢◌, ℕ, zero, suc, ◌+◌, ◌<◌, ◌≤◌, Bool, true, false, not, ◌||◌, eqb, List, [], ◌∷◌, ◌++◌, length, reverse, get_or, set, refl, sym, ap, ◌∙◌, arith, Option, Some, None, filter, filter_map, append_assoc, length-append}
-use Rattle.std.specs.List.{list_any, flat_map, AllByRecursion, IsDistinct, cons_option}
-use Rattle.std.specs.Option.{option_to_list}
-use Rattle.std.proofs.lemmas.List.{append-nil, reverse-append, reverse-reverse, get_or-set_same, get_or-set_other, length-set, length-reverse}
+use Rattle.std.specs.List.{slice_get, list_any, flat_map, AllByRecursion, IsDistinct, cons_option}
+use Rattle.std.specs.Option.{option_map, option_and_then, option_to_list}
+use Rattle.std.proofs.lemmas.List.{append-nil, reverse-append, reverse-reverse, get_or-set_same, get_or-set_other, length-set, length-map, length-reverse}
 use Rattle.std.proofs.lemmas.List.Elements.{filter-append, filter_map-append}
 use Rattle.std.proofs.lemmas.Grind.{flat_map-append}
+use Rattle.std.proofs.lemmas.Option.{slice_get-get_or, slice_get-map, get_or_from_slice_get}
 use Rattle.std.proofs.lemmas.Bool.Decides.{nat_tests}
 use Rattle.std.proofs.lemmas.Map.Steps.{length-le_from_distinct_below}
 use Rattle.rt_super.specs.Ancestry.{nodes_below, subtree, stands_in}
-use Rattle.rt_super.specs.Kept.{placed, is_marked}
-use Rattle.rt_super.specs.Inside.{children_from, AreOlder, IsClosed, marks_set}
+use Rattle.rt_super.specs.Ending.{task_at}
+use Rattle.rt_super.specs.Inside.{IsSound, parents, children_lists, placed, is_marked, children_from, AreOlder, IsClosed, marks_set}
+use Rattle.rt_super.specs.declared.node.Node.{Node}
 use Rattle.rt_super.proofs.Below.{below, times, times-append, stands-times, stands-append, below_once_in, below_self, below_high, below_by_children, below_marked, or_false}
 
 -- the tasks of those that weren't marked
@@ -145,6 +147,25 @@ walk_within parents tasks was first n v mark pending flags w known =
     let head : times v (subtree (placed 0 parents) v ++ rest) ≡ 1 + times v (nodes_below v (placed 0 parents) ++ rest) = rw self refl in
     let there : 0 < times v (w.done ++ (subtree (placed 0 parents) v ++ rest)) = omega arith in
     subtree_within v n parents known (rw (walk_order parents tasks was first n v mark pending flags w) at there)
+
+pub popped_within : (nodes : List Node) (tasks : ℕ → Option ℕ) (was : ℕ → Bool) (first : List ℕ) (n v : ℕ) (mark : ℕ → Bool) (pending all flags : List ℕ) → IsWalk (parents nodes) tasks was first n mark all flags → all ≡ pending ++ v ∷ [] → n < length nodes → v < length nodes
+popped_within nodes tasks was first n v mark pending all flags w popped known =
+    let places = length-map nodes (λ x. x.parent) in
+    let within = walk_within (parents nodes) tasks was first n v mark pending flags (rw popped at w) (omega arith) in
+    omega arith
+
+-- a node's children, its mark and its task, as they are kept
+
+pub children_at : (nodes : List Node) (ended : List Bool) (v : ℕ) (x : Node) → IsSound (parents nodes) (children_lists nodes) ended → v < length nodes → x ≡ get_or nodes v x → x.children.items ≡ children_from v 0 (parents nodes)
+children_at nodes ended v x s known at =
+    let there : slice_get nodes v ≡ Some x = slice_get-get_or nodes v x known ∙ ap (λ y. Some y) (sym at) in
+    sym (get_or_from_slice_get (children_lists nodes) v x.children.items [] (slice_get-map (λ y. y.children.items) nodes v ∙ ap (λ o. option_map (λ y. y.children.items) o) there)) ∙ s.lists v
+
+pub count_marks : (nodes : List Node) (ls : List (List ℕ)) (ended : List Bool) → IsSound (parents nodes) ls ended → length ended ≡ length nodes
+count_marks nodes ls ended s = s.lengths ∙ length-map nodes (λ x. x.parent)
+
+pub task_here : (nodes : List Node) (v : ℕ) (x : Node) → v < length nodes → x ≡ get_or nodes v x → task_at nodes v ≡ x.task
+task_here nodes v x known at = ap (λ o. option_and_then (λ y. y.task) o) (slice_get-get_or nodes v x known ∙ ap (λ y. Some y) (sym at))
 
 -- a marked one is passed over, with all below it
 pub walk_skip : (parents : List (Option ℕ)) (tasks : ℕ → Option ℕ) (was : ℕ → Bool) (first : List ℕ) (n v : ℕ) (mark : ℕ → Bool) (pending flags : List ℕ) → IsWalk parents tasks was first n mark (pending ++ v ∷ []) flags → AreOlder 0 parents → IsClosed was 0 parents → mark v ≡ true → IsWalk parents tasks was first n mark pending flags

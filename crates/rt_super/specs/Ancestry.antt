@@ -1,5 +1,5 @@
 -- The record of a tree: the nodes ever made, and the ends that were asked for. Who has ended is looked up by ancestry.
-use Rattle.std.specs.Prelude.{ℕ, Bool, true, false, not, ◌||◌, ◌==◌, if◌then◌else◌, IsTrue, List, [], ◌∷◌, ◌++◌, map, filter, filter_map, find, drop, Option, Some, None, is_some, option_and_then}
+use Rattle.std.specs.Prelude.{ℕ, Bool, true, false, not, ◌||◌, ◌==◌, if◌then◌else◌, List, [], ◌∷◌, ◌++◌, map, filter, filter_map, find, drop, Option, Some, None, is_some, option_and_then}
 use Rattle.std.specs.List.{list_any}
 use Rattle.std.specs.Option.{option_map_or}
 
@@ -34,9 +34,6 @@ is_known r n = is_some (node_at r n)
 
 abbrev pub is_live : TreeRecord → ℕ → Bool
 is_live r n = option_map_or (λ x. x.live) (node_at r n) false
-
-abbrev pub IsLive : TreeRecord → ℕ → Type 0
-IsLive r n = IsTrue (is_live r n)
 
 -- the task on a node, live or released
 abbrev pub task_on : TreeRecord → ℕ → Option ℕ
@@ -81,9 +78,6 @@ was_born_ended r n = option_map_or (λ x. x.born_ended) (node_at r n) false
 -- the node was born ended, or it or an ancestor stands in the list of ends
 abbrev pub is_ended : TreeRecord → ℕ → Bool
 is_ended r n = was_born_ended r n || list_any (λ e. stands_in (subtree (links r) e) n) r.ends
-
-abbrev pub IsEnded : TreeRecord → ℕ → Type 0
-IsEnded r n = IsTrue (is_ended r n)
 
 -- the nodes that an end of this one ends: those of its subtree that weren't ended, in preorder
 abbrev pub newly_ended : TreeRecord → ℕ → List ℕ

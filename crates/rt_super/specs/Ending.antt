@@ -1,6 +1,6 @@
 -- The walk of an end.
 use Rattle.std.specs.Prelude.{ℕ, Bool, not, List, filter, filter_map, Option, slice_get, option_and_then}
-use Rattle.rt_super.specs.Kept.{is_marked}
+use Rattle.rt_super.specs.Inside.{is_marked}
 use Rattle.rt_super.specs.declared.node.Node.{Node}
 
 -- the task on the node at a place

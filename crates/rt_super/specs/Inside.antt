@@ -1,18 +1,26 @@
 -- How a tree is kept in memory.
-use Rattle.std.specs.Prelude.{◌≡◌, ℕ, suc, ◌+◌, ◌<◌, Bool, true, if◌then◌else◌, List, [], ◌∷◌, ◌++◌, map, length, get_or, set, slice_get, Option, Some, None}
-use Rattle.rt_super.specs.Ancestry.{is_child}
-use Rattle.rt_super.specs.Kept.{KeptNode, is_marked}
+use Rattle.std.specs.Prelude.{◌≡◌, ℕ, suc, ◌+◌, ◌<◌, Bool, true, false, if◌then◌else◌, List, [], ◌∷◌, ◌++◌, map, length, get_or, set, slice_get, Option, Some, None, option_map}
+use Rattle.rt_super.specs.Ancestry.{NodeState, TreeRecord, node_at, links, is_ended, is_child}
 use Rattle.rt_super.specs.declared.node.Node.{Node}
-
--- a node as it is kept
-abbrev pub kept_node : Node → KeptNode
-kept_node x = record { parent = x.parent; live = x.live; task = x.task }
 
 abbrev pub parents : List Node → List (Option ℕ)
 parents nodes = map (λ x. x.parent) nodes
 
+-- whether each node is live, and its task
+abbrev pub states : List Node → List (Bool × Option ℕ)
+states nodes = map {B = Bool × Option ℕ} (λ x. (x.live, x.task)) nodes
+
 abbrev pub children_lists : List Node → List (List ℕ)
 children_lists nodes = map (λ x. x.children.items) nodes
+
+-- each parent with the place of its child, from a place on
+abbrev pub placed : ℕ → List (Option ℕ) → List (ℕ × Option ℕ)
+placed i [] = []
+placed i (parent ∷ rest) = (i, parent) ∷ placed (suc i) rest
+
+-- whether a place is marked as ended
+abbrev pub is_marked : List Bool → ℕ → Bool
+is_marked ended n = get_or ended n false
 
 -- the lists with a child more
 abbrev pub adopted : List (List ℕ) → Option ℕ → ℕ → List (List ℕ)
@@ -49,3 +57,14 @@ pub record IsSound (parents : List (Option ℕ)) (children : List (List ℕ)) (e
   pub older : AreOlder 0 parents
   pub lists : (n : ℕ) → get_or children n [] ≡ children_from n 0 parents
   pub closed : IsClosed (is_marked ended) 0 parents
+
+abbrev pub state_of : NodeState → Bool × Option ℕ
+state_of x = (x.live, x.task)
+
+-- What is kept is right by a record: the nodes are those of the record, each at the place of its number, the marks are on what
+-- the record finds ended, and the flags are the same.
+pub record Matches (above : List (Option ℕ)) (kept : List (Bool × Option ℕ)) (marks : List Bool) (noted : List ℕ) (r : TreeRecord) : Type 0 where
+  pub order : links r ≡ placed 0 above
+  pub nodes : (n : ℕ) → option_map state_of (node_at r n) ≡ slice_get kept n
+  pub ended : (n : ℕ) → is_ended r n ≡ is_marked marks n
+  pub flags : r.flags ≡ noted

@@ -1,7 +1,7 @@
 pub mod Wakers
 pub mod Slots
 pub mod Ancestry
-pub mod Kept
+pub mod History
 pub mod Inside
 pub mod Ending
 pub mod TreeInside

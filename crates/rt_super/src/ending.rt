@@ -3,7 +3,7 @@ ghost use Rattle.std.specs.Prelude.{◌≡◌, ℕ, ◌||◌, ◌++◌, ◌+◌,
 ghost use Rattle.std.specs.VecDeque.{deque_capacity};
 ghost use Rattle.std.specs.Option.{option_to_list};
 ghost use Rattle.rt_super.specs.Ancestry.{subtree, stands_in};
-ghost use Rattle.rt_super.specs.Kept.{placed, is_marked};
+ghost use Rattle.rt_super.specs.Inside.{placed, is_marked};
 ghost use Rattle.rt_super.specs.Inside.{IsSound, parents, children_lists, marks_set};
 ghost use Rattle.rt_super.specs.Ending.{fresh_tasks};
 

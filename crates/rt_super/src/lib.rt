@@ -3,6 +3,7 @@
 
 mod alarms;
 mod ending;
+mod history;
 mod node;
 mod slot_state;
 mod slots;

@@ -1,12 +1,12 @@
 // Which contexts end with which.
-ghost use Rattle.std.specs.Prelude.{◌≡◌, ◌⊎◌, ◌<◌, ◌≤◌, ◌↔◌, length, slice_get, Err, None, IfOk, IfErr, OnErr, OnOk, IsTrue, true, false, map, drop, vec_capacity};
-ghost use Rattle.rt_super.specs.Ancestry.{TreeRecord, first_record, IsLive, IsEnded, is_live, is_ended, live_task, with_child, with_task, with_release, with_end, with_flag_taken};
-ghost use Rattle.rt_super.specs.Kept.{StandsFor, IsFree, IsChild, live_at, with_node, is_marked};
-ghost use Rattle.rt_super.specs.Inside.{kept_node, children_lists, adopted};
+ghost use Rattle.std.specs.Prelude.{◌≡◌, ◌⊎◌, ◌<◌, ◌≤◌, ◌↔◌, ◌&&◌, length, slice_get, Err, None, IfOk, IfErr, OnErr, OnOk, IsTrue, false, vec_capacity};
+ghost use Rattle.rt_super.specs.Ancestry.{first_record, is_known, is_live, is_ended, live_task, with_new, with_child, with_task, with_release, with_end, with_flag_taken};
+ghost use Rattle.rt_super.specs.Inside.{parents, states, children_lists, adopted};
 ghost use Rattle.std.specs.Option.{ForSome};
 ghost use Rattle.std.specs.VecDeque.{deque_capacity};
 
 use crate::ending::end_subtree;
+use crate::history::{Change, History};
 use crate::node::Node;
 use rt_base::{Error, NoMemory};
 use std::alloc::Global;
@@ -27,33 +27,33 @@ pub struct Tree {
     pending: Vec<usize>,
     /// Tasks of ended nodes that nobody took yet.
     flags: VecDeque<u64>,
+    /// What clauses see of the tree.
+    history: History,
 }
 
 impl Model for Tree {
-    ghost use Rattle.std.specs.Prelude.{map};
-    ghost use Rattle.rt_super.specs.Kept.{Kept};
-    ghost use Rattle.rt_super.specs.Inside.{kept_node};
+    ghost use Rattle.rt_super.specs.Ancestry.{TreeRecord};
 
-    ghost Value = { Kept };
+    ghost Value = { TreeRecord };
 
     ghost use Rattle.rt_super.specs.TreeInside.{IsWhole};
 
-    ghost view = { λ t. record { nodes = map kept_node t.nodes.items; ended = t.ended.items; flags = t.flags.items } };
+    ghost view = { λ t. t.history.told };
 
     ghost invariant = { IsWhole };
 }
 
-#[tactic(auto, unfolding(crate::specs::Kept::StandsFor, crate::specs::Kept::IsFree))]
 impl Tree {
     /// A tree of one node, which isn't ended.
     pub fn new(alloc: Global) -> Result<Tree, NoMemory>
-        ensures { IfOk result (λ tree. StandsFor tree first_record) }
+        ensures { IfOk result (λ tree. tree ≡ first_record) }
     {
         let mut tree = Tree {
             nodes: Vec::new(alloc),
             ended: Vec::new(alloc),
             pending: Vec::new(alloc),
             flags: VecDeque::new(alloc),
+            history: History::new(),
         };
         tree.add(None, false)?;
         Ok(tree)
@@ -69,21 +69,25 @@ impl Tree {
     /// Whether the node was ended, by an end of its own or of an ancestor's, or at its birth.
     /// False for a node that isn't live.
     pub fn is_ended(&self, node: u64) -> bool
-        ensures { (r : TreeRecord) → StandsFor self.now r → IsTrue result ↔ (IsLive r node × IsEnded r node) }
+        ensures { result ≡ (is_live self.now node && is_ended self.now node) }
     {
-        self.is_live(node) && self.ended[node as usize]
+        self.lives(node) && self.has_ended(node)
     }
 
     /// Whether the node was made and not released.
     pub fn lives(&self, node: u64) -> bool
-        ensures { (r : TreeRecord) → StandsFor self.now r → result ≡ is_live r node }
+        ensures live { result ≡ is_live self.now node }
+        ensures known { IsTrue result → node < length self.now.nodes }
     {
-        self.is_live(node)
+        match self.nodes.get(node as usize) {
+            Some(place) => place.live,
+            None => false,
+        }
     }
 
     /// Whether the node, live or released, was ended, as `is_ended` tells it of a live one.
     pub fn has_ended(&self, node: u64) -> bool
-        ensures { (r : TreeRecord) → StandsFor self.now r → result ≡ is_ended r node }
+        ensures { result ≡ is_ended self.now node }
     {
         match self.ended.get(node as usize) {
             Some(ended) => *ended,
@@ -96,16 +100,18 @@ impl Tree {
     ///
     /// Errors: `UnknownToken` where the parent isn't live, `NoMemory`.
     pub fn child(&mut self, parent: u64) -> Result<(u64, bool), Error>
-        ensures made { (r : TreeRecord) → StandsFor self.old r → IfOk result (λ made. IsChild r self.new parent made.0 made.1) }
-        ensures free { IfOk result (λ made. IsFree self.new made.0) }
-        ensures unknown { (r : TreeRecord) → StandsFor self.old r → (result ≡ Err Error.UnknownToken) ↔ (is_live r parent ≡ false) }
+        ensures flag { IfOk result (λ made. made.1 ≡ is_ended self.old parent) }
+        ensures made { IfOk result (λ made. self.new ≡ with_child self.old made.0 parent) }
+        ensures fresh { IfOk result (λ made. is_known self.old made.0 ≡ false) }
+        ensures free { IfOk result (λ made. live_task self.new made.0 ≡ None) }
+        ensures unknown { (result ≡ Err Error.UnknownToken) ↔ (is_live self.old parent ≡ false) }
         ensures causes { IfErr result (λ e. (e ≡ Error.UnknownToken) ⊎ (e ≡ Error.NoMemory)) }
         ensures refused { OnErr result (self.new ≡ self.old) }
     {
-        if !self.is_live(parent) {
+        if !self.lives(parent) {
             return Err(Error::UnknownToken);
         }
-        let ended = self.ended[parent as usize];
+        let ended = self.has_ended(parent);
         let number = self.add((!ended).then_some(parent), ended)?;
         Ok((number, ended))
     }
@@ -114,36 +120,38 @@ impl Tree {
     ///
     /// Error: `UnknownToken` where the node isn't live.
     pub fn register(&mut self, node: u64, task: u64) -> Result<bool, Error>
-        requires free { IsFree self.old node }
-        ensures put { (r : TreeRecord) → StandsFor self.old r → IfOk result (λ ended. (ended ≡ is_ended r node) × StandsFor self.new (with_task r node task)) }
-        ensures unknown { (r : TreeRecord) → StandsFor self.old r → (result ≡ Err Error.UnknownToken) ↔ (is_live r node ≡ false) }
+        requires free { live_task self.old node ≡ None }
+        ensures flag { IfOk result (λ ended. ended ≡ is_ended self.old node) }
+        ensures put { OnOk result (self.new ≡ with_task self.old node task) }
+        ensures unknown { (result ≡ Err Error.UnknownToken) ↔ (is_live self.old node ≡ false) }
         ensures causes { IfErr result (λ e. e ≡ Error.UnknownToken) }
         ensures refused { OnErr result (self.new ≡ self.old) }
     {
-        if !self.is_live(node) {
+        if !self.lives(node) {
             return Err(Error::UnknownToken);
         }
+        let ended = self.has_ended(node);
+        self.history = History::after(&self.history, &Change::Registered(node, task));
         self.nodes[node as usize].task = Some(task);
-        Ok(self.ended[node as usize])
+        Ok(ended)
     }
 
     /// The task on a live node. Where there is none, `register` may put one.
     pub fn task_of(&self, node: u64) -> Option<u64>
-        ensures task { (r : TreeRecord) → StandsFor self.now r → result ≡ live_task r node }
-        ensures free { (result ≡ None) ↔ IsFree self.now node }
+        ensures { result ≡ live_task self.now node }
     {
-        if self.is_live(node) {
-            self.nodes[node as usize].task
-        } else {
-            None
+        match self.nodes.get(node as usize) {
+            Some(place) if place.live => place.task,
+            _ => None,
         }
     }
 
     /// Ends a node, live or released, and every node below it. Nothing where the node was ended or
     /// was never made.
     pub fn end(&mut self, node: u64)
-        ensures { (r : TreeRecord) → StandsFor self.old r → StandsFor self.new (with_end r node) }
+        ensures { self.new ≡ with_end self.old node }
     {
+        self.history = History::after(&self.history, &Change::Ended(node));
         if node < self.nodes.len() as u64 {
             end_subtree(
                 &self.nodes,
@@ -159,41 +167,32 @@ impl Tree {
     /// of the earlier ends, and of one end in preorder, so an ancestor's before its descendants'
     /// and an elder child's before a younger one's.
     pub fn next_flag(&mut self) -> Option<u64>
-        ensures first { (r : TreeRecord) → StandsFor self.old r → result ≡ slice_get r.flags 0 }
-        ensures taken { (r : TreeRecord) → StandsFor self.old r → StandsFor self.new (with_flag_taken r) }
-        ensures head { result ≡ slice_get self.old.flags 0 }
-        ensures rest { self.new ≡ record self.old { flags = drop 1 self.old.flags } }
+        ensures first { result ≡ slice_get self.old.flags 0 }
+        ensures taken { self.new ≡ with_flag_taken self.old }
     {
+        self.history = History::after(&self.history, &Change::FlagTaken);
         self.flags.pop_front()
     }
 
     /// Gives a live node up. It stays as an ancestor of what stands below it, and its task stays on
     /// it. Nothing where the node isn't live.
     pub fn release(&mut self, node: u64)
-        ensures { (r : TreeRecord) → StandsFor self.old r → StandsFor self.new (with_release r node) }
+        ensures { self.new ≡ with_release self.old node }
     {
-        if self.is_live(node) {
+        self.history = History::after(&self.history, &Change::Released(node));
+        if node < self.nodes.len() as u64 {
             self.nodes[node as usize].live = false;
-        }
-    }
-
-    fn is_live(&self, node: u64) -> bool
-        ensures live { result ≡ live_at self.now node }
-        ensures known { IsTrue result → node < length self.now.nodes }
-        ensures lengths { length self.now.ended ≡ length self.now.nodes }
-    {
-        match self.nodes.get(node as usize) {
-            Some(place) => place.live,
-            None => false,
         }
     }
 
     /// Adds a live node without a task.
     fn add(&mut self, parent: Option<u64>, ended: bool) -> Result<u64, NoMemory>
         requires older { ForSome parent (λ p. p < length self.old.nodes) }
-        requires closed { ForSome parent (λ p. is_marked self.old.ended p ≡ false) }
+        requires lasting { ForSome parent (λ p. is_ended self.old p ≡ false) }
         ensures number { IfOk result (λ number. number ≡ length self.old.nodes) }
-        ensures added { OnOk result (self.new ≡ with_node self.old parent ended) }
+        ensures added { IfOk result (λ number. self.new ≡ with_new self.old number parent ended) }
+        ensures fresh { IfOk result (λ number. is_known self.old number ≡ false) }
+        ensures free { IfOk result (λ number. live_task self.new number ≡ None) }
         ensures refused { OnErr result (self.new ≡ self.old) }
     {
         let places = self.nodes.len() + 1;
@@ -211,6 +210,8 @@ impl Tree {
             children,
         });
         self.ended.push_reserved(ended);
+        let added = Change::Added(number as u64, parent, ended);
+        self.history = History::after(&self.history, &added);
         Ok(number as u64)
     }
 }
@@ -218,7 +219,8 @@ impl Tree {
 /// Adds a place to its parent's children.
 fn adopt(nodes: &mut Vec<Node>, parent: Option<u64>, child: usize) -> Result<(), NoMemory>
     requires known { ForSome parent (λ p. p < length nodes.old.items) }
-    ensures kept { map kept_node nodes.new.items ≡ map kept_node nodes.old.items }
+    ensures parents { parents nodes.new.items ≡ parents nodes.old.items }
+    ensures states { states nodes.new.items ≡ states nodes.old.items }
     ensures adopted { OnOk result (children_lists nodes.new.items ≡ adopted (children_lists nodes.old.items) parent child) }
     ensures refused { OnErr result (children_lists nodes.new.items ≡ children_lists nodes.old.items) }
     ensures room { vec_capacity nodes.new ≡ vec_capacity nodes.old }

@@ -2,7 +2,7 @@ use Rattle.std.proofs.Common.{◌≡◌, ◌≤◌, length, reverse, vec_capacit
 use Rattle.std.specs.List.{flat_map}
 use Rattle.std.specs.VecDeque.{deque_capacity}
 use Rattle.rt_super.specs.Ancestry.{subtree}
-use Rattle.rt_super.specs.Kept.{placed, is_marked}
+use Rattle.rt_super.specs.Inside.{placed, is_marked}
 use Rattle.rt_super.specs.Inside.{parents, marks_set}
 use Rattle.rt_super.specs.Ending.{task_at}
 use Rattle.rt_super.proofs.Walk.{IsWalk}

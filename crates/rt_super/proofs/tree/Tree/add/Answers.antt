@@ -1,42 +1,45 @@
-use Rattle.std.proofs.Common.{◌≡◌, arith, length, refl, ap, ◌∙◌, map}
+use Rattle.std.proofs.Common.{◌≡◌, false, arith, length, refl, ap, sym, ◌∙◌}
+use Rattle.std.specs.Option.{is_some}
 use Rattle.std.proofs.lemmas.List.{length-map, length_push}
-use Rattle.rt_super.specs.Inside.{kept_node, children_lists, adopted}
+use Rattle.std.proofs.lemmas.Option.{slice_get_past}
+use Rattle.rt_super.specs.Ancestry.{is_known}
+use Rattle.rt_super.specs.Inside.{parents, states, children_lists, adopted}
 use Rattle.rt_super.proofs.Walk.{marks_set-le}
-use Rattle.rt_super.proofs.Shapes.{marks_set-push, length_kept, sound_added, kept_added, sound_same, older_of, unmarked_of}
+use Rattle.rt_super.proofs.Records.{count_kept, known_kept, free_new}
+use Rattle.rt_super.proofs.Shapes.{count_states, marks_set-push, sound_added, right_added, older_of, lasts_of, unmarked_of}
 use Rattle.rt_super.proofs.tree.Tree.add.Goals as goal
 
 pub reserve_flags-requires : goal.reserve_flags-requires
-reserve_flags-requires c = omega (arith, c.self.invariant.flags, c.self.invariant.sound.lengths, marks_set-le c.self.inside.ended.items, length-map c.self.inside.nodes.items (λ x. x.parent))
+reserve_flags-requires c = record { few = omega (arith, c.self.invariant.flags, c.self.invariant.sound.lengths, marks_set-le c.self.inside.ended.items, length-map c.self.inside.nodes.items (λ x. x.parent)) }
 
-pub invariant_of-self-in_err-adopt : goal.invariant_of-self-in_err-adopt
-invariant_of-self-in_err-adopt c =
-    let kept = c.in_err-adopt.ensures.kept ∙ ap (λ xs. map kept_node xs) c.reserve.ensures.items in
-    let lists = c.in_err-adopt.ensures.refused ∙ ap (λ xs. children_lists xs) c.reserve.ensures.items in
-    let count = length_kept c.adopt.new.nodes.items c.self.inside.nodes.items kept in
-    record {
-      sound = rw (c.reserve-2.ensures.items) (sound_same c.adopt.new.nodes.items c.self.inside.nodes.items c.self.inside.ended.items c.self.invariant.sound kept lists);
-      flags = rw (c.reserve-2.ensures.items, c.reserve_flags.ensures.items) c.self.invariant.flags;
-      pending = c.reserve-3.ensures.items ∙ c.self.invariant.pending;
-      visits = omega (arith, c.self.invariant.visits, c.reserve-3.ensures.capacity);
-      room = omega (arith, c.self.invariant.room, c.reserve_flags.ensures.kept);
-    }
+pub adopt-requires : goal.adopt-requires
+adopt-requires c = record { known = λ p is. let older = rw (← c.self.view_is) at (c.requires.older p is) in omega (arith, older, count_kept _ _ _ _ _ c.self.invariant.right, length-map c.self.inside.nodes.items (λ x. x.parent), ap length c.reserve.ensures.items) }
 
 pub invariant_of-self-2 : goal.invariant_of-self-2
 invariant_of-self-2 c =
-    let kept = c.in_ok-adopt.ensures.kept ∙ ap (λ xs. map kept_node xs) c.reserve.ensures.items in
+    let same : parents c.adopt.new.nodes.items ≡ parents c.self.inside.nodes.items = c.in_ok-adopt.ensures.parents ∙ ap (λ xs. parents xs) c.reserve.ensures.items in
+    let states_same : states c.adopt.new.nodes.items ≡ states c.self.inside.nodes.items = c.in_ok-adopt.ensures.states ∙ ap (λ xs. states xs) c.reserve.ensures.items in
     let lists = c.in_ok-adopt.ensures.adopted ∙ ap (λ xs. adopted (children_lists xs) c.args.parent c.len-number.result) c.reserve.ensures.items in
-    let count : length c.adopt.new.nodes.items ≡ length c.self.inside.nodes.items = length_kept c.adopt.new.nodes.items c.self.inside.nodes.items kept in
+    let count : length c.adopt.new.nodes.items ≡ length c.self.inside.nodes.items = sym (length-map c.adopt.new.nodes.items (λ x. x.parent)) ∙ ap length same ∙ length-map c.self.inside.nodes.items (λ x. x.parent) in
+    let lasts = lasts_of c.self.inside.history.told c.args.parent (rw (← c.self.view_is) at c.requires.lasting) in
     let older = rw (← c.self.view_is) at c.requires.older in
-    let closed = rw (← c.self.view_is) at c.requires.closed in
     record {
-      sound = rw (c.push_reserved.ensures.items, c.push_reserved-2.ensures.items, c.reserve-2.ensures.items) (sound_added c.adopt.new.nodes.items c.self.inside.nodes.items _ c.self.inside.ended.items c.args.ended c.len-number.result c.self.invariant.sound kept lists c.new-children.ensures.items (omega (arith, c.len-number.ensures)) (older_of c.args.parent (length c.self.inside.nodes.items) (λ x e. omega (arith, older x e, length-map c.self.inside.nodes.items kept_node))) (unmarked_of c.self.inside.ended.items c.args.parent closed));
+      sound = rw (c.push_reserved.ensures.items, c.push_reserved-2.ensures.items, c.reserve-2.ensures.items) (sound_added c.adopt.new.nodes.items c.self.inside.nodes.items _ c.self.inside.ended.items c.args.ended c.len-number.result c.self.invariant.sound same lists c.new-children.ensures.items (omega (arith, c.len-number.ensures)) (older_of c.args.parent (length c.self.inside.nodes.items) (λ x e. omega (arith, older x e, count_kept _ _ _ _ _ c.self.invariant.right, length-map c.self.inside.nodes.items (λ x. x.parent)))) (unmarked_of c.self.inside.ended.items c.self.inside.history.told c.args.parent c.self.invariant.right.ended lasts));
+      right = rw (c.push_reserved.ensures.items, c.push_reserved-2.ensures.items, c.reserve-2.ensures.items, c.reserve_flags.ensures.items, c.after-self-inside.ensures) (right_added c.adopt.new.nodes.items c.self.inside.nodes.items _ c.self.inside.ended.items c.args.ended c.self.inside.flags.items c.self.inside.history.told c.len-number.result c.self.invariant.right same states_same refl refl c.self.invariant.sound.lengths (omega (arith, c.len-number.ensures)) lasts);
       flags = rw (c.push_reserved-2.ensures.items, c.reserve-2.ensures.items, c.reserve_flags.ensures.items) (omega (arith, c.self.invariant.flags, marks_set-push c.self.inside.ended.items c.args.ended));
       pending = c.reserve-3.ensures.items ∙ c.self.invariant.pending;
       visits = rw (c.push_reserved.ensures.items, length_push) (omega (arith, count, c.in_ok-reserve-3.ensures.ok));
       room = rw (c.push_reserved.ensures.items, length_push) (omega (arith, count, c.in_ok-reserve_flags.ensures.room));
     }
 
-pub returns-clause-added : goal.returns-clause-added
-returns-clause-added c =
-    let kept = c.in_ok-adopt.ensures.kept ∙ ap (λ xs. map kept_node xs) c.reserve.ensures.items in
-    rw (c.push_reserved.ensures.items, c.push_reserved-2.ensures.items, c.reserve-2.ensures.items, c.reserve_flags.ensures.items, ← c.self.view_is, kept_added c.adopt.new.nodes.items c.self.inside.nodes.items _ kept) refl
+pub returns-clause-number : goal.returns-clause-number
+returns-clause-number c = rw (← c.self.view_is) (omega (arith, c.len-number.ensures, count_kept _ _ _ _ _ c.self.invariant.right, length-map c.self.inside.nodes.items (λ x. x.parent)))
+
+fresh_number : (c : goal.After-self-1) → is_known c.self.inside.history.told c.len-number.result ≡ false
+fresh_number c = known_kept _ _ _ _ _ c.self.invariant.right c.len-number.result ∙ ap is_some (slice_get_past (states c.self.inside.nodes.items) c.len-number.result (omega (arith, c.len-number.ensures, count_states c.self.inside.nodes.items)))
+
+pub returns-clause-fresh : goal.returns-clause-fresh
+returns-clause-fresh c = rw (← c.self.view_is) (fresh_number c)
+
+pub returns-clause-free : goal.returns-clause-free
+returns-clause-free c = rw (c.after-self-inside.ensures) (free_new c.self.inside.history.told c.len-number.result c.args.parent c.args.ended (fresh_number c))
