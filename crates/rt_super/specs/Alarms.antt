@@ -65,6 +65,10 @@ abbrev pub due_first : List Alarm → ℕ → Option Alarm
 due_first [] now = None
 due_first (a ∷ rest) now = if nat_le a.due now then Some a else None
 
+-- its number, and whom it wakes
+abbrev pub woken_of : Alarm → ℕ × Option ℕ
+woken_of a = (a.number, a.task)
+
 -- the alarms without the first, if it is due
 abbrev pub after_due : List Alarm → ℕ → List Alarm
 after_due [] now = []

@@ -5,6 +5,6 @@ use Rattle.rt_super.specs.declared.waker.TheConstants.{NOBODY}
 abbrev pub waker_of : ℕ → Option ℕ
 waker_of number = if number == NOBODY then None else Some number
 
-abbrev pub number_for : Option ℕ → ℕ
-number_for None = NOBODY
-number_for (Some task) = task
+-- an alarm's number with the task that this number stands for
+abbrev pub named_of : ℕ × ℕ → ℕ × Option ℕ
+named_of r = (r.0, waker_of r.1)

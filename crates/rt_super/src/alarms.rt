@@ -1,7 +1,7 @@
 // When sleepers wake.
 ghost use Rattle.std.specs.Prelude.{◌≡◌, length, option_map, IfOk, OnOk, OnErr, ◌==◌};
-ghost use Rattle.rt_super.specs.Wakers.{waker_of, number_for};
-ghost use Rattle.rt_super.specs.Alarms.{no_alarms, alarm_set, alarm_rewoken, due_at, first_due, due_first, alarm_popped, alarms_cleared, AreSet};
+ghost use Rattle.rt_super.specs.Wakers.{waker_of, named_of};
+ghost use Rattle.rt_super.specs.Alarms.{no_alarms, alarm_set, alarm_rewoken, due_at, first_due, due_first, alarm_popped, woken_of, alarms_cleared, AreSet};
 
 use rt_base::{Nanos, NoMemory};
 use std::alloc::Global;
@@ -105,7 +105,7 @@ impl Alarms {
     /// Takes the least alarm by due time and number, if it is due, and answers its number and its
     /// task.
     pub fn pop_due(&mut self, now: Nanos) -> Option<(u64, u64)>
-        ensures first { result ≡ option_map (λ a. (a.number, number_for a.task)) (due_first self.old.alarms now) }
+        ensures first { option_map named_of result ≡ option_map woken_of (due_first self.old.alarms now) }
         ensures popped { self.new ≡ alarm_popped self.old now }
         ensures set { AreSet self.old }
     {
