@@ -23,9 +23,9 @@ impl Call {
         ensures { OnOk result (string_bytes text.new ≡ string_bytes text.old ++ call_text self) }
     {
         match self {
-            Call::CloseNode { node } => add_numbered(text, "close-node", node as u128),
-            Call::Wake { task } => add_numbered(text, "wake", task as u128),
-            Call::SleepPoll { due } => add_numbered(text, "sleep-poll", due),
+            Call::CloseNode { node } => add_numbered(text, "close-node ", node as u128),
+            Call::Wake { task } => add_numbered(text, "wake ", task as u128),
+            Call::SleepPoll { due } => add_numbered(text, "sleep-poll ", due),
         }
     }
 }

@@ -3,9 +3,7 @@
 ghost use Rattle.std.specs.Prelude.{◌≡◌, ◌++◌, OnOk, string_bytes};
 ghost use Rattle.rt_audit.specs.Lines.{line_of, start_text, called_text};
 
-use crate::line::{
-    add_choices, add_fields, add_number, add_numbered, add_numbers, add_optional, add_word,
-};
+use crate::line::{add_choices, add_fields, add_numbered, add_numbers, add_optional, add_word};
 use crate::{AnswerKind, Call, CallReply, FinishCause};
 use rt_base::{Choice, Items, Nanos, NoMemory, Text};
 use std::alloc::Global;
@@ -102,23 +100,23 @@ impl Entry {
                 add_word(text, label.as_str())?;
                 add_fields(alloc, text, fields.as_slice())
             }
-            Entry::Wake { task } => add_numbered(text, "wake", *task as u128),
-            Entry::Draw { value } => add_numbered(text, "draw", *value as u128),
-            Entry::Root { task } => add_numbered(text, "root", *task as u128),
+            Entry::Wake { task } => add_numbered(text, "wake ", *task as u128),
+            Entry::Draw { value } => add_numbered(text, "draw ", *value as u128),
+            Entry::Root { task } => add_numbered(text, "root ", *task as u128),
             Entry::Round { order } => {
                 add_word(text, "round")?;
                 add_numbers(text, order.as_slice())
             }
-            Entry::Visit { task } => add_numbered(text, "visit", *task as u128),
+            Entry::Visit { task } => add_numbered(text, "visit ", *task as u128),
             Entry::Answer { task, kind } => {
-                add_numbered(text, "answer", *task as u128)?;
+                add_numbered(text, "answer ", *task as u128)?;
                 add_word(text, " ")?;
                 add_word(text, kind.word())
             }
-            Entry::NodeEnd { node } => add_numbered(text, "nodeend", *node as u128),
-            Entry::Advance { now } => add_numbered(text, "advance", *now),
-            Entry::Skip { now } => add_numbered(text, "skip", *now),
-            Entry::Fire { alarm } => add_numbered(text, "fire", *alarm as u128),
+            Entry::NodeEnd { node } => add_numbered(text, "nodeend ", *node as u128),
+            Entry::Advance { now } => add_numbered(text, "advance ", *now),
+            Entry::Skip { now } => add_numbered(text, "skip ", *now),
+            Entry::Fire { alarm } => add_numbered(text, "fire ", *alarm as u128),
             Entry::Cleanup => add_word(text, "cleanup"),
             Entry::Crash { choices } => {
                 add_word(text, "crash")?;
@@ -141,13 +139,11 @@ fn add_start(
 ) -> Result<(), NoMemory>
     ensures { OnOk result (string_bytes text.new ≡ string_bytes text.old ++ start_text now deadline cycle next) }
 {
-    add_numbered(text, "start", now)?;
+    add_numbered(text, "start ", now)?;
     add_word(text, " ")?;
     add_optional(text, deadline)?;
-    add_word(text, " ")?;
-    add_number(text, cycle)?;
-    add_word(text, " ")?;
-    add_number(text, next as u128)
+    add_numbered(text, " ", cycle)?;
+    add_numbered(text, " ", next as u128)
 }
 
 fn add_call(

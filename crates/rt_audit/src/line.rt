@@ -1,13 +1,20 @@
 //! The shapes of a journal's lines, each added to a text.
 
-ghost use Rattle.std.specs.Prelude.{◌≡◌, ◌++◌, OnOk, string_bytes};
+ghost use Rattle.std.specs.Prelude.{◌≡◌, ◌++◌, ◌≤◌, length, OnOk, string_bytes};
 ghost use Rattle.std.specs.Fmt.{decimal};
-ghost use Rattle.rt_audit.specs.Lines.{numbered_text, optional_number, numbers_text, hex_text, fields_text, choice_text, choices_text};
+ghost use Rattle.hex.specs.Hex.{encode_lower};
+ghost use Rattle.rt_audit.specs.Lines.{optional_number, numbers_text, hex_text, fields_text, choice_text, choices_text};
 
+use itoa::Buffer;
 use rt_base::{Choice, Items, NoMemory};
 use std::alloc::Global;
+use std::str;
+
+/// So many bytes are printed in hex without memory of their own.
+const SHORT_HEX: usize = 32;
 
 /// A word.
+#[inline(always)]
 pub fn add_word(text: &mut String, word: &str) -> Result<(), NoMemory>
     ensures { OnOk result (string_bytes text.new ≡ string_bytes text.old ++ word.now) }
 {
@@ -16,19 +23,38 @@ pub fn add_word(text: &mut String, word: &str) -> Result<(), NoMemory>
 }
 
 /// A number.
+#[inline]
 pub fn add_number(text: &mut String, number: u128) -> Result<(), NoMemory>
     ensures { OnOk result (string_bytes text.new ≡ string_bytes text.old ++ decimal number) }
 {
-    write!(text, "{number}")?;
+    match u64::try_from(number) {
+        Ok(number) => add_short(text, number),
+        Err(_) => {
+            text.push_str(Buffer::new().format(number))?;
+            Ok(())
+        }
+    }
+}
+
+/// A number of 64 bits. Most have one digit.
+fn add_short(text: &mut String, number: u64) -> Result<(), NoMemory>
+    ensures { OnOk result (string_bytes text.new ≡ string_bytes text.old ++ decimal number) }
+{
+    if number < 10 {
+        text.push(char::from(b'0' + number as u8))?;
+    } else {
+        text.push_str(Buffer::new().format(number))?;
+    }
     Ok(())
 }
 
-/// A word, a space and a number.
+/// A word with its space, and a number.
+#[inline(always)]
 pub fn add_numbered(text: &mut String, word: &str, number: u128) -> Result<(), NoMemory>
-    ensures { OnOk result (string_bytes text.new ≡ string_bytes text.old ++ numbered_text word.now number) }
+    ensures { OnOk result (string_bytes text.new ≡ string_bytes text.old ++ (word.now ++ decimal number)) }
 {
-    write!(text, "{word} {number}")?;
-    Ok(())
+    add_word(text, word)?;
+    add_number(text, number)
 }
 
 /// A number, or `-` where there is none.
@@ -46,8 +72,7 @@ pub fn add_numbers(text: &mut String, numbers: &[u64]) -> Result<(), NoMemory>
     ensures { OnOk result (string_bytes text.new ≡ string_bytes text.old ++ numbers_text numbers.now) }
 {
     for number in numbers {
-        let number = *number;
-        write!(text, " {number}")?;
+        add_numbered(text, " ", *number as u128)?;
     }
     Ok(())
 }
@@ -58,10 +83,27 @@ pub fn add_hex(alloc: Global, text: &mut String, bytes: &[u8]) -> Result<(), NoM
 {
     match bytes {
         [] => add_word(text, "-"),
+        [..] if bytes.len() <= SHORT_HEX => add_short_hex(text, bytes),
         [..] => {
             let encoded = hex::encode(alloc, bytes)?;
             add_word(text, encoded.as_str())
         }
+    }
+}
+
+/// A few bytes as lower-case hex.
+fn add_short_hex(text: &mut String, bytes: &[u8]) -> Result<(), NoMemory>
+    requires { length bytes.now ≤ SHORT_HEX }
+    ensures { OnOk result (string_bytes text.new ≡ string_bytes text.old ++ encode_lower bytes.now) }
+{
+    let mut buffer = [0u8; 2 * SHORT_HEX];
+    let digits = &mut buffer[..2 * bytes.len()];
+    let Ok(()) = hex::encode_to_slice(bytes, digits) else {
+        unreachable!();
+    };
+    match str::from_utf8(digits) {
+        Ok(word) => add_word(text, word),
+        Err(_) => unreachable!(),
     }
 }
 
@@ -83,10 +125,7 @@ fn add_choice(text: &mut String, choice: Choice) -> Result<(), NoMemory>
     match choice {
         Choice::Kept => add_word(text, "k"),
         Choice::Dropped => add_word(text, "d"),
-        Choice::Prefix(length) => {
-            write!(text, "p{length}")?;
-            Ok(())
-        }
+        Choice::Prefix(length) => add_numbered(text, "p", length as u128),
     }
 }
 

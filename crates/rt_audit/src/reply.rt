@@ -28,11 +28,11 @@ impl CallReply {
     {
         match self {
             CallReply::Done => add_word(text, "ok"),
-            CallReply::PendingAt { alarm } => add_numbered(text, "pending", *alarm as u128),
+            CallReply::PendingAt { alarm } => add_numbered(text, "pending ", *alarm as u128),
             CallReply::Ready => add_word(text, "ready"),
             CallReply::Refused { error } => add_numbered(
                 text,
-                "err",
+                "err ",
                 error_code(error.error()) as u128,
             ),
         }

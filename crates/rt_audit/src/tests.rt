@@ -5,133 +5,164 @@ use rt_base::{Choice, Error, Items, NoMemory, Text};
 use std::alloc::Global;
 use std::test::Fail;
 
-/// An entry of each kind, in the order of the type.
-fn entries(alloc: Global) -> Result<Vec<Entry>, NoMemory> {
-    let mut fields = Vec::new(alloc);
-    fields.push(Items::of(vec![in alloc; 0u8, 171]?))?;
-    fields.push(Items::of(Vec::new(alloc)))?;
-    let entries = vec![in alloc;
-        Entry::Start {
-            next: 3,
-            now: 5,
-            deadline: Some(90),
-            cycle: 1_000_000
-        },
-        Entry::Call {
-            by: Some(3),
-            call: Call::SleepPoll { due: 7 },
-            reply: CallReply::Ready
-        },
-        Entry::Event {
-            label: Text::of("process_task".to_owned(alloc)?),
-            fields: Items::of(fields)
-        },
-        Entry::Wake { task: 3 },
-        Entry::Draw { value: u64::MAX },
-        Entry::Root { task: 3 },
-        Entry::Round {
-            order: Items::of(vec![in alloc; 3u64, 4, 3]?)
-        },
-        Entry::Visit { task: 3 },
-        Entry::Answer {
-            task: 3,
-            kind: AnswerKind::Pending
-        },
-        Entry::NodeEnd { node: 0 },
-        Entry::Advance { now: 1_000_005 },
-        Entry::Skip { now: 2_000_000 },
-        Entry::Fire { alarm: 0 },
-        Entry::Cleanup,
-        Entry::Crash {
-            choices: Items::of(vec![in alloc; Choice::Kept, Choice::Dropped, Choice::Prefix(12)]?)
-        },
-        Entry::Finish {
-            cause: FinishCause::Completed
-        },
-    ]?;
-    Ok(entries)
+/// Adds the line of an entry.
+fn add(alloc: Global, text: &mut String, entry: Entry) -> Result<(), NoMemory> {
+    entry.add_to(alloc, text)?;
+    text.push('\n')?;
+    Ok(())
 }
 
-/// A start without a deadline, and calls with the other replies.
-fn calls(alloc: Global) -> Result<Vec<Entry>, NoMemory> {
-    let refused = Refusal::new(alloc, Error::UnknownToken)?;
-    let entries = vec![in alloc;
-        Entry::Start {
-            next: 0,
-            now: 0,
-            deadline: None,
-            cycle: 1
-        },
-        Entry::Call {
-            by: None,
-            call: Call::CloseNode { node: 0 },
-            reply: CallReply::Done
-        },
-        Entry::Call {
-            by: Some(0),
-            call: Call::Wake { task: 9 },
-            reply: CallReply::Refused { error: refused }
-        },
-        Entry::Call {
-            by: Some(0),
-            call: Call::SleepPoll { due: 7 },
-            reply: CallReply::PendingAt { alarm: 2 }
-        },
-        Entry::Round {
-            order: Items::of(Vec::new(alloc))
-        },
-        Entry::Crash {
-            choices: Items::of(Vec::new(alloc))
-        },
-    ]?;
-    Ok(entries)
-}
-
-/// Their lines.
-fn lines(alloc: Global, entries: &[Entry]) -> Result<String, NoMemory> {
-    let mut text = String::new(alloc);
-    for entry in entries {
-        entry.add_to(alloc, &mut text)?;
-        text.push('\n')?;
+fn add_starts(alloc: Global, text: &mut String) -> Result<(), NoMemory> {
+    for (next, now, deadline, cycle) in [(3, 5, Some(90), 1_000_000), (0, 0, None, 1)] {
+        let start = Entry::Start {
+            next,
+            now,
+            deadline,
+            cycle,
+        };
+        add(alloc, text, start)?;
     }
-    Ok(text)
+    Ok(())
+}
+
+fn add_calls(alloc: Global, text: &mut String) -> Result<(), NoMemory> {
+    add_call(
+        alloc,
+        text,
+        Some(3),
+        Call::SleepPoll { due: 7 },
+        CallReply::Ready,
+    )?;
+    add_call(
+        alloc,
+        text,
+        None,
+        Call::CloseNode { node: 0 },
+        CallReply::Done,
+    )?;
+    let error = Refusal::new(alloc, Error::UnknownToken)?;
+    add_call(
+        alloc,
+        text,
+        Some(0),
+        Call::Wake { task: 9 },
+        CallReply::Refused { error },
+    )?;
+    let reply = CallReply::PendingAt { alarm: 2 };
+    add_call(alloc, text, Some(0), Call::SleepPoll { due: 7 }, reply)
+}
+
+fn add_call(
+    alloc: Global,
+    text: &mut String,
+    by: Option<u64>,
+    call: Call,
+    reply: CallReply,
+) -> Result<(), NoMemory> {
+    add(alloc, text, Entry::Call { by, call, reply })
+}
+
+/// An event with a field of so many bytes, and an empty one.
+fn add_event(alloc: Global, text: &mut String, size: usize) -> Result<(), NoMemory> {
+    let mut fields = Vec::new(alloc);
+    fields.push(Items::of(vec![in alloc; 171u8; size]?))?;
+    fields.push(Items::of(Vec::new(alloc)))?;
+    let event = Entry::Event {
+        label: Text::of("process_task".to_owned(alloc)?),
+        fields: Items::of(fields),
+    };
+    add(alloc, text, event)
+}
+
+/// A round that visits a number so many times.
+fn add_round(alloc: Global, text: &mut String, task: u64, times: usize) -> Result<(), NoMemory> {
+    let order = Items::of(vec![in alloc; task; times]?);
+    add(alloc, text, Entry::Round { order })
+}
+
+fn add_tasks(alloc: Global, text: &mut String) -> Result<(), NoMemory> {
+    add(alloc, text, Entry::Wake { task: 9 })?;
+    add(alloc, text, Entry::Draw { value: u64::MAX })?;
+    add(alloc, text, Entry::Root { task: 10 })?;
+    add(alloc, text, Entry::Visit { task: 3 })?;
+    let kind = AnswerKind::Pending;
+    add(alloc, text, Entry::Answer { task: 3, kind })?;
+    add(alloc, text, Entry::NodeEnd { node: 0 })
+}
+
+fn add_times(alloc: Global, text: &mut String) -> Result<(), NoMemory> {
+    add(alloc, text, Entry::Advance { now: 1_000_005 })?;
+    add(alloc, text, Entry::Skip { now: 1 << 100 })?;
+    add(alloc, text, Entry::Fire { alarm: 0 })
+}
+
+fn add_ends(alloc: Global, text: &mut String) -> Result<(), NoMemory> {
+    add(alloc, text, Entry::Cleanup)?;
+    let choices = Items::of(vec![in alloc; Choice::Kept, Choice::Dropped, Choice::Prefix(12)]?);
+    add(alloc, text, Entry::Crash { choices })?;
+    let choices = Items::of(Vec::new(alloc));
+    add(alloc, text, Entry::Crash { choices })?;
+    let cause = FinishCause::Completed;
+    add(alloc, text, Entry::Finish { cause })
 }
 
 #[test]
 fn line_of_each_entry(rt: HostRuntime) -> Result<(), Fail> {
     let alloc = rt.alloc();
+    let mut text = String::new(alloc);
+    add_starts(alloc, &mut text)?;
+    add_calls(alloc, &mut text)?;
+    add_event(alloc, &mut text, 2)?;
+    add_round(alloc, &mut text, 4, 3)?;
+    add_round(alloc, &mut text, 4, 0)?;
+    add_tasks(alloc, &mut text)?;
+    add_times(alloc, &mut text)?;
+    add_ends(alloc, &mut text)?;
     assert_eq!(rt;
-        lines(alloc, entries(alloc)?.as_slice())?.as_str(),
+        text.as_str(),
         "\
 start 5 90 1000000 3
+start 0 - 1 0
 call 3 sleep-poll 7 -> ready
-event process_task 00ab -
-wake 3
+call - close-node 0 -> ok
+call 0 wake 9 -> err 12
+call 0 sleep-poll 7 -> pending 2
+event process_task abab -
+round 4 4 4
+round
+wake 9
 draw 18446744073709551615
-root 3
-round 3 4 3
+root 10
 visit 3
 answer 3 pending
 nodeend 0
 advance 1000005
-skip 2000000
+skip 1267650600228229401496703205376
 fire 0
 cleanup
 crash k d p12
+crash
 finish ok
 "
     );
-    assert_eq!(rt;
-        lines(alloc, calls(alloc)?.as_slice())?.as_str(),
-        "\
-start 0 - 1 0
-call - close-node 0 -> ok
-call 0 wake 9 -> err 12
-call 0 sleep-poll 7 -> pending 2
-round
-crash
-"
-    );
+    Ok(())
+}
+
+#[test]
+fn long_lines(rt: HostRuntime) -> Result<(), Fail> {
+    let alloc = rt.alloc();
+    for size in [32, 33, 524_288] {
+        let mut text = String::new(alloc);
+        add_event(alloc, &mut text, size)?;
+        assert_eq!(rt;
+            text.len(),
+            "event process_task  -\n".len() + 2 * size,
+            "at {size}"
+        );
+        add_round(alloc, &mut text, u64::MAX, size)?;
+        let lines = "event process_task  -\nround\n".len();
+        assert_eq!(rt; text.len(), lines + 23 * size, "at {size}");
+    }
     Ok(())
 }
 
@@ -168,7 +199,7 @@ fn has_words(alloc: Global) -> Result<bool, NoMemory> {
 fn keeps_entries(alloc: Global) -> Result<bool, NoMemory> {
     let mut journal = Journal::new(alloc);
     let was_empty = journal.is_empty() && journal.spare() == 0;
-    journal.reserve(2)?;
+    journal.reserve(65_536)?;
     journal.push(Entry::Advance { now: 7 });
     journal.push(Entry::Cleanup);
     let kept = journal.len() == 2 && journal.entries().len() == 2 && journal.last_time() == 7;

@@ -10,7 +10,7 @@ use crate::line::Line;
 use crate::names::name_of;
 use crate::numbers;
 use crate::scenario::{Scenario, ScriptText};
-use crate::split::{has_stray_space, is_passed_over, is_printable, only_word, split_word};
+use crate::split::{is_passed_over, only_word, split_word, test_text};
 use crate::stop::Stop;
 use crate::word::Word;
 use rt_base::{Items, MAX_TIME, Nanos, Text};
@@ -106,10 +106,11 @@ impl Draft {
         if text.len() > LINE_LEN {
             return Err(Stop::Breaks(Kind::Long));
         }
-        if !is_printable(text) {
+        let tested = test_text(text);
+        if !tested.is_printable {
             return Err(Stop::Breaks(Kind::Byte));
         }
-        if has_stray_space(text) {
+        if tested.has_stray_space {
             return Err(Stop::Breaks(Kind::Space));
         }
         if is_passed_over(text) {

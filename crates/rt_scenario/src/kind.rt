@@ -4,7 +4,8 @@ ghost use Rattle.rt_scenario.specs.KindWords.{kind_word};
 
 use std::fmt;
 
-/// The rule that the first broken line breaks, in the order in which rules are tested.
+/// The rule that the first broken line breaks. Rules are tested in this order, but that the first word is known is
+/// tested before whether the line is allowed there.
 #[derive(Clone, Copy, Debug, PartialEq, Eq)]
 pub enum Kind {
     /// The last line has no LF.

@@ -1,10 +1,12 @@
 // A line of a script.
 
+use rt_base::Nanos;
+
 /// What a task of the script does at one line.
 #[derive(Clone, Copy, Debug, PartialEq, Eq)]
 pub enum Line {
-    /// Sleeps so many nanoseconds.
-    Sleep(u128),
+    /// Sleeps so long.
+    Sleep(Nanos),
     /// Lets the others go first.
     Yield,
     /// Answers pending at each poll.

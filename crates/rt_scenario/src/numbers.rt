@@ -1,8 +1,8 @@
 // Numbers and values of a scenario.
-ghost use Rattle.std.specs.Prelude.{◌≡◌, ◌<◌, ◌≤◌, ◌^◌, ℕ, List, length, Some, true};
+ghost use Rattle.std.specs.Prelude.{◌≡◌, ◌+◌, ◌*◌, ◌<◌, ◌≤◌, ◌^◌, ℕ, List, length, Some, true};
 ghost use Rattle.std.specs.List.{list_all};
 ghost use Rattle.std.specs.Char.{is_ascii_digit, digit_value};
-ghost use Rattle.std.specs.Str.Parse.{digits_value};
+ghost use Rattle.std.specs.Str.Parse.{digits_value, digits_value_after};
 ghost use Rattle.rt_scenario.specs.Numbers.{number_of, value_of, is_decimal, minus, below};
 
 /// A decimal number without sign or leading zero, below `2^128`.
@@ -16,24 +16,52 @@ pub fn number_of(text: &[u8]) -> Option<u128>
     }
 }
 
+/// The number that digits write, by 64 bits as long as it fits them.
 fn digits_number(text: &[u8]) -> Option<u128>
     requires { list_all is_ascii_digit text.now ≡ true }
     ensures { result ≡ below (2 ^ 128) (digits_value 10 text.now) }
 {
-    let mut number = 0u128;
+    let mut number = 0u64;
     let mut rest = text;
     while let Some((digit, tail)) = rest.split_first() {
-        number = number.checked_mul(10)?.checked_add(digit_number(*digit))?;
+        let Some(more) = with_digit(number, *digit) else {
+            return wide_number(number, rest);
+        };
+        number = more;
         rest = tail;
     }
-    Some(number)
+    Some(u128::from(number))
 }
 
-fn digit_number(digit: u8) -> u128
+/// The number with a digit more, where 64 bits hold it.
+fn with_digit(number: u64, digit: u8) -> Option<u64>
+    requires { is_ascii_digit digit ≡ true }
+    ensures { result ≡ below (2 ^ 64) (number * 10 + digit_value digit) }
+{
+    number.checked_mul(10)?.checked_add(digit_number(digit))
+}
+
+fn digit_number(digit: u8) -> u64
     requires { is_ascii_digit digit ≡ true }
     ensures { result ≡ digit_value digit }
 {
-    u128::from(digit - b'0')
+    u64::from(digit - b'0')
+}
+
+/// The number that these digits and then those of the text write.
+fn wide_number(start: u64, text: &[u8]) -> Option<u128>
+    requires { list_all is_ascii_digit text.now ≡ true }
+    ensures { result ≡ below (2 ^ 128) (digits_value_after 10 start text.now) }
+{
+    let mut number = u128::from(start);
+    let mut rest = text;
+    while let Some((digit, tail)) = rest.split_first() {
+        number = number
+            .checked_mul(10)?
+            .checked_add(u128::from(digit_number(*digit)))?;
+        rest = tail;
+    }
+    Some(number)
 }
 
 /// A number, or a minus sign and a number other than 0, within an `i64`.

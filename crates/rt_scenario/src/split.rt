@@ -42,13 +42,6 @@ pub fn only_word<'a>(text: Option<&'a [u8]>) -> Option<&'a [u8]>
     }
 }
 
-/// Whether each byte is within 0x20 to 0x7E.
-pub fn is_printable(text: &[u8]) -> bool
-    ensures { result ≡ list_all is_printable text.now }
-{
-    text.iter().all(|b| *b >= b' ' && *b <= b'~')
-}
-
 /// Whether the line is empty or a comment.
 pub fn is_passed_over(text: &[u8]) -> bool
     ensures { result ≡ is_passed_over text.now }
@@ -56,25 +49,34 @@ pub fn is_passed_over(text: &[u8]) -> bool
     text.is_empty() || text[0] == b'#'
 }
 
-/// Whether a space begins or ends the text, or two stand together.
-pub fn has_stray_space(text: &[u8]) -> bool
-    ensures { result ≡ has_stray_space text.now }
-{
-    !text.is_empty() && has_empty_word(text)
+/// What one pass over a line tells.
+#[derive(Clone, Copy)]
+pub struct Tested {
+    /// Each byte is within 0x20 to 0x7E.
+    pub is_printable: bool,
+    /// A space begins or ends the text, or two stand together.
+    pub has_stray_space: bool,
 }
 
-fn has_empty_word(text: &[u8]) -> bool
-    ensures { result ≡ list_any (λ word. length word == 0) (words_of text.now) }
+/// Tests a text in one pass.
+#[tactic(auto, using(crate::proofs::Spaces::has_empty_by_pass))]
+pub fn test_text(text: &[u8]) -> Tested
+    ensures printable { result.is_printable ≡ list_all is_printable text.now }
+    ensures stray { result.has_stray_space ≡ has_stray_space text.now }
 {
-    let mut rest = Some(text);
-    while let Some(words) = rest {
-        let (word, tail) = split_word(words);
-        if word.is_empty() {
-            return true;
-        }
-        rest = tail;
+    let mut printable = true;
+    let mut stray = false;
+    let mut behind_space = true;
+    for byte in text {
+        let is_space = *byte == b' ';
+        printable &= *byte >= b' ' && *byte <= b'~';
+        stray |= is_space && behind_space;
+        behind_space = is_space;
     }
-    false
+    Tested {
+        is_printable: printable,
+        has_stray_space: !text.is_empty() && (stray || behind_space),
+    }
 }
 
 // How many bytes stand before the first of this kind.

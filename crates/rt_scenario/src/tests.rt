@@ -1,6 +1,8 @@
 // Which line is broken first and how, and what a whole scenario says.
 
 use crate::{Kind, Line, Refusal, read_scenario};
+use std::alloc::{AllocError, Global};
+use std::process::Abort;
 use std::test::Fail;
 
 #[test]
@@ -23,6 +25,23 @@ fn surface(rt: HostRuntime) -> Result<(), Fail> {
         [Line::Sleep(u128::MAX), Line::End(i64::MIN), Line::EndLast].as_slice()
     );
     assert_eq!(rt; scripts[2].lines.as_slice().len(), 0);
+    Ok(())
+}
+
+/// This line of the text is the first that breaks a rule, and the word of the rule is this.
+fn expect_broken(
+    rt: &impl Abort,
+    alloc: Global,
+    text: &str,
+    line: u64,
+    word: &str,
+) -> Result<(), Fail> {
+    let Err(Refusal::Broken(broken)) = read_scenario(alloc, text.as_bytes()) else {
+        panic!(rt; "at {text}");
+    };
+    let kind = broken.kind;
+    assert_eq!(rt; broken.line, line, "at {text}");
+    assert_eq!(rt; format!(in alloc; "{kind}")?.as_str(), word, "at {text}");
     Ok(())
 }
 
@@ -51,16 +70,7 @@ fn first_broken_lines(rt: HostRuntime) -> Result<(), Fail> {
         ("script abcdefghijklmnopqrstuvwxyzabcdefg\n", 1, "name"),
         ("run a-b\n", 1, "name"),
     ] {
-        let Err(Refusal::Broken(broken)) = read_scenario(rt.alloc(), text.as_bytes()) else {
-            panic!(rt; "at {text}");
-        };
-        let kind = broken.kind;
-        assert_eq!(rt; broken.line, line, "at {text}");
-        assert_eq!(rt;
-            format!(in rt.alloc(); "{kind}")?.as_str(),
-            word,
-            "at {text}"
-        );
+        expect_broken(&rt, rt.alloc(), text, line, word)?;
     }
     Ok(())
 }
@@ -81,6 +91,11 @@ fn refused_numbers_and_names(rt: HostRuntime) -> Result<(), Fail> {
         ("script a\nend -9223372036854775809\n", 2, "number"),
         ("script a\nend -0\n", 2, "number"),
         ("script a\nend -\n", 2, "number"),
+        (
+            "script a\nsleep 18446744073709551616\nend 99999999999999999999\n",
+            3,
+            "number",
+        ),
         ("timeout 1\ntimeout 2\n", 2, "twice"),
         ("timeout 1\ntimeout x\n", 2, "number"),
         ("script a\ndone\nscript a\n", 3, "twice"),
@@ -94,29 +109,51 @@ fn refused_numbers_and_names(rt: HostRuntime) -> Result<(), Fail> {
         ("script a\n", 2, "norun"),
         ("script a\ndone\n\n", 4, "norun"),
     ] {
-        let Err(Refusal::Broken(broken)) = read_scenario(rt.alloc(), text.as_bytes()) else {
-            panic!(rt; "at {text}");
-        };
-        let kind = broken.kind;
-        assert_eq!(rt; broken.line, line, "at {text}");
-        assert_eq!(rt;
-            format!(in rt.alloc(); "{kind}")?.as_str(),
-            word,
-            "at {text}"
-        );
+        expect_broken(&rt, rt.alloc(), text, line, word)?;
     }
     Ok(())
 }
 
+/// The kind of the line that a comment of so many bytes is, or of the line after it.
+fn kind_at(alloc: Global, length: usize) -> Result<Option<Kind>, AllocError> {
+    let mut text = vec![in alloc; b'#'; length]?;
+    text.extend_from_slice(b"\n")?;
+    Ok(match read_scenario(alloc, text.as_slice()) {
+        Err(Refusal::Broken(broken)) => Some(broken.kind),
+        _ => None,
+    })
+}
+
 #[test]
 fn line_limit(rt: HostRuntime) -> Result<(), Fail> {
-    for (length, kind) in [(4096usize, Kind::NoRun), (4097, Kind::Long)] {
-        let mut text = vec![in rt.alloc(); b'#'; length]?;
-        text.push(b'\n')?;
-        let Err(Refusal::Broken(broken)) = read_scenario(rt.alloc(), text.as_slice()) else {
-            panic!(rt; "at {length}");
-        };
-        assert_eq!(rt; broken.kind, kind, "at {length}");
+    assert_eq!(rt; kind_at(rt.alloc(), 4096)?, Some(Kind::NoRun));
+    assert_eq!(rt; kind_at(rt.alloc(), 4097)?, Some(Kind::Long));
+    Ok(())
+}
+
+/// A script of so many sleeps.
+fn sleeps(alloc: Global, steps: usize) -> Result<Vec<u8>, AllocError> {
+    let mut text = Vec::from_slice(alloc, b"script a\n")?;
+    for _ in 0..steps {
+        text.extend_from_slice(b"sleep 1\n")?;
     }
+    text.extend_from_slice(b"done\nrun a\n")?;
+    Ok(text)
+}
+
+/// How many lines the first script has.
+fn lines_read(alloc: Global, text: &[u8]) -> Result<usize, Refusal> {
+    let scenario = read_scenario(alloc, text)?;
+    match scenario.scripts.as_slice() {
+        [script, ..] => Ok(script.lines.as_slice().len()),
+        [] => Ok(0),
+    }
+}
+
+#[test]
+fn a_mebibyte(rt: HostRuntime) -> Result<(), Fail> {
+    let text = sleeps(rt.alloc(), 131_069)?;
+    assert_eq!(rt; text.len(), 1_048_572);
+    assert_eq!(rt; lines_read(rt.alloc(), text.as_slice())?, 131_069);
     Ok(())
 }

@@ -1,5 +1,5 @@
 -- Runs that begin as a runner says.
-use Rattle.std.proofs.Common.{◌≡◌, ℕ, List, [], subst, ℤ, slice_index_or, slice_get, Option, Some, ◌<◌, length, refl}
+use Rattle.std.proofs.Common.{◌≡◌, ℕ, List, [], subst, ℤ, slice_index_or, slice_get, Some, ◌<◌, length, refl}
 use Rattle.std.proofs.lemmas.Option.{slice_get_read}
 use Rattle.rt_audit.specs.declared.entry.Entry.{Entry}
 use Rattle.rt_audit.specs.declared.finish.FinishCause.{FinishCause}

@@ -35,5 +35,8 @@ fn main(rt: HostRuntime) -> ExitCode {
     let mut source = StdSource::new(&rt);
     let mut sink = StdSink::new(&rt);
     let outcome = simulate_alone(alloc, command, &mut source, &mut sink);
-    ExitCode::from(outcome.status)
+    let status = outcome.status;
+    // A process that ends gives its memory back whole.
+    std::mem::forget(outcome);
+    ExitCode::from(status)
 }

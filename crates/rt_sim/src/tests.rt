@@ -1,7 +1,7 @@
 // Whole simulations, over a source and a sink in memory.
 
 use crate::{Outcome, simulate_alone};
-use rt_base::{ListSink, ListSource};
+use rt_base::{ListSink, ListSource, Sink8, Source};
 use std::alloc::{AllocError, Global};
 use std::process::Abort;
 use std::test::Fail;
@@ -14,28 +14,35 @@ const SEVEN_END: &str = "finish ok\nresult ok 7\ntime 0\nrounds 1\ndigest 000000
 
 const USAGE: &str = "usage: rt_sim run | gen N | load N | workers N\n";
 
-/// The outcome for these words, which single spaces part.
-fn simulated(
-    alloc: Global,
-    words: &str,
-    source: &mut ListSource,
-    sink: &mut ListSink,
-) -> Result<Outcome, AllocError> {
+/// The words of a command, which single spaces part.
+fn words_of(alloc: Global, words: &str) -> Result<Vec<String>, AllocError> {
     let mut owned = Vec::new(alloc);
     for word in words.split_whitespace() {
-        let word = String::from_str(alloc, word)?;
-        if owned.push(word).is_err() {
-            return Err(AllocError);
-        }
+        owned.push(word.to_owned(alloc)?)?;
     }
-    Ok(simulate_alone(alloc, owned.as_slice(), source, sink))
+    Ok(owned)
 }
 
-/// The bytes of a text.
-fn bytes_of(alloc: Global, text: &str) -> Result<Vec<u8>, AllocError> {
-    let mut bytes = Vec::new(alloc);
-    bytes.extend_from_slice(text.as_bytes())?;
-    Ok(bytes)
+/// The outcome for these words.
+fn simulated<S: Source, K: Sink8>(
+    alloc: Global,
+    words: &str,
+    source: &mut S,
+    sink: &mut K,
+) -> Result<Outcome, AllocError> {
+    let words = words_of(alloc, words)?;
+    Ok(simulate_alone(alloc, words.as_slice(), source, sink))
+}
+
+/// A source of this text.
+fn source_of(alloc: Global, text: &str) -> Result<ListSource, AllocError> {
+    let bytes = Vec::from_slice(alloc, text.as_bytes())?;
+    Ok(ListSource::new(bytes, Vec::new(alloc), 1000))
+}
+
+/// A sink without a fault.
+fn sink_of(alloc: Global) -> ListSink {
+    ListSink::new(alloc, Vec::new(alloc), 1000)
 }
 
 /// A list of this call alone.
@@ -52,8 +59,8 @@ fn expect_end(
     status: u8,
     end: &str,
 ) -> Result<(), Fail> {
-    let mut source = ListSource::new(bytes_of(alloc, input)?, Vec::new(alloc), 1000);
-    let mut sink = ListSink::new(alloc, Vec::new(alloc), 1000);
+    let mut source = source_of(alloc, input)?;
+    let mut sink = sink_of(alloc);
     let outcome = simulated(alloc, words, &mut source, &mut sink)?;
     assert_eq!(rt; outcome.status, status, "at {input}");
     assert!(rt; sink.as_slice().ends_with(end.as_bytes()), "at {input}");
@@ -176,8 +183,8 @@ fn config_line(rt: HostRuntime) -> Result<(), Fail> {
 fn refused_words(rt: HostRuntime) -> Result<(), Fail> {
     let alloc = rt.alloc();
     for words in ["", "walk", "run run", "gen 7", "load 7", "workers 4"] {
-        let mut source = ListSource::new(bytes_of(alloc, SEVEN)?, Vec::new(alloc), 1000);
-        let mut sink = ListSink::new(alloc, Vec::new(alloc), 1000);
+        let mut source = source_of(alloc, SEVEN)?;
+        let mut sink = sink_of(alloc);
         let outcome = simulated(alloc, words, &mut source, &mut sink)?;
         assert_eq!(rt; outcome.status, 2, "at {words}");
         assert!(rt; sink.as_slice() == USAGE.as_bytes(), "at {words}");
@@ -185,36 +192,62 @@ fn refused_words(rt: HostRuntime) -> Result<(), Fail> {
     Ok(())
 }
 
-#[test]
-fn longest_input(rt: HostRuntime) -> Result<(), Fail> {
-    let alloc = rt.alloc();
-    let mut input = vec![in alloc; b'\n'; 1_048_550]?;
+/// The scenario of 26 bytes behind so many empty lines.
+fn expect_behind(
+    rt: &impl Abort,
+    alloc: Global,
+    lines: usize,
+    status: u8,
+    end: &str,
+) -> Result<(), Fail> {
+    let mut input = vec![in alloc; b'\n'; lines]?;
     input.extend_from_slice(SEVEN.as_bytes())?;
     let mut source = ListSource::new(input, Vec::new(alloc), 100_000);
-    let mut sink = ListSink::new(alloc, Vec::new(alloc), 1000);
+    let mut sink = sink_of(alloc);
     let outcome = simulated(alloc, "run", &mut source, &mut sink)?;
-    assert_eq!(rt; outcome.status, 0);
-    assert!(rt; sink.as_slice().ends_with(SEVEN_END.as_bytes()));
+    assert_eq!(rt; outcome.status, status, "at {lines}");
+    assert!(rt; sink.as_slice().ends_with(end.as_bytes()), "at {lines}");
     Ok(())
 }
 
 #[test]
+fn longest_input(rt: HostRuntime) -> Result<(), Fail> {
+    expect_behind(&rt, rt.alloc(), 1_048_550, 0, SEVEN_END)
+}
+
+#[test]
 fn too_long(rt: HostRuntime) -> Result<(), Fail> {
+    expect_behind(&rt, rt.alloc(), 1_048_551, 3, "error too long\n")
+}
+
+/// A scenario of so many sleeps.
+fn sleeps(alloc: Global, count: usize) -> Result<String, AllocError> {
+    let mut text = "script a\n".to_owned(alloc)?;
+    for _ in 0..count {
+        text.push_str("sleep 1\n")?;
+    }
+    text.push_str("end 7\ndone\nrun a\n")?;
+    Ok(text)
+}
+
+#[test]
+fn long_report(rt: HostRuntime) -> Result<(), Fail> {
     let alloc = rt.alloc();
-    let mut input = vec![in alloc; b'\n'; 1_048_551]?;
-    input.extend_from_slice(SEVEN.as_bytes())?;
-    let mut source = ListSource::new(input, Vec::new(alloc), 100_000);
-    let mut sink = ListSink::new(alloc, Vec::new(alloc), 1000);
+    let mut source = source_of(alloc, sleeps(alloc, 10_000)?.as_str())?;
+    let mut sink = sink_of(alloc);
     let outcome = simulated(alloc, "run", &mut source, &mut sink)?;
-    assert_eq!(rt; outcome.status, 3);
-    assert!(rt; sink.as_slice() == "error too long\n".as_bytes());
+    assert_eq!(rt; outcome.status, 0);
+    assert!(rt; sink.as_slice().len() > 1_048_576);
+    let end = "finish ok\nresult ok 7\ntime 10000000000\nrounds 10001\ndigest 00000000\n";
+    assert!(rt; sink.as_slice().ends_with(end.as_bytes()));
     Ok(())
 }
 
 /// Reads of ten bytes, of which this one fails: nothing is run or written.
 fn expect_unread(rt: &impl Abort, alloc: Global, read: u64) -> Result<(), Fail> {
-    let mut source = ListSource::new(bytes_of(alloc, SEVEN)?, only(alloc, read)?, 10);
-    let mut sink = ListSink::new(alloc, Vec::new(alloc), 1000);
+    let bytes = Vec::from_slice(alloc, SEVEN.as_bytes())?;
+    let mut source = ListSource::new(bytes, only(alloc, read)?, 10);
+    let mut sink = sink_of(alloc);
     let outcome = simulated(alloc, "run", &mut source, &mut sink)?;
     assert_eq!(rt; outcome.status, 4, "at {read}");
     assert!(rt; outcome.journal.is_empty(), "at {read}");
@@ -244,7 +277,7 @@ fn expect_unwritten(
     written: &str,
     entries: usize,
 ) -> Result<(), Fail> {
-    let mut source = ListSource::new(bytes_of(alloc, SEVEN)?, Vec::new(alloc), 1000);
+    let mut source = source_of(alloc, SEVEN)?;
     let outcome = simulated(alloc, words, &mut source, sink)?;
     assert_eq!(rt; outcome.status, 5, "at {written}");
     assert_eq!(rt; outcome.journal.len(), entries, "at {written}");
