@@ -27,13 +27,6 @@ impl Sink {
     {
         self.number
     }
-
-    /// Whether a `send` is started and neither answered nor given up.
-    pub fn is_sending(&self) -> bool
-        ensures { result ≡ self.now.sending }
-    {
-        self.sending
-    }
 }
 
 impl Sending for Sink {

@@ -27,13 +27,6 @@ impl Stream {
     {
         self.number
     }
-
-    /// Whether a `recv` is started and neither answered nor given up.
-    pub fn is_receiving(&self) -> bool
-        ensures { result ≡ self.now.receiving }
-    {
-        self.receiving
-    }
 }
 
 impl Receiving for Stream {
