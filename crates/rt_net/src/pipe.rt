@@ -241,6 +241,12 @@ impl Pipe {
         ensures taken { OnOk result (self.new ≡ record (sent self.old bufs.bytes) { sender = None; sending = false }) }
         ensures refused { OnErr result (self.new ≡ self.old) }
     {
+        if let None = self.receiver {
+            self.bytes.append(&bufs)?;
+            self.sender = None;
+            self.sending = false;
+            return Ok(None);
+        }
         let bytes = bufs.coalesce()?;
         let answer = self.next_answer(bytes.as_slice())?;
         self.take_in(bytes.as_slice(), answer)

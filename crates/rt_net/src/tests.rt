@@ -19,6 +19,15 @@ fn bytes(alloc: Global, count: usize) -> Result<IoBufs, Error> {
     Ok(IoBufs::from_buf(alloc, IoBuf::from_vec(list)?)?)
 }
 
+// As many pieces of as many bytes.
+fn pieces(alloc: Global, count: usize, size: usize) -> Result<IoBufs, Error> {
+    let mut all = IoBufs::new(alloc);
+    for _ in 0..count {
+        all.append_all(bytes(alloc, size)?)?;
+    }
+    Ok(all)
+}
+
 fn here(port: u16) -> Addr {
     Addr {
         ip: Ip::V4([127, 0, 0, 1]),
@@ -299,7 +308,7 @@ fn passes<N: Network>(
 #[test]
 fn a_mebibyte_through_one_channel(rt: HostRuntime) -> Result<(), Fail> {
     let mut net = Net::new(rt.alloc())?;
-    let bufs = bytes(rt.alloc(), 1048576)?;
+    let bufs = pieces(rt.alloc(), 16, 65536)?;
     let (sink, stream) = Channel::init(&mut net).expect(&rt, "room");
     let seen = passes(&mut net, sink, stream, bufs);
     assert_eq!(rt; seen, (Ending::Waits, 1048576, Ending::Done));
