@@ -1,7 +1,5 @@
-pub mod Addresses
 pub mod Bytes
 pub mod ListenerLemmas
-pub mod NetLemmas
+pub mod NotingLemmas
+pub mod Places
 pub mod Quiet
-pub mod Records
-pub mod Tables

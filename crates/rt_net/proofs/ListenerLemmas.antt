@@ -1,14 +1,15 @@
--- Calls on a listener leave each address where it is.
-use Rattle.std.proofs.Common.{◌≡◌, ℕ, zero, suc, Bool, true, false, cond, List, [], ◌∷◌, ◌++◌, Option, Some, None, Result, Ok, Err, refl, sym, ap, ◌∙◌, subst}
-use Rattle.std.specs.Prelude.{slice_set, option_map, IsOkAnd, OnOk, OnErr, MatchOption}
-use Rattle.std.specs.List.{slice_get}
+-- Calls on a listener leave each address where it is, and the listener at an address is found by it.
+use Rattle.std.proofs.Common.{◌≡◌, ℕ, zero, suc, ◌+◌, Bool, true, false, cond, ◌&&◌, List, [], ◌∷◌, ◌++◌, Option, Some, None, Result, Ok, Err, refl, sym, ap, ◌∙◌, subst, arith, rules, is_some, inl, inr}
+use Rattle.std.specs.Prelude.{slice_set, option_map, drop}
+use Rattle.std.specs.List.{slice_get, position_from}
 use Rattle.std.proofs.lemmas.Option.{slice_get-map}
 use Rattle.rt_base.specs.declared.addr.Addr.{Addr}
 use Rattle.rt_base.specs.declared.error.Error.{Error}
 use Rattle.rt_base.specs.declared.poll.Poll.{Poll}
 use Rattle.rt_base.specs.declared.poll.Poll.TheVariants.{Ready, Pending}
 use Rattle.rt_net.specs.declared.connection.Connection.{Connection}
-use Rattle.rt_net.specs.Network.{ListenerState, addresses, if_listener_lives, live_listener, at_listener, AtListener, Accepts, IsLiveAt, with_connection}
+use Rattle.rt_net.proofs.Places.{bool-cases}
+use Rattle.rt_net.specs.Network.{ListenerState, addresses, addr_eq, if_listener_lives, live_listener, at_listener, listener_at, with_accepted, with_connection, without_task, without_listener, closed_listener}
 
 lives-at : (x l : ListenerState) (b : Bool) → x.alive ≡ b → if_listener_lives (Some x) ≡ Some l → (let o : Option ListenerState = Some x in o) ≡ Some l
 lives-at x l true h e =
@@ -43,26 +44,103 @@ at-option ls n f same (Some l) e = addresses-set ls n l (f l) (live-get ls n l e
 pub addresses-at : (ls : List ListenerState) (n : ℕ) (f : ListenerState → ListenerState) → ((l : ListenerState) → (f l).address ≡ l.address) → addresses (at_listener ls n f (live_listener ls n)) ≡ addresses ls
 addresses-at ls n f same = at-option ls n f same (live_listener ls n) refl
 
-accepts-address : (l m : ListenerState) (task : ℕ) (r : Result (Poll Connection) Error) → IsOkAnd r (λ p. Accepts l task p m) → m.address ≡ l.address
-accepts-address l m task (Ok (Ready c)) h = ap (λ (y : ListenerState). y.address) h.1
-accepts-address l m task (Ok Pending) h = ap (λ (y : ListenerState). y.address) h.1
-accepts-address l m task (Err e) h = absurd h
-
-accepts-option : (ls new : List ListenerState) (n task : ℕ) (r : Result (Poll Connection) Error) (unknown : Type 0) (o : Option ListenerState) → live_listener ls n ≡ o → MatchOption o (unknown × (new ≡ ls)) (λ l. (m : ListenerState) × IsOkAnd r (λ p. Accepts l task p m) × (new ≡ slice_set ls n m)) → addresses new ≡ addresses ls
-accepts-option ls new n task r unknown None e h = ap addresses h.1
-accepts-option ls new n task r unknown (Some l) e h =
-    ap addresses h.2 ∙ addresses-set ls n l h.0 (live-get ls n l e) (accepts-address l h.0 task r h.1)
-
 -- an accept
-pub addresses-accept : (ls new : List ListenerState) (n task : ℕ) (r : Result (Poll Connection) Error) (unknown : Type 0) → AtListener (λ l m. IsOkAnd r (λ p. Accepts l task p m)) unknown ls n new → addresses new ≡ addresses ls
-addresses-accept ls new n task r unknown h = accepts-option ls new n task r unknown (live_listener ls n) refl h
+pub addresses_accept : {A : Type 0} (ls : List ListenerState) (n task : ℕ) (r : Result (Poll A) Error) → addresses (with_accepted ls n task r) ≡ addresses ls
+addresses_accept ls n task (Ok (Ready _)) = addresses-at ls n (λ l. record l { waiting = drop 1 l.waiting; task = None }) (λ l. refl)
+addresses_accept ls n task (Ok Pending) = addresses-at ls n (λ l. record l { task = Some task }) (λ l. refl)
+addresses_accept ls n task (Err _) = refl
 
--- a live listener at an address stands at the place of that address
-pub live-address : (ls : List ListenerState) (n : ℕ) (a : Addr) → IsLiveAt ls n a → slice_get (addresses ls) n ≡ Some a
-live-address ls n a h =
-    slice_get-map (λ (l : ListenerState). l.address) ls n ∙ ap (option_map (λ (l : ListenerState). l.address)) (live-get ls n h.0 h.1) ∙ ap (λ x. let o : Option Addr = Some x in o) h.2
+-- a connection that waits, a wait that is given up, and a listener that is closed
+pub addresses_connection : (ls : List ListenerState) (n : ℕ) (c : Connection) → addresses (with_connection ls n c) ≡ addresses ls
+addresses_connection ls n c = addresses-at ls n (λ l. record l { waiting = l.waiting ++ c ∷ []; task = None }) (λ l. refl)
 
--- a connection that is added, or refused
-pub addresses-push : (ls new : List ListenerState) (n : ℕ) (c : Connection) {A E : Type 0} (r : Result A E) → OnOk r (new ≡ with_connection ls n c) → OnErr r (new ≡ ls) → addresses new ≡ addresses ls
-addresses-push ls new n c (Ok x) ok err = ap addresses ok ∙ addresses-at ls n (λ l. record l { waiting = l.waiting ++ c ∷ []; task = None }) (λ l. refl)
-addresses-push ls new n c (Err x) ok err = ap addresses err
+pub addresses_give_up : (ls : List ListenerState) (n : ℕ) → addresses (without_task ls n) ≡ addresses ls
+addresses_give_up ls n = addresses-at ls n (λ l. record l { task = None }) (λ l. refl)
+
+pub addresses_close : (ls : List ListenerState) (n : ℕ) → addresses (without_listener ls n) ≡ addresses ls
+addresses_close ls n = addresses-at ls n closed_listener (λ l. refl)
+
+same-address : (a b : Addr) → addr_eq a b ≡ true → a ≡ b
+same-address a b e = search rules
+
+same-test : (a : Addr) → addr_eq a a ≡ true
+same-test a = search rules
+
+and-both : (x y : Bool) → x && y ≡ true → (x ≡ true) × (y ≡ true)
+and-both true y e = (refl, e)
+and-both false y e = absurd (cc)
+
+cond-true : {A : Type 0} (b : Bool) (x y : A) → b ≡ true → cond b x y ≡ x
+cond-true true x y e = refl
+cond-true false x y e = absurd (cc)
+
+cond-false : {A : Type 0} (b : Bool) (x y : A) → b ≡ false → cond b x y ≡ y
+cond-false true x y e = absurd (cc)
+cond-false false x y e = refl
+
+some-number : (m n : ℕ) → m ≡ n → (let o : Option ℕ = Some m in o) ≡ Some n
+some-number m n e = ap (λ k. let o : Option ℕ = Some k in o) e
+
+-- the one place of a list where a test passes
+position-only : {X : Type 0} (p : X → Bool) (xs : List X) (i n : ℕ) (x : X) → slice_get xs n ≡ Some x → p x ≡ true → ((m : ℕ) (y : X) → slice_get xs m ≡ Some y → p y ≡ true → m ≡ n) → position_from p i xs ≡ Some (i + n)
+position-only p [] i n x e t only = absurd (cc)
+position-only {X = X} p (y ∷ ys) i zero x e t only =
+    let same : x ≡ y = cc in
+    let P : X → Type 0 = λ z. p z ≡ true in
+    cond-true (p y) (Some i) (position_from p (i + 1) ys) (subst P same t) ∙ some-number i (i + 0) (omega arith)
+position-only p (y ∷ ys) i (suc k) x e t only = elim (bool-cases (p y)) [
+  | inl h ↦ let no : 0 ≡ suc k = only 0 y refl h in absurd (omega (arith, no))
+  | inr h ↦
+      cond-false (p y) (Some i) (position_from p (i + 1) ys) h
+      ∙ position-only p ys (i + 1) k x e t (λ m z f g. let s : suc m ≡ suc k = only (suc m) z f g in omega (arith, s))
+      ∙ some-number (i + 1 + k) (i + suc k) (omega arith)
+]
+
+position-none : {X : Type 0} (p : X → Bool) (xs : List X) (i : ℕ) → ((m : ℕ) (y : X) → slice_get xs m ≡ Some y → p y ≡ true → ⊥) → position_from p i xs ≡ None
+position-none p [] i none = refl
+position-none p (y ∷ ys) i none = elim (bool-cases (p y)) [
+  | inl h ↦ absurd (none 0 y refl h)
+  | inr h ↦ cond-false (p y) (Some i) (position_from p (i + 1) ys) h ∙ position-none p ys (i + 1) (λ m z f g. none (suc m) z f g)
+]
+
+-- the address of a listener
+address-get : (ls : List ListenerState) (n : ℕ) (l : ListenerState) → slice_get ls n ≡ Some l → slice_get (addresses ls) n ≡ Some l.address
+address-get ls n l e = slice_get-map (λ (x : ListenerState). x.address) ls n ∙ ap (option_map (λ (x : ListenerState). x.address)) e
+
+abbrev some-address : Addr → Option Addr
+some-address a = Some a
+
+-- a listener that is live stands in the list
+live-some : (o : Option ListenerState) → is_some (if_listener_lives o) ≡ true → (l : ListenerState) × (o ≡ Some l) × (l.alive ≡ true)
+live-some None e = absurd (cc)
+live-some (Some l) e = elim (bool-cases l.alive) [
+  | inl h ↦ (l, refl, h)
+  | inr h ↦
+      let no : false ≡ true = sym (ap is_some (cond-false l.alive (Some l) None h)) ∙ e in
+      absurd (cc)
+]
+
+-- the listener at the one place of an address, where it is live, and none where it isn't
+pub listener-at : (ls : List ListenerState) (n : ℕ) (a : Addr) → slice_get (addresses ls) n ≡ Some a → ((m : ℕ) → slice_get (addresses ls) m ≡ Some a → m ≡ n) → is_some (live_listener ls n) ≡ true → listener_at ls a ≡ Some n
+listener-at ls n a there only lives =
+    let l = live-some (slice_get ls n) lives in
+    let same : some-address l.0.address ≡ some-address a = sym (address-get ls n l.0 l.1) ∙ there in
+    let e : l.0.address ≡ a = cc in
+    let P : Addr → Type 0 = λ x. addr_eq l.0.address x ≡ true in
+    position-only (λ x. x.alive && addr_eq x.address a) ls 0 n l.0 l.1 (ap (λ b. b && addr_eq l.0.address a) l.2 ∙ subst P e (same-test l.0.address))
+    (λ m x f t. only m (address-get ls m x f ∙ ap some-address (same-address x.address a (and-both x.alive (addr_eq x.address a) t).1)))
+    ∙ some-number (0 + n) n (omega arith)
+
+pub listener-gone : (ls : List ListenerState) (n : ℕ) (a : Addr) → ((m : ℕ) → slice_get (addresses ls) m ≡ Some a → m ≡ n) → is_some (live_listener ls n) ≡ false → listener_at ls a ≡ None
+listener-gone ls n a only lives =
+    position-none (λ l. l.alive && addr_eq l.address a) ls 0 (λ m l e t.
+    let both = and-both l.alive (addr_eq l.address a) t in
+    let here : m ≡ n = only m (address-get ls m l e ∙ ap some-address (same-address l.address a both.1)) in
+    let is : is_some (live_listener ls m) ≡ true = ap (λ o. is_some (if_listener_lives o)) e ∙ ap is_some (cond-true l.alive (Some l) None both.0) in
+    let no : true ≡ false = sym is ∙ ap (λ k. is_some (live_listener ls k)) here ∙ lives in
+    absurd (cc))
+
+pub listener-none : (ls : List ListenerState) (a : Addr) → ((m : ℕ) → slice_get (addresses ls) m ≡ Some a → ⊥) → listener_at ls a ≡ None
+listener-none ls a none =
+    position-none (λ l. l.alive && addr_eq l.address a) ls 0 (λ m l e t.
+    none m (address-get ls m l e ∙ ap some-address (same-address l.address a (and-both l.alive (addr_eq l.address a) t).1)))

@@ -1,12 +1,14 @@
--- Channels whose waiting tasks lack their cause, and what is kept of a record.
-use Rattle.std.proofs.Common.{◌≡◌, ℕ, zero, suc, ◌+◌, ◌-◌, ◌<◌, ◌≤◌, Bool, true, false, List, [], ◌∷◌, ◌++◌, length, take, drop, Some, None, Option, arith, refl, ap, sym, ◌∙◌, subst}
-use Rattle.std.proofs.lemmas.Grind.{common_steps}
-use Rattle.rt_net.specs.declared.half.Parked.{Parked}
+-- Channels whose waiting tasks lack their cause.
+use Rattle.std.proofs.Common.{◌≡◌, ℕ, ◌+◌, ◌-◌, ◌<◌, ◌≤◌, true, take, Some, Option, arith, ap, subst, sym, ◌∙◌}
 use Rattle.std.specs.Option.{unwrap_or}
-use Rattle.std.specs.Prelude.{Ok}
+use Rattle.std.proofs.lemmas.Grind.{common_steps}
 use Rattle.rt_base.specs.declared.poll.Poll.TheVariants.{Ready}
 use Rattle.rt_bufs.specs.Chunked.{Chunked}
-use Rattle.rt_net.specs.Channel.{ChannelState, IsQuiet, left, held, unread, is_open, parked, kept, Keeps, answered, started_length, PollsReceive}
+use Rattle.rt_net.specs.declared.pipe.Pipe.TheInside.{Inside}
+use Rattle.rt_net.specs.Forgotten.{IsWhole}
+use Rattle.rt_net.specs.Pipe.{channel_of}
+use Rattle.rt_net.specs.declared.half.Parked.{Parked}
+use Rattle.rt_net.specs.Channel.{ChannelState, IsQuiet, left, held, unread, is_open, Answers, started_length}
 
 -- a `recv` that parks for what is missing
 pub parked-quiet : (c : ChannelState) (h len task : ℕ) → held c ≡ h → IsQuiet c → h < len → is_open c.sink ≡ true → left c < len - h → IsQuiet (record c { receiver = Some (record { need = len - h; task = task }); receiving = Some len })
@@ -25,14 +27,10 @@ parked-quiet c h len task same quiet lacks opened empty =
           (task, ap (λ m. let o : Option Parked = Some (record { need = m; task = task }) in o) d);
     }
 
--- nothing was answered, so all is kept
-pub kept-unread : (c : ChannelState) → c.read ≡ 0 → kept c ≡ c
-kept-unread c e = grind (arith, common_steps)
-
--- a started `recv` whose bytes are held
-pub answer-started : (c new : ChannelState) (len task : ℕ) (b : Chunked) → c.receiving ≡ Some len → len ≤ held c → b.bytes ≡ take len (unread c) → new ≡ kept (answered c len) → Keeps (PollsReceive c task (Ok (Ready b))) new
-answer-started c new len task b started enough bytes answer =
-    let e : len ≡ started_length c = sym (ap (λ (o : Option ℕ). unwrap_or o 0) started) in
-    let P : ℕ → Type 0 = λ n. (n ≤ held c) × (b.bytes ≡ take n (unread c)) × (new ≡ kept (answered c n)) in
-    let f = subst P e (enough, bytes, answer) in
-    (answered c (started_length c), (f.0, f.1, refl), f.2)
+-- a started `recv` whose bytes are held is answered by them
+pub answer-started : (p : Inside) (len : ℕ) (b : Chunked) → p.receiving ≡ Some len → len ≤ p.held → IsWhole p.forgotten.past → b.bytes ≡ take len p.bytes → Answers (channel_of p) (started_length (channel_of p)) (Ready b)
+answer-started p len b started enough whole bytes =
+    let e : len ≡ started_length (channel_of p) = sym (ap (λ (o : Option ℕ). unwrap_or o 0) started) in
+    let kept : unread (channel_of p) ≡ p.bytes = grind (arith, common_steps, whole.after) in
+    let P : ℕ → Type 0 = λ n. (n ≤ held (channel_of p)) × (b.bytes ≡ take n (unread (channel_of p))) in
+    subst P e (omega (arith, enough), bytes ∙ ap (take len) (sym kept))

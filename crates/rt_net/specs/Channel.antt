@@ -1,6 +1,6 @@
 -- One channel as a record: all bytes ever sent, two counts, and who waits. The rules are those of the source
 -- crate's in-memory channel (`mocks::Channel`).
-use Rattle.std.specs.Prelude.{◌≡◌, ◌≢◌, ℕ, ◌+◌, ◌-◌, ◌<◌, ◌≤◌, min, max, Bool, true, false, ◌&&◌, ◌||◌, not, List, [], ◌++◌, length, take, drop, Option, Some, None, Result, Ok, Err, if◌then◌else◌, nat_le, unwrap_or, option_map}
+use Rattle.std.specs.Prelude.{◌≡◌, ℕ, ◌+◌, ◌-◌, ◌<◌, ◌≤◌, min, max, Bool, true, false, ◌&&◌, ◌||◌, not, List, [], ◌++◌, length, take, drop, Option, Some, None, Result, Ok, Err, if◌then◌else◌, nat_le, unwrap_or}
 use Rattle.rt_base.specs.declared.error.Error.{Error}
 use Rattle.rt_base.specs.declared.error.Error.TheVariants.{Closed, SendFailed, RecvFailed, NoMemory}
 use Rattle.rt_base.specs.declared.poll.Poll.{Poll}
@@ -95,32 +95,48 @@ sent c bytes = handed (appended c bytes) c.receiver
 -- the answer of the parked `recv`, where these bytes complete it
 abbrev pub IsNextAnswer : ChannelState → List ℕ → Option Parked → Option Chunked → Type 0
 IsNextAnswer c bytes None answer = answer ≡ None
-IsNextAnswer c bytes (Some w) (Some answer) = (is_receivable (appended c bytes) w.need ≡ true) × (answer.bytes ≡ take (w.need + held c) (c.put ++ bytes))
+IsNextAnswer c bytes (Some w) (Some answer) = (is_receivable (appended c bytes) w.need ≡ true) × (answer.bytes ≡ take (w.need + held c) (unread c ++ bytes))
 IsNextAnswer c bytes (Some w) None = is_receivable (appended c bytes) w.need ≡ false
 
 -- the sender goes on where at most the buffer size is left, and parks otherwise
-abbrev pub Settles : ChannelState → ℕ → Poll Unit → ChannelState → Type 0
-Settles c task (Ready _) new = (is_drained c ≡ true) × (new ≡ record c { sender = None; sending = false })
-Settles c task Pending new = (is_drained c ≡ false) × (new ≡ record c { sender = Some task; sending = true })
+abbrev pub Settles : ChannelState → Poll Unit → Type 0
+Settles c (Ready _) = is_drained c ≡ true
+Settles c Pending = is_drained c ≡ false
 
--- what `send` may answer, whom it wakes, and what it leaves
-abbrev pub Sends : ChannelState → List ℕ → ℕ → Result (Poll Unit) Error → Option ℕ → ChannelState → Type 0
-Sends c bytes task (Ok answer) wake new =
-    (is_spent c.sink ≡ false) × (c.stream.alive ≡ true) × (wake ≡ handed_task (appended c bytes) c.receiver) × Settles (sent c bytes) task answer new
-Sends c bytes task (Err Closed) wake new =
-    (is_spent c.sink ≡ true) × (wake ≡ receiver_task c.receiver) × (new ≡ with_ended_sink c (failed c.sink))
-Sends c bytes task (Err SendFailed) wake new =
-    (is_spent c.sink ≡ false) × (c.stream.alive ≡ false) × (wake ≡ receiver_task c.receiver) × (new ≡ with_ended_sink c (failed c.sink))
-Sends c bytes task (Err NoMemory) wake new = (wake ≡ None) × (new ≡ c)
-Sends c bytes task (Err e) wake new = ⊥
+abbrev pub settled : ChannelState → ℕ → Poll Unit → ChannelState
+settled c task (Ready _) = record c { sender = None; sending = false }
+settled c task Pending = record c { sender = Some task; sending = true }
 
--- what the next poll of a started `send` may answer and leave
-abbrev pub PollsSend : ChannelState → ℕ → Result (Poll Unit) Error → ChannelState → Type 0
-PollsSend c task (Ok (Ready done)) new = Settles c task (Ready done) new
-PollsSend c task (Ok Pending) new = (c.stream.alive ≡ true) × Settles c task Pending new
-PollsSend c task (Err SendFailed) new =
-    (is_drained c ≡ false) × (c.stream.alive ≡ false) × (new ≡ with_ended_sink c (failed c.sink))
-PollsSend c task (Err e) new = ⊥
+-- the sink failed: it sends no more
+abbrev pub failed_send : ChannelState → ChannelState
+failed_send c = with_ended_sink c (failed c.sink)
+
+-- what `send` may answer, and whom it wakes
+abbrev pub Sends : ChannelState → List ℕ → Result (Poll Unit) Error → Option ℕ → Type 0
+Sends c bytes (Ok answer) wake =
+    (is_spent c.sink ≡ false) × (c.stream.alive ≡ true) × (wake ≡ handed_task (appended c bytes) c.receiver) × Settles (sent c bytes) answer
+Sends c bytes (Err Closed) wake = (is_spent c.sink ≡ true) × (wake ≡ receiver_task c.receiver)
+Sends c bytes (Err SendFailed) wake = (is_spent c.sink ≡ false) × (c.stream.alive ≡ false) × (wake ≡ receiver_task c.receiver)
+Sends c bytes (Err NoMemory) wake = wake ≡ None
+Sends c bytes (Err e) wake = ⊥
+
+-- the channel after it
+abbrev pub after_send : ChannelState → List ℕ → ℕ → Result (Poll Unit) Error → ChannelState
+after_send c bytes task (Ok answer) = settled (sent c bytes) task answer
+after_send c bytes task (Err NoMemory) = c
+after_send c bytes task (Err e) = failed_send c
+
+-- what the next poll of a started `send` may answer
+abbrev pub PollsSend : ChannelState → Result (Poll Unit) Error → Type 0
+PollsSend c (Ok (Ready done)) = is_drained c ≡ true
+PollsSend c (Ok Pending) = (is_drained c ≡ false) × (c.stream.alive ≡ true)
+PollsSend c (Err SendFailed) = (is_drained c ≡ false) × (c.stream.alive ≡ false)
+PollsSend c (Err e) = ⊥
+
+-- the channel after it
+abbrev pub after_poll_send : ChannelState → ℕ → Result (Poll Unit) Error → ChannelState
+after_poll_send c task (Ok answer) = settled c task answer
+after_poll_send c task (Err e) = failed_send c
 
 -- the `send` is given up: the next one closes the sink
 abbrev pub given_up_send : ChannelState → ChannelState
@@ -157,30 +173,44 @@ abbrev pub parked : ChannelState → ℕ → ℕ → ChannelState
 parked c len task = record c { receiver = Some (record { need = len - held c; task = task }); receiving = Some len }
 
 -- what `recv` answers once `len` bytes are asked of what the stream holds
-abbrev pub Answers : ChannelState → ℕ → ℕ → Poll Chunked → ChannelState → Type 0
-Answers c len task (Ready buffers) new = (len ≤ held c) × (buffers.bytes ≡ take len (unread c)) × (new ≡ answered c len)
-Answers c len task Pending new = (held c < len) × (is_open c.sink ≡ true) × (new ≡ parked c len task)
+abbrev pub Answers : ChannelState → ℕ → Poll Chunked → Type 0
+Answers c len (Ready buffers) = (len ≤ held c) × (buffers.bytes ≡ take len (unread c))
+Answers c len Pending = (held c < len) × (is_open c.sink ≡ true)
 
--- what `recv` may answer, whom it wakes, and what it leaves
-abbrev pub Receives : ChannelState → ℕ → ℕ → Result (Reply (Poll Chunked)) Error → ChannelState → Type 0
-Receives c len task (Ok r) new =
-    (is_spent c.stream ≡ false) × (r.wake ≡ drained_task (moved c len)) × (r.link ≡ None) × Answers (pulled c len) len task r.value new
-Receives c len task (Err Closed) new = (is_spent c.stream ≡ true) × (new ≡ c)
-Receives c len task (Err RecvFailed) new =
-    (is_spent c.stream ≡ false) × (held (pulled c len) < len) × (is_open c.sink ≡ false) × (new ≡ failed_recv (pulled c len))
-Receives c len task (Err NoMemory) new = new ≡ c
-Receives c len task (Err e) new = ⊥
+abbrev pub after_answer : ChannelState → ℕ → ℕ → Poll Chunked → ChannelState
+after_answer c len task (Ready _) = answered c len
+after_answer c len task Pending = parked c len task
+
+-- what `recv` may answer, and whom it wakes
+abbrev pub Receives : ChannelState → ℕ → Result (Reply (Poll Chunked)) Error → Type 0
+Receives c len (Ok r) =
+    (is_spent c.stream ≡ false) × (r.wake ≡ drained_task (moved c len)) × (r.link ≡ None) × Answers (pulled c len) len r.value
+Receives c len (Err Closed) = is_spent c.stream ≡ true
+Receives c len (Err RecvFailed) =
+    (is_spent c.stream ≡ false) × (held (pulled c len) < len) × (is_open c.sink ≡ false)
+Receives c len (Err NoMemory) = Unit {0}
+Receives c len (Err e) = ⊥
+
+-- the channel after it
+abbrev pub after_recv : ChannelState → ℕ → ℕ → Result (Reply (Poll Chunked)) Error → ChannelState
+after_recv c len task (Ok r) = after_answer (pulled c len) len task r.value
+after_recv c len task (Err RecvFailed) = failed_recv (pulled c len)
+after_recv c len task (Err e) = c
 
 -- the length of the started `recv`
 abbrev pub started_length : ChannelState → ℕ
 started_length c = unwrap_or c.receiving 0
 
--- what the next poll of a started `recv` may answer and leave
-abbrev pub PollsReceive : ChannelState → ℕ → Result (Poll Chunked) Error → ChannelState → Type 0
-PollsReceive c task (Ok answer) new = Answers c (started_length c) task answer new
-PollsReceive c task (Err RecvFailed) new =
-    (held c < started_length c) × (is_open c.sink ≡ false) × (new ≡ failed_recv c)
-PollsReceive c task (Err e) new = ⊥
+-- what the next poll of a started `recv` may answer
+abbrev pub PollsReceive : ChannelState → Result (Poll Chunked) Error → Type 0
+PollsReceive c (Ok answer) = Answers c (started_length c) answer
+PollsReceive c (Err RecvFailed) = (held c < started_length c) × (is_open c.sink ≡ false)
+PollsReceive c (Err e) = ⊥
+
+-- the channel after it
+abbrev pub after_poll_recv : ChannelState → ℕ → Result (Poll Chunked) Error → ChannelState
+after_poll_recv c task (Ok answer) = after_answer c (started_length c) task answer
+after_poll_recv c task (Err e) = failed_recv c
 
 -- what `peek` may answer
 abbrev pub Peeks : ChannelState → ℕ → Result (List ℕ) Error → Type 0
@@ -217,22 +247,6 @@ fresh size = record {
   receiving = None;
   sending = false;
 }
-
--- What is kept of a channel: its record without the bytes that were answered.
-abbrev pub kept : ChannelState → ChannelState
-kept c = record c { put = unread c; taken = held c; read = 0 }
-
--- no half of the channel is alive
-abbrev pub is_gone : ChannelState → Bool
-is_gone c = not (c.sink.alive || c.stream.alive)
-
--- of a channel that is gone no bytes are kept
-abbrev pub freed : ChannelState → ChannelState
-freed c = record c { put = if is_gone c then [] else c.put; taken = if is_gone c then 0 else c.taken }
-
--- what is kept of a channel that this relation may leave
-abbrev pub Keeps : (ChannelState → Type 0) → ChannelState → Type 0
-Keeps R new = (c : ChannelState) × R c × (new ≡ kept c)
 
 -- A waiting task's cause isn't there: a parked `recv` lacks bytes of an open sink, and a parked `send` has more than
 -- the buffer size before it and a stream that is alive.

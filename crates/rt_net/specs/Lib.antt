@@ -1,7 +1,9 @@
 pub mod Calls
 pub mod Channel
+pub mod Forgotten
 pub mod Kept
 pub mod Network
+pub mod Noting
 pub mod Pipe
 pub mod Place
 pub mod Refusals

@@ -1,13 +1,15 @@
 -- The network as a record: its port counter, the listeners ever bound, and the channels ever made. A sink, a stream
 -- and a listener have the number of their place in these lists. The rules are those of the source crate's
 -- deterministic network.
-use Rattle.std.specs.Prelude.{◌≡◌, ◌≢◌, ℕ, ◌+◌, ◌<◌, ◌≤◌, Bool, true, false, List, [], ◌∷◌, ◌++◌, length, map, Option, Some, None, Result, Ok, Err, if◌then◌else◌, slice_get, slice_set, option_to_list, MatchOption, ◌⊎◌, Contains}
+use Rattle.std.specs.Prelude.{◌≡◌, ℕ, Bool, true, false, List, [], ◌∷◌, ◌++◌, map, Option, Some, None, Result, Ok, Err, if◌then◌else◌, slice_get, slice_set, option_to_list, MatchOption, drop, ◌&&◌}
+use Rattle.std.specs.List.{position_from}
+use Rattle.rt_base.specs.contracts.addr.AddrPartialEq.TheImpl as by_address
 use Rattle.rt_base.specs.declared.addr.Addr.{Addr}
-use Rattle.rt_base.specs.declared.addr.Ip.TheVariants.{V4}
+use Rattle.rt_base.specs.declared.error.Error.{Error}
 use Rattle.rt_base.specs.declared.poll.Poll.{Poll}
 use Rattle.rt_base.specs.declared.poll.Poll.TheVariants.{Ready, Pending}
 use Rattle.rt_net.specs.declared.connection.Connection.{Connection}
-use Rattle.rt_net.specs.Channel.{ChannelState, receiver_task, closed_sink, closed_stream, given_up_send, given_up_recv, fresh}
+use Rattle.rt_net.specs.Channel.{ChannelState, receiver_task, closed_sink, closed_stream, given_up_send, given_up_recv}
 
 -- `waiting` is the connections that were dialed and not accepted, in the order of their dials, and `task` the task
 -- that waits for the next
@@ -54,39 +56,41 @@ if_listener_lives (Some l) = if l.alive then Some l else None
 abbrev pub live_listener : List ListenerState → ℕ → Option ListenerState
 live_listener ls n = if_listener_lives (slice_get ls n)
 
--- A call on one half: on its channel where the half is live, and else what is answered for an unknown token.
+-- What a call on one half answers: by its channel where the half is live, and else what is answered for an unknown token.
 
-abbrev pub At : (ChannelState → Bool) → (ChannelState → ChannelState → Type 0) → Type 0 → List ChannelState → ℕ → List ChannelState → Type 0
-At lives R unknown old n new =
-    MatchOption (if_lives lives (slice_get old n)) (unknown × (new ≡ old)) (λ c. (d : ChannelState) × R c d × (new ≡ slice_set old n d))
+abbrev pub AtSink : List ChannelState → ℕ → Type 0 → (ChannelState → Type 0) → Type 0
+AtSink cs n unknown P = MatchOption (live_sink cs n) unknown P
 
-abbrev pub AtSink : (ChannelState → ChannelState → Type 0) → Type 0 → List ChannelState → ℕ → List ChannelState → Type 0
-AtSink = At has_sink
+abbrev pub AtStream : List ChannelState → ℕ → Type 0 → (ChannelState → Type 0) → Type 0
+AtStream cs n unknown P = MatchOption (live_stream cs n) unknown P
 
-abbrev pub AtStream : (ChannelState → ChannelState → Type 0) → Type 0 → List ChannelState → ℕ → List ChannelState → Type 0
-AtStream = At has_stream
-
--- A call on one half that isn't refused, and does nothing where the half isn't live.
+-- What it leaves: nothing changes where the half isn't live.
 
 abbrev pub at : List ChannelState → ℕ → (ChannelState → ChannelState) → Option ChannelState → List ChannelState
 at cs n f None = cs
 at cs n f (Some c) = slice_set cs n (f c)
 
+abbrev pub at_sink : List ChannelState → ℕ → (ChannelState → ChannelState) → List ChannelState
+at_sink cs n f = at cs n f (live_sink cs n)
+
+abbrev pub at_stream : List ChannelState → ℕ → (ChannelState → ChannelState) → List ChannelState
+at_stream cs n f = at cs n f (live_stream cs n)
+
 -- the `send` of a sink is given up
 abbrev pub with_given_up_send : List ChannelState → ℕ → List ChannelState
-with_given_up_send cs n = at cs n given_up_send (live_sink cs n)
+with_given_up_send cs n = at_sink cs n given_up_send
 
 -- the `recv` of a stream is given up
 abbrev pub with_given_up_recv : List ChannelState → ℕ → List ChannelState
-with_given_up_recv cs n = at cs n (λ c. given_up_recv c c.receiving) (live_stream cs n)
+with_given_up_recv cs n = at_stream cs n (λ c. given_up_recv c c.receiving)
 
 -- a sink is closed
 abbrev pub with_closed_sink : List ChannelState → ℕ → List ChannelState
-with_closed_sink cs n = at cs n closed_sink (live_sink cs n)
+with_closed_sink cs n = at_sink cs n closed_sink
 
 -- a stream is closed
 abbrev pub with_closed_stream : List ChannelState → ℕ → List ChannelState
-with_closed_stream cs n = at cs n closed_stream (live_stream cs n)
+with_closed_stream cs n = at_stream cs n closed_stream
 
 -- the receiver that the closing of a sink wakes
 abbrev pub receiver_of : Option ChannelState → Option ℕ
@@ -104,20 +108,24 @@ sender_of (Some c) = c.sender
 abbrev pub stream_wakes : List ChannelState → ℕ → Option ℕ
 stream_wakes cs n = sender_of (live_stream cs n)
 
--- The closing of connections, one after the other, by what closing a sink and closing a stream leave; and the tasks
--- that this wakes, a receiver before a sender.
+-- the tasks that wait to receive and to send
+abbrev pub waiting_halves : Option ChannelState → Option ℕ × Option ℕ
+waiting_halves None = (None, None)
+waiting_halves (Some c) = (receiver_task c.receiver, c.sender)
 
-abbrev pub Closing : Type 0
-Closing = List ChannelState → ℕ → List ChannelState
+-- The closing of connections, one after the other; and the tasks that this wakes, a receiver before a sender.
 
-abbrev pub after_closing : Closing → Closing → List ChannelState → List Connection → List ChannelState
-after_closing k t cs [] = cs
-after_closing k t cs (c ∷ rest) = after_closing k t (t (k cs c.sink) c.stream) rest
+abbrev pub with_closed : List ChannelState → Connection → List ChannelState
+with_closed cs c = with_closed_stream (with_closed_sink cs c.sink) c.stream
 
-abbrev pub woken_by_closing : Closing → Closing → List ChannelState → List Connection → List ℕ
-woken_by_closing k t cs [] = []
-woken_by_closing k t cs (c ∷ rest) =
-    option_to_list (sink_wakes cs c.sink) ++ (option_to_list (stream_wakes (k cs c.sink) c.stream) ++ woken_by_closing k t (t (k cs c.sink) c.stream) rest)
+abbrev pub after_closing : List ChannelState → List Connection → List ChannelState
+after_closing cs [] = cs
+after_closing cs (c ∷ rest) = after_closing (with_closed cs c) rest
+
+abbrev pub woken_by_closing : List ChannelState → List Connection → List ℕ
+woken_by_closing cs [] = []
+woken_by_closing cs (c ∷ rest) =
+    option_to_list (sink_wakes cs c.sink) ++ (option_to_list (stream_wakes (with_closed_sink cs c.sink) c.stream) ++ woken_by_closing (with_closed cs c) rest)
 
 -- Listeners.
 
@@ -129,14 +137,22 @@ fresh_listener a = record { address = a; alive = true; waiting = []; task = None
 abbrev pub closed_listener : ListenerState → ListenerState
 closed_listener l = record l { alive = false; waiting = []; task = None }
 
--- the first connection is taken, or the task waits
-abbrev pub Accepts : ListenerState → ℕ → Poll Connection → ListenerState → Type 0
-Accepts l task (Ready c) new = (l.waiting ≡ c ∷ new.waiting) × (new ≡ record l { waiting = new.waiting; task = None })
-Accepts l task Pending new = (l.waiting ≡ []) × (new ≡ record l { task = Some task })
+-- the first connection, or that there is none
+abbrev pub Accepts : ListenerState → Poll Connection → Type 0
+Accepts l (Ready c) = slice_get l.waiting 0 ≡ Some c
+Accepts l Pending = l.waiting ≡ []
 
--- the live listener of this number has this address
-abbrev pub IsLiveAt : List ListenerState → ℕ → Addr → Type 0
-IsLiveAt ls n a = (l : ListenerState) × (live_listener ls n ≡ Some l) × (l.address ≡ a)
+-- the listener after it: the connection is taken, or the task waits
+abbrev pub after_accept : {A : Type 0} → ListenerState → ℕ → Poll A → ListenerState
+after_accept l task (Ready _) = record l { waiting = drop 1 l.waiting; task = None }
+after_accept l task Pending = record l { task = Some task }
+
+-- the number of the live listener at an address
+abbrev pub addr_eq : Addr → Addr → Bool
+addr_eq = by_address.ghosts.eq
+
+abbrev pub listener_at : List ListenerState → Addr → Option ℕ
+listener_at ls a = position_from (λ l. l.alive && addr_eq l.address a) 0 ls
 
 -- the task that waits for a connection
 abbrev pub waiting_task : Option ListenerState → Option ℕ
@@ -146,6 +162,11 @@ waiting_task (Some l) = l.task
 abbrev pub at_listener : List ListenerState → ℕ → (ListenerState → ListenerState) → Option ListenerState → List ListenerState
 at_listener ls n f None = ls
 at_listener ls n f (Some l) = slice_set ls n (f l)
+
+-- a connection is taken, or the task waits
+abbrev pub with_accepted : {A : Type 0} → List ListenerState → ℕ → ℕ → Result (Poll A) Error → List ListenerState
+with_accepted ls n task (Ok p) = at_listener ls n (λ l. after_accept l task p) (live_listener ls n)
+with_accepted ls n task (Err _) = ls
 
 -- a connection waits at a listener, and the task that waited for one is woken
 abbrev pub with_connection : List ListenerState → ℕ → Connection → List ListenerState
@@ -159,11 +180,11 @@ without_task ls n = at_listener ls n (λ l. record l { task = None }) (live_list
 abbrev pub without_listener : List ListenerState → ℕ → List ListenerState
 without_listener ls n = at_listener ls n closed_listener (live_listener ls n)
 
+-- the channels once the connections that wait at a listener were closed
+abbrev pub without_waiting : List ChannelState → Option ListenerState → List ChannelState
+without_waiting cs None = cs
+without_waiting cs (Some l) = after_closing cs l.waiting
+
 -- no wait for a connection is there while one waits
 abbrev pub IsQuietListener : ListenerState → Type 0
 IsQuietListener l = (t : ℕ) → l.task ≡ Some t → l.waiting ≡ []
-
--- a call on a listener where it is live, and else what is answered for an unknown token
-abbrev pub AtListener : (ListenerState → ListenerState → Type 0) → Type 0 → List ListenerState → ℕ → List ListenerState → Type 0
-AtListener R unknown old n new =
-    MatchOption (live_listener old n) (unknown × (new ≡ old)) (λ l. (m : ListenerState) × R l m × (new ≡ slice_set old n m))

@@ -1,20 +1,24 @@
 -- The count of refusals, and which halves wait after a call.
-use Rattle.std.specs.Prelude.{◌≡◌, ℕ, ◌-◌, ◌^◌, ◌<◌, ◌≤◌, ◌⊎◌, Bool, true, false, Result, Ok, Err}
+use Rattle.std.specs.Prelude.{◌≡◌, ℕ, ◌+◌, ◌-◌, ◌^◌, ◌≤◌, min, Bool, true, false, Option, List, Result, Ok, Err}
 use Rattle.rt_base.specs.declared.error.Error.{Error}
-use Rattle.rt_base.specs.declared.error.Error.TheVariants.{NoMemory}
+use Rattle.rt_base.specs.declared.error.Error.TheVariants.{NoMemory, UnknownToken}
 use Rattle.rt_base.specs.declared.poll.Poll.{Poll}
 use Rattle.rt_base.specs.declared.poll.Poll.TheVariants.{Ready, Pending}
+use Rattle.rt_base.specs.Noted.{Noted, Adds}
+use Rattle.rt_base.specs.Outside.{HasRisen}
 use Rattle.rt_net.specs.declared.reply.Reply.{Reply}
-
--- the count rose; one that stands at its type's end passes as risen
-abbrev pub HasRisen : ℕ → ℕ → Type 0
-HasRisen old new = (old < new) ⊎ (old ≡ 2 ^ 64 - 1)
 
 -- the count never falls, and an error other than want of memory comes only where it rose
 abbrev pub Counts : {A : Type 0} → ℕ → ℕ → Result A Error → Type 0
 Counts old new (Ok _) = old ≤ new
 Counts old new (Err NoMemory) = old ≤ new
 Counts old new (Err _) = (old ≤ new) × HasRisen old new
+
+-- one more for an error other than want of memory, up to the type's end
+abbrev pub counted : {A : Type 0} → ℕ → Result A Error → ℕ
+counted n (Ok _) = n
+counted n (Err NoMemory) = n
+counted n (Err _) = min (n + 1) (2 ^ 64 - 1)
 
 -- the call waits
 abbrev pub is_pending : {A : Type 0} → Result (Poll A) Error → Bool
@@ -32,6 +36,14 @@ abbrev pub waits : {A : Type 0} → Result (Reply (Poll A)) Error → Bool
 waits (Ok r) = is_not_ready r.value
 waits (Err _) = false
 
+-- the poll of a call that waits: it still waits where it is pending again, and where it was refused and changed nothing
+abbrev pub still_waits : {A : Type 0} → Result (Poll A) Error → Bool
+still_waits (Ok Pending) = true
+still_waits (Ok (Ready _)) = false
+still_waits (Err NoMemory) = true
+still_waits (Err UnknownToken) = true
+still_waits (Err _) = false
+
 -- no wait of the halves of a new connection is started
 abbrev pub AreIdle : {K M : Type 0} → (K → Bool) → (M → Bool) → Result (Reply (K × M)) Error → Type 0
 AreIdle sending receiving (Ok r) = (sending r.value.0 ≡ false) × (receiving r.value.1 ≡ false)
@@ -42,3 +54,7 @@ abbrev pub TakesIdle : {A K M : Type 0} → (K → Bool) → (M → Bool) → Re
 TakesIdle sending receiving (Ok (Ready r)) = (sending r.1 ≡ false) × (receiving r.2 ≡ false)
 TakesIdle sending receiving (Ok Pending) = Unit {0}
 TakesIdle sending receiving (Err _) = Unit {0}
+
+-- the record of an environment grows by what a call notes, of which this holds
+abbrev pub Notes : Option (List Noted) → (List Noted → Type 0) → Option (List Noted) → Type 0
+Notes old P new = (x : List Noted) × Adds old x new × P x

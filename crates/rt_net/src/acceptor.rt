@@ -1,32 +1,36 @@
 // One listener.
-ghost use Rattle.std.specs.Prelude.{◌≡◌, [], ◌∷◌, ◌++◌, true, false, Some, None, OnErr, IfOk, OnOk};
-ghost use Rattle.rt_net.specs.Network.{Accepts, fresh_listener, closed_listener, IsQuietListener};
+ghost use Rattle.std.specs.Prelude.{◌≡◌, ◌+◌, ◌*◌, ◌≤◌, [], ◌∷◌, ◌++◌, true, false, Some, None, OnErr, IfOk, OnOk, length, option_to_list};
+ghost use Rattle.rt_net.specs.Network.{Accepts, after_accept, fresh_listener, closed_listener, IsQuietListener, after_closing, woken_by_closing};
 
-use crate::backlog::Backlog;
+use crate::channels::Channels;
 use crate::connection::Connection;
 use rt_base::{Addr, NoMemory, Poll};
 use std::alloc::Global;
+use std::collections::VecDeque;
 use std::marker::Model;
 use std::mem;
 
-/// A listener: its address, the connections that wait, and the task that waits for one.
+/// A listener: its address, the connections that wait in the order of their dials, and the task that waits for one.
+/// Closing a connection wakes at most two tasks, and the room for them is kept.
 #[derive(Debug, Drop)]
 pub struct Acceptor {
     address: Addr,
     alive: bool,
-    backlog: Backlog,
+    waiting: VecDeque<Connection>,
+    woken: VecDeque<u64>,
     task: Option<u64>,
 }
 
 impl Model for Acceptor {
-    ghost use Rattle.std.specs.Prelude.{◌≡◌, [], ℕ, Some};
+    ghost use Rattle.std.specs.Prelude.{◌≡◌, ◌*◌, ◌≤◌, [], ℕ, Some, length};
+    ghost use Rattle.std.specs.VecDeque.{deque_capacity};
     ghost use Rattle.rt_net.specs.Network.{ListenerState};
 
     ghost Value = { ListenerState };
 
-    ghost view = { λ a. record { address = a.address; alive = a.alive; waiting = a.backlog; task = a.task } };
+    ghost view = { λ a. record { address = a.address; alive = a.alive; waiting = a.waiting.items; task = a.task } };
 
-    ghost invariant = { λ a. (t : ℕ) → a.task ≡ Some t → a.backlog ≡ [] };
+    ghost invariant = { λ a. ((t : ℕ) → a.task ≡ Some t → a.waiting.items ≡ []) × (a.woken.items ≡ []) × (2 * length a.waiting.items ≤ deque_capacity a.woken) };
 }
 
 impl Acceptor {
@@ -37,16 +41,18 @@ impl Acceptor {
         Acceptor {
             address,
             alive: true,
-            backlog: Backlog::new(alloc),
+            waiting: VecDeque::new(alloc),
+            woken: VecDeque::new(alloc),
             task: None,
         }
     }
 
-    /// What is known of each listener.
-    pub fn facts(&self)
-        ensures { IsQuietListener self.now }
+    /// The task that waits for a connection. None waits while one is there.
+    pub fn waiting(&self) -> Option<u64>
+        ensures task { result ≡ self.now.task }
+        ensures quiet { IsQuietListener self.now }
     {
-        let _ = &self.task;
+        self.task
     }
 
     /// Whether it wasn't closed.
@@ -62,15 +68,25 @@ impl Acceptor {
         ensures added { OnOk result (self.new ≡ record self.old { waiting = self.old.waiting ++ connection ∷ []; task = None }) }
         ensures refused { OnErr result (self.new ≡ self.old) }
     {
-        self.backlog.push(connection)?;
+        let tasks = self
+            .waiting
+            .len()
+            .checked_add(1)
+            .and_then(|count| count.checked_mul(2));
+        let Some(tasks) = tasks else {
+            return Err(NoMemory);
+        };
+        self.woken.reserve(tasks)?;
+        self.waiting.push_back(connection)?;
         Ok(self.task.take())
     }
 
     /// Takes the first connection, or lets the task wait for one.
     pub fn accept(&mut self, task: u64) -> Poll<Connection>
-        ensures { Accepts self.old task result self.new }
+        ensures first { Accepts self.old result }
+        ensures after { self.new ≡ after_accept self.old task result }
     {
-        match self.backlog.pop() {
+        match self.waiting.pop_front() {
             Some(connection) => {
                 self.task = None;
                 Poll::Ready(connection)
@@ -89,14 +105,27 @@ impl Acceptor {
         self.task = None;
     }
 
-    /// Closes it, and answers the connections that waited.
-    pub fn close(&mut self) -> Backlog
-        ensures backlog { result ≡ self.old.waiting }
-        ensures closed { self.new ≡ closed_listener self.old }
+    /// Closes it and both halves of each connection that waits, and answers the tasks that this wakes. It takes no
+    /// memory.
+    pub fn close(&mut self, channels: &mut Channels) -> VecDeque<u64>
+        ensures listener { self.new ≡ closed_listener self.old }
+        ensures channels { channels.new.list ≡ after_closing channels.old.list self.old.waiting }
+        ensures woken { result.items ≡ woken_by_closing channels.old.list self.old.waiting }
     {
         self.alive = false;
         self.task = None;
-        let empty = Backlog::new(self.backlog.alloc());
-        mem::replace(&mut self.backlog, empty)
+        let empty = VecDeque::new(*self.woken.allocator());
+        let mut woken = mem::replace(&mut self.woken, empty);
+        let none = VecDeque::new(*self.waiting.allocator());
+        let mut waiting = mem::replace(&mut self.waiting, none);
+        while let Some(connection) = waiting.pop_front() {
+            if let Some(task) = channels.close_sink(connection.sink) {
+                woken.push_back_reserved(task);
+            }
+            if let Some(task) = channels.close_stream(connection.stream) {
+                woken.push_back_reserved(task);
+            }
+        }
+        woken
     }
 }

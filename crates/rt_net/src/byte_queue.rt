@@ -3,6 +3,7 @@
 ghost use Rattle.std.specs.Prelude.{◌≡◌, ℕ, ◌+◌, ◌-◌, ◌<◌, ◌≤◌, [], ◌++◌, length, take, drop, OnOk, OnErr, IfOk};
 
 use rt_base::NoMemory;
+use rt_bufs::IoBufs;
 use std::alloc::Global;
 use std::marker::Model;
 
@@ -63,6 +64,29 @@ impl ByteQueue {
         }
         self.bytes.extend_from_slice(bytes)?;
         Ok(())
+    }
+
+    /// Adds the bytes of all chunks at the back. Where memory is refused nothing changes.
+    pub fn append(&mut self, bufs: &IoBufs) -> Result<(), NoMemory>
+        ensures added { OnOk result (self.new ≡ self.old ++ bufs.now.bytes) }
+        ensures refused { OnErr result (self.new ≡ self.old) }
+    {
+        let kept = self.len();
+        for index in 0..bufs.chunk_count() {
+            if self.extend(bufs.chunk_at(index)).is_err() {
+                self.truncate(kept);
+                return Err(NoMemory);
+            }
+        }
+        Ok(())
+    }
+
+    // Takes the bytes from `len` on away.
+    fn truncate(&mut self, len: usize)
+        requires { len ≤ length self.old }
+        ensures { self.new ≡ take len self.old }
+    {
+        self.bytes.truncate(self.start + len);
     }
 
     /// Takes the first `count` bytes away.

@@ -1,9 +1,8 @@
 // All channels, by number.
 ghost use Rattle.std.specs.Prelude.{◌≡◌, ◌+◌, ◌^◌, ◌<◌, ◌≤◌, [], ◌∷◌, ◌++◌, length, OnOk, is_some, Err, MatchOption, Some, slice_get};
 ghost use Rattle.rt_base.specs.declared.error.Error.TheVariants.{UnknownToken};
-ghost use Rattle.rt_net.specs.Channel.{fresh, Sends, PollsSend, Receives, PollsReceive, Peeks, Keeps, ChannelState, IsQuiet};
-ghost use Rattle.rt_net.specs.Network.{live_sink, live_stream, AtSink, AtStream, with_given_up_send, with_given_up_recv, sink_wakes, stream_wakes};
-ghost use Rattle.rt_net.specs.Table.{without_sink, without_stream};
+ghost use Rattle.rt_net.specs.Channel.{fresh, Sends, PollsSend, Receives, PollsReceive, Peeks, after_send, after_poll_send, after_recv, after_poll_recv, ChannelState, IsQuiet};
+ghost use Rattle.rt_net.specs.Network.{live_sink, live_stream, AtSink, AtStream, at_sink, at_stream, with_given_up_send, with_given_up_recv, with_closed_sink, with_closed_stream, sink_wakes, stream_wakes, waiting_halves};
 
 use crate::pipe::Pipe;
 use crate::reply::Reply;
@@ -64,12 +63,14 @@ impl Channels {
         self.pipes.push_reserved(Pipe::new(alloc, buffer_size));
     }
 
-    /// What is known of the channel of this number.
-    pub fn facts(&self, number: u64)
-        ensures { (c : ChannelState) → slice_get self.now.list number ≡ Some c → IsQuiet c }
+    /// The tasks that wait to receive and to send on the channel of this number.
+    pub fn waiting(&self, number: u64) -> (Option<u64>, Option<u64>)
+        ensures tasks { result ≡ waiting_halves (slice_get self.now.list number) }
+        ensures quiet { (c : ChannelState) → slice_get self.now.list number ≡ Some c → IsQuiet c }
     {
-        if let Some(pipe) = self.pipes.get(number as usize) {
-            pipe.facts();
+        match self.pipes.get(number as usize) {
+            Some(pipe) => pipe.waiting(),
+            None => (None, None),
         }
     }
 
@@ -95,8 +96,8 @@ impl Channels {
 
     /// Sends on the sink of this number.
     pub fn send(&mut self, number: u64, bufs: IoBufs, task: u64) -> Reply<Result<Poll<()>, Error>>
-        ensures sends { AtSink (λ c d. Sends c bufs.bytes task result.value result.wake d)
-            ((result.value ≡ Err UnknownToken) × (result.wake ≡ None)) self.old.list number self.new.list }
+        ensures sends { AtSink self.old.list number ((result.value ≡ Err UnknownToken) × (result.wake ≡ None)) (λ c. Sends c bufs.bytes result.value result.wake) }
+        ensures after { self.new.list ≡ at_sink self.old.list number (λ c. after_send c bufs.bytes task result.value) }
         ensures link { result.link ≡ None }
     {
         if !self.has_sink(number) {
@@ -112,7 +113,8 @@ impl Channels {
 
     /// Polls the `send` of the sink of this number.
     pub fn poll_send(&mut self, number: u64, task: u64) -> Result<Poll<()>, Error>
-        ensures { AtSink (λ c d. PollsSend c task result d) (result ≡ Err UnknownToken) self.old.list number self.new.list }
+        ensures polls { AtSink self.old.list number (result ≡ Err UnknownToken) (λ c. PollsSend c result) }
+        ensures after { self.new.list ≡ at_sink self.old.list number (λ c. after_poll_send c task result) }
     {
         if !self.has_sink(number) {
             return Err(Error::UnknownToken);
@@ -123,7 +125,8 @@ impl Channels {
 
     /// Receives on the stream of this number.
     pub fn recv(&mut self, number: u64, len: usize, task: u64) -> Result<Reply<Poll<IoBufs>>, Error>
-        ensures { AtStream (λ c d. Keeps (Receives c len task result) d) (result ≡ Err UnknownToken) self.old.list number self.new.list }
+        ensures receives { AtStream self.old.list number (result ≡ Err UnknownToken) (λ c. Receives c len result) }
+        ensures after { self.new.list ≡ at_stream self.old.list number (λ c. after_recv c len task result) }
     {
         if !self.has_stream(number) {
             return Err(Error::UnknownToken);
@@ -134,7 +137,8 @@ impl Channels {
 
     /// Polls the `recv` of the stream of this number.
     pub fn poll_recv(&mut self, number: u64, task: u64) -> Result<Poll<IoBufs>, Error>
-        ensures { AtStream (λ c d. Keeps (PollsReceive c task result) d) (result ≡ Err UnknownToken) self.old.list number self.new.list }
+        ensures polls { AtStream self.old.list number (result ≡ Err UnknownToken) (λ c. PollsReceive c result) }
+        ensures after { self.new.list ≡ at_stream self.old.list number (λ c. after_poll_recv c task result) }
     {
         if !self.has_stream(number) {
             return Err(Error::UnknownToken);
@@ -145,7 +149,7 @@ impl Channels {
 
     /// A copy of the first bytes that the stream of this number holds.
     pub fn peek(&self, number: u64, max_len: usize) -> Result<IoBuf, Error>
-        ensures { MatchOption (live_stream self.now.list number) (result ≡ Err UnknownToken) (λ c. Peeks c max_len result) }
+        ensures { AtStream self.now.list number (result ≡ Err UnknownToken) (λ c. Peeks c max_len result) }
     {
         if !self.has_stream(number) {
             return Err(Error::UnknownToken);
@@ -177,28 +181,24 @@ impl Channels {
     /// Closes the sink of this number, and answers the receiver that this wakes.
     pub fn close_sink(&mut self, number: u64) -> Option<u64>
         ensures woken { result ≡ sink_wakes self.old.list number }
-        ensures closed { self.new.list ≡ without_sink self.old.list number }
+        ensures closed { self.new.list ≡ with_closed_sink self.old.list number }
     {
         if !self.has_sink(number) {
             return None;
         }
         let pipe = &mut self.pipes[number as usize];
-        let wake = pipe.close_sink();
-        pipe.free();
-        wake
+        pipe.close_sink()
     }
 
     /// Closes the stream of this number, and answers the sender that this wakes.
     pub fn close_stream(&mut self, number: u64) -> Option<u64>
         ensures woken { result ≡ stream_wakes self.old.list number }
-        ensures closed { self.new.list ≡ without_stream self.old.list number }
+        ensures closed { self.new.list ≡ with_closed_stream self.old.list number }
     {
         if !self.has_stream(number) {
             return None;
         }
         let pipe = &mut self.pipes[number as usize];
-        let wake = pipe.close_stream();
-        pipe.free();
-        wake
+        pipe.close_stream()
     }
 }

@@ -3,23 +3,21 @@
 #![tactic(auto)]
 
 mod acceptor;
-mod acceptors;
-mod backlog;
+mod addresses;
+mod answers;
 mod byte_queue;
 pub mod channel;
 mod channels;
 pub mod connection;
+mod forgotten;
 pub mod half;
 pub mod halves;
-mod index;
 pub mod listener;
 mod listeners;
 pub mod net;
-mod net_halves;
-mod net_network;
 pub mod network;
 #[cfg(test)]
-mod passing;
+mod noting;
 mod pipe;
 mod place;
 pub mod reply;

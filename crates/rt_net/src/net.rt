@@ -1,21 +1,22 @@
 // The network in memory.
-ghost use Rattle.std.specs.Prelude.{◌≡◌, ℕ, ◌+◌, ◌<◌, ◌≤◌, ◌↔◌, [], ◌∷◌, ◌++◌, length, IsTrue, IfOk, OnErr, Ok, Err, Some, None, MatchOption, MatchResult, IsErrOf, slice_get};
-ghost use Rattle.rt_base.specs.declared.error.Error.TheVariants.{NoMemory, UnknownToken};
-ghost use Rattle.rt_net.specs.Channel.{fresh, Keeps, Receives, PollsReceive, ChannelState, IsQuiet};
-ghost use Rattle.rt_net.specs.Network.{ListenerState, IsQuietListener, live_listener, AtStream, with_given_up_send, with_given_up_recv, sink_wakes, stream_wakes};
-ghost use Rattle.rt_net.specs.Table.{without_sink, without_stream};
-ghost use Rattle.rt_net.specs.Calls.{OnChannels, NetSends, NetPollsSend, NetPeeks, NetBinds, NetDials, NetAccepts, NetGivesAcceptUp, NetTellsWoken, IsDialerAddress, closed_at, idle_sink, idle_stream, localhost};
-ghost use Rattle.rt_net.specs.Kept.{empty_net};
-ghost use Rattle.rt_net.specs.Refusals.{Counts, AreIdle, TakesIdle};
+ghost use Rattle.std.specs.Prelude.{◌≡◌, ◌+◌, ◌<◌, ◌≤◌, ◌↔◌, [], ◌∷◌, ◌++◌, length, IsTrue, IfOk, OnErr, OnOk, Ok, Err, Some, None, true, false, slice_get, IfSome, is_some};
+ghost use Rattle.rt_net.specs.Channel.{fresh, ChannelState, IsQuiet};
+ghost use Rattle.rt_net.specs.Network.{ListenerState, IsQuietListener, waiting_halves, waiting_task, listener_at, live_listener, addresses};
+ghost use Rattle.rt_net.specs.Calls.{IsDialerAddress, NetBinds, NetDials, NetAccepts, net_after_bind, net_after_dial, net_after_accept, opened, idle_sink, idle_stream};
+ghost use Rattle.rt_net.specs.Kept.{empty_net, moved_to};
+ghost use Rattle.rt_net.specs.Refusals.{counted, Counts};
 
+use crate::addresses::Addresses;
+use crate::answers::{is_pending, still_waits, waits};
 use crate::channels::Channels;
 use crate::connection::Connection;
 use crate::listener::Listener;
 use crate::listeners::Listeners;
+use crate::network::Network;
 use crate::reply::Reply;
 use crate::sink::Sink;
 use crate::stream::Stream;
-use rt_base::{Addr, Error, Ip, NoMemory, Poll};
+use rt_base::{Addr, Env, Error, Ip, NoMemory, Poll};
 use rt_bufs::{IoBuf, IoBufs};
 use std::alloc::Global;
 use std::collections::VecDeque;
@@ -34,25 +35,27 @@ pub const DEFAULT_BUFFER_SIZE: usize = 65536;
 
 /// Channels, listeners and connections in memory.
 ///
-/// Contracts see the network as its record without the bytes that were answered, and the count of refusals.
+/// Contracts see the whole network, with the bytes that were answered, and the count of refusals.
 #[derive(Drop)]
 pub struct Net {
-    pub(crate) channels: Channels,
+    channels: Channels,
     listeners: Listeners,
+    bound: Addresses,
     port: u16,
     woken: VecDeque<u64>,
     refusals: u64,
 }
 
 impl Model for Net {
-    ghost use Rattle.std.specs.Prelude.{◌≤◌};
+    ghost use Rattle.std.specs.Prelude.{◌≡◌, ◌≤◌};
     ghost use Rattle.rt_net.specs.Kept.{Kept};
+    ghost use Rattle.rt_net.specs.Network.{addresses};
 
     ghost Value = { Kept };
 
-    ghost view = { λ n. record { state = record { port = n.port; listeners = n.listeners; channels = n.channels.list; woken = n.woken.items }; refusals = n.refusals } };
+    ghost view = { λ n. record { state = record { port = n.port; listeners = n.listeners.list; channels = n.channels.list; woken = n.woken.items }; refusals = n.refusals } };
 
-    ghost invariant = { λ n. n.port ≤ 61000 };
+    ghost invariant = { λ n. (n.port ≤ 61000) × (n.bound ≡ addresses n.listeners.list) };
 }
 
 impl Net {
@@ -63,24 +66,32 @@ impl Net {
         Ok(Net {
             channels: Channels::new(alloc),
             listeners: Listeners::new(alloc),
+            bound: Addresses::new(alloc),
             port: FIRST_PORT,
             woken: VecDeque::new(alloc),
             refusals: 0,
         })
     }
 
-    /// What is known of each network: at the channel and the listener of this number, nobody waits for what is there.
-    pub fn facts(&self, number: u64)
-        ensures channel { (c : ChannelState) → slice_get self.now.state.channels number ≡ Some c → IsQuiet c }
-        ensures listener { (l : ListenerState) → slice_get self.now.state.listeners number ≡ Some l → IsQuietListener l }
+    /// The tasks that wait to receive and to send on the channel of this number. None waits for what is there.
+    pub fn waiting_halves(&self, number: u64) -> (Option<u64>, Option<u64>)
+        ensures tasks { result ≡ waiting_halves (slice_get self.now.state.channels number) }
+        ensures quiet { (c : ChannelState) → slice_get self.now.state.channels number ≡ Some c → IsQuiet c }
     {
-        self.channels.facts(number);
-        self.listeners.facts(number);
+        self.channels.waiting(number)
+    }
+
+    /// The task that waits for a connection at the listener of this number. None waits while one is there.
+    pub fn waiting_acceptor(&self, number: u64) -> Option<u64>
+        ensures task { result ≡ waiting_task (slice_get self.now.state.listeners number) }
+        ensures quiet { (l : ListenerState) → slice_get self.now.state.listeners number ≡ Some l → IsQuietListener l }
+    {
+        self.listeners.waiting(number)
     }
 
     // Counts a refusal.
-    pub(crate) fn count<T>(&mut self, answer: &Result<T, Error>)
-        ensures state { self.new.state ≡ self.old.state }
+    fn count<V>(&mut self, answer: &Result<V, Error>)
+        ensures after { self.new ≡ record self.old { refusals = counted self.old.refusals answer.now } }
         ensures counts { Counts self.old.refusals self.new.refusals answer.now }
     {
         match answer {
@@ -92,59 +103,67 @@ impl Net {
     // Makes a channel.
     pub(crate) fn open(&mut self, buffer_size: usize) -> Result<(Sink, Stream), NoMemory>
         ensures halves { IfOk result (λ r. r ≡ (idle_sink (length self.old.state.channels), idle_stream (length self.old.state.channels))) }
-        ensures made { IfOk result (λ _. self.new.state ≡ record self.old.state { channels = self.old.state.channels ++ fresh buffer_size ∷ [] }) }
-        ensures refused { OnErr result (self.new.state ≡ self.old.state) }
-        ensures counts { self.new.refusals ≡ self.old.refusals }
+        ensures made { OnOk result (self.new ≡ moved_to self.old (opened self.old.state buffer_size)) }
+        ensures refused { OnErr result (self.new ≡ self.old) }
     {
         self.channels.reserve(1)?;
         let number = self.channels.len() as u64;
         self.channels.add(buffer_size);
-        Ok((
-            Sink {
-                number,
-                sending: false,
-            },
-            Stream {
-                number,
-                receiving: false,
-            },
-        ))
+        Ok((Sink::idle(number), Stream::idle(number)))
     }
 
     // Binds a listener.
-    pub(crate) fn listen(&mut self, socket: Addr) -> Result<Listener, Error>
-        ensures state { NetBinds socket result self.old.state self.new.state }
-        ensures refusals { self.new.refusals ≡ self.old.refusals }
+    fn listen(&mut self, socket: Addr) -> Result<Listener, Error>
+        ensures binds { NetBinds self.old.state socket result }
+        ensures after { self.new ≡ moved_to self.old (net_after_bind self.old.state socket result) }
     {
-        if is_dialer_address(socket) || self.listeners.is_bound(socket) {
+        if is_dialer_address(socket) {
+            return Err(Error::BindFailed);
+        }
+        if let Some(_) = self.bound.number_of(socket) {
             return Err(Error::BindFailed);
         }
         let number = self.listeners.len() as u64;
-        self.listeners.bind(socket)?;
+        self.listeners.reserve()?;
+        self.bound.add(socket)?;
+        self.listeners.add(socket);
         Ok(Listener {
             number,
             address: socket,
         })
     }
 
+    // The number of the live listener at this address, where there is one.
+    fn live_at(&self, address: Addr) -> Option<u64>
+        ensures number { result ≡ listener_at self.now.state.listeners address }
+        ensures live { IfSome result (λ n. is_some (live_listener self.now.state.listeners n) ≡ true) }
+    {
+        let Some(number) = self.bound.number_of(address) else {
+            return None;
+        };
+        if self.listeners.has(number) {
+            Some(number)
+        } else {
+            None
+        }
+    }
+
     // Connects to a listener.
-    pub(crate) fn connect(&mut self, socket: Addr) -> Result<Reply<(Sink, Stream)>, Error>
-        ensures state { NetDials socket result self.old.state self.new.state }
-        ensures half { AreIdle (λ k. k.sending) (λ k. k.receiving) result }
-        ensures refusals { self.new.refusals ≡ self.old.refusals }
+    #[tactic(auto, using(crate::proofs::ListenerLemmas::addresses_connection))]
+    fn connect(&mut self, socket: Addr) -> Result<Reply<(Sink, Stream)>, Error>
+        ensures dials { NetDials self.old.state socket result }
+        ensures after { self.new ≡ moved_to self.old (net_after_dial self.old.state socket result) }
     {
         if self.port == LAST_PORT {
             return Err(Error::PortsExhausted);
         }
-        let listener = match self.listeners.live_at(socket) {
-            Some(listener) => listener,
-            None => {
-                self.port += 1;
-                return Err(Error::ConnectionFailed);
-            }
+        let Some(listener) = self.live_at(socket) else {
+            self.port += 1;
+            return Err(Error::ConnectionFailed);
         };
         self.channels.reserve(2)?;
         let to_dialer = self.channels.len() as u64;
+        let from_dialer = to_dialer + 1;
         let dialer = Addr {
             ip: LOCALHOST,
             port: self.port,
@@ -152,78 +171,33 @@ impl Net {
         let connection = Connection {
             dialer,
             sink: to_dialer,
-            stream: to_dialer + 1,
+            stream: from_dialer,
         };
         let wake = self.listeners.push(listener, connection)?;
         self.channels.add(DEFAULT_BUFFER_SIZE);
         self.channels.add(DEFAULT_BUFFER_SIZE);
         self.port += 1;
-        let sink = Sink {
-            number: to_dialer + 1,
-            sending: false,
-        };
-        let stream = Stream {
-            number: to_dialer,
-            receiving: false,
-        };
         Ok(Reply {
-            value: (sink, stream),
+            value: (Sink::idle(from_dialer), Stream::idle(to_dialer)),
             wake,
             link: None,
         })
     }
 
     // Takes a connection.
-    pub(crate) fn take_connection(
-        &mut self,
-        number: u64,
-        task: u64,
-    ) -> Result<Poll<(Addr, Sink, Stream)>, Error>
-        ensures state { NetAccepts number task result self.old.state self.new.state }
-        ensures half { TakesIdle (λ k. k.sending) (λ k. k.receiving) result }
-        ensures refusals { self.new.refusals ≡ self.old.refusals }
+    #[tactic(auto, using(crate::proofs::ListenerLemmas::addresses_accept))]
+    fn take(&mut self, number: u64, task: u64) -> Result<Poll<(Addr, Sink, Stream)>, Error>
+        ensures accepts { NetAccepts self.old.state number result }
+        ensures after { self.new ≡ moved_to self.old (net_after_accept self.old.state number task result) }
     {
-        match self.listeners.accept(number, task) {
-            Err(error) => Err(error),
-            Ok(Poll::Pending) => Ok(Poll::Pending),
-            Ok(Poll::Ready(connection)) => {
-                let sink = Sink {
-                    number: connection.sink,
-                    sending: false,
-                };
-                let stream = Stream {
-                    number: connection.stream,
-                    receiving: false,
-                };
-                Ok(Poll::Ready((connection.dialer, sink, stream)))
-            }
+        match self.listeners.accept(number, task)? {
+            Poll::Pending => Ok(Poll::Pending),
+            Poll::Ready(connection) => Ok(Poll::Ready((
+                connection.dialer,
+                Sink::idle(connection.sink),
+                Stream::idle(connection.stream),
+            ))),
         }
-    }
-
-    // Closes a listener and its connections.
-    pub(crate) fn shut(&mut self, number: u64)
-        ensures state { self.new.state ≡ closed_at without_sink without_stream self.old.state number (live_listener self.old.state.listeners number) }
-        ensures counts { self.new.refusals ≡ self.old.refusals }
-    {
-        if let Some(backlog) = self.listeners.close(number) {
-            self.woken = backlog.close(&mut self.channels);
-        }
-    }
-
-    // Lets no task wait for a connection.
-    pub(crate) fn stop_accept(&mut self, number: u64)
-        ensures state { NetGivesAcceptUp number self.old.state self.new.state }
-        ensures counts { self.new.refusals ≡ self.old.refusals }
-    {
-        self.listeners.give_up(number);
-    }
-
-    // Takes the next woken task.
-    pub(crate) fn pop_woken(&mut self) -> Option<u64>
-        ensures state { NetTellsWoken result self.old.state self.new.state }
-        ensures counts { self.new.refusals ≡ self.old.refusals }
-    {
-        self.woken.pop_front()
     }
 }
 
@@ -232,4 +206,209 @@ fn is_dialer_address(address: Addr) -> bool
     ensures { IsTrue result ↔ IsDialerAddress address }
 {
     address.ip == LOCALHOST && FIRST_PORT <= address.port && address.port < LAST_PORT
+}
+
+impl Network for Net {
+    type Listener = Listener;
+
+    type Sink = Sink;
+
+    type Stream = Stream;
+
+    ghost use Rattle.std.specs.Prelude.{◌≡◌, []};
+    ghost use Rattle.rt_net.specs.Kept.{Kept, answered, moved_to};
+    ghost use Rattle.rt_net.specs.Refusals.{is_pending, still_waits, waits};
+    ghost use Rattle.rt_net.specs.Network.{sink_wakes, stream_wakes, with_given_up_send, with_given_up_recv, with_closed_sink, with_closed_stream, without_task};
+    ghost use Rattle.rt_net.specs.Calls.{NetSends, NetPollsSend, NetReceives, NetPollsReceive, NetPeeks, NetBinds, NetDials, NetAccepts, net_after_send, net_after_poll_send, net_after_recv, net_after_poll_recv, net_after_bind, net_after_dial, net_after_accept, net_after_close, with_channels, with_listeners, told, next_told};
+
+    ghost refusals = { λ v. v.refusals };
+
+    ghost most = { 0 };
+
+    ghost sends = { λ v k b t r w l x. NetSends v.state k.number b.bytes r × (w ≡ answered v (net_after_send v.state k.number b.bytes t r.value) r.value) × (l ≡ record k { sending = is_pending r.value }) × (x ≡ []) };
+
+    ghost polls_send = { λ v k t r w l x. NetPollsSend v.state k.number r × (w ≡ answered v (net_after_poll_send v.state k.number t r) r) × (l ≡ record k { sending = still_waits r }) × (x ≡ []) };
+
+    ghost receives = { λ v k n t r w l x. NetReceives v.state k.number n r × (w ≡ answered v (net_after_recv v.state k.number n t r) r) × (l ≡ record k { receiving = waits r }) × (x ≡ []) };
+
+    ghost polls_recv = { λ v k t r w l x. NetPollsReceive v.state k.number r × (w ≡ answered v (net_after_poll_recv v.state k.number t r) r) × (l ≡ record k { receiving = still_waits r }) × (x ≡ []) };
+
+    ghost peeks = { λ v k n r w x. NetPeeks v.state k.number n r × (w ≡ answered v v.state r) × (x ≡ []) };
+
+    ghost gives_send_up = { λ v k w l. (w ≡ moved_to v (with_channels v.state (with_given_up_send v.state.channels k.number))) × (l ≡ record k { sending = false }) };
+
+    ghost gives_recv_up = { λ v k w l. (w ≡ moved_to v (with_channels v.state (with_given_up_recv v.state.channels k.number))) × (l ≡ record k { receiving = false }) };
+
+    ghost closes_sink = { λ v k r w. (r ≡ sink_wakes v.state.channels k.number) × (w ≡ moved_to v (with_channels v.state (with_closed_sink v.state.channels k.number))) };
+
+    ghost closes_stream = { λ v k r w. (r ≡ stream_wakes v.state.channels k.number) × (w ≡ moved_to v (with_channels v.state (with_closed_stream v.state.channels k.number))) };
+
+    ghost binds = { λ v a r w x. NetBinds v.state a r × (w ≡ answered v (net_after_bind v.state a r) r) × (x ≡ []) };
+
+    ghost dials = { λ v a r w x. NetDials v.state a r × (w ≡ answered v (net_after_dial v.state a r) r) × (x ≡ []) };
+
+    ghost accepts = { λ v k t r w l x. NetAccepts v.state k.number r × (w ≡ answered v (net_after_accept v.state k.number t r) r) × (l ≡ k) × (x ≡ []) };
+
+    ghost polls_accept = { λ v k t r w l x. NetAccepts v.state k.number r × (w ≡ answered v (net_after_accept v.state k.number t r) r) × (l ≡ k) × (x ≡ []) };
+
+    ghost has_address = { λ v k a. a ≡ k.address };
+
+    ghost gives_accept_up = { λ v k w l. (w ≡ moved_to v (with_listeners v.state (without_task v.state.listeners k.number))) × (l ≡ k) };
+
+    ghost closes_listener = { λ v k w. w ≡ moved_to v (net_after_close v.state k.number) };
+
+    ghost tells_woken = { λ v r w. (r ≡ next_told v.state) × (w ≡ moved_to v (told v.state)) };
+
+    fn take_room<E: Env>(env: &mut E, more: usize) -> Result<(), NoMemory> {
+        env.reserve(more)
+    }
+
+    fn send<E: Env>(
+        &mut self,
+        env: &mut E,
+        sink: &mut Sink,
+        bufs: IoBufs,
+        task: u64,
+    ) -> Reply<Result<Poll<()>, Error>> {
+        let _ = env;
+        let reply = self.channels.send(sink.number, bufs, task);
+        sink.sending = is_pending(&reply.value);
+        self.count(&reply.value);
+        reply
+    }
+
+    fn poll_send<E: Env>(
+        &mut self,
+        env: &mut E,
+        sink: &mut Sink,
+        task: u64,
+    ) -> Result<Poll<()>, Error> {
+        let _ = env;
+        let answer = self.channels.poll_send(sink.number, task);
+        sink.sending = still_waits(&answer);
+        self.count(&answer);
+        answer
+    }
+
+    fn recv<E: Env>(
+        &mut self,
+        env: &mut E,
+        stream: &mut Stream,
+        len: usize,
+        task: u64,
+    ) -> Result<Reply<Poll<IoBufs>>, Error> {
+        let _ = env;
+        let answer = self.channels.recv(stream.number, len, task);
+        stream.receiving = waits(&answer);
+        self.count(&answer);
+        answer
+    }
+
+    fn poll_recv<E: Env>(
+        &mut self,
+        env: &mut E,
+        stream: &mut Stream,
+        task: u64,
+    ) -> Result<Poll<IoBufs>, Error> {
+        let _ = env;
+        let answer = self.channels.poll_recv(stream.number, task);
+        stream.receiving = still_waits(&answer);
+        self.count(&answer);
+        answer
+    }
+
+    fn peek<E: Env>(
+        &mut self,
+        env: &mut E,
+        stream: &Stream,
+        max_len: usize,
+    ) -> Result<IoBuf, Error> {
+        let _ = env;
+        let answer = self.channels.peek(stream.number, max_len);
+        self.count(&answer);
+        answer
+    }
+
+    fn give_up_send(&mut self, sink: &mut Sink) {
+        self.channels.give_up_send(sink.number);
+        sink.sending = false;
+    }
+
+    fn give_up_recv(&mut self, stream: &mut Stream) {
+        self.channels.give_up_recv(stream.number);
+        stream.receiving = false;
+    }
+
+    fn close_sink(&mut self, sink: Sink) -> Option<u64> {
+        let Sink { number, sending: _ } = sink;
+        self.channels.close_sink(number)
+    }
+
+    fn close_stream(&mut self, stream: Stream) -> Option<u64> {
+        let Stream {
+            number,
+            receiving: _,
+        } = stream;
+        self.channels.close_stream(number)
+    }
+
+    fn bind<E: Env>(&mut self, env: &mut E, socket: Addr) -> Result<Listener, Error> {
+        let _ = env;
+        let answer = self.listen(socket);
+        self.count(&answer);
+        answer
+    }
+
+    fn dial<E: Env>(&mut self, env: &mut E, socket: Addr) -> Result<Reply<(Sink, Stream)>, Error> {
+        let _ = env;
+        let answer = self.connect(socket);
+        self.count(&answer);
+        answer
+    }
+
+    fn accept<E: Env>(
+        &mut self,
+        env: &mut E,
+        listener: &mut Listener,
+        task: u64,
+    ) -> Result<Poll<(Addr, Sink, Stream)>, Error> {
+        let _ = env;
+        let answer = self.take(listener.number, task);
+        self.count(&answer);
+        answer
+    }
+
+    fn poll_accept<E: Env>(
+        &mut self,
+        env: &mut E,
+        listener: &mut Listener,
+        task: u64,
+    ) -> Result<Poll<(Addr, Sink, Stream)>, Error> {
+        let _ = env;
+        let answer = self.take(listener.number, task);
+        self.count(&answer);
+        answer
+    }
+
+    fn local_addr(&self, listener: &Listener) -> Addr {
+        let _ = self;
+        listener.address
+    }
+
+    #[tactic(auto, using(crate::proofs::ListenerLemmas::addresses_give_up))]
+    fn give_up_accept(&mut self, listener: &mut Listener) {
+        self.listeners.give_up(listener.number);
+    }
+
+    #[tactic(auto, using(crate::proofs::ListenerLemmas::addresses_close))]
+    fn close_listener(&mut self, listener: Listener) {
+        let Listener { number, address: _ } = listener;
+        if let Some(woken) = self.listeners.close(number, &mut self.channels) {
+            self.woken = woken;
+        }
+    }
+
+    fn next_woken(&mut self) -> Option<u64> {
+        self.woken.pop_front()
+    }
 }

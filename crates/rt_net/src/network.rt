@@ -3,18 +3,18 @@
 // Code over any `N: Network` is proved from this trait alone. There is one relation for each call, over the network
 // and the token before it, the arguments, the answer, the network and the token after it, and what the call noted in
 // the environment. So a wrapper states its own relations by those of what it wraps.
-ghost use Rattle.std.specs.Prelude.{◌≡◌, ◌≤◌, ℕ, Bool, true, false, List, Option, Result};
+ghost use Rattle.std.specs.Prelude.{◌≡◌, ◌≤◌, ◌+◌, ℕ, Bool, true, false, List, Option, Result, OnOk};
 ghost use Rattle.rt_base.specs.declared.addr.Addr.{Addr};
 ghost use Rattle.rt_base.specs.declared.error.Error.{Error};
 ghost use Rattle.rt_base.specs.declared.poll.Poll.{Poll};
-ghost use Rattle.rt_base.specs.Noted.{Noted, Adds};
+ghost use Rattle.rt_base.specs.Noted.{Noted};
 ghost use Rattle.rt_bufs.specs.Chunked.{Chunked};
 ghost use Rattle.rt_net.specs.declared.reply.Reply.{Reply};
-ghost use Rattle.rt_net.specs.Refusals.{Counts, is_pending, waits, AreIdle, TakesIdle};
+ghost use Rattle.rt_net.specs.Refusals.{Counts, Notes, is_pending, still_waits, waits, AreIdle, TakesIdle};
 
 use crate::halves::{Receiving, Sending};
 use crate::reply::Reply;
-use rt_base::{Addr, Env, Error, Poll};
+use rt_base::{Addr, Env, Error, NoMemory, Poll};
 use rt_bufs::{IoBuf, IoBufs};
 
 /// The sink of a network.
@@ -37,6 +37,9 @@ pub trait Network {
 
     // How many calls were refused for another cause than want of memory.
     ghost refusals: { Self → ℕ };
+
+    // How many entries of its environment a call uses at most.
+    ghost most: { ℕ };
 
     ghost sends: { Self → Self.Sink → Chunked → ℕ → Reply (Result (Poll Unit) Error) → Self → Self.Sink → List Noted → Type 0 };
 
@@ -72,6 +75,12 @@ pub trait Network {
 
     ghost tells_woken: { Self → Option ℕ → Self → Type 0 };
 
+    /// Takes the room in an environment of one call, and of `more` entries beside it.
+    fn take_room<E: Env>(env: &mut E, more: usize) -> Result<(), NoMemory>
+        ensures room { OnOk result (most + more ≤ E.spare env.new) }
+        ensures kept { E.spare env.old ≤ E.spare env.new }
+        ensures noted { E.noted env.new ≡ E.noted env.old };
+
     /// Sends the bytes, and is pending where too many are left in the channel.
     fn send<E: Env>(
         &mut self,
@@ -81,11 +90,12 @@ pub trait Network {
         task: u64,
     ) -> Reply<Result<Poll<()>, Error>>
         requires { Self.Sink.sending sink.old ≡ false }
-        ensures gives { (x : List Noted) × Adds (E.noted env.old) x (E.noted env.new) × sends self.old sink.old bufs task result self.new sink.new x }
+        ensures gives { Notes (E.noted env.old) (λ x. sends self.old sink.old bufs task result self.new sink.new x) (E.noted env.new) }
+        ensures spent { E.spare env.old ≤ E.spare env.new + most }
         ensures half { Self.Sink.sending sink.new ≡ is_pending result.value }
         ensures counts { Counts (refusals self.old) (refusals self.new) result.value };
 
-    /// Polls a `send` that was pending.
+    /// Polls a `send` that was pending. Where the poll is refused and nothing changes, the `send` still waits.
     fn poll_send<E: Env>(
         &mut self,
         env: &mut E,
@@ -93,8 +103,9 @@ pub trait Network {
         task: u64,
     ) -> Result<Poll<()>, Error>
         requires { Self.Sink.sending sink.old ≡ true }
-        ensures gives { (x : List Noted) × Adds (E.noted env.old) x (E.noted env.new) × polls_send self.old sink.old task result self.new sink.new x }
-        ensures half { Self.Sink.sending sink.new ≡ is_pending result }
+        ensures gives { Notes (E.noted env.old) (λ x. polls_send self.old sink.old task result self.new sink.new x) (E.noted env.new) }
+        ensures spent { E.spare env.old ≤ E.spare env.new + most }
+        ensures half { Self.Sink.sending sink.new ≡ still_waits result }
         ensures counts { Counts (refusals self.old) (refusals self.new) result };
 
     /// Receives `len` bytes, and is pending where they aren't there.
@@ -106,11 +117,12 @@ pub trait Network {
         task: u64,
     ) -> Result<Reply<Poll<IoBufs>>, Error>
         requires { Self.Stream.receiving stream.old ≡ false }
-        ensures gives { (x : List Noted) × Adds (E.noted env.old) x (E.noted env.new) × receives self.old stream.old len task result self.new stream.new x }
+        ensures gives { Notes (E.noted env.old) (λ x. receives self.old stream.old len task result self.new stream.new x) (E.noted env.new) }
+        ensures spent { E.spare env.old ≤ E.spare env.new + most }
         ensures half { Self.Stream.receiving stream.new ≡ waits result }
         ensures counts { Counts (refusals self.old) (refusals self.new) result };
 
-    /// Polls a `recv` that was pending.
+    /// Polls a `recv` that was pending. Where the poll is refused and nothing changes, the `recv` still waits.
     fn poll_recv<E: Env>(
         &mut self,
         env: &mut E,
@@ -118,8 +130,9 @@ pub trait Network {
         task: u64,
     ) -> Result<Poll<IoBufs>, Error>
         requires { Self.Stream.receiving stream.old ≡ true }
-        ensures gives { (x : List Noted) × Adds (E.noted env.old) x (E.noted env.new) × polls_recv self.old stream.old task result self.new stream.new x }
-        ensures half { Self.Stream.receiving stream.new ≡ is_pending result }
+        ensures gives { Notes (E.noted env.old) (λ x. polls_recv self.old stream.old task result self.new stream.new x) (E.noted env.new) }
+        ensures spent { E.spare env.old ≤ E.spare env.new + most }
+        ensures half { Self.Stream.receiving stream.new ≡ still_waits result }
         ensures counts { Counts (refusals self.old) (refusals self.new) result };
 
     /// A copy of the first bytes that the stream holds, at most `max_len`.
@@ -129,7 +142,8 @@ pub trait Network {
         stream: &Self::Stream,
         max_len: usize,
     ) -> Result<IoBuf, Error>
-        ensures gives { (x : List Noted) × Adds (E.noted env.old) x (E.noted env.new) × peeks self.old stream.now max_len result self.new x }
+        ensures gives { Notes (E.noted env.old) (λ x. peeks self.old stream.now max_len result self.new x) (E.noted env.new) }
+        ensures spent { E.spare env.old ≤ E.spare env.new + most }
         ensures counts { Counts (refusals self.old) (refusals self.new) result };
 
     /// Gives a `send` up. It takes no memory.
@@ -156,7 +170,8 @@ pub trait Network {
 
     /// Listens at an address.
     fn bind<E: Env>(&mut self, env: &mut E, socket: Addr) -> Result<Self::Listener, Error>
-        ensures gives { (x : List Noted) × Adds (E.noted env.old) x (E.noted env.new) × binds self.old socket result self.new x }
+        ensures gives { Notes (E.noted env.old) (λ x. binds self.old socket result self.new x) (E.noted env.new) }
+        ensures spent { E.spare env.old ≤ E.spare env.new + most }
         ensures counts { Counts (refusals self.old) (refusals self.new) result };
 
     /// Connects to the listener at an address.
@@ -165,7 +180,8 @@ pub trait Network {
         env: &mut E,
         socket: Addr,
     ) -> Result<Reply<(Self::Sink, Self::Stream)>, Error>
-        ensures gives { (x : List Noted) × Adds (E.noted env.old) x (E.noted env.new) × dials self.old socket result self.new x }
+        ensures gives { Notes (E.noted env.old) (λ x. dials self.old socket result self.new x) (E.noted env.new) }
+        ensures spent { E.spare env.old ≤ E.spare env.new + most }
         ensures half { AreIdle Self.Sink.sending Self.Stream.receiving result }
         ensures counts { Counts (refusals self.old) (refusals self.new) result };
 
@@ -176,7 +192,8 @@ pub trait Network {
         listener: &mut Self::Listener,
         task: u64,
     ) -> Result<Poll<(Addr, Self::Sink, Self::Stream)>, Error>
-        ensures gives { (x : List Noted) × Adds (E.noted env.old) x (E.noted env.new) × accepts self.old listener.old task result self.new listener.new x }
+        ensures gives { Notes (E.noted env.old) (λ x. accepts self.old listener.old task result self.new listener.new x) (E.noted env.new) }
+        ensures spent { E.spare env.old ≤ E.spare env.new + most }
         ensures half { TakesIdle Self.Sink.sending Self.Stream.receiving result }
         ensures counts { Counts (refusals self.old) (refusals self.new) result };
 
@@ -187,7 +204,8 @@ pub trait Network {
         listener: &mut Self::Listener,
         task: u64,
     ) -> Result<Poll<(Addr, Self::Sink, Self::Stream)>, Error>
-        ensures gives { (x : List Noted) × Adds (E.noted env.old) x (E.noted env.new) × polls_accept self.old listener.old task result self.new listener.new x }
+        ensures gives { Notes (E.noted env.old) (λ x. polls_accept self.old listener.old task result self.new listener.new x) (E.noted env.new) }
+        ensures spent { E.spare env.old ≤ E.spare env.new + most }
         ensures half { TakesIdle Self.Sink.sending Self.Stream.receiving result }
         ensures counts { Counts (refusals self.old) (refusals self.new) result };
 

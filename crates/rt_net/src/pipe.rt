@@ -1,8 +1,9 @@
 // One channel: the bytes that were not answered yet, and who waits at its two ends.
 ghost use Rattle.std.specs.Prelude.{◌≡◌, ℕ, ◌+◌, ◌-◌, ◌<◌, ◌≤◌, min, [], ◌++◌, length, take, drop, OnOk, OnErr, IfOk, Ok, Err, Some, None, true, false};
-ghost use Rattle.rt_net.specs.Channel.{fresh, is_open, receiver_task, with_ended_sink, Sends, PollsSend, failed, closed_sink, closed_stream, given_up_send, given_up_recv, sent, appended, handed_task, is_drained, Settles, kept, answered, pulled, drained_task, moved, failed_recv, parked, Receives, PollsReceive, Peeks, Keeps, freed, held, left, IsNextAnswer, IsQuiet};
+ghost use Rattle.rt_net.specs.Channel.{fresh, is_open, receiver_task, failed_send, Sends, PollsSend, after_send, after_poll_send, closed_sink, closed_stream, given_up_send, given_up_recv, sent, appended, handed_task, is_drained, Settles, settled, answered, pulled, drained_task, moved, failed_recv, parked, Receives, PollsReceive, after_recv, after_poll_recv, Peeks, held, left, IsNextAnswer, IsQuiet};
 
 use crate::byte_queue::ByteQueue;
+use crate::forgotten::Forgotten;
 use crate::half::{Half, Parked};
 use crate::reply::Reply;
 use rt_base::{Error, NoMemory, Poll};
@@ -10,9 +11,10 @@ use rt_bufs::{IoBuf, IoBufs};
 use std::alloc::Global;
 use std::marker::Model;
 
-/// What is kept of a channel.
+/// A channel, of which the bytes that were not answered are kept. Contracts see it whole.
 #[derive(Drop)]
 pub struct Pipe {
+    forgotten: Forgotten,
     bytes: ByteQueue,
     held: usize,
     ready: Option<IoBufs>,
@@ -43,6 +45,7 @@ impl Pipe {
         ensures { result ≡ fresh buffer_size }
     {
         Pipe {
+            forgotten: Forgotten::new(),
             bytes: ByteQueue::new(alloc),
             held: 0,
             ready: None,
@@ -56,11 +59,12 @@ impl Pipe {
         }
     }
 
-    /// What is known of each channel.
-    pub fn facts(&self)
-        ensures { IsQuiet self.now }
+    /// The tasks that wait to receive and to send. None waits for what is there.
+    pub fn waiting(&self) -> (Option<u64>, Option<u64>)
+        ensures tasks { result ≡ (receiver_task self.now.receiver, self.now.sender) }
+        ensures quiet { IsQuiet self.now }
     {
-        let _ = &self.bytes;
+        (self.waiting_receiver(), self.sender)
     }
 
     /// Whether the sink wasn't closed.
@@ -79,7 +83,9 @@ impl Pipe {
 
     /// Sends the bytes for `task`.
     pub fn send(&mut self, bufs: IoBufs, task: u64) -> Reply<Result<Poll<()>, Error>>
-        ensures sends { Sends self.old bufs.bytes task result.value result.wake self.new }
+        requires { self.old.sink.alive ≡ true }
+        ensures sends { Sends self.old bufs.bytes result.value result.wake }
+        ensures after { self.new ≡ after_send self.old bufs.bytes task result.value }
         ensures link { result.link ≡ None }
     {
         if self.sink.is_spent() {
@@ -98,7 +104,9 @@ impl Pipe {
 
     /// Polls a `send` that was started.
     pub fn poll_send(&mut self, task: u64) -> Result<Poll<()>, Error>
-        ensures { PollsSend self.old task result self.new }
+        requires { self.old.sink.alive ≡ true }
+        ensures polls { PollsSend self.old result }
+        ensures after { self.new ≡ after_poll_send self.old task result }
     {
         if self.bytes.len() - self.held <= self.buffer_size {
             self.sender = None;
@@ -116,7 +124,9 @@ impl Pipe {
 
     /// Receives `len` bytes for `task`.
     pub fn recv(&mut self, len: usize, task: u64) -> Result<Reply<Poll<IoBufs>>, Error>
-        ensures { Keeps (Receives self.old len task result) self.new }
+        requires { self.old.stream.alive ≡ true }
+        ensures receives { Receives self.old len result }
+        ensures after { self.new ≡ after_recv self.old len task result }
     {
         if self.stream.is_spent() {
             return Err(Error::Closed);
@@ -138,7 +148,9 @@ impl Pipe {
 
     /// Polls a `recv` that was started.
     pub fn poll_recv(&mut self, task: u64) -> Result<Poll<IoBufs>, Error>
-        ensures { Keeps (PollsReceive self.old task result) self.new }
+        requires { self.old.stream.alive ≡ true }
+        ensures polls { PollsReceive self.old result }
+        ensures after { self.new ≡ after_poll_recv self.old task result }
     {
         let Some(len) = self.receiving else {
             self.answer(0);
@@ -163,6 +175,7 @@ impl Pipe {
 
     /// A copy of the first bytes held, at most `max_len`.
     pub fn peek(&self, max_len: usize) -> Result<IoBuf, Error>
+        requires { self.now.stream.alive ≡ true }
         ensures { Peeks self.now max_len result }
     {
         let first = &self.bytes.as_slice()[..max_len.min(self.held)];
@@ -202,6 +215,7 @@ impl Pipe {
         self.sender = None;
         self.sending = false;
         self.receiver = None;
+        self.free();
         wake
     }
 
@@ -216,15 +230,23 @@ impl Pipe {
         self.receiver = None;
         self.receiving = None;
         self.sender = None;
+        self.free();
         wake
     }
 
     // Takes bytes in, and answers the receiver that this wakes.
     fn accept(&mut self, bufs: IoBufs) -> Result<Option<u64>, NoMemory>
+        requires { self.old.sink.alive ≡ true }
         ensures woken { IfOk result (λ wake. wake ≡ handed_task (appended self.old bufs.bytes) self.old.receiver) }
         ensures taken { OnOk result (self.new ≡ record (sent self.old bufs.bytes) { sender = None; sending = false }) }
         ensures refused { OnErr result (self.new ≡ self.old) }
     {
+        if let None = self.receiver {
+            self.bytes.append(&bufs)?;
+            self.sender = None;
+            self.sending = false;
+            return Ok(None);
+        }
         let bytes = bufs.coalesce()?;
         let answer = self.next_answer(bytes.as_slice())?;
         self.take_in(bytes.as_slice(), answer)
@@ -232,7 +254,8 @@ impl Pipe {
 
     // Takes bytes in, and hands them to a parked `recv` that they complete.
     fn take_in(&mut self, bytes: &[u8], answer: Option<IoBufs>) -> Result<Option<u64>, NoMemory>
-        requires { IsNextAnswer self.old bytes.now self.old.receiver answer }
+        requires alive { self.old.sink.alive ≡ true }
+        requires answer { IsNextAnswer self.old bytes.now self.old.receiver answer }
         ensures woken { IfOk result (λ wake. wake ≡ handed_task (appended self.old bytes.now) self.old.receiver) }
         ensures taken { OnOk result (self.new ≡ record (sent self.old bytes.now) { sender = None; sending = false }) }
         ensures refused { OnErr result (self.new ≡ self.old) }
@@ -255,7 +278,8 @@ impl Pipe {
     // The sender goes on, or parks.
     fn settle(&mut self, task: u64) -> Poll<()>
         requires { self.old.stream.alive ≡ true }
-        ensures { Settles self.old task result self.new }
+        ensures answer { Settles self.old result }
+        ensures after { self.new ≡ settled self.old task result }
     {
         if self.bytes.len() - self.held <= self.buffer_size {
             self.sender = None;
@@ -269,6 +293,7 @@ impl Pipe {
 
     // How many bytes the stream holds once a `recv` of `len` bytes has moved what it may.
     fn held_after(&self, len: usize) -> usize
+        requires { self.now.stream.alive ≡ true }
         ensures { result ≡ held (moved self.now len) }
     {
         let left = self.bytes.len() - self.held;
@@ -278,6 +303,7 @@ impl Pipe {
     // Moves the bytes that a `recv` of `len` bytes may move, and answers the sender that this wakes.
     // What was started before is over.
     fn pull(&mut self, len: usize) -> Option<u64>
+        requires { self.old.stream.alive ≡ true }
         ensures woken { result ≡ drained_task (moved self.old len) }
         ensures pulled { self.new ≡ record (pulled self.old len) { receiver = None; receiving = None } }
     {
@@ -292,6 +318,7 @@ impl Pipe {
 
     // Parks the `recv` of `len` bytes.
     fn park(&mut self, len: usize, task: u64)
+        requires alive { self.old.stream.alive ≡ true }
         requires lacks { held self.old < len }
         requires opened { is_open self.old.sink ≡ true }
         requires empty { left self.old < len - held self.old }
@@ -315,9 +342,11 @@ impl Pipe {
 
     // Takes the first `len` bytes out, which were answered.
     fn answer(&mut self, len: usize)
-        requires { len ≤ held self.old }
-        ensures { self.new ≡ kept (answered self.old len) }
+        requires alive { self.old.stream.alive ≡ true }
+        requires held { len ≤ held self.old }
+        ensures { self.new ≡ answered self.old len }
     {
+        self.forgotten.answer(&self.bytes, len);
         self.receiver = None;
         self.receiving = None;
         self.bytes.advance(len);
@@ -327,7 +356,7 @@ impl Pipe {
     // The sink fails for good.
     fn fail_sink(&mut self) -> Option<u64>
         ensures woken { result ≡ receiver_task self.old.receiver }
-        ensures ended { self.new ≡ with_ended_sink self.old (failed self.old.sink) }
+        ensures ended { self.new ≡ failed_send self.old }
     {
         let wake = self.waiting_receiver();
         self.sink.failed = true;
@@ -339,6 +368,7 @@ impl Pipe {
 
     // The answer of the parked `recv`, where `bytes` complete it.
     fn next_answer(&self, bytes: &[u8]) -> Result<Option<IoBufs>, NoMemory>
+        requires { self.now.sink.alive ≡ true }
         ensures { IfOk result (λ r. IsNextAnswer self.now bytes.now self.now.receiver r) }
     {
         let Some(parked) = self.receiver else {
@@ -353,11 +383,12 @@ impl Pipe {
         Ok(Some(answer))
     }
 
-    /// Gives the memory of the bytes back, where no half is alive.
-    pub fn free(&mut self)
-        ensures { self.new ≡ freed self.old }
+    // Gives the memory of the bytes back, where no half is alive.
+    fn free(&mut self)
+        ensures { self.new ≡ self.old }
     {
         if !self.sink.alive && !self.stream.alive {
+            self.forgotten.lose(&self.bytes, self.held);
             self.bytes = ByteQueue::new(self.bytes.alloc());
             self.held = 0;
         }

@@ -1,5 +1,5 @@
 // The sink of a channel of a `Net`.
-ghost use Rattle.std.specs.Prelude.{◌≡◌};
+ghost use Rattle.std.specs.Prelude.{◌≡◌, false};
 
 use crate::halves::Sending;
 
@@ -11,18 +11,21 @@ pub struct Sink {
 }
 
 impl Sink {
+    // A half of which no call was started.
+    pub(crate) fn idle(number: u64) -> Sink
+        ensures { result ≡ record { number = number; sending = false } }
+    {
+        Sink {
+            number,
+            sending: false,
+        }
+    }
+
     /// The number that it has in its `Net`, where no other sink has it.
     pub fn number(&self) -> u64
         ensures { result ≡ self.now.number }
     {
         self.number
-    }
-
-    /// Whether a `send` is started and neither answered nor given up.
-    pub fn is_sending(&self) -> bool
-        ensures { result ≡ self.now.sending }
-    {
-        self.sending
     }
 }
 

@@ -1,5 +1,5 @@
 // The stream of a channel of a `Net`.
-ghost use Rattle.std.specs.Prelude.{◌≡◌};
+ghost use Rattle.std.specs.Prelude.{◌≡◌, false};
 
 use crate::halves::Receiving;
 
@@ -11,18 +11,21 @@ pub struct Stream {
 }
 
 impl Stream {
+    // A half of which no call was started.
+    pub(crate) fn idle(number: u64) -> Stream
+        ensures { result ≡ record { number = number; receiving = false } }
+    {
+        Stream {
+            number,
+            receiving: false,
+        }
+    }
+
     /// The number that it has in its `Net`, where no other stream has it.
     pub fn number(&self) -> u64
         ensures { result ≡ self.now.number }
     {
         self.number
-    }
-
-    /// Whether a `recv` is started and neither answered nor given up.
-    pub fn is_receiving(&self) -> bool
-        ensures { result ≡ self.now.receiving }
-    {
-        self.receiving
     }
 }
 

@@ -1,4 +1,4 @@
-use Rattle.std.proofs.Common.{◌≡◌, ◌++◌, take, arith, rules}
+use Rattle.std.proofs.Common.{arith}
 use Rattle.std.proofs.lemmas.Grind.{common_steps}
 use Rattle.rt_net.proofs.Bytes.{take-both}
 use Rattle.rt_net.proofs.pipe.first_bytes.Goals as goal

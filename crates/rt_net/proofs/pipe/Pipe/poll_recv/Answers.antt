@@ -1,7 +1,8 @@
-use Rattle.std.proofs.Common.{◌≡◌, Option, Some, arith, rules, refl, take, ap, sym, ◌∙◌, subst}
+use Rattle.std.proofs.Common.{◌≡◌, ap, Option, take, sym, ◌∙◌, subst}
 use Rattle.std.specs.Prelude.{IsSomeAnd}
 use Rattle.rt_bufs.specs.Chunked.{Chunked}
-use Rattle.rt_net.specs.Channel.{kept, answered}
+use Rattle.rt_base.specs.declared.poll.Poll.TheVariants.{Ready}
+use Rattle.rt_net.specs.Channel.{ChannelState, Answers, started_length}
 use Rattle.rt_net.proofs.Quiet.{answer-started}
 use Rattle.rt_net.proofs.pipe.Pipe.poll_recv.Goals as goal
 
@@ -11,10 +12,11 @@ unreachable-requires c =
     let made = c.self.invariant.answer c.in-Some.len c.in-Some.is c.if-self-len.false in
     subst (λ (o : Option Chunked). IsSomeAnd o P) (sym c.take.ensures.value ∙ c.in_default-take.is) made
 
-pub returns : goal.returns
-returns c =
+pub returns-clause-polls : goal.returns-clause-polls
+returns-clause-polls c =
     let P : Chunked → Type 0 = λ b. b.bytes ≡ take c.in-Some.len c.self.inside.bytes in
     let made = c.self.invariant.answer c.in-Some.len c.in-Some.is c.if-self-len.false in
     let bytes = subst (λ (o : Option Chunked). IsSomeAnd o P) (sym c.take.ensures.value ∙ c.in-Some-take.is) made in
-    answer-started c.args.self.now c.answer-2.new.self c.in-Some.len c.args.task c.in-Some-take.bytes (search rules) (search rules) (search (rules, bytes))
-    (c.answer-2.ensures ∙ ap (λ x. kept (answered x c.in-Some.len)) c.self.view_is)
+    let alive = ap (λ (x : ChannelState). x.stream.alive) c.self.view_is ∙ c.requires in
+    subst (λ (x : ChannelState). Answers x (started_length x) (Ready c.in-Some-take.bytes)) c.self.view_is
+    (answer-started c.self.inside c.in-Some.len c.in-Some-take.bytes c.in-Some.is c.if-self-len.false (c.self.invariant.of_stream alive) bytes)

@@ -1,0 +1,9 @@
+use Rattle.std.proofs.Common.{◌≡◌, ◌++◌, length, take}
+use Rattle.std.specs.List.{concat}
+use Rattle.rt_net.proofs.byte_queue.ByteQueue.append.Given as goal
+
+abbrev pub invariant-loop-index : goal.invariant-loop-index
+invariant-loop-index l = record {
+  added : l.self ≡ l.fn.self ++ concat (take l.index l.bufs.chunks);
+  kept : l.kept ≡ length l.fn.self;
+}

@@ -1,0 +1,5 @@
+use Rattle.rt_net.specs.Forgotten.{with_answered}
+use Rattle.rt_net.proofs.forgotten.Forgotten.answer.Given as goal
+
+abbrev pub ghost-set : goal.ghost-set
+ghost-set a = with_answered a.self.now.past a.bytes.now a.count

@@ -1,0 +1,81 @@
+-- What a wrapper of the tests notes round the calls that it passes on.
+use Rattle.std.specs.Prelude.{◌≡◌, ℕ, ◌+◌, ◌%◌, ◌^◌, Bool, true, false, List, [], ◌∷◌, ◌++◌, length, Option, Some, None, Result, Ok, Err}
+use Rattle.rt_base.specs.declared.addr.Addr.{Addr}
+use Rattle.rt_base.specs.declared.error.Error.{Error}
+use Rattle.rt_base.specs.declared.event.Event.{Event}
+use Rattle.rt_base.specs.declared.poll.Poll.{Poll}
+use Rattle.rt_base.specs.declared.poll.Poll.TheVariants.{Ready, Pending}
+use Rattle.rt_base.specs.Noted.{Noted, Happened}
+use Rattle.rt_bufs.specs.Chunked.{Chunked}
+use Rattle.rt_net.specs.declared.reply.Reply.{Reply}
+
+-- an event without fields
+abbrev pub named : List ℕ → Event
+named label = record { label = label; fields = [] }
+
+-- how a call ended: whether it succeeded, or that it waits
+abbrev pub ending : {A : Type 0} → Result (Poll A) Error → Option Bool
+ending (Ok (Ready _)) = Some true
+ending (Ok Pending) = None
+ending (Err _) = Some false
+
+abbrev pub ending_of_reply : {A : Type 0} → Result (Reply (Poll A)) Error → Option Bool
+ending_of_reply {A = A} (Ok r) = let a : Result (Poll A) Error = Ok r.value in ending a
+ending_of_reply (Err _) = Some false
+
+abbrev pub outcome : {A : Type 0} → Result A Error → Option Bool
+outcome (Ok _) = Some true
+outcome (Err _) = Some false
+
+-- a call that has ended notes whether it succeeded
+abbrev pub closing_event : Event → Event → Option Bool → List Noted
+closing_event success failure (Some true) = Happened success ∷ []
+closing_event success failure (Some false) = Happened failure ∷ []
+closing_event success failure None = []
+
+-- what a call notes round what the inner one notes, and what its poll notes after it
+abbrev pub around : List ℕ → List ℕ → List ℕ → Option Bool → List Noted → List Noted
+around attempt success failure ended inner = Happened (named attempt) ∷ (inner ++ closing_event (named success) (named failure) ended)
+
+abbrev pub followed : List ℕ → List ℕ → Option Bool → List Noted → List Noted
+followed success failure ended inner = inner ++ closing_event (named success) (named failure) ended
+
+-- the count with these bytes
+abbrev pub counted_bytes : ℕ → ℕ → ℕ
+counted_bytes n more = (n + more) % 2 ^ 64
+
+-- the count of a call that was not refused
+abbrev pub count_if_ok : {A : Type 0} → Result A Error → ℕ → ℕ
+count_if_ok (Ok _) count = count
+count_if_ok (Err _) count = 0
+
+-- how many bytes an answer has
+abbrev pub bytes_got : Result (Poll Chunked) Error → ℕ
+bytes_got (Ok (Ready b)) = length b.bytes
+bytes_got (Ok Pending) = 0
+bytes_got (Err _) = 0
+
+abbrev pub bytes_got_in_reply : Result (Reply (Poll Chunked)) Error → ℕ
+bytes_got_in_reply (Ok r) = bytes_got (Ok r.value)
+bytes_got_in_reply (Err _) = 0
+
+-- An answer with other tokens in it.
+
+abbrev pub with_listener : {A B : Type 0} → Result A Error → (A → B) → Result B Error
+with_listener (Ok k) f = Ok (f k)
+with_listener (Err e) f = Err e
+
+abbrev pub with_halves : {A B C D : Type 0} → Result (Reply (A × B)) Error → (A → C) → (B → D) → Result (Reply (C × D)) Error
+with_halves (Ok r) f g = Ok (record { value = (f r.value.0, g r.value.1); wake = r.wake; link = r.link })
+with_halves (Err e) f g = Err e
+
+abbrev pub with_taken : {A B C D : Type 0} → Result (Poll (Addr × A × B)) Error → (A → C) → (B → D) → Result (Poll (Addr × C × D)) Error
+with_taken (Ok (Ready r)) f g = Ok (Ready (r.0, f r.1, g r.2))
+with_taken (Ok Pending) f g = Ok Pending
+with_taken (Err e) f g = Err e
+
+-- the halves of a connection that is taken know its dialer
+abbrev pub KnowDialer : {A B : Type 0} → Result (Poll (Addr × A × B)) Error → (A → Addr) → (B → Addr) → Type 0
+KnowDialer (Ok (Ready r)) f g = (f r.1 ≡ r.0) × (g r.2 ≡ r.0)
+KnowDialer (Ok Pending) f g = Unit {0}
+KnowDialer (Err e) f g = Unit {0}
