@@ -238,6 +238,10 @@ module _ (ps : List (Option ℕ)) (states : List (Bool × Option ℕ)) (ended : 
       others None lasts n = λ i. list_any (λ e. stands_in (e ∷ below_alone e (length states) (links r) i) n) r.ends
       others (Some q) lasts n = any_new (links r) (length states) q n r.ends (neither (was_born_ended r q) (list_any (λ e. stands_in (subtree (links r) e) q) r.ends) lasts).1
 
+  -- a new node ends nothing else
+  pub ended_new : (p : Option ℕ) (flag : Bool) (number : ℕ) → number ≡ length states → length ended ≡ length states → length ps ≡ length states → Lasts r p → (n : ℕ) → is_ended (with_new r number p flag) n ≡ (is_ended r n || (eqb number n && flag))
+  ended_new p flag number place lengths same lasts n = rw place ((record_new p flag lengths same lasts).ended n ∙ marked_push ended flag n ∙ ap (λ k. is_marked ended n || (eqb k n && flag)) lengths ∙ ap (λ b. b || (eqb (length states) n && flag)) (sym (s.ended n)))
+
   pub record_changed : (change : NodeState → NodeState) (n : ℕ) (y : Bool × Option ℕ) → Keeps change → ((x : NodeState) → slice_get states n ≡ Some (state_of x) → state_of (change x) ≡ y) → Matches ps (set states n y) ended flags (changed change n r)
   record_changed change n y keeps kept = record {
     order = same_links ∙ s.order;

@@ -1,5 +1,5 @@
 // Which contexts end with which.
-ghost use Rattle.std.specs.Prelude.{◌≡◌, ◌⊎◌, ◌<◌, ◌≤◌, ◌↔◌, ◌&&◌, length, slice_get, Err, None, IfOk, IfErr, OnErr, OnOk, IsTrue, false, vec_capacity};
+ghost use Rattle.std.specs.Prelude.{◌≡◌, ℕ, ◌||◌, ◌==◌, ◌⊎◌, ◌<◌, ◌≤◌, ◌↔◌, ◌&&◌, length, slice_get, Err, None, IfOk, IfErr, OnErr, OnOk, IsTrue, false, vec_capacity};
 ghost use Rattle.rt_super.specs.Ancestry.{first_record, is_known, is_live, is_ended, live_task, with_new, with_child, with_task, with_release, with_end, with_flag_taken};
 ghost use Rattle.rt_super.specs.Inside.{parents, states, children_lists, adopted};
 ghost use Rattle.std.specs.Option.{ForSome};
@@ -103,6 +103,7 @@ impl Tree {
         ensures flag { IfOk result (λ made. made.1 ≡ is_ended self.old parent) }
         ensures made { IfOk result (λ made. self.new ≡ with_child self.old made.0 parent) }
         ensures fresh { IfOk result (λ made. is_known self.old made.0 ≡ false) }
+        ensures born { IfOk result (λ made. (n : ℕ) → is_ended self.new n ≡ (is_ended self.old n || (made.0 == n && made.1))) }
         ensures free { IfOk result (λ made. live_task self.new made.0 ≡ None) }
         ensures unknown { (result ≡ Err Error.UnknownToken) ↔ (is_live self.old parent ≡ false) }
         ensures causes { IfErr result (λ e. (e ≡ Error.UnknownToken) ⊎ (e ≡ Error.NoMemory)) }
@@ -193,6 +194,7 @@ impl Tree {
         ensures added { IfOk result (λ number. self.new ≡ with_new self.old number parent ended) }
         ensures fresh { IfOk result (λ number. is_known self.old number ≡ false) }
         ensures free { IfOk result (λ number. live_task self.new number ≡ None) }
+        ensures born { IfOk result (λ number. (n : ℕ) → is_ended self.new n ≡ (is_ended self.old n || (number == n && ended))) }
         ensures refused { OnErr result (self.new ≡ self.old) }
     {
         let places = self.nodes.len() + 1;

@@ -5,7 +5,7 @@ use Rattle.std.proofs.lemmas.Option.{slice_get_past}
 use Rattle.rt_super.specs.Ancestry.{is_known}
 use Rattle.rt_super.specs.Inside.{parents, states, children_lists, adopted}
 use Rattle.rt_super.proofs.Walk.{marks_set-le}
-use Rattle.rt_super.proofs.Records.{count_kept, known_kept, free_new}
+use Rattle.rt_super.proofs.Records.{count_kept, known_kept, free_new, ended_new}
 use Rattle.rt_super.proofs.Shapes.{count_states, marks_set-push, sound_added, right_added, older_of, lasts_of, unmarked_of}
 use Rattle.rt_super.proofs.tree.Tree.add.Goals as goal
 
@@ -43,3 +43,8 @@ returns-clause-fresh c = rw (← c.self.view_is) (fresh_number c)
 
 pub returns-clause-free : goal.returns-clause-free
 returns-clause-free c = rw (c.after-self-inside.ensures) (free_new c.self.inside.history.told c.len-number.result c.args.parent c.args.ended (fresh_number c))
+
+pub returns-clause-born : goal.returns-clause-born
+returns-clause-born c =
+    let lasts = lasts_of c.self.inside.history.told c.args.parent (rw (← c.self.view_is) at c.requires.lasting) in
+    λ n. rw (c.after-self-inside.ensures, ← c.self.view_is) (ended_new _ _ _ _ _ c.self.invariant.right c.args.parent c.args.ended c.len-number.result (omega (arith, c.len-number.ensures, count_states c.self.inside.nodes.items)) (omega (arith, c.self.invariant.sound.lengths, count_states c.self.inside.nodes.items, length-map c.self.inside.nodes.items (λ x. x.parent))) (omega (arith, count_states c.self.inside.nodes.items, length-map c.self.inside.nodes.items (λ x. x.parent))) lasts n)
