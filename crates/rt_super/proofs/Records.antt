@@ -162,6 +162,20 @@ module _ (ps : List (Option ℕ)) (states : List (Bool × Option ℕ)) (ended : 
   pub live_kept : (n : ℕ) → is_live r n ≡ option_map_or (λ x. x.0) (slice_get states n) false
   live_kept n = elim (node_at r n) as (λ o. option_map_or (λ x. x.live) o false ≡ option_map_or (λ x. x.0) (option_map state_of o) false) [ None ↦ refl | Some x ↦ refl ] ∙ ap (λ o. option_map_or (λ x. x.0) o false) (s.nodes n)
 
+  pub live_within : (n : ℕ) → is_live r n ≡ true → n < length states
+  live_within n live = by (slice_get states n) refl (sym (live_kept n) ∙ live)
+    where
+      by : (o : Option (Bool × Option ℕ)) → slice_get states n ≡ o → option_map_or (λ x. x.0) o false ≡ true → n < length states
+      by None e on = cc
+      by (Some x) e on = slice_get_within states n x e
+
+  pub known_within : (n : ℕ) → is_known r n ≡ true → n < length states
+  known_within n known = by (slice_get states n) refl (sym (known_kept n) ∙ known)
+    where
+      by : (o : Option (Bool × Option ℕ)) → slice_get states n ≡ o → is_some o ≡ true → n < length states
+      by None e on = cc
+      by (Some x) e on = slice_get_within states n x e
+
   task_kept : (n : ℕ) → task_on r n ≡ option_and_then (λ x. x.1) (slice_get states n)
   task_kept n = elim (node_at r n) as (λ o. option_and_then (λ x. x.task) o ≡ option_and_then (λ x. x.1) (option_map state_of o)) [ None ↦ refl | Some x ↦ refl ] ∙ ap (λ o. option_and_then (λ x. x.1) o) (s.nodes n)
 
