@@ -162,6 +162,20 @@ module _ (ps : List (Option ℕ)) (states : List (Bool × Option ℕ)) (ended : 
   pub live_kept : (n : ℕ) → is_live r n ≡ option_map_or (λ x. x.0) (slice_get states n) false
   live_kept n = elim (node_at r n) as (λ o. option_map_or (λ x. x.live) o false ≡ option_map_or (λ x. x.0) (option_map state_of o) false) [ None ↦ refl | Some x ↦ refl ] ∙ ap (λ o. option_map_or (λ x. x.0) o false) (s.nodes n)
 
+  pub live_within : (n : ℕ) → is_live r n ≡ true → n < length states
+  live_within n live = by (slice_get states n) refl (sym (live_kept n) ∙ live)
+    where
+      by : (o : Option (Bool × Option ℕ)) → slice_get states n ≡ o → option_map_or (λ x. x.0) o false ≡ true → n < length states
+      by None e on = cc
+      by (Some x) e on = slice_get_within states n x e
+
+  pub known_within : (n : ℕ) → is_known r n ≡ true → n < length states
+  known_within n known = by (slice_get states n) refl (sym (known_kept n) ∙ known)
+    where
+      by : (o : Option (Bool × Option ℕ)) → slice_get states n ≡ o → is_some o ≡ true → n < length states
+      by None e on = cc
+      by (Some x) e on = slice_get_within states n x e
+
   task_kept : (n : ℕ) → task_on r n ≡ option_and_then (λ x. x.1) (slice_get states n)
   task_kept n = elim (node_at r n) as (λ o. option_and_then (λ x. x.task) o ≡ option_and_then (λ x. x.1) (option_map state_of o)) [ None ↦ refl | Some x ↦ refl ] ∙ ap (λ o. option_and_then (λ x. x.1) o) (s.nodes n)
 
@@ -237,6 +251,10 @@ module _ (ps : List (Option ℕ)) (states : List (Bool × Option ℕ)) (ended : 
       others : (p : Option ℕ) → Lasts r p → (n : ℕ) → list_any (λ e. stands_in (subtree (links r ++ (length states, p) ∷ []) e) n) r.ends ≡ by_ends n
       others None lasts n = λ i. list_any (λ e. stands_in (e ∷ below_alone e (length states) (links r) i) n) r.ends
       others (Some q) lasts n = any_new (links r) (length states) q n r.ends (neither (was_born_ended r q) (list_any (λ e. stands_in (subtree (links r) e) q) r.ends) lasts).1
+
+  -- a new node ends nothing else
+  pub ended_new : (p : Option ℕ) (flag : Bool) (number : ℕ) → number ≡ length states → length ended ≡ length states → length ps ≡ length states → Lasts r p → (n : ℕ) → is_ended (with_new r number p flag) n ≡ (is_ended r n || (eqb number n && flag))
+  ended_new p flag number place lengths same lasts n = rw place ((record_new p flag lengths same lasts).ended n ∙ marked_push ended flag n ∙ ap (λ k. is_marked ended n || (eqb k n && flag)) lengths ∙ ap (λ b. b || (eqb (length states) n && flag)) (sym (s.ended n)))
 
   pub record_changed : (change : NodeState → NodeState) (n : ℕ) (y : Bool × Option ℕ) → Keeps change → ((x : NodeState) → slice_get states n ≡ Some (state_of x) → state_of (change x) ≡ y) → Matches ps (set states n y) ended flags (changed change n r)
   record_changed change n y keeps kept = record {

@@ -1,5 +1,5 @@
 -- The parts of the nodes' list that a change leaves.
-use Rattle.std.proofs.Common.{◌≡◌, ◌≢◌, ℕ, zero, suc, ◌+◌, ◌<◌, ◌≤◌, Bool, true, false, cond, ◌||◌, ◌&&◌, eqb, List, [], ◌∷◌, ◌++◌, length, map, get_or, set, refl, sym, ap, ◌∙◌, arith, Option, Some, None, Result, Ok, Err}
+use Rattle.std.proofs.Common.{filter, not, ◌≡◌, ◌≢◌, ℕ, zero, suc, ◌+◌, ◌<◌, ◌≤◌, Bool, true, false, cond, ◌||◌, ◌&&◌, eqb, List, [], ◌∷◌, ◌++◌, length, map, get_or, set, refl, sym, ap, ◌∙◌, arith, Option, Some, None, Result, Ok, Err, ◌⊎◌, inl, inr, ⊎_elim}
 use Rattle.std.specs.Result.{OnErr}
 use Rattle.std.proofs.Math.Seq.{map-set_same}
 use Rattle.std.specs.List.{slice_get}
@@ -7,11 +7,12 @@ use Rattle.std.specs.Option.{option_map, option_and_then, option_or}
 use Rattle.std.proofs.lemmas.List.{map-append, length-map, get_or-set_same, get_or-set_other, append-nil, length-set, length_push, map-set, set-get_or}
 use Rattle.std.proofs.lemmas.Option.{slice_get-map, slice_get_within, slice_get_past, slice_get-get_or, get_or_from_slice_get}
 use Rattle.std.proofs.lemmas.Bool.Decides.{nat_tests}
-use Rattle.rt_super.specs.Ancestry.{NodeState, TreeRecord, is_ended, is_child, subtree, stands_in, with_new, changed}
+use Rattle.rt_super.specs.Ancestry.{NodeState, TreeRecord, is_ended, is_child, is_known, newly_ended, tasks_on, subtree, stands_in, with_new, with_end, changed}
 use Rattle.rt_super.specs.Ending.{task_at}
-use Rattle.rt_super.specs.Inside.{Matches, state_of, placed, is_marked, parents, states, children_lists, children_from, adopted, IsOlder, AreOlder, IsSound, marks_set}
+use Rattle.rt_super.specs.Inside.{Matches, state_of, placed, is_marked, parents, states, children_lists, children_from, adopted, IsOlder, AreOlder, IsClosed, IsSound, marks_set}
 use Rattle.rt_super.specs.declared.node.Node.{Node}
-use Rattle.rt_super.proofs.Below.{below, below_closed}
+use Rattle.rt_super.proofs.Below.{below, below_closed, below_marked}
+use Rattle.rt_super.proofs.Walk.{no_fresh}
 use Rattle.rt_super.proofs.Records.{Lasts, Keeps, slice_push, marked_push, record_new, record_changed}
 
 -- a new place
@@ -58,7 +59,7 @@ or_left : (a b : Bool) → a ≡ true → (a || b) ≡ true
 or_left true b e = refl
 or_left false b e = cc
 
-or_right : (a b : Bool) → b ≡ true → (a || b) ≡ true
+pub or_right : (a b : Bool) → b ≡ true → (a || b) ≡ true
 or_right true b e = refl
 or_right false b e = e
 
@@ -67,13 +68,14 @@ abbrev pub IsUnmarked : List Bool → Option ℕ → Type 0
 IsUnmarked ended None = Unit {0}
 IsUnmarked ended (Some p) = is_marked ended p ≡ false
 
-pub sound_push : (ps : List (Option ℕ)) (ls : List (List ℕ)) (ended : List Bool) (parent : Option ℕ) (flag : Bool) → IsSound ps ls ended → IsOlder parent (length ps) → IsUnmarked ended parent → IsSound (ps ++ parent ∷ []) (adopted ls parent (length ps) ++ [] ∷ []) (ended ++ flag ∷ [])
-sound_push ps ls ended parent flag s older unmarked = record {
+pub sound_push : (ps : List (Option ℕ)) (ls : List (List ℕ)) (ended : List Bool) (parent : Option ℕ) (flag : Bool) → IsSound ps ls ended → IsOlder parent (length ps) → IsUnmarked ended parent → (parent ≡ None → (flag ≡ true) ⊎ (length ps ≡ 0)) → IsSound (ps ++ parent ∷ []) (adopted ls parent (length ps) ++ [] ∷ []) (ended ++ flag ∷ [])
+sound_push ps ls ended parent flag s older unmarked alone = record {
   lengths = omega (arith, length_push ended flag, length_push ps parent, s.lengths);
   same = omega (arith, length_push (adopted ls parent (length ps)) [], length_push ps parent, length-adopted ls parent (length ps), s.same);
   older = older_push 0 ps parent s.older (let e : 0 + length ps ≡ length ps = omega arith in rw e older);
   lists = λ n. nil_push (adopted ls parent (length ps)) n ∙ lists n parent older ∙ sym (children_push n 0 ps parent);
   closed = λ k q at on. closed k q (slice_get ps k) refl (sym (slice_push ps parent k) ∙ at) (sym (marked_push ended flag q) ∙ on);
+  rooted = λ n at. rooted n (slice_get ps n) refl (sym (slice_push ps parent n) ∙ at);
 }
   where
     lists : (n : ℕ) (p : Option ℕ) → IsOlder p (length ps) → get_or (adopted ls p (length ps)) n [] ≡ children_from n 0 ps ++ cond (is_child n p) ((0 + length ps) ∷ []) []
@@ -89,6 +91,21 @@ sound_push ps ls ended parent flag s older unmarked = record {
         by false e =
             let other : n ≢ p = grind (arith, nat_tests) in
             get_or-set_other ls p n (get_or ls p [] ++ length ps ∷ []) [] other ∙ s.lists n ∙ sym (append-nil (children_from n 0 ps))
+
+    rooted : (n : ℕ) (o : Option (Option ℕ)) → slice_get ps n ≡ o → option_or o (cond (eqb (length ps) n) (Some parent) None) ≡ Some None → (n ≡ 0) ⊎ (is_marked (ended ++ flag ∷ []) n ≡ true)
+    rooted n (Some o) there at = ⊎_elim (λ z. inl z) (λ on. inr (marked_push ended flag n ∙ or_left (is_marked ended n) (eqb (length ended) n && flag) on)) (s.rooted n (there ∙ at))
+    rooted n None there at = by (eqb (length ps) n) refl at
+      where
+        both : (a b : Bool) → a ≡ true → b ≡ true → (a && b) ≡ true
+        both a b e f = rw (e, f) refl
+
+        by : (b : Bool) → eqb (length ps) n ≡ b → cond b (Some parent) None ≡ Some None → (n ≡ 0) ⊎ (is_marked (ended ++ flag ∷ []) n ≡ true)
+        by false e at' = cc
+        by true e at' =
+            let none : parent ≡ None = cc in
+            let same : length ps ≡ n = grind (arith, nat_tests) in
+            let here : eqb (length ended) n ≡ true = rw (s.lengths) e in
+            ⊎_elim (λ on. inr (marked_push ended flag n ∙ or_right (is_marked ended n) (eqb (length ended) n && flag) (both (eqb (length ended) n) flag here on))) (λ z. inl (sym same ∙ z)) (alone none)
 
     first : (a b c : Bool) → (a || (b && c)) ≡ true → b ≡ false → a ≡ true
     first true b c e f = refl
@@ -125,12 +142,42 @@ sound_end ps ls ended after n s lengths marks = record {
   older = s.older;
   lists = s.lists;
   closed = λ k q at on. marks (0 + k) ∙ by k q at (is_marked ended q) (stands_in (subtree (placed 0 ps) n) q) refl refl (sym (marks q) ∙ on);
+  rooted = λ m at. ⊎_elim (λ z. inl z) (λ on. inr (marks m ∙ or_left (is_marked ended m) (stands_in (subtree (placed 0 ps) n) m) on)) (s.rooted m at);
 }
   where
     by : (k q : ℕ) → slice_get ps k ≡ Some (Some q) → (a b : Bool) → is_marked ended q ≡ a → stands_in (subtree (placed 0 ps) n) q ≡ b → (a || b) ≡ true → (is_marked ended (0 + k) || stands_in (subtree (placed 0 ps) n) (0 + k)) ≡ true
     by k q at true b e f h = or_left (is_marked ended (0 + k)) (stands_in (subtree (placed 0 ps) n) (0 + k)) (s.closed k q at e)
     by k q at false true e f h = or_right (is_marked ended (0 + k)) (stands_in (subtree (placed 0 ps) n) (0 + k)) (or_right (eqb n (0 + k)) (stands_in (below n 0 ps) (0 + k)) (below_closed n 0 k q ps s.older at f))
     by k q at false false e f h = cc
+
+-- an end of an ended node notes nothing
+pub end_again : (ps : List (Option ℕ)) (ls : List (List ℕ)) (kept : List (Bool × Option ℕ)) (ended : List Bool) (flags : List ℕ) (r : TreeRecord) → IsSound ps ls ended → Matches ps kept ended flags r → (n : ℕ) → is_ended r n ≡ true → (with_end r n).flags ≡ r.flags
+end_again ps ls kept ended flags r s right n on = by (is_known r n)
+  where
+    closed : IsClosed (is_ended r) 0 ps
+    closed k q at e = right.ended (0 + k) ∙ s.closed k q at (sym (right.ended q) ∙ e)
+
+    nothing : newly_ended r n ≡ []
+    nothing = ap (λ ls. filter (λ m. not (is_ended r m)) (subtree ls n)) right.order ∙ no_fresh (is_ended r) (subtree (placed 0 ps) n) (on, below_marked (is_ended r) n 0 ps closed on)
+
+    by : (b : Bool) → (cond b (record { nodes = r.nodes; ends = r.ends ++ n ∷ []; flags = r.flags ++ tasks_on r (newly_ended r n) }) r).flags ≡ r.flags
+    by true = rw nothing (append-nil r.flags)
+    by false = refl
+
+-- where the first node is marked, all are
+pub all_marked : (ps : List (Option ℕ)) (ls : List (List ℕ)) (ended : List Bool) → IsSound ps ls ended → is_marked ended 0 ≡ true → (n : ℕ) → n < length ps → is_marked ended n ≡ true
+all_marked ps ls ended s on n within = up_to (suc n) n (omega arith) within
+  where
+    up_to : (most n : ℕ) → n < most → n < length ps → is_marked ended n ≡ true
+    up_to zero n lower within = absurd (omega arith)
+    up_to (suc most) n lower within = by (get_or ps n None) (slice_get-get_or ps n None within) (λ q older. up_to most q (omega arith) (omega arith))
+      where
+        by : (p : Option ℕ) → slice_get ps n ≡ Some p → ((q : ℕ) → q < n → is_marked ended q ≡ true) → is_marked ended n ≡ true
+        by None at earlier = ⊎_elim (λ z. rw z on) (λ e. e) (s.rooted n at)
+        by (Some q) at earlier =
+            let older = older_at 0 n q ps s.older at in
+            let place : 0 + n ≡ n = omega arith in
+            rw place at (s.closed n q at (earlier q (omega arith)))
 
 -- what holds anyway holds on an error
 pub on_err : {T E P : Type 0} (r : Result T E) → P → OnErr r P
@@ -164,10 +211,10 @@ children_set nodes p child x y known at more =
 
 -- a node more
 
-pub sound_added : (A B : List Node) (x : Node) (ended : List Bool) (flag : Bool) (n : ℕ) → IsSound (parents B) (children_lists B) ended → parents A ≡ parents B → children_lists A ≡ adopted (children_lists B) x.parent n → x.children.items ≡ [] → n ≡ length B → IsOlder x.parent (length B) → IsUnmarked ended x.parent → IsSound (parents (A ++ x ∷ [])) (children_lists (A ++ x ∷ [])) (ended ++ flag ∷ [])
-sound_added A B x ended flag n s same lists none place older unmarked =
+pub sound_added : (A B : List Node) (x : Node) (ended : List Bool) (flag : Bool) (n : ℕ) → IsSound (parents B) (children_lists B) ended → parents A ≡ parents B → children_lists A ≡ adopted (children_lists B) x.parent n → x.children.items ≡ [] → n ≡ length B → IsOlder x.parent (length B) → IsUnmarked ended x.parent → (x.parent ≡ None → (flag ≡ true) ⊎ (length B ≡ 0)) → IsSound (parents (A ++ x ∷ [])) (children_lists (A ++ x ∷ [])) (ended ++ flag ∷ [])
+sound_added A B x ended flag n s same lists none place older unmarked alone =
     let count : length (parents B) ≡ length B = length-map B (λ y. y.parent) in
-    let pushed = sound_push (parents B) (children_lists B) ended x.parent flag s (rw count older) unmarked in
+    let pushed = sound_push (parents B) (children_lists B) ended x.parent flag s (rw count older) unmarked (λ e. rw count (alone e)) in
     let at : n ≡ length (parents B) = place ∙ sym count in
     let ps : parents (A ++ x ∷ []) ≡ parents B ++ x.parent ∷ [] = map-append (λ y. y.parent) A (x ∷ []) ∙ ap (λ qs. qs ++ x.parent ∷ []) same in
     let first : children_lists (A ++ x ∷ []) ≡ children_lists A ++ x.children.items ∷ [] = map-append (λ y. y.children.items) A (x ∷ []) in

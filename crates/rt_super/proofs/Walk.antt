@@ -112,9 +112,12 @@ pub fresh-append : (tasks : ℕ → Option ℕ) (was : ℕ → Bool) (xs ys : Li
 fresh-append tasks was xs ys =
     rw (filter-append (λ m. not (was m)) xs ys) (filter_map-append tasks (filter (λ m. not (was m)) xs) (filter (λ m. not (was m)) ys))
 
+pub no_fresh : (was : ℕ → Bool) (xs : List ℕ) → AllByRecursion (λ m. was m ≡ true) xs → filter (λ m. not (was m)) xs ≡ []
+no_fresh was [] h = refl
+no_fresh was (x ∷ xs) h = rw (h.0) (no_fresh was xs h.1)
+
 fresh_of_marked : (tasks : ℕ → Option ℕ) (was : ℕ → Bool) (xs : List ℕ) → AllByRecursion (λ m. was m ≡ true) xs → fresh tasks was xs ≡ []
-fresh_of_marked tasks was [] h = refl
-fresh_of_marked tasks was (x ∷ xs) h = rw (h.0) (fresh_of_marked tasks was xs h.1)
+fresh_of_marked tasks was xs h = rw (no_fresh was xs h) refl
 
 marked_where_stands : (was : ℕ → Bool) (xs : List ℕ) (m : ℕ) → AllByRecursion (λ m. was m ≡ true) xs → (was m || stands_in xs m) ≡ was m
 marked_where_stands was [] m h = or_false (was m)

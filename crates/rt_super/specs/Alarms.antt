@@ -19,7 +19,7 @@ no_alarms = record { alarms = []; count = 0 }
 abbrev pub is_before : Alarm → Alarm → Bool
 is_before a b = nat_lt a.due b.due || (a.due == b.due && nat_lt a.number b.number)
 
--- each alarm goes before those after it, and its number was given
+-- each alarm goes before those after it
 abbrev pub AreInOrder : List Alarm → Type 0
 AreInOrder [] = Unit {0}
 AreInOrder (a ∷ rest) = All (λ b. IsTrue (is_before a b)) rest × AreInOrder rest

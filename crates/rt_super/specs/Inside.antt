@@ -1,5 +1,5 @@
 -- How a tree is kept in memory.
-use Rattle.std.specs.Prelude.{◌≡◌, ℕ, suc, ◌+◌, ◌<◌, Bool, true, false, if◌then◌else◌, List, [], ◌∷◌, ◌++◌, map, length, get_or, set, slice_get, Option, Some, None, option_map}
+use Rattle.std.specs.Prelude.{◌≡◌, ◌⊎◌, ℕ, suc, ◌+◌, ◌<◌, Bool, true, false, if◌then◌else◌, List, [], ◌∷◌, ◌++◌, map, length, get_or, set, slice_get, Option, Some, None, option_map}
 use Rattle.rt_super.specs.Ancestry.{NodeState, TreeRecord, node_at, links, is_ended, is_child}
 use Rattle.rt_super.specs.declared.node.Node.{Node}
 
@@ -45,6 +45,10 @@ AreOlder i (parent ∷ rest) = IsOlder parent i × AreOlder (suc i) rest
 abbrev pub IsClosed : (ℕ → Bool) → ℕ → List (Option ℕ) → Type 0
 IsClosed mark i rest = (k parent : ℕ) → slice_get rest k ≡ Some (Some parent) → mark parent ≡ true → mark (i + k) ≡ true
 
+-- a node without a parent is the first or is marked
+abbrev pub IsRooted : (ℕ → Bool) → List (Option ℕ) → Type 0
+IsRooted mark parents = (n : ℕ) → slice_get parents n ≡ Some None → (n ≡ 0) ⊎ (mark n ≡ true)
+
 -- how many marks are set
 abbrev pub marks_set : List Bool → ℕ
 marks_set [] = 0
@@ -57,6 +61,7 @@ pub record IsSound (parents : List (Option ℕ)) (children : List (List ℕ)) (e
   pub older : AreOlder 0 parents
   pub lists : (n : ℕ) → get_or children n [] ≡ children_from n 0 parents
   pub closed : IsClosed (is_marked ended) 0 parents
+  pub rooted : IsRooted (is_marked ended) parents
 
 abbrev pub state_of : NodeState → Bool × Option ℕ
 state_of x = (x.live, x.task)

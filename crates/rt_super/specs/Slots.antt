@@ -16,11 +16,6 @@ is_held None = false
 is_held (Some GivenUp) = false
 is_held (Some _) = true
 
--- whether the slot was added and waits for its value or its closing
-abbrev pub is_open : {V : Type 0} → Option (SlotState V) → Bool
-is_open (Some (Open waiting)) = true
-is_open _ = false
-
 abbrev pub is_aborted : {V : Type 0} → Option (SlotState V) → Bool
 is_aborted (Some Aborted) = true
 is_aborted _ = false

@@ -1,5 +1,5 @@
 // When sleepers wake.
-ghost use Rattle.std.specs.Prelude.{◌≡◌, length, option_map, IfOk, OnOk, OnErr, ◌==◌};
+ghost use Rattle.std.specs.Prelude.{◌≡◌, ◌<◌, ◌-◌, ◌^◌, length, option_map, IfOk, OnOk, OnErr, ◌==◌};
 ghost use Rattle.rt_super.specs.Wakers.{waker_of, named_of};
 ghost use Rattle.rt_super.specs.Alarms.{no_alarms, alarm_set, alarm_rewoken, due_at, first_due, due_first, alarm_popped, woken_of, alarms_cleared, AreSet};
 
@@ -51,6 +51,7 @@ impl Alarms {
     /// also where the numbers have run out.
     pub fn set(&mut self, due: Nanos, task: u64) -> Result<u64, NoMemory>
         ensures number { IfOk result (λ alarm. alarm ≡ self.old.count) }
+        ensures given { IfOk result (λ alarm. alarm < 2 ^ 64 - 1) }
         ensures added { OnOk result (self.new ≡ alarm_set self.old due (waker_of task)) }
         ensures refused { OnErr result (self.new ≡ self.old) }
     {

@@ -1,7 +1,7 @@
 // One-time results, each with a number.
-ghost use Rattle.std.specs.Prelude.{◌≡◌, ◌++◌, ◌∷◌, [], ℕ, length, slice_get, IfOk, OnErr, IsTrue, false};
+ghost use Rattle.std.specs.Prelude.{◌≡◌, ◌++◌, ◌∷◌, [], length, slice_get, IfOk, OnErr, IsTrue};
 ghost use Rattle.rt_super.specs.Wakers.{waker_of};
-ghost use Rattle.rt_super.specs.Slots.{waiting_of, is_held, is_open, is_aborted, changed_at, with_value, without_value, with_abort, poll_answer, after_poll};
+ghost use Rattle.rt_super.specs.Slots.{waiting_of, is_held, is_aborted, changed_at, with_value, without_value, with_abort, poll_answer, after_poll};
 
 use crate::slot_state::SlotState;
 use crate::waker::waker;
@@ -50,10 +50,9 @@ impl<V> Slots<V> {
         Ok(slot)
     }
 
-    /// Whether the slot was added and not given up. Nobody waits at any slot that isn't open.
+    /// Whether the slot was added and not given up.
     pub fn holds(&self, slot: u64) -> bool
-        ensures held { result ≡ is_held (slice_get self.now slot) }
-        ensures waiting { (n : ℕ) → is_open (slice_get self.now n) ≡ false → waiting_of (slice_get self.now n) ≡ None }
+        ensures { result ≡ is_held (slice_get self.now slot) }
     {
         match self.states.get(slot as usize) {
             None | Some(SlotState::GivenUp) => false,

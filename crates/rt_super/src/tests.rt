@@ -1,6 +1,6 @@
 // Each call once, how ends reach down a tree, and many of each.
 use crate::{Alarms, NOBODY, Slots, Tree};
-use rt_base::{Error, Poll};
+use rt_base::{Error, MAX_TIME, Poll};
 use std::alloc::Global;
 use std::process::Abort;
 use std::test::Fail;
@@ -96,32 +96,88 @@ fn deep_chain_is_flagged(rt: HostRuntime) -> Result<(), Fail> {
 }
 
 #[test]
-fn many_alarms_go_off_in_order(rt: HostRuntime) -> Result<(), Fail> {
-    let mut alarms = Alarms::new(rt.alloc());
-    for task in 0..4_000 {
-        let _ = alarms.set(4_000 - task as u128, task)?;
+fn children_come_while_flags_are_pending(rt: HostRuntime) -> Result<(), Fail> {
+    let mut tree = Tree::new(rt.alloc())?;
+    let (first, _) = tree.child(0)?;
+    for task in 0..1_000 {
+        grow(&mut tree, first, task)?;
     }
-    for alarm in 0..4_000 {
-        assert_eq!(rt; alarms.pop_due(4_000), Some((3_999 - alarm, 3_999 - alarm)));
+    tree.end(first);
+    for task in 0..1_000 {
+        let (late, ended) = tree.child(first)?;
+        assert!(rt; ended && tree.is_ended(late));
+        let (other, ended) = tree.child(0)?;
+        assert!(rt; !ended && !tree.is_ended(other));
+        assert_eq!(rt; tree.next_flag(), Some(task));
     }
-    assert!(rt; alarms.is_empty());
+    assert_eq!(rt; tree.next_flag(), None);
     Ok(())
 }
 
 #[test]
-fn many_slots_give_their_values(rt: HostRuntime) -> Result<(), Fail> {
-    let mut slots: Slots<u64> = Slots::new(rt.alloc());
-    for task in 0..4_000 {
-        let slot = slots.add()?;
-        if slots.holds(slot) {
-            assert_eq!(rt; slots.poll(slot, task), Poll::Pending);
+fn many_alarms_go_off_in_order(rt: HostRuntime) -> Result<(), Fail> {
+    let rising = (1u64, 4_095);
+    let equal = (0, 4_095);
+    let falling = (u64::MAX, 4_095);
+    let mixed = (2_654_435_761, 1_023);
+    for (factor, mask) in [rising, equal, falling, mixed] {
+        let mut alarms = Alarms::new(rt.alloc());
+        for number in 0..2_000u64 {
+            let due = number.wrapping_mul(factor) & mask;
+            let task = if number & 1 == 0 { number } else { NOBODY };
+            assert_eq!(rt; alarms.set(due as u128, task)?, number);
         }
-        assert_eq!(rt; slots.put(slot, task), Some(task));
+        assert_eq!(rt; alarms.set(MAX_TIME, NOBODY)?, 2_000);
+        let mut last = (0, 0);
+        for _ in 0..2_000 {
+            let Some((number, _)) = alarms.pop_due(4_095) else {
+                panic!(rt; "none is due after {}", last.1);
+            };
+            let next = (number.wrapping_mul(factor) & mask, number);
+            assert!(rt; last <= next, "{} goes off after {}", number, last.1);
+            last = next;
+        }
+        assert_eq!(rt; alarms.pop_due(4_095), None);
+        assert_eq!(rt; alarms.pop_due(MAX_TIME), Some((2_000, NOBODY)));
+        assert_eq!(rt; alarms.set(MAX_TIME, 1)?, 2_001);
+        alarms.clear();
+        assert_eq!(rt; alarms.set(MAX_TIME, 1)?, 2_002);
     }
-    for slot in 0..4_000 {
-        if slots.holds(slot) {
-            assert_eq!(rt; slots.poll(slot, NOBODY), Poll::Ready(Some(slot)));
-        }
+    Ok(())
+}
+
+#[test]
+fn slots_come_beside_slots_of_all_kinds(rt: HostRuntime) -> Result<(), Fail> {
+    let mut slots: Slots<u64> = Slots::new(rt.alloc());
+    for number in 0..5_000 {
+        let slot = slots.add()?;
+        assert!(rt; slot == number && slots.holds(slot));
+        assert_eq!(rt; slots.poll(slot, number), Poll::Pending);
+        let waiting = match number % 5 {
+            0 => slots.close(slot),
+            1 => slots.abort(slot),
+            2 => slots.put(slot, number),
+            3 => {
+                slots.give_up(slot);
+                Some(number)
+            }
+            _ => Some(number),
+        };
+        assert_eq!(rt; waiting, Some(number));
+    }
+    for slot in 0..5_000 {
+        let wanted = match slot % 5 {
+            0 | 1 => Some(Poll::Ready(None)),
+            2 => Some(Poll::Ready(Some(slot))),
+            3 => None,
+            _ => Some(Poll::Pending),
+        };
+        let answer = if slots.holds(slot) {
+            Some(slots.poll(slot, NOBODY))
+        } else {
+            None
+        };
+        assert_eq!(rt; answer, wanted);
     }
     Ok(())
 }

@@ -1,5 +1,5 @@
 // Which contexts end with which.
-ghost use Rattle.std.specs.Prelude.{◌≡◌, ◌⊎◌, ◌<◌, ◌≤◌, ◌↔◌, ◌&&◌, length, slice_get, Err, None, IfOk, IfErr, OnErr, OnOk, IsTrue, false, vec_capacity};
+ghost use Rattle.std.specs.Prelude.{◌≡◌, ℕ, ◌||◌, ◌==◌, ◌⊎◌, ◌<◌, ◌≤◌, ◌↔◌, ◌&&◌, [], length, slice_get, Err, None, IfOk, IfErr, OnErr, OnOk, true, false, vec_capacity};
 ghost use Rattle.rt_super.specs.Ancestry.{first_record, is_known, is_live, is_ended, live_task, with_new, with_child, with_task, with_release, with_end, with_flag_taken};
 ghost use Rattle.rt_super.specs.Inside.{parents, states, children_lists, adopted};
 ghost use Rattle.std.specs.Option.{ForSome};
@@ -76,8 +76,7 @@ impl Tree {
 
     /// Whether the node was made and not released.
     pub fn lives(&self, node: u64) -> bool
-        ensures live { result ≡ is_live self.now node }
-        ensures known { IsTrue result → node < length self.now.nodes }
+        ensures { result ≡ is_live self.now node }
     {
         match self.nodes.get(node as usize) {
             Some(place) => place.live,
@@ -103,6 +102,7 @@ impl Tree {
         ensures flag { IfOk result (λ made. made.1 ≡ is_ended self.old parent) }
         ensures made { IfOk result (λ made. self.new ≡ with_child self.old made.0 parent) }
         ensures fresh { IfOk result (λ made. is_known self.old made.0 ≡ false) }
+        ensures born { IfOk result (λ made. (n : ℕ) → is_ended self.new n ≡ (is_ended self.old n || (made.0 == n && made.1))) }
         ensures free { IfOk result (λ made. live_task self.new made.0 ≡ None) }
         ensures unknown { (result ≡ Err Error.UnknownToken) ↔ (is_live self.old parent ≡ false) }
         ensures causes { IfErr result (λ e. (e ≡ Error.UnknownToken) ⊎ (e ≡ Error.NoMemory)) }
@@ -146,10 +146,12 @@ impl Tree {
         }
     }
 
-    /// Ends a node, live or released, and every node below it. Nothing where the node was ended or
-    /// was never made.
+    /// Ends a node, live or released, and every node below it. An end of the first node ends all
+    /// nodes. Where the node was ended, no task is noted; where it was never made, nothing changes.
     pub fn end(&mut self, node: u64)
-        ensures { self.new ≡ with_end self.old node }
+        ensures ended { self.new ≡ with_end self.old node }
+        ensures again { is_ended self.old node ≡ true → self.new.flags ≡ self.old.flags }
+        ensures all { node ≡ 0 → (n : ℕ) → is_known self.new n ≡ true → is_ended self.new n ≡ true }
     {
         self.history = History::after(&self.history, &Change::Ended(node));
         if node < self.nodes.len() as u64 {
@@ -187,12 +189,14 @@ impl Tree {
 
     /// Adds a live node without a task.
     fn add(&mut self, parent: Option<u64>, ended: bool) -> Result<u64, NoMemory>
-        requires older { ForSome parent (λ p. p < length self.old.nodes) }
+        requires live { ForSome parent (λ p. is_live self.old p ≡ true) }
+        requires rooted { parent ≡ None → (ended ≡ true) ⊎ (self.old.nodes ≡ []) }
         requires lasting { ForSome parent (λ p. is_ended self.old p ≡ false) }
         ensures number { IfOk result (λ number. number ≡ length self.old.nodes) }
         ensures added { IfOk result (λ number. self.new ≡ with_new self.old number parent ended) }
         ensures fresh { IfOk result (λ number. is_known self.old number ≡ false) }
         ensures free { IfOk result (λ number. live_task self.new number ≡ None) }
+        ensures born { IfOk result (λ number. (n : ℕ) → is_ended self.new n ≡ (is_ended self.old n || (number == n && ended))) }
         ensures refused { OnErr result (self.new ≡ self.old) }
     {
         let places = self.nodes.len() + 1;

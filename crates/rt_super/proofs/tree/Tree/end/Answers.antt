@@ -1,11 +1,11 @@
-use Rattle.std.proofs.Common.{◌≡◌, ◌++◌, List, Bool, subst, length, arith}
+use Rattle.std.proofs.Common.{◌≡◌, ◌<◌, ◌++◌, ◌∙◌, List, Bool, true, refl, subst, length, arith}
 use Rattle.std.specs.Vec.{with_items}
-use Rattle.std.proofs.lemmas.List.{with_items_is}
-use Rattle.rt_super.specs.Ancestry.{subtree}
+use Rattle.std.proofs.lemmas.List.{with_items_is, length-map}
+use Rattle.rt_super.specs.Ancestry.{subtree, stands_in}
 use Rattle.rt_super.specs.Ending.{fresh_tasks}
-use Rattle.rt_super.specs.Inside.{parents, placed}
-use Rattle.rt_super.proofs.Records.{record_end, record_end_past}
-use Rattle.rt_super.proofs.Shapes.{count_states, sound_end, task_state}
+use Rattle.rt_super.specs.Inside.{parents, placed, is_marked}
+use Rattle.rt_super.proofs.Records.{record_end, record_end_past, known_within}
+use Rattle.rt_super.proofs.Shapes.{count_states, sound_end, task_state, or_right, end_again, all_marked}
 use Rattle.rt_super.proofs.tree.Tree.end.Goals as goal
 
 pub invariant_of-self : goal.invariant_of-self
@@ -31,3 +31,15 @@ invariant_of-self-else-node-len c = record {
   visits = c.self.invariant.visits;
   room = c.self.invariant.room;
 }
+
+pub returns-then-node-len-clause-again : goal.returns-then-node-len-clause-again
+returns-then-node-len-clause-again c = λ on. rw (c.after-self-inside.ensures, ← c.self.view_is) (end_again _ _ _ _ _ _ c.self.invariant.sound c.self.invariant.right c.args.node (rw (← c.self.view_is) at on))
+
+pub returns-then-node-len-clause-all : goal.returns-then-node-len-clause-all
+returns-then-node-len-clause-all c = λ first m known.
+    let whole = invariant_of-self c in
+    let after : (with_items c.self.inside.ended c.end_subtree.new.ended).items ≡ c.end_subtree.new.ended = with_items_is c.self.inside.ended c.end_subtree.new.ended (omega (arith, c.deref_mut.ensures.len)) in
+    let here : stands_in (subtree (placed 0 (parents c.deref.result.now)) c.args.node) 0 ≡ true = rw first refl in
+    let root : is_marked (with_items c.self.inside.ended c.end_subtree.new.ended).items 0 ≡ true = rw after (c.end_subtree.ensures.marks 0 ∙ or_right _ _ here) in
+    let within : m < length (parents c.self.inside.nodes.items) = omega (arith, known_within _ _ _ _ _ whole.right m known, count_states c.self.inside.nodes.items, length-map c.self.inside.nodes.items (λ x. x.parent)) in
+    whole.right.ended m ∙ all_marked _ _ _ whole.sound root m within

@@ -1,16 +1,16 @@
-use Rattle.std.proofs.Common.{refl, Some, length, ◌<◌, arith}
-use Rattle.std.proofs.lemmas.List.{length-set, length-map}
+use Rattle.std.proofs.Common.{refl, sym, ◌∙◌, Some, length, ◌<◌, arith}
+use Rattle.std.proofs.lemmas.List.{length-set}
 use Rattle.rt_super.specs.declared.node.Node.{Node}
-use Rattle.rt_super.proofs.Records.{count_kept}
-use Rattle.rt_super.proofs.Shapes.{set_keeps, right_changed}
+use Rattle.rt_super.proofs.Records.{live_within}
+use Rattle.rt_super.proofs.Shapes.{count_states, set_keeps, right_changed}
 use Rattle.rt_super.proofs.tree.Tree.register.Goals as goal
 
 pub invariant_of-self : goal.invariant_of-self
 invariant_of-self c =
     let x = c.index_mut.result.now in
     let y : Node = record { parent = x.parent; live = x.live; task = Some c.args.task; children = x.children } in
-    let known = rw (← c.self.view_is) at (c.lives.ensures.known c.if-not-lives.false) in
-    let within : c.args.node < length c.self.inside.nodes.items = omega (arith, known, count_kept _ _ _ _ _ c.self.invariant.right, length-map c.self.inside.nodes.items (λ x. x.parent)) in
+    let live = rw (← c.self.view_is) at (sym c.lives.ensures ∙ c.if-not-lives.false) in
+    let within : c.args.node < length c.self.inside.nodes.items = omega (arith, live_within _ _ _ _ _ c.self.invariant.right c.args.node live, count_states c.self.inside.nodes.items) in
     let parents_same = set_keeps (λ z. z.parent) c.self.inside.nodes.items c.args.node x y c.index_mut.ensures.value refl in
     let children_same = set_keeps (λ z. z.children.items) c.self.inside.nodes.items c.args.node x y c.index_mut.ensures.value refl in
     record {
