@@ -7,7 +7,8 @@ use crate::failed::Failed;
 /// Bytes that are written in pieces.
 ///
 /// Contracts see `held`, the bytes so far where the sink tells them, and `faults`, how many writes
-/// have failed. A count at `u64::MAX` passes as risen.
+/// have failed; a try that a signal cut short counts too, though the write goes on. A count at
+/// `u64::MAX` passes as risen.
 pub trait Sink8 {
     ghost held: { Self → Option (List ℕ) };
 

@@ -7,7 +7,8 @@ use crate::failed::Failed;
 /// Bytes that are read in pieces.
 ///
 /// Contracts see `left`, the bytes that are left where the source tells them, and `faults`, how
-/// many reads have failed. A count at `u64::MAX` passes as risen.
+/// many reads have failed; a try that a signal cut short counts too, though the read goes on. A
+/// count at `u64::MAX` passes as risen.
 pub trait Source {
     ghost left: { Self → Option (List ℕ) };
 

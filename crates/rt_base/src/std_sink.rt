@@ -8,7 +8,8 @@ use std::io::Stdout;
 use std::marker::Model;
 use std::rt::HostRuntime;
 
-/// Standard output. Contracts see how many writes have failed, and nothing of the content.
+/// Standard output. Contracts see how many writes have failed, with the tries that a signal cut
+/// short, and nothing of the content.
 #[derive(Drop)]
 pub struct StdSink {
     stdout: Stdout,

@@ -8,7 +8,8 @@ use std::io::Stdin;
 use std::marker::Model;
 use std::rt::HostRuntime;
 
-/// Standard input. Contracts see how many reads have failed, and nothing of the content.
+/// Standard input. Contracts see how many reads have failed, with the tries that a signal cut
+/// short, and nothing of the content.
 #[derive(Drop)]
 pub struct StdSource {
     stdin: Stdin,

@@ -207,6 +207,17 @@ fn a_mebibyte(rt: HostRuntime) -> Result<(), Fail> {
     let mut list = ListSink::new(alloc, Vec::new(alloc), 1000);
     assert_eq!(rt; write_whole(&mut list, bytes.as_slice()), Ok(()));
     assert!(rt; list.as_slice() == bytes.as_slice());
+    let mut reader = bytes.as_slice();
+    let mut errors = 0;
+    let mut read = vec![in alloc; 0u8; size]?;
+    assert_eq!(rt; read_retried(&mut reader, &mut errors, &mut read), Ok(size));
+    assert!(rt; read == bytes);
+    let mut writer = Vec::new(alloc);
+    assert_eq!(rt;
+        write_retried(&mut writer, &mut errors, bytes.as_slice()),
+        Ok(size)
+    );
+    assert!(rt; writer == bytes && errors == 0);
     let word = text(alloc, str::from_utf8(bytes.as_slice())?)?;
     assert!(rt; word.clone_value()? == word);
     let mut short = ListSource::new(bytes.clone()?, Vec::new(alloc), 1000);

@@ -1,26 +1,30 @@
 -- How a run has come to its outcome.
-use Rattle.std.proofs.Common.{◌≡◌, ◌++◌, inl, inr, ℕ, List, refl, ap, ◌∙◌, sym, Bool, true, Option, Some, None}
+use Rattle.std.proofs.Common.{◌≡◌, ◌⊎◌, ◌≢◌, ◌++◌, inl, inr, ℕ, List, refl, ap, ◌∙◌, sym, Bool, true, Option, Some, None, Result, Ok, Err}
 use Rattle.rt_audit.specs.declared.entry.Entry.{Entry}
 use Rattle.rt_audit.specs.declared.finish.FinishCause.{FinishCause}
 use Rattle.rt_audit.specs.declared.finish.FinishCause.TheVariants.{Completed, Timeout, Stalled, TimeOverflow, TooManyTasks, NoMemory}
-use Rattle.rt_model.specs.State.{State, Fixed, Finished, blank}
+use Rattle.rt_model.specs.declared.begin.Begin.{Begin}
+use Rattle.rt_model.specs.State.{State, Clock, Finished, begun, stood_in}
 use Rattle.rt_model.specs.Effects.{after_all}
 use Rattle.rt_model.specs.Rules.{IsLawful}
+use Rattle.rt_model.specs.Walk.{Walks, Fronts, Breaks}
 use Rattle.rt_model.specs.Tied.{Steps, Value}
-use Rattle.rt_model.specs.Run.{IsRun, IsCutOff, FailedBy}
+use Rattle.rt_model.specs.Run.{IsRun, IsCutOff, FailedBy, IsValidInput}
 use Rattle.rt_machine.specs.Told.{own}
+use Rattle.rt_machine.specs.Failures.{finish_of}
+use Rattle.rt_machine.specs.declared.run_error.RunError.{RunError}
+use Rattle.rt_machine.specs.declared.run_error.RunError.TheVariants.{Timeout as IsTimeout, Stalled as IsStalled, TimeOverflow as IsTimeOverflow, TooManyTasks as AreTooManyTasks, NoMemory as IsNoMemory}
 use Rattle.rt_world.specs.World.{World}
-use Rattle.rt_world.specs.Follows.{Follows, Agrees, IsMaking, value_of}
+use Rattle.rt_world.specs.Calls.{Kept}
+use Rattle.rt_world.specs.Follows.{Follows, Agrees, IsMade, IsUnmade, unmade_of, value_of}
+use Rattle.rt_world.specs.Rounds.{EndAgrees}
 use Rattle.rt_world.specs.Ends.{EndsFor}
-use Rattle.rt_world.specs.Failures.{finish_of}
-use Rattle.rt_world.specs.declared.run_error.RunError.{RunError}
-use Rattle.rt_world.specs.declared.run_error.RunError.TheVariants.{Timeout as IsTimeout, Stalled as IsStalled, TimeOverflow as IsTimeOverflow, TooManyTasks as AreTooManyTasks, NoMemory as IsNoMemory}
-use Rattle.rt_core.specs.Outcome.{Ended, Completes, IsValidInput}
-use Rattle.rt_core.proofs.Starts.{begins}
+use Rattle.rt_core.specs.Starting.{Starting}
+use Rattle.rt_core.specs.Outcome.{Ended, Completes}
 
-module _ (A O : Type 0) (p : Steps A O) (w : World A O) where
+module _ {A O G : Type 0} (p : Steps A O) (w : World A O G) where
   -- a run that was whole up to its cleanup
-  pub ended-whole : (final cause : FinishCause) (output : Option O) → EndsFor A O p w final output true → (final ≡ cause) → Ended A O p w cause output
+  pub ended-whole : (final cause : FinishCause) (output : Option O) → EndsFor p w final output true → (final ≡ cause) → Ended p w cause output
   ended-whole final cause output e is =
       record {
         whole = e.last;
@@ -30,47 +34,72 @@ module _ (A O : Type 0) (p : Steps A O) (w : World A O) where
       }
 
   -- one that was cut off
-  pub ended-cut : (final : FinishCause) (last output : Option O) (whole : Bool) → EndsFor A O p w final last whole → Ended A O p w NoMemory output
+  pub ended-cut : (final : FinishCause) (last output : Option O) (whole : Bool) → EndsFor p w final last whole → Ended p w NoMemory output
   ended-cut final last output whole e = record { whole = e.last; last = last; agrees = e.agrees; kept = inr refl }
+
+  -- one that lacked memory in its cleanup, or before
+  pub ended-lacking : (before : World A O G) (outcome : Result O RunError) (final : FinishCause) → EndAgrees p before outcome → ((whole : Bool) (output : Option O) → Agrees p whole before output → EndsFor p w final output whole) → Ended p w NoMemory None
+  ended-lacking before (Ok output) final a ends = ended-cut final (Some output) None true (ends true (Some output) a)
+  ended-lacking before (Err IsNoMemory) final a ends = ended-cut final None None a.0 (ends a.0 None a.1)
+  ended-lacking before (Err IsTimeout) final a ends = ended-cut final None None true (ends true None a)
+  ended-lacking before (Err IsStalled) final a ends = ended-cut final None None true (ends true None a)
+  ended-lacking before (Err IsTimeOverflow) final a ends = ended-cut final None None true (ends true None a)
+  ended-lacking before (Err AreTooManyTasks) final a ends = ended-cut final None None true (ends true None a)
+
+-- a maker that lacked memory
+pub unmade : {A O G : Type 0} (p : Steps A O) (old new : World A O G) → Kept old new → Follows p new.told (unmade_of old.held) → (Breaks (p.first old.told.state.clock.time) old.held new.told.state.turns (stood_in new.told.state) ⊎ Fronts (p.first old.told.state.clock.time) old.held new.told.state.turns) → IsUnmade p new
+unmade p old new kept follows breaks = record {
+  follows = rw kept.held follows;
+  breaks = rw (kept.held, ap (λ (c : Clock). c.time) kept.clock) breaks;
+}
+
+-- a root that was made
+pub made : {A O G : Type 0} (p : Steps A O) (old new : World A O G) (root : A) → Kept old new → Follows p new.told (unmade_of old.held) → Walks (p.first old.told.state.clock.time) old.held new.told.state.turns (stood_in new.told.state) tt root new.held → IsMade p new root
+made p old new root kept follows walks = record {
+  before = old.held;
+  follows = follows;
+  walks = rw (ap (λ (c : Clock). c.time) kept.clock) walks;
+}
 
 pub ruleset outcome_laws = (ended-whole, ended-cut)
 
 -- a world at the end of its run, which is lawful and began so
-module _ (A O : Type 0) (p : Steps A O) (begin : Fixed) (w : World A O) (lawful : IsLawful blank (own w.told)) (state : w.told.state ≡ after_all blank (own w.told)) (fixed : w.told.state.clock.fixed ≡ begin) where
-  is_run : (cause : FinishCause) (output : Option O) → w.told.state.phase ≡ Finished cause → Ended A O p w cause output → (cause ≡ NoMemory → ⊥) → (v : Value A O) × IsRun A O p begin (own w.told) cause w.told.state v × (v.output ≡ output)
+module _ {A O G : Type 0} (p : Steps A O) (begin : Begin) (w : World A O G) (lawful : IsLawful (begun begin) (own w.told)) (state : w.told.state ≡ after_all (begun begin) (own w.told)) (is : w.told.begin ≡ begin) where
+  is_run : (cause : FinishCause) (output : Option O) → w.told.state.phase ≡ Finished cause → Ended p w cause output → cause ≢ NoMemory → (v : Value A O) × IsRun p begin (own w.told) cause w.told.state v × (v.output ≡ output)
   is_run cause output ends e not =
       let kept : (e.whole ≡ true) × (e.last ≡ output) = elim e.kept [ inl h ↦ h | inr h ↦ absurd (not h) ] in (
         value_of w e.last None e.whole,
         record {
-          begins = begins begin (own w.told) w.told.state cause lawful state fixed ends;
+          lawful = lawful;
           reaches = sym state;
           ends = ends;
-          tied = e.agrees.tied;
+          caused = not;
+          tied = rw is at e.agrees.tied;
           whole = kept.0;
         },
         kept.1,
       )
 
-  is_cut_off : w.told.state.phase ≡ Finished NoMemory → Ended A O p w NoMemory None → IsCutOff A O p begin (own w.told)
+  is_cut_off : w.told.state.phase ≡ Finished NoMemory → Ended p w NoMemory None → IsCutOff p begin (own w.told)
   is_cut_off ends e = record {
     value = value_of w e.last None e.whole;
-    begins = begins begin (own w.told) w.told.state NoMemory lawful state fixed ends;
+    lawful = lawful;
     ends = ap (λ (s : State). s.phase) (sym state) ∙ ends;
-    tied = e.agrees.tied;
+    tied = rw is at e.agrees.tied;
   }
 
-  failed : (cause : FinishCause) → w.told.state.phase ≡ Finished cause → Ended A O p w cause None → (cause ≡ NoMemory → ⊥) → (end : State) × (v : Value A O) × IsRun A O p begin (own w.told) cause end v
+  failed : (cause : FinishCause) → w.told.state.phase ≡ Finished cause → Ended p w cause None → cause ≢ NoMemory → (end : State) × (v : Value A O) × IsRun p begin (own w.told) cause end v
   failed cause ends e not = let r = is_run cause None ends e not in (w.told.state, r.0, r.1)
 
-  pub failed_by : (error : RunError) → w.told.state.phase ≡ Finished (finish_of error) → Ended A O p w (finish_of error) None → FailedBy A O p begin (own w.told) (finish_of error)
+  pub failed_by : (error : RunError) → w.told.state.phase ≡ Finished (finish_of error) → Ended p w (finish_of error) None → FailedBy p begin (own w.told) (finish_of error)
   failed_by IsNoMemory ends e = inr (is_cut_off ends e)
   failed_by IsTimeout ends e = failed Timeout ends e (λ h. cc)
   failed_by IsStalled ends e = failed Stalled ends e (λ h. cc)
   failed_by IsTimeOverflow ends e = failed TimeOverflow ends e (λ h. cc)
   failed_by AreTooManyTasks ends e = failed TooManyTasks ends e (λ h. cc)
 
-  pub completes : (given journal : List Entry) (output : O) (time cycle : ℕ) (deadline : Option ℕ) → w.told.state.phase ≡ Finished Completed → Ended A O p w Completed (Some output) → journal ≡ given ++ own w.told → time ≡ w.told.state.clock.time → begin.cycle ≡ cycle → begin.deadline ≡ deadline → Completes A O p begin given output (record { time = time; deadline = deadline; cycle = cycle; journal = journal })
-  completes given journal output time cycle deadline ends e extends at one two =
+  pub completes : (given journal : List Entry) (rng : G) (output : O) (time cycle : ℕ) (deadline : Option ℕ) → w.told.state.phase ≡ Finished Completed → Ended p w Completed (Some output) → journal ≡ given ++ own w.told → time ≡ w.told.state.clock.time → w.told.state.clock.fixed ≡ begin → begin.cycle ≡ cycle → begin.deadline ≡ deadline → Completes p (record { begin = begin; given = given; rng = rng }) output (record { time = time; deadline = deadline; cycle = cycle; journal = journal; rng = rng })
+  completes given journal rng output time cycle deadline ends e extends at fixed one two =
       let r = is_run Completed (Some output) ends e (λ h. cc) in
       record {
         entries = own w.told;
@@ -82,16 +111,12 @@ module _ (A O : Type 0) (p : Steps A O) (begin : Fixed) (w : World A O) (lawful 
       }
 
 -- valid input fails for want of memory alone
-valid : (A O : Type 0) (p : Steps A O) (begin : Fixed) (x : List Entry) (cause : FinishCause) → IsValidInput A O p begin → (end : State) × (v : Value A O) × IsRun A O p begin x cause end v → cause ≡ Completed
-valid A O p begin x cause v r = v x cause r.0 r.1 r.2
+valid : {A O : Type 0} (p : Steps A O) (begin : Begin) (x : List Entry) (cause : FinishCause) → IsValidInput p begin → (end : State) × (v : Value A O) × IsRun p begin x cause end v → cause ≡ Completed
+valid p begin x cause v r = v x cause r.0 r.1 r.2
 
-pub only_memory : (A O : Type 0) (p : Steps A O) (begin : Fixed) (x : List Entry) (error : RunError) → IsValidInput A O p begin → FailedBy A O p begin x (finish_of error) → error ≡ IsNoMemory
-only_memory A O p begin x IsNoMemory v f = refl
-only_memory A O p begin x IsTimeout v f = let e = valid A O p begin x Timeout v f in absurd (cc)
-only_memory A O p begin x IsStalled v f = let e = valid A O p begin x Stalled v f in absurd (cc)
-only_memory A O p begin x IsTimeOverflow v f = let e = valid A O p begin x TimeOverflow v f in absurd (cc)
-only_memory A O p begin x AreTooManyTasks v f = let e = valid A O p begin x TooManyTasks v f in absurd (cc)
-
--- a maker that lacked memory
-pub making_cut : (A O : Type 0) (p : Steps A O) (w : World A O) (before : World A O) → ((v : Value A O) → Follows A O p before.told v → Follows A O p w.told v) → Agrees A O p true before None → IsMaking A O p w
-making_cut A O p w before calls f = record { before = before.held; follows = calls (value_of before None None true) f }
+pub only_memory : {A O : Type 0} (p : Steps A O) (begin : Begin) (x : List Entry) (error : RunError) → IsValidInput p begin → FailedBy p begin x (finish_of error) → error ≡ IsNoMemory
+only_memory p begin x IsNoMemory v f = refl
+only_memory p begin x IsTimeout v f = let e = valid p begin x Timeout v f in absurd (cc)
+only_memory p begin x IsStalled v f = let e = valid p begin x Stalled v f in absurd (cc)
+only_memory p begin x IsTimeOverflow v f = let e = valid p begin x TimeOverflow v f in absurd (cc)
+only_memory p begin x AreTooManyTasks v f = let e = valid p begin x TooManyTasks v f in absurd (cc)

@@ -1,3 +1,4 @@
+pub mod Sleeper
 pub mod Pollers
 pub mod Starting
 pub mod Outcome

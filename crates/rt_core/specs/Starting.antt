@@ -1,8 +1,10 @@
 -- How a run begins, and the settings for which it may.
 use Rattle.std.specs.Prelude.{◌≡◌, ◌≤◌, ◌+◌, ℕ, List, Option, Some, None, Bool, ltb, eqb, if◌then◌else◌, Result, Ok, Err}
+use Rattle.rand_core.specs.Pcg32Seed.{pcg32_seed}
+use Rattle.rand_chacha.specs.ChaCha.{ChaCha, of_seed}
 use Rattle.rt_base.specs.declared.time.TheConstants.{MAX_TIME}
 use Rattle.rt_audit.specs.declared.entry.Entry.{Entry}
-use Rattle.rt_model.specs.State.{Fixed}
+use Rattle.rt_model.specs.declared.begin.Begin.{Begin}
 use Rattle.rt_core.specs.declared.config.ConfigError.{ConfigError}
 use Rattle.rt_core.specs.declared.config.ConfigError.TheVariants.{ZeroCycle, StartTooLate, DeadlineTooLate}
 
@@ -23,10 +25,19 @@ assert_of cycle start timeout =
     else if is_too_late (deadline_of start timeout) then Err DeadlineTooLate
     else Ok tt
 
--- how a run begins, and the entries of the runs before it
-pub record Starting : Type 0 where
-  pub begin : Fixed
+-- the generator of this seed
+abbrev pub seeded : ℕ → ChaCha
+seeded seed = of_seed (pcg32_seed 32 seed)
+
+-- the seed of a generator that nobody chose
+abbrev pub default_seed : ℕ
+default_seed = 42
+
+-- how a run begins, the entries of the runs before it, and its generator
+pub record Starting (G : Type 0) : Type 0 where
+  pub begin : Begin
   pub given : List Entry
+  pub rng : G
 
 -- no moment, or one that a run can reach
 abbrev pub IsWithin : Option ℕ → Type 0
@@ -34,18 +45,19 @@ IsWithin None = Unit {0}
 IsWithin (Some moment) = moment ≤ MAX_TIME
 
 -- what every runner holds
-pub record MayStart (cycle start : ℕ) (deadline : Option ℕ) : Type 0 where
-  pub cycle_is : 1 ≤ cycle
-  pub start_within : start ≤ MAX_TIME
-  pub deadline_within : IsWithin deadline
+pub record MayStart (begin : Begin) : Type 0 where
+  pub cycle_is : 1 ≤ begin.cycle
+  pub start_within : begin.start ≤ MAX_TIME
+  pub deadline_within : IsWithin begin.deadline
 
--- what a completed run leaves: its last moment, what its start fixed but the first task number, and all entries
-pub record Kept : Type 0 where
+-- what a completed run leaves: its last moment, what its start fixed but the first task number, all entries, and its generator
+pub record Kept (G : Type 0) : Type 0 where
   pub time : ℕ
   pub deadline : Option ℕ
   pub cycle : ℕ
   pub journal : List Entry
+  pub rng : G
 
 -- the beginning of a first run: its task numbers begin with 0
-abbrev pub first_begin : ℕ → ℕ → Option ℕ → Fixed
+abbrev pub first_begin : ℕ → ℕ → Option ℕ → Begin
 first_begin cycle start timeout = record { start = start; cycle = cycle; deadline = deadline_of start timeout; first = 0 }

@@ -9,7 +9,8 @@ use std::marker::Model;
 
 /// What a completed run leaves, from which a later one may go on.
 ///
-/// Contracts see its last moment, its deadline and cycle in nanoseconds, and the entries of all runs so far.
+/// Contracts see its last moment, its deadline and cycle in nanoseconds, the entries of all runs so far, and its
+/// generator.
 #[derive(Debug, Drop)]
 pub struct Checkpoint<G> {
     pub(crate) rng: G,
@@ -22,9 +23,9 @@ pub struct Checkpoint<G> {
 impl<G> Model for Checkpoint<G> {
     ghost use Rattle.rt_core.specs.Starting.{Kept};
 
-    ghost Value = { Kept };
+    ghost Value = { Kept G };
 
-    ghost view = { λ c. record { time = c.time; deadline = c.deadline; cycle = c.cycle; journal = c.journal.entries } };
+    ghost view = { λ c. record { time = c.time; deadline = c.deadline; cycle = c.cycle; journal = c.journal.entries; rng = c.rng } };
 }
 
 impl<G> Checkpoint<G> {

@@ -1,7 +1,7 @@
 //! The settings of a run.
 
 ghost use Rattle.std.specs.Prelude.{◌≡◌, ◌≤◌, ◌<◌, ◌+◌, Option, None, Some};
-ghost use Rattle.rt_core.specs.Starting.{assert_of};
+ghost use Rattle.rt_core.specs.Starting.{assert_of, default_seed, seeded};
 
 use rand_chacha::ChaCha12Rng;
 use rand_core::SeedableRng;
@@ -34,6 +34,7 @@ pub struct Config<G> {
 impl Config<ChaCha12Rng> {
     /// A generator of seed 42, a cycle of 1,000,000 ns, start 0 and no timeout.
     pub fn new() -> Self
+        ensures rng { result.rng ≡ seeded default_seed }
         ensures cycle { result.cycle ≡ 1000000 }
         ensures start { result.start_time ≡ 0 }
         ensures timeout { result.timeout ≡ None }
@@ -49,6 +50,7 @@ impl Config<ChaCha12Rng> {
 
 impl Default for Config<ChaCha12Rng> {
     fn default() -> Self
+        ensures rng { result.rng ≡ seeded default_seed }
         ensures cycle { result.cycle ≡ 1000000 }
         ensures start { result.start_time ≡ 0 }
         ensures timeout { result.timeout ≡ None }

@@ -3,10 +3,11 @@
 ghost use Rattle.std.specs.Prelude.{◌≡◌, ◌≤◌, ◌↔◌, [], None, Some, Ok, Err, IsOk, IfOk, IfErr, MatchResult};
 ghost use Rattle.rt_audit.specs.declared.finish.FinishCause.TheVariants.{NoMemory};
 ghost use Rattle.rt_model.specs.Tied.{with_first};
-ghost use Rattle.rt_world.specs.Failures.{finish_of};
-ghost use Rattle.rt_core.specs.Starting.{assert_of, deadline_of, first_begin, IsWithin, Kept};
+ghost use Rattle.rt_model.specs.Run.{IsValidInput};
+ghost use Rattle.rt_machine.specs.Failures.{finish_of};
+ghost use Rattle.rt_core.specs.Starting.{assert_of, deadline_of, default_seed, first_begin, seeded, IsWithin, Kept};
 ghost use Rattle.rt_core.specs.Given.{entries_of};
-ghost use Rattle.rt_core.specs.Outcome.{Completes, Fails, DrawsNothing, IsValidInput};
+ghost use Rattle.rt_core.specs.Outcome.{Completes, Fails, DrawsNothing};
 
 use crate::running::run_maker;
 use crate::{Checkpoint, Config, ConfigError, Failure, Finished, RootMaker, RunError};
@@ -14,20 +15,18 @@ use rand_chacha::ChaCha12Rng;
 use rand_core::Rng;
 use rt_audit::Journal;
 use rt_base::Nanos;
-use rt_world::{Task, World};
+use rt_world::{Begin, Task, World};
 use std::alloc::Global;
 use std::marker::Model;
 
 /// A run that is to begin.
 ///
-/// Contracts see how it begins, and the entries of the runs before it. By its type its cycle is at least 1, and its
-/// start and its deadline are at most `MAX_TIME`.
+/// Contracts see how it begins, the entries of the runs before it, and its generator. By its type its cycle is at least
+/// 1, and its start and its deadline are at most `MAX_TIME`.
 #[derive(Drop)]
 pub struct Runner<G> {
     rng: G,
-    start: Nanos,
-    cycle: Nanos,
-    deadline: Option<Nanos>,
+    begin: Begin,
     journal: Option<Journal>,
 }
 
@@ -35,11 +34,11 @@ impl<G> Model for Runner<G> {
     ghost use Rattle.rt_core.specs.Starting.{Starting, MayStart};
     ghost use Rattle.rt_core.specs.Given.{entries_of};
 
-    ghost Value = { Starting };
+    ghost Value = { Starting G };
 
-    ghost view = { λ r. record { begin = record { start = r.start; cycle = r.cycle; deadline = r.deadline; first = 0 }; given = entries_of r.journal } };
+    ghost view = { λ r. record { begin = r.begin; given = entries_of r.journal; rng = r.rng } };
 
-    ghost invariant = { λ r. MayStart r.cycle r.start r.deadline };
+    ghost invariant = { λ r. MayStart r.begin };
 }
 
 impl<G: Rng + Drop> Runner<G> {
@@ -47,7 +46,7 @@ impl<G: Rng + Drop> Runner<G> {
     /// the settings.
     pub fn new(config: Config<G>) -> Result<Runner<G>, ConfigError>
         ensures accepted { IsOk result ↔ (assert_of config.cycle config.start_time config.timeout ≡ Ok tt) }
-        ensures ok { IfOk result (λ r. r ≡ record { begin = first_begin config.cycle config.start_time config.timeout; given = [] }) }
+        ensures ok { IfOk result (λ r. r ≡ record { begin = first_begin config.cycle config.start_time config.timeout; given = []; rng = config.rng }) }
         ensures refused { IfErr result (λ e. assert_of config.cycle config.start_time config.timeout ≡ Err e) }
     {
         match config.assert() {
@@ -61,9 +60,12 @@ impl<G: Rng + Drop> Runner<G> {
                 } = config;
                 Ok(Runner {
                     rng,
-                    start: start_time,
-                    cycle,
-                    deadline: deadline_after(start_time, timeout),
+                    begin: Begin {
+                        start: start_time,
+                        cycle,
+                        deadline: deadline_after(start_time, timeout),
+                        first: 0,
+                    },
                     journal: None,
                 })
             }
@@ -80,21 +82,18 @@ impl<G: Rng + Drop> Runner<G> {
         alloc: Global,
         maker: M,
     ) -> Result<Finished<T::Output, G>, Failure>
-        ensures run { IfOk result (λ f. Completes T T.Output (with_first T.steps (M.first maker)) self.begin self.given f.output f.checkpoint) }
-        ensures failure { IfErr result (λ f. Fails T T.Output (with_first T.steps (M.first maker)) self.begin self.given f.journal.entries (finish_of f.cause)) }
-        ensures orders { MatchResult result (λ f. DrawsNothing self.given f.checkpoint.journal) (λ f. DrawsNothing self.given f.journal.entries) }
-        ensures complete { IsValidInput T T.Output (with_first T.steps (M.first maker)) self.begin → IfErr result (λ f. f.cause ≡ RunError.NoMemory) }
+        ensures run { IfOk result (λ f. Completes (with_first T.steps (M.first maker)) self f.output f.checkpoint) }
+        ensures failure { IfErr result (λ f. Fails (with_first T.steps (M.first maker)) self f.journal.entries (finish_of f.cause)) }
+        ensures orders { MatchResult result (λ f. DrawsNothing self f.checkpoint.journal) (λ f. DrawsNothing self f.journal.entries) }
+        ensures complete { IsValidInput (with_first T.steps (M.first maker)) self.begin → IfErr result (λ f. f.cause ≡ RunError.NoMemory) }
     {
         let Runner {
             rng,
-            start,
-            cycle,
-            deadline,
+            begin,
             journal,
         } = self;
         let given = given_journal(alloc, journal);
-        let begun = World::begin(alloc, given, start, cycle, deadline, 0, rng);
-        let mut world = match begun {
+        let mut world = match World::begin(alloc, given, begin, rng) {
             Ok(world) => world,
             Err((journal, _)) => {
                 return Err(Failure {
@@ -114,8 +113,8 @@ impl<G: Rng + Drop> Runner<G> {
                     rng,
                     journal,
                     time,
-                    deadline,
-                    cycle,
+                    deadline: begin.deadline,
+                    cycle: begin.cycle,
                 },
             }),
             Err(cause) => Err(Failure { cause, journal }),
@@ -130,9 +129,10 @@ impl<G: Rng + Drop> Runner<G> {
         alloc: Global,
         maker: M,
     ) -> Result<T::Output, Failure>
-        ensures run { IfOk result (λ output. (kept : Kept) × Completes T T.Output (with_first T.steps (M.first maker)) self.begin self.given output kept) }
-        ensures failure { IfErr result (λ f. Fails T T.Output (with_first T.steps (M.first maker)) self.begin self.given f.journal.entries (finish_of f.cause)) }
-        ensures complete { IsValidInput T T.Output (with_first T.steps (M.first maker)) self.begin → IfErr result (λ f. f.cause ≡ RunError.NoMemory) }
+        ensures run { IfOk result (λ output. (kept : Kept G) × Completes (with_first T.steps (M.first maker)) self output kept × DrawsNothing self kept.journal) }
+        ensures failure { IfErr result (λ f. Fails (with_first T.steps (M.first maker)) self f.journal.entries (finish_of f.cause)) }
+        ensures orders { IfErr result (λ f. DrawsNothing self f.journal.entries) }
+        ensures complete { IsValidInput (with_first T.steps (M.first maker)) self.begin → IfErr result (λ f. f.cause ≡ RunError.NoMemory) }
     {
         match self.start_and_recover::<T, M>(alloc, maker) {
             Ok(finished) => {
@@ -150,7 +150,7 @@ impl Runner<ChaCha12Rng> {
     /// [`Config::assert`] refuses these settings.
     pub fn timed(timeout: Nanos) -> Result<Runner<ChaCha12Rng>, ConfigError>
         ensures accepted { IsOk result ↔ (assert_of 1000000 0 (Some timeout) ≡ Ok tt) }
-        ensures ok { IfOk result (λ r. r ≡ record { begin = first_begin 1000000 0 (Some timeout); given = [] }) }
+        ensures ok { IfOk result (λ r. r ≡ record { begin = first_begin 1000000 0 (Some timeout); given = []; rng = seeded default_seed }) }
         ensures refused { IfErr result (λ e. assert_of 1000000 0 (Some timeout) ≡ Err e) }
     {
         Runner::new(Config::new().with_timeout(Some(timeout)))
@@ -160,7 +160,7 @@ impl Runner<ChaCha12Rng> {
 impl Default for Runner<ChaCha12Rng> {
     /// A runner with the settings of [`Config::new`].
     fn default() -> Self
-        ensures { result ≡ record { begin = first_begin 1000000 0 None; given = [] } }
+        ensures { result ≡ record { begin = first_begin 1000000 0 None; given = []; rng = seeded default_seed } }
     {
         match Runner::new(Config::new()) {
             Ok(runner) => runner,

@@ -1,8 +1,9 @@
 //! Sleeps.
 
 use rand_core::Rng;
-use rt_base::{Error, MAX_TIME, Nanos, Poll};
+use rt_base::{Error, MAX_TIME, Nanos, NoMemory, Poll};
 use rt_world::{Cx, Outcome, Poller, World};
+use std::marker::Model;
 
 /// A poller that is ready exactly from its deadline on, in nanoseconds since the epoch. Its first pending poll sets an
 /// alarm, later ones change only whom that wakes, and giving it up leaves the alarm.
@@ -10,17 +11,29 @@ use rt_world::{Cx, Outcome, Poller, World};
 pub struct Sleep {
     deadline: Nanos,
     alarm: Option<u64>,
-    ghost within: { deadline ≤ MAX_TIME },
+}
+
+impl Model for Sleep {
+    ghost use Rattle.std.specs.Prelude.{◌≤◌};
+    ghost use Rattle.rt_base.specs.declared.time.TheConstants.{MAX_TIME};
+    ghost use Rattle.rt_core.specs.Sleeper.{Sleeper};
+
+    ghost Value = { Sleeper };
+
+    ghost view = { λ s. record { deadline = s.deadline; alarm = s.alarm } };
+
+    ghost invariant = { λ s. s.deadline ≤ MAX_TIME };
 }
 
 impl Sleep {
-    ghost use Rattle.std.specs.Prelude.{◌≡◌, ◌≤◌, None};
+    ghost use Rattle.std.specs.Prelude.{◌≡◌, ◌≤◌};
+    ghost use Rattle.rt_base.specs.declared.time.TheConstants.{MAX_TIME};
+    ghost use Rattle.rt_core.specs.Pollers.{until};
 
     /// A sleep that has no alarm yet.
     pub(crate) fn until(deadline: Nanos) -> Sleep
         requires { deadline ≤ MAX_TIME }
-        ensures deadline { result.deadline ≡ deadline }
-        ensures alarm { result.alarm ≡ None }
+        ensures { result ≡ until deadline }
     {
         Sleep {
             deadline,
@@ -29,16 +42,13 @@ impl Sleep {
     }
 }
 
-ghost use Rattle.std.specs.Prelude.{◌≤◌};
-ghost use Rattle.rt_base.specs.declared.time.TheConstants.{MAX_TIME};
-
+#[tactic(auto, using(rt_world::proofs::Walked::poller_laws), unfolding(crate::specs::Pollers::sleep_polls, crate::specs::Pollers::sleep_spends))]
 impl<T: Outcome> Poller<T, ()> for Sleep {
-    ghost use Rattle.rt_core.specs.Pollers.{sleep_polls};
-    ghost use Rattle.rt_model.specs.Walk.{Gives};
+    ghost use Rattle.rt_core.specs.Pollers.{sleep_polls, sleep_spends};
 
-    ghost polls = { λ s now task heard. sleep_polls s heard };
+    ghost polls = { λ s now task. sleep_polls s };
 
-    ghost spends = { λ s. Gives tt tt };
+    ghost spends = { sleep_spends };
 
     fn poll<G: Rng>(
         &mut self,
@@ -51,7 +61,7 @@ impl<T: Outcome> Poller<T, ()> for Sleep {
                 self.alarm = Some(alarm);
                 Poll::Pending
             }
-            Err(_) => Poll::Ready(Err(Error::NoMemory)),
+            Err(NoMemory) => Poll::Ready(Err(Error::NoMemory)),
         }
     }
 

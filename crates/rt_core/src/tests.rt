@@ -1,21 +1,15 @@
 // Each call once. Whole runs of a task type of one's own are compared in `rt_errand`.
 
-ghost use Rattle.std.specs.Prelude.{◌≡◌, false, Some};
-ghost use Rattle.rt_model.specs.Effects.{is_closing};
-ghost use Rattle.rt_model.specs.Rules.{MayCall};
-ghost use Rattle.rt_world.specs.Calls.{Kept};
-
 use crate::utils::reschedule;
-use crate::{Config, ConfigError, Context, Failure, RootMaker, RunError, Runner};
-use rand_core::Rng;
+use crate::{
+    Answer, Config, ConfigError, Context, Cx, Failure, MAX_TIME, NoMemory, Outcome, Poller, Rng,
+    RootMaker, RunError, Runner, Sleep, Task, World,
+};
 use rt_audit::Journal;
-use rt_base::{MAX_TIME, NoMemory};
-use rt_model::Answer;
-use rt_world::{Cx, Outcome, Poller, Task, World};
 use std::alloc::Global;
 use std::test::Fail;
 
-/// A task that is ready at once, or makes each call of a poll and breaks off then.
+/// A task that is ready at once, or polls a sleep and a turn of the others and breaks off then.
 struct Probe {
     context: Context,
     calls: bool,
@@ -25,28 +19,27 @@ impl Outcome for Probe {
     type Output = u64;
 }
 
+#[tactic(auto, using(rt_world::proofs::Walked::task_laws))]
 impl Task for Probe {
-    ghost use Rattle.rt_audit.specs.declared.call.Call.TheVariants.{CloseNode};
-    ghost use Rattle.rt_model.specs.declared.answer.Answer.TheVariants.{Ready};
-    ghost use Rattle.rt_model.specs.Walk.{Plainly, Spends, Gives};
+    ghost use Rattle.std.specs.Prelude.{if◌then◌else◌};
+    ghost use Rattle.rt_model.specs.declared.answer.Answer.TheVariants.{Ready, NoMemory as LacksMemory};
+    ghost use Rattle.rt_model.specs.Walk.{Gives, then, followed_by};
+    ghost use Rattle.rt_core.specs.Pollers.{until, sleep_polls, sleep_spends, reschedule_polls, reschedule_spends, unqueued, closes};
 
-    // what breaks off isn't tied to these
-    ghost steps = { record { next = λ probe now task heard. Gives (Ready 7) probe; last = λ probe now task heard. Spends (Plainly (CloseNode probe.context.node)) (Gives tt tt) } };
+    ghost steps = { record { next = λ probe now task. if probe.calls then (then) (sleep_polls (until 5)) (λ slept sleep. followed_by (sleep_spends sleep) ((then) (reschedule_polls unqueued task) (λ turned turn. followed_by (reschedule_spends turn) (Gives LacksMemory probe)))) else Gives (Ready 7) probe; last = λ probe now task. closes probe.context.node } };
 
     fn poll<G: Rng>(&mut self, world: &mut World<Self, u64, G>, cx: &Cx) -> Answer<u64> {
         if !self.calls {
             return Answer::Ready(7);
         }
-        let Ok(ahead) = self.context.sleep(world, 5) else {
+        let Ok(mut sleep) = self.context.sleep_until(5) else {
             return Answer::NoMemory;
         };
-        let Ok(over) = self.context.sleep_until(self.context.current(world)) else {
-            return Answer::NoMemory;
-        };
-        poll_twice(ahead, world, cx);
-        poll_twice(over, world, cx);
-        poll_twice(reschedule(), world, cx);
-        let _ = world.wake(9);
+        let _ = sleep.poll(world, cx);
+        sleep.give_up(world);
+        let mut turn = reschedule();
+        let _ = turn.poll(world, cx);
+        turn.give_up(world);
         Answer::NoMemory
     }
 
@@ -56,23 +49,6 @@ impl Task for Probe {
     }
 }
 
-/// Polls it twice, and gives it up.
-fn poll_twice<T: Outcome, P: Poller<T, ()> + Drop, G: Rng>(
-    poller: P,
-    world: &mut World<T, T::Output, G>,
-    cx: &Cx,
-)
-    requires out { world.old.out ≡ Some cx.now.task }
-    requires open { is_closing world.old.told.state.phase ≡ false }
-    requires calling { MayCall world.old.told.state world.old.out }
-    ensures { Kept T T.Output world.old world.new }
-{
-    let mut poller = poller;
-    let _ = poller.poll(world, cx);
-    let _ = poller.poll(world, cx);
-    poller.give_up(world);
-}
-
 /// Makes a probe, or closes its context and makes none.
 #[derive(Clone, Copy)]
 struct RootProbe {
@@ -80,10 +56,14 @@ struct RootProbe {
     calls: bool,
 }
 
+#[tactic(auto, using(rt_world::proofs::Walked::maker_laws))]
 impl RootMaker<Probe> for RootProbe {
-    ghost use Rattle.rt_model.specs.Walk.{Gives};
+    ghost use Rattle.std.specs.Prelude.{if◌then◌else◌};
+    ghost use Rattle.rt_audit.specs.declared.call.Call.TheVariants.{CloseNode};
+    ghost use Rattle.rt_model.specs.Turns.{Plainly};
+    ghost use Rattle.rt_model.specs.Walk.{Gives, Spends};
 
-    ghost first = { λ maker now heard. Gives tt (record { context = record { node = 0 }; calls = maker.calls }) };
+    ghost first = { λ maker now. if maker.makes then Gives tt (record { context = record { node = 0 }; calls = maker.calls }) else Spends (Plainly (CloseNode 0)) (Gives tt (record { context = record { node = 0 }; calls = maker.calls })) };
 
     fn make<G: Rng>(
         self,
@@ -97,6 +77,69 @@ impl RootMaker<Probe> for RootProbe {
         Ok(Probe {
             context,
             calls: self.calls,
+        })
+    }
+}
+
+/// A task that at each poll polls two sleeps and queues itself twice, and is never ready.
+struct Juggler {
+    context: Context,
+    first: Sleep,
+    second: Sleep,
+}
+
+impl Outcome for Juggler {
+    type Output = u64;
+}
+
+#[tactic(auto, using(rt_world::proofs::Walked::task_laws))]
+impl Task for Juggler {
+    ghost use Rattle.rt_model.specs.declared.answer.Answer.TheVariants.{Pending};
+    ghost use Rattle.rt_model.specs.Walk.{Gives, then, followed_by};
+    ghost use Rattle.rt_core.specs.Pollers.{sleep_polls, sleep_spends, reschedule_polls, unqueued, closes};
+
+    ghost steps = { record { next = λ j now task. then (sleep_polls j.first) (λ one first. then (sleep_polls j.second) (λ two second. then (reschedule_polls unqueued task) (λ three turn. then (reschedule_polls unqueued task) (λ four again. Gives Pending (record { context = j.context; first = first; second = second }))))); last = λ j now task. followed_by (sleep_spends j.first) (followed_by (sleep_spends j.second) (closes j.context.node)) } };
+
+    fn poll<G: Rng>(&mut self, world: &mut World<Self, u64, G>, cx: &Cx) -> Answer<u64> {
+        let _ = self.first.poll(world, cx);
+        let _ = self.second.poll(world, cx);
+        let _ = reschedule().poll(world, cx);
+        let _ = reschedule().poll(world, cx);
+        Answer::Pending
+    }
+
+    fn end<G: Rng>(self, world: &mut World<Self, u64, G>) {
+        let Juggler {
+            context,
+            first,
+            second,
+        } = self;
+        first.give_up(world);
+        second.give_up(world);
+        context.close(world);
+    }
+}
+
+/// Makes a juggler whose sleeps end at 5 ms.
+#[derive(Clone, Copy)]
+struct RootJuggler;
+
+#[tactic(auto, using(rt_world::proofs::Walked::maker_laws))]
+impl RootMaker<Juggler> for RootJuggler {
+    ghost use Rattle.rt_model.specs.Walk.{Gives};
+    ghost use Rattle.rt_core.specs.Pollers.{until};
+
+    ghost first = { λ maker now. Gives tt (record { context = record { node = 0 }; first = until 5000000; second = until 5000000 }) };
+
+    fn make<G: Rng>(
+        self,
+        context: Context,
+        _world: &mut World<Juggler, u64, G>,
+    ) -> Result<Juggler, NoMemory> {
+        Ok(Juggler {
+            context,
+            first: Sleep::until(5_000_000),
+            second: Sleep::until(5_000_000),
         })
     }
 }
@@ -135,12 +178,8 @@ round 0
 visit 0
 event process_task 00000000000000000000000000000000 -
 call 0 sleep-poll 5 -> pending 0
-call 0 sleep-poll 5 -> pending 0
-call 0 sleep-poll 0 -> ready
-call 0 sleep-poll 0 -> ready
 call 0 wake 0 -> ok
 wake 0
-call 0 wake 9 -> err 12
 answer 0 nomemory
 cleanup
 nodeend 0
@@ -167,6 +206,60 @@ crash
 finish nomemory
 ";
     breaks_off(alloc, maker, expected)
+}
+
+/// Whether a task that is queued twice is visited twice, and its sleeps keep their alarms.
+fn visits_twice(alloc: Global) -> Result<bool, NoMemory> {
+    let expected = "\
+start 0 2000000 1000000 0
+root 0
+round 0
+visit 0
+event process_task 00000000000000000000000000000000 -
+call 0 sleep-poll 5000000 -> pending 0
+call 0 sleep-poll 5000000 -> pending 1
+call 0 wake 0 -> ok
+wake 0
+call 0 wake 0 -> ok
+wake 0
+answer 0 pending
+advance 1000000
+round 0 0
+visit 0
+event process_task 00000000000000000000000000000000 -
+call 0 sleep-poll 5000000 -> pending 0
+call 0 sleep-poll 5000000 -> pending 1
+call 0 wake 0 -> ok
+wake 0
+call 0 wake 0 -> ok
+wake 0
+answer 0 pending
+visit 0
+event process_task 00000000000000000000000000000000 -
+call 0 sleep-poll 5000000 -> pending 0
+call 0 sleep-poll 5000000 -> pending 1
+call 0 wake 0 -> ok
+wake 0
+call 0 wake 0 -> ok
+wake 0
+answer 0 pending
+advance 2000000
+cleanup
+nodeend 0
+call 0 close-node 0 -> ok
+answer 0 ended
+crash
+finish timeout
+";
+    let Ok(runner) = Runner::timed(2_000_000) else {
+        return Ok(false);
+    };
+    let Err(failure) = runner.start::<Juggler, RootJuggler>(alloc, RootJuggler) else {
+        return Ok(false);
+    };
+    let Failure { cause, journal } = failure;
+    let text = lines(alloc, &journal)?;
+    Ok(cause == RunError::Timeout && text.as_str() == expected)
 }
 
 /// Whether runs complete, and leave what they should.
@@ -205,5 +298,6 @@ fn surface(rt: HostRuntime) -> Result<(), Fail> {
     assert!(rt; completes(rt.alloc()));
     assert!(rt; notes_calls(rt.alloc())?);
     assert!(rt; ends_unmade(rt.alloc())?);
+    assert!(rt; visits_twice(rt.alloc())?);
     Ok(())
 }

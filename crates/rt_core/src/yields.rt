@@ -11,23 +11,24 @@ pub struct Reschedule {
 }
 
 impl Reschedule {
-    ghost use Rattle.std.specs.Prelude.{◌≡◌, false};
+    ghost use Rattle.std.specs.Prelude.{◌≡◌};
+    ghost use Rattle.rt_core.specs.Pollers.{unqueued};
 
     /// One that was not polled yet.
     pub(crate) fn fresh() -> Reschedule
-        ensures { result.queued ≡ false }
+        ensures { result ≡ unqueued }
     {
         Reschedule { queued: false }
     }
 }
 
+#[tactic(auto, using(rt_world::proofs::Walked::poller_laws), unfolding(crate::specs::Pollers::reschedule_polls, crate::specs::Pollers::reschedule_spends))]
 impl<T: Outcome> Poller<T, ()> for Reschedule {
-    ghost use Rattle.rt_core.specs.Pollers.{reschedule_polls};
-    ghost use Rattle.rt_model.specs.Walk.{Gives};
+    ghost use Rattle.rt_core.specs.Pollers.{reschedule_polls, reschedule_spends};
 
-    ghost polls = { λ r now task heard. reschedule_polls r task heard };
+    ghost polls = { λ r now task. reschedule_polls r task };
 
-    ghost spends = { λ r. Gives tt tt };
+    ghost spends = { reschedule_spends };
 
     fn poll<G: Rng>(
         &mut self,

@@ -1,16 +1,18 @@
--- What an errand does next, given what it was told so far.
-use Rattle.std.specs.Prelude.{ℕ, List, [], ◌∷◌, Some, None, Result, Ok, Err, ltb, if◌then◌else◌}
-use Rattle.rt_base.specs.declared.time.TheConstants.{MAX_TIME}
+-- What an errand does next.
+use Rattle.std.specs.Prelude.{ℕ, Result, Ok, Err}
 use Rattle.rt_base.specs.declared.error.Error.{Error}
-use Rattle.rt_base.specs.declared.error.Error.TheVariants.{ClockOverflow}
-use Rattle.rt_audit.specs.declared.call.Call.TheVariants.{CloseNode, Wake}
-use Rattle.rt_audit.specs.declared.reply.CallReply.TheVariants.{Done as IsDone, PendingAt, Refused}
+use Rattle.rt_base.specs.declared.poll.Poll.{Poll}
+use Rattle.rt_base.specs.declared.poll.Poll.TheVariants.{Ready as IsReady, Pending as IsPending}
 use Rattle.rt_model.specs.declared.answer.Answer.{Answer}
 use Rattle.rt_model.specs.declared.answer.Answer.TheVariants.{Pending, Ready}
-use Rattle.rt_model.specs.Walk.{Heard, Plain, Plainly, Sleeping, Step, Does, Spends, Gives}
+use Rattle.rt_model.specs.Tied.{TaskSteps}
+use Rattle.rt_model.specs.Walk.{Step, Last, Gives, then, followed_by}
+use Rattle.rt_core.specs.Sleeper.{Sleeper}
+use Rattle.rt_core.specs.Pollers.{sleep_for, sleep_polls, sleep_spends, reschedule_polls, reschedule_spends, closes}
+use Rattle.rt_core.specs.declared.yields.Reschedule.{Reschedule}
 use Rattle.rt_errand.specs.declared.errand.Errand.{Errand}
 use Rattle.rt_errand.specs.declared.errand.Stage.{Stage}
-use Rattle.rt_errand.specs.declared.errand.Stage.TheVariants.{Yields, Sleeps, Waits, Done}
+use Rattle.rt_errand.specs.declared.errand.Stage.TheVariants.{Yields, Naps, Sleeps, Waits, Done}
 use Rattle.rt_errand.specs.declared.maker.RootErrand.{RootErrand}
 
 abbrev pub Output : Type 0
@@ -18,40 +20,54 @@ Output = Result ℕ Error
 
 -- a call, or an answer and the errand after it
 abbrev pub Next : Type 0
-Next = Step Errand Output (Answer Output)
+Next = Step Errand Errand Output (Answer Output)
 
--- it gives its number
-abbrev pub over : Errand → Next
-over e = Gives (Ready (Ok e.number)) e
+abbrev pub Polled : Type 0
+Polled = Poll (Result (Unit {0}) Error)
 
--- it was queued, and sleeps next, or it was refused
-abbrev pub yielded : Errand → ℕ → Heard Output → Next
-yielded e until (Plain IsDone) = Gives Pending (record e { stage = Sleeps until None })
-yielded e until (Plain (Refused error)) = Gives (Ready (Err error)) e
-yielded e until _ = over e
+abbrev pub at : Errand → Stage → Errand
+at e stage = record e { stage = stage }
 
--- its alarm has this number, or the sleep is over
-abbrev pub slept : Errand → ℕ → Heard Output → Next
-slept e until (Plain (PendingAt alarm)) = Gives Pending (record e { stage = Sleeps until (Some alarm) })
-slept e until _ = over e
+-- its sleep answered so
+abbrev pub slept : Errand → Polled → Next
+slept e IsPending = Gives Pending e
+slept e (IsReady (Ok over)) = Gives (Ready (Ok e.number)) e
+slept e (IsReady (Err error)) = Gives (Ready (Err error)) e
+
+abbrev pub sleeps : Errand → Sleeper → Next
+sleeps e sleep = then (sleep_polls sleep) (λ answer sleep. slept (at e (Sleeps sleep)) answer)
+
+-- its sleep begins, or would end too late
+abbrev pub begun : Errand → Result Sleeper Error → Next
+begun e (Ok sleep) = sleeps e sleep
+begun e (Err error) = Gives (Ready (Err error)) e
+
+abbrev pub naps : Errand → ℕ → ℕ → Next
+naps e nap time = begun e (sleep_for time nap)
+
+-- its turn of the others answered so
+abbrev pub yielded : Errand → ℕ → ℕ → Polled → Reschedule → Next
+yielded e nap time IsPending turn = Gives Pending (at e (Yields turn nap))
+yielded e nap time (IsReady (Ok over)) turn = naps (at e Done) nap time
+yielded e nap time (IsReady (Err error)) turn = Gives (Ready (Err error)) (at e Done)
 
 -- a poll, by the stage
-abbrev pub polled : Stage → Errand → ℕ → List (Heard Output) → Next
-polled (Yields until) e task [] = Does (Plainly (Wake task))
-polled (Yields until) e task (heard ∷ rest) = yielded e until heard
-polled (Sleeps until alarm) e task [] =
-    if ltb MAX_TIME until then Gives (Ready (Err ClockOverflow)) e else Does (Sleeping until alarm)
-polled (Sleeps until alarm) e task (heard ∷ rest) = slept e until heard
-polled Waits e task heard = Gives Pending e
-polled Done e task heard = over e
+abbrev pub polled : Errand → Stage → ℕ → ℕ → Next
+polled e (Yields turn nap) time task = then (reschedule_polls turn task) (yielded e nap time)
+polled e (Naps nap) time task = naps (at e Done) nap time
+polled e (Sleeps sleep) time task = sleeps e sleep
+polled e Waits time task = Gives Pending (at e Waits)
+polled e Done time task = Gives (Ready (Ok e.number)) (at e Done)
 
-abbrev pub errand_polls : Errand → ℕ → ℕ → List (Heard Output) → Next
-errand_polls e now task heard = polled e.stage e task heard
+-- its end gives up what it polls, and closes its context
+abbrev pub ended : Errand → Stage → Last Errand Output
+ended e (Yields turn nap) = followed_by (reschedule_spends turn) (closes e.context.node)
+ended e (Sleeps sleep) = followed_by (sleep_spends sleep) (closes e.context.node)
+ended e stage = closes e.context.node
 
--- its end closes its context
-abbrev pub errand_ends : Errand → ℕ → ℕ → List (Heard Output) → Step (Unit {0}) Output (Unit {0})
-errand_ends e now task heard = Spends (Plainly (CloseNode e.context.node)) (Gives tt tt)
+abbrev pub errand_steps : TaskSteps Errand Output
+errand_steps = record { next = λ e time task. polled e e.stage time task; last = λ e time number. ended e e.stage }
 
 -- the root, on node 0
-abbrev pub errand_made : RootErrand → Step Errand Output (Unit {0})
+abbrev pub errand_made : RootErrand → Step Errand Errand Output (Unit {0})
 errand_made maker = Gives tt (record { context = record { node = 0 }; stage = maker.stage; number = maker.number })

@@ -1,25 +1,30 @@
 //! Errands.
 
-use rand_core::Rng;
-use rt_base::{Error, MAX_TIME, Nanos};
-use rt_core::Context;
-use rt_model::Answer;
-use rt_world::{Cx, Outcome, Task, World};
+ghost use Rattle.std.specs.Prelude.{◌≡◌};
+ghost use Rattle.rt_world.specs.Calls.{IsPolling, Kept};
+ghost use Rattle.rt_world.specs.Walked.{Polled};
 
-/// How far an errand is. Moments are nanoseconds since the epoch.
-#[derive(Clone, Copy, Debug)]
+use rt_core::{
+    Answer, Context, Cx, Error, Nanos, Outcome, Poll, Poller, Reschedule, Rng, Sleep, Task, World,
+};
+use std::mem;
+
+/// How far an errand is.
+#[derive(Debug, Drop)]
 pub enum Stage {
-    /// It gives way to the other tasks once, and sleeps until this moment then.
-    Yields { until: Nanos },
-    /// It sleeps until this moment. Once it was pending it knows the number of its alarm.
-    Sleeps { until: Nanos, alarm: Option<u64> },
+    /// It gives way to the other tasks once, and then naps for so many nanoseconds.
+    Yields { turn: Reschedule, nap: Nanos },
+    /// It is to nap for so many nanoseconds.
+    Naps { nap: Nanos },
+    /// It sleeps.
+    Sleeps(Sleep),
     /// It waits for others to wake it.
     Waits,
     /// It is over.
     Done,
 }
 
-/// A task that yields, sleeps, waits, or gives its number. A sleep past `MAX_TIME` gives `ClockOverflow` instead.
+/// A task that yields, naps, waits, or gives its number. A nap past the last moment gives `ClockOverflow` instead.
 ///
 /// It keeps its context to its end, and closes it there.
 pub struct Errand {
@@ -32,38 +37,75 @@ impl Outcome for Errand {
     type Output = Result<u64, Error>;
 }
 
-impl Task for Errand {
-    ghost use Rattle.rt_errand.specs.Errand.{errand_polls, errand_ends};
+#[tactic(auto, using(rt_world::proofs::Walked::task_laws))]
+impl Errand {
+    ghost use Rattle.rt_errand.specs.Errand.{Output, sleeps, naps};
+    ghost use Rattle.rt_errand.specs.declared.errand.Errand.{Errand};
 
-    ghost steps = { record { next = errand_polls; last = errand_ends } };
+    /// Polls its sleep, and keeps it.
+    fn sleep<G: Rng>(
+        &mut self,
+        world: &mut World<Errand, Result<u64, Error>, G>,
+        cx: &Cx,
+        mut sleep: Sleep,
+    ) -> Answer<Result<u64, Error>>
+        requires { IsPolling world.old cx.now.task }
+        ensures kept { Kept world.old world.new }
+        ensures steps { Polled (sleeps self.old sleep) world.old world.new result self.new }
+    {
+        let slept = sleep.poll(world, cx);
+        self.stage = Stage::Sleeps(sleep);
+        match slept {
+            Poll::Pending => Answer::Pending,
+            Poll::Ready(Ok(())) => Answer::Ready(Ok(self.number)),
+            Poll::Ready(Err(error)) => Answer::Ready(Err(error)),
+        }
+    }
+
+    /// Begins its sleep.
+    fn nap<G: Rng>(
+        &mut self,
+        world: &mut World<Errand, Result<u64, Error>, G>,
+        cx: &Cx,
+        nap: Nanos,
+    ) -> Answer<Result<u64, Error>>
+        requires { IsPolling world.old cx.now.task }
+        ensures kept { Kept world.old world.new }
+        ensures steps { Polled (naps self.old nap world.old.told.state.clock.time) world.old world.new result self.new }
+    {
+        match self.context.sleep(world, nap) {
+            Ok(sleep) => self.sleep(world, cx, sleep),
+            Err(error) => Answer::Ready(Err(error)),
+        }
+    }
+}
+
+#[tactic(auto, using(rt_world::proofs::Walked::task_laws))]
+impl Task for Errand {
+    ghost use Rattle.rt_errand.specs.Errand.{errand_steps};
+
+    ghost steps = { errand_steps };
 
     fn poll<G: Rng>(
         &mut self,
         world: &mut World<Self, Self::Output, G>,
         cx: &Cx,
     ) -> Answer<Self::Output> {
-        match self.stage {
-            // a task that queues itself is visited again in the next round
-            Stage::Yields { until } => match world.wake(cx.task()) {
-                Ok(()) => {
-                    self.stage = Stage::Sleeps { until, alarm: None };
+        match mem::replace(&mut self.stage, Stage::Done) {
+            Stage::Yields { mut turn, nap } => match turn.poll(world, cx) {
+                Poll::Pending => {
+                    self.stage = Stage::Yields { turn, nap };
                     Answer::Pending
                 }
-                Err(error) => Answer::Ready(Err(error)),
+                Poll::Ready(Ok(())) => self.nap(world, cx, nap),
+                Poll::Ready(Err(error)) => Answer::Ready(Err(error)),
             },
-            Stage::Sleeps { until, .. } if MAX_TIME < until => {
-                Answer::Ready(Err(Error::ClockOverflow))
+            Stage::Naps { nap } => self.nap(world, cx, nap),
+            Stage::Sleeps(sleep) => self.sleep(world, cx, sleep),
+            Stage::Waits => {
+                self.stage = Stage::Waits;
+                Answer::Pending
             }
-            // each poll tells the alarm that it was told, so that a sleep sets one alarm and no more
-            Stage::Sleeps { until, alarm } => match world.sleep_poll(until, alarm) {
-                Ok(None) => Answer::Ready(Ok(self.number)),
-                Ok(alarm) => {
-                    self.stage = Stage::Sleeps { until, alarm };
-                    Answer::Pending
-                }
-                Err(_) => Answer::NoMemory,
-            },
-            Stage::Waits => Answer::Pending,
             Stage::Done => Answer::Ready(Ok(self.number)),
         }
     }
@@ -71,9 +113,14 @@ impl Task for Errand {
     fn end<G: Rng>(self, world: &mut World<Self, Self::Output, G>) {
         let Errand {
             context,
-            stage: _,
+            stage,
             number: _,
         } = self;
+        match stage {
+            Stage::Yields { turn, nap: _ } => turn.give_up(world),
+            Stage::Sleeps(sleep) => sleep.give_up(world),
+            Stage::Naps { .. } | Stage::Waits | Stage::Done => {}
+        }
         context.close(world);
     }
 }

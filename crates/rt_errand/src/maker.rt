@@ -1,22 +1,20 @@
 //! The maker of a run's root.
 
 use crate::{Errand, Stage};
-use rand_core::Rng;
-use rt_base::NoMemory;
-use rt_core::{Context, RootMaker};
-use rt_world::{Outcome, World};
+use rt_core::{Context, NoMemory, Outcome, Rng, RootMaker, World};
 
 /// Makes an errand at this stage, which gives this number. It makes no call.
-#[derive(Clone, Copy, Debug)]
+#[derive(Debug, Drop)]
 pub struct RootErrand {
     pub stage: Stage,
     pub number: u64,
 }
 
+#[tactic(auto, using(rt_world::proofs::Walked::maker_laws))]
 impl RootMaker<Errand> for RootErrand {
     ghost use Rattle.rt_errand.specs.Errand.{errand_made};
 
-    ghost first = { λ maker now heard. errand_made maker };
+    ghost first = { λ maker now. errand_made maker };
 
     fn make<G: Rng>(
         self,

@@ -1,10 +1,12 @@
 // Whole journals, as text.
 
-use crate::{Errand, RootErrand, Stage};
+use crate::{Errand, Retry, RootErrand, RootRetry, Stage};
 use rand_chacha::ChaCha12Rng;
 use rt_audit::Journal;
-use rt_base::{Error, MAX_TIME, Nanos, NoMemory};
-use rt_core::{Config, ConfigError, Failure, Finished, RunError, Runner};
+use rt_core::utils::reschedule;
+use rt_core::{
+    Config, ConfigError, Error, Failure, Finished, MAX_TIME, Nanos, NoMemory, RunError, Runner,
+};
 use std::alloc::Global;
 use std::test::Fail;
 
@@ -18,28 +20,21 @@ fn lines(alloc: Global, journal: &Journal) -> Result<String, NoMemory> {
     Ok(text)
 }
 
-/// A run that is to be compared: its settings and root, and what comes of it.
-struct Case {
-    config: Config<ChaCha12Rng>,
-    root: RootErrand,
+/// What comes of a run.
+#[derive(Drop)]
+struct Expected {
     ending: Result<Result<u64, Error>, RunError>,
     time: Nanos,
     lines: &'static str,
 }
 
-/// Whether the run comes to this end, with these lines.
-fn plays(alloc: Global, case: Case) -> Result<bool, NoMemory> {
-    let Case {
-        config,
-        root,
-        ending,
-        time,
-        lines: expected,
-    } = case;
-    let Ok(runner) = Runner::new(config) else {
-        return Ok(false);
-    };
-    let (ended, journal) = match runner.start_and_recover::<Errand, RootErrand>(alloc, root) {
+/// Whether a run came to this end, with these lines.
+fn is_as_expected(
+    alloc: Global,
+    run: Result<Finished<Result<u64, Error>, ChaCha12Rng>, Failure>,
+    expected: Expected,
+) -> Result<bool, NoMemory> {
+    let (ended, journal) = match run {
         Ok(finished) => {
             let Finished { output, checkpoint } = finished;
             (Ok(output), checkpoint.into_journal())
@@ -50,7 +45,33 @@ fn plays(alloc: Global, case: Case) -> Result<bool, NoMemory> {
         }
     };
     let text = lines(alloc, &journal)?;
-    Ok(ended == ending && journal.last_time() == time && text.as_str() == expected)
+    Ok(
+        ended == expected.ending
+            && journal.last_time() == expected.time
+            && text.as_str() == expected.lines,
+    )
+}
+
+/// A run that is to be compared: its settings and root, and what comes of it.
+#[derive(Drop)]
+struct Case {
+    config: Config<ChaCha12Rng>,
+    root: RootErrand,
+    expected: Expected,
+}
+
+/// Whether an errand's run comes to what is expected.
+fn plays(alloc: Global, case: Case) -> Result<bool, NoMemory> {
+    let Case {
+        config,
+        root,
+        expected,
+    } = case;
+    let Ok(runner) = Runner::new(config) else {
+        return Ok(false);
+    };
+    let run = runner.start_and_recover::<Errand, RootErrand>(alloc, root);
+    is_as_expected(alloc, run, expected)
 }
 
 /// Settings with one moment to begin with and a cycle of a nanosecond.
@@ -64,8 +85,16 @@ fn root(stage: Stage, number: u64) -> RootErrand {
 }
 
 /// A sleep that wasn't polled yet.
-fn sleeps(until: Nanos) -> Stage {
-    Stage::Sleeps { until, alarm: None }
+fn naps(nap: Nanos) -> Stage {
+    Stage::Naps { nap }
+}
+
+/// A turn of the others, and then a nap.
+fn yields(nap: Nanos) -> Stage {
+    Stage::Yields {
+        turn: reschedule(),
+        nap,
+    }
 }
 
 /// Why settings are refused, if they are.
@@ -81,9 +110,10 @@ fn one_ready_root(rt: HostRuntime) -> Result<(), Fail> {
     let case = Case {
         config: Config::new(),
         root: root(Stage::Done, 7),
-        ending: Ok(Ok(7)),
-        time: 0,
-        lines: "\
+        expected: Expected {
+            ending: Ok(Ok(7)),
+            time: 0,
+            lines: "\
 start 0 - 1000000 0
 root 0
 round 0
@@ -97,6 +127,7 @@ answer 0 ended
 crash
 finish ok
 ",
+        },
     };
     assert!(rt; plays(rt.alloc(), case)?);
     Ok(())
@@ -106,10 +137,11 @@ finish ok
 fn sleeps_to_its_alarm(rt: HostRuntime) -> Result<(), Fail> {
     let case = Case {
         config: Config::new(),
-        root: root(sleeps(10_000_000), 0),
-        ending: Ok(Ok(0)),
-        time: 10_000_000,
-        lines: "\
+        root: root(naps(10_000_000), 0),
+        expected: Expected {
+            ending: Ok(Ok(0)),
+            time: 10_000_000,
+            lines: "\
 start 0 - 1000000 0
 root 0
 round 0
@@ -133,6 +165,7 @@ answer 0 ended
 crash
 finish ok
 ",
+        },
     };
     assert!(rt; plays(rt.alloc(), case)?);
     Ok(())
@@ -142,10 +175,11 @@ finish ok
 fn sleeps_less_than_a_cycle(rt: HostRuntime) -> Result<(), Fail> {
     let case = Case {
         config: Config::new(),
-        root: root(sleeps(500_000), 0),
-        ending: Ok(Ok(0)),
-        time: 1_000_000,
-        lines: "\
+        root: root(naps(500_000), 0),
+        expected: Expected {
+            ending: Ok(Ok(0)),
+            time: 1_000_000,
+            lines: "\
 start 0 - 1000000 0
 root 0
 round 0
@@ -168,6 +202,7 @@ answer 0 ended
 crash
 finish ok
 ",
+        },
     };
     assert!(rt; plays(rt.alloc(), case)?);
     Ok(())
@@ -177,10 +212,11 @@ finish ok
 fn deadline_before_the_alarm(rt: HostRuntime) -> Result<(), Fail> {
     let case = Case {
         config: Config::new().with_timeout(Some(10_000_000)),
-        root: root(sleeps(10_000_000), 0),
-        ending: Err(RunError::Timeout),
-        time: 10_000_000,
-        lines: "\
+        root: root(naps(10_000_000), 0),
+        expected: Expected {
+            ending: Err(RunError::Timeout),
+            time: 10_000_000,
+            lines: "\
 start 0 10000000 1000000 0
 root 0
 round 0
@@ -197,6 +233,7 @@ answer 0 ended
 crash
 finish timeout
 ",
+        },
     };
     assert!(rt; plays(rt.alloc(), case)?);
     Ok(())
@@ -207,9 +244,10 @@ fn deadline_of_zero(rt: HostRuntime) -> Result<(), Fail> {
     let case = Case {
         config: Config::new().with_timeout(Some(0)),
         root: root(Stage::Done, 7),
-        ending: Err(RunError::Timeout),
-        time: 0,
-        lines: "\
+        expected: Expected {
+            ending: Err(RunError::Timeout),
+            time: 0,
+            lines: "\
 start 0 0 1000000 0
 root 0
 cleanup
@@ -219,6 +257,7 @@ answer 0 ended
 crash
 finish timeout
 ",
+        },
     };
     assert!(rt; plays(rt.alloc(), case)?);
     Ok(())
@@ -229,9 +268,10 @@ fn pending_root_stalls(rt: HostRuntime) -> Result<(), Fail> {
     let case = Case {
         config: Config::new(),
         root: root(Stage::Waits, 0),
-        ending: Err(RunError::Stalled),
-        time: 1_000_000,
-        lines: "\
+        expected: Expected {
+            ending: Err(RunError::Stalled),
+            time: 1_000_000,
+            lines: "\
 start 0 - 1000000 0
 root 0
 round 0
@@ -246,6 +286,7 @@ answer 0 ended
 crash
 finish stalled
 ",
+        },
     };
     assert!(rt; plays(rt.alloc(), case)?);
     Ok(())
@@ -255,10 +296,11 @@ finish stalled
 fn clock_overflow(rt: HostRuntime) -> Result<(), Fail> {
     let case = Case {
         config: last_moment(),
-        root: root(Stage::Yields { until: 0 }, 0),
-        ending: Err(RunError::TimeOverflow),
-        time: MAX_TIME,
-        lines: "\
+        root: root(yields(0), 0),
+        expected: Expected {
+            ending: Err(RunError::TimeOverflow),
+            time: MAX_TIME,
+            lines: "\
 start 9223372036854775807999999999 - 1 0
 root 0
 round 0
@@ -274,6 +316,7 @@ answer 0 ended
 crash
 finish overflow
 ",
+        },
     };
     assert!(rt; plays(rt.alloc(), case)?);
     Ok(())
@@ -283,10 +326,11 @@ finish overflow
 fn sleep_past_the_end_of_time(rt: HostRuntime) -> Result<(), Fail> {
     let case = Case {
         config: last_moment(),
-        root: root(sleeps(MAX_TIME + 1), 0),
-        ending: Ok(Err(Error::ClockOverflow)),
-        time: MAX_TIME,
-        lines: "\
+        root: root(naps(1), 0),
+        expected: Expected {
+            ending: Ok(Err(Error::ClockOverflow)),
+            time: MAX_TIME,
+            lines: "\
 start 9223372036854775807999999999 - 1 0
 root 0
 round 0
@@ -300,8 +344,64 @@ answer 0 ended
 crash
 finish ok
 ",
+        },
     };
     assert!(rt; plays(rt.alloc(), case)?);
+    Ok(())
+}
+
+#[test]
+fn three_tries(rt: HostRuntime) -> Result<(), Fail> {
+    let expected = Expected {
+        ending: Ok(Ok(3)),
+        time: 70_000_000,
+        lines: "\
+start 0 - 1000000 0
+root 0
+round 0
+visit 0
+event process_task 00000000000000000000000000000000 -
+call 0 sleep-poll 10000000 -> pending 0
+answer 0 pending
+advance 1000000
+skip 10000000
+fire 0
+wake 0
+round 0
+visit 0
+event process_task 00000000000000000000000000000000 -
+call 0 sleep-poll 10000000 -> ready
+call 0 sleep-poll 30000000 -> pending 1
+answer 0 pending
+advance 11000000
+skip 30000000
+fire 1
+wake 0
+round 0
+visit 0
+event process_task 00000000000000000000000000000000 -
+call 0 sleep-poll 30000000 -> ready
+call 0 sleep-poll 70000000 -> pending 2
+answer 0 pending
+advance 31000000
+skip 70000000
+fire 2
+wake 0
+round 0
+visit 0
+event process_task 00000000000000000000000000000000 -
+call 0 sleep-poll 70000000 -> ready
+answer 0 ready
+cleanup
+nodeend 0
+call 0 close-node 0 -> ok
+answer 0 ended
+crash
+finish ok
+",
+    };
+    let run = Runner::default().start_and_recover::<Retry, RootRetry>(rt.alloc(), RootRetry);
+    assert!(rt; is_as_expected(rt.alloc(), run, expected)?);
     Ok(())
 }
 

@@ -1,17 +1,18 @@
 -- What stands where a run has reached its cause, and where tasks are visited.
 use Rattle.std.proofs.Common.{◌≡◌, ◌≢◌, ◌⊎◌, inl, inr, ℕ, List, [], ◌∷◌, ◌++◌, drop, Option, Some, None, Bool, true, false, leb, ◌-◌, ◌^◌, ◌&&◌, refl, arith, Contains}
 use Rattle.rt_audit.specs.declared.answer.AnswerKind.{AnswerKind}
-use Rattle.rt_audit.specs.declared.answer.AnswerKind.TheVariants.{Pending, Ready, NoMemory}
+use Rattle.rt_audit.specs.declared.answer.AnswerKind.TheVariants.{Pending, Ready, NoMemory, Ended}
 use Rattle.rt_audit.specs.declared.finish.FinishCause.{FinishCause}
 use Rattle.rt_audit.specs.declared.finish.FinishCause.TheVariants.{Completed, Timeout, Stalled, TimeOverflow, TooManyTasks, NoMemory as OutOfMemory}
 use Rattle.rt_audit.specs.declared.entry.Entry.{Entry}
-use Rattle.rt_audit.specs.declared.entry.Entry.TheVariants.{Start, Event, Root, Round, Visit, Answer, Advance, Skip, Cleanup, Crash, Finish}
-use Rattle.rt_model.specs.declared.alarm.Alarm.{Alarm}
-use Rattle.rt_model.specs.Lists.{has_number, is_nil}
-use Rattle.rt_model.specs.State.{State, Phase, Making, Between, Visiting, Entered, Polling, Turning, Over, Closing, Crashed, Finished, Clock, blank}
+use Rattle.rt_audit.specs.declared.entry.Entry.TheVariants.{Start, Event, Root, Round, Visit, Answer, NodeEnd, Advance, Skip, Cleanup, Crash, Finish}
+use Rattle.rt_super.specs.Alarms.{Alarm}
+use Rattle.rt_model.specs.Lists.{has_number, is_nil, is_some_number}
+use Rattle.rt_model.specs.declared.begin.Begin.{Begin}
+use Rattle.rt_model.specs.State.{State, Phase, Making, Between, Visiting, Entered, Polling, Turning, Over, Cleaning, Closing, Crashed, Finished, Clock, begun, Ending}
 use Rattle.rt_model.specs.Alarms.{skip_to, fires}
 use Rattle.rt_model.specs.Causes.{is_late, overflows, from_running, turning_cause, where_true, cause_at}
-use Rattle.rt_model.specs.Effects.{after, after_all, answered, entered, left_of}
+use Rattle.rt_model.specs.Effects.{after, after_all, answered, entered, cleaned, ended, finished, left_of}
 use Rattle.rt_model.specs.Rules.{May, MayAnswer, MayRound, MayClose, IsLawful}
 use Rattle.rt_laws.proofs.Clock.{lawful-front, lawful-tail}
 use Rattle.rt_laws.proofs.Endings.{run_cause}
@@ -22,6 +23,7 @@ abbrev pub IsSoundAt : Phase → Clock → Type 0
 IsSoundAt (Visiting left) c = is_late c ≡ false
 IsSoundAt (Entered task left) c = is_late c ≡ false
 IsSoundAt (Polling task left) c = is_late c ≡ false
+IsSoundAt (Ending task left) c = is_late c ≡ false
 IsSoundAt (Over cause) c = (cause ≡ Completed) ⊎ (cause ≡ OutOfMemory)
 IsSoundAt _ c = Unit {0}
 
@@ -32,15 +34,28 @@ sound-entered : (p : Phase) (c : Clock) → IsSoundAt p c → IsSoundAt (entered
 sound-entered (Entered task left) c k = k
 sound-entered _ c k = k
 
+sound-cleaned : (p : Phase) (c : Clock) → IsSoundAt p c → IsSoundAt (cleaned p) c
+sound-cleaned (Cleaning cause) c k = tt
+sound-cleaned _ c k = k
+
 sound-round : (p : Phase) (s : State) → MayRound p s → is_late s.clock ≡ false
 sound-round Between s m = m
 sound-round Turning s m = m.1
 sound-round _ s m = absurd m
 
-sound-answered : (s : State) (task : ℕ) (kind : AnswerKind) → MayAnswer s task kind → IsSound s → IsSoundAt (answered s.phase kind) s.clock
+sound-ended : (p : Phase) (c : Clock) → IsSoundAt p c → IsSoundAt (ended p) c
+sound-ended (Ending task left) c k = k
+sound-ended _ c k = k
+
+sound-finished : (is_root : Bool) (task : ℕ) (left : List ℕ) (c : Clock) → is_late c ≡ false → IsSoundAt (finished is_root task left) c
+sound-finished true task left c k = inl refl
+sound-finished false task left c k = k
+
+sound-answered : (s : State) (task : ℕ) (kind : AnswerKind) → MayAnswer s task kind → IsSound s → IsSoundAt (answered s.root s.phase task kind) s.clock
 sound-answered s task Pending m k = rw m at k
-sound-answered s task Ready m k = inl refl
+sound-answered s task Ready m k = sound-finished (is_some_number task s.root) task (left_of s.phase) s.clock (rw m at k)
 sound-answered s task NoMemory m k = inr refl
+sound-answered s task Ended m k = sound-ended s.phase s.clock k
 sound-answered s task _ m k = k
 
 sound-after : (s : State) (e : Entry) → May s e → IsSound s → IsSound (after s e)
@@ -51,6 +66,7 @@ sound-after s (Root task) m k = tt
 sound-after s (Round order) m k = sound-round s.phase s m.1.0
 sound-after s (Visit task) m k = rw m.1.0 at k
 sound-after s (Answer task kind) m k = sound-answered s task kind m.1 k
+sound-after s (NodeEnd node) m k = sound-cleaned s.phase s.clock k
 sound-after s (Advance now) m k = tt
 sound-after s (Skip now) m k = rw m.1.0 tt
 sound-after s Cleanup m k = tt
@@ -62,27 +78,27 @@ sound-all : (s : State) (x : List Entry) → IsLawful s x → IsSound s → IsSo
 sound-all s [] l k = k
 sound-all s (e ∷ x) l k = sound-all (after s e) x l.1 (sound-after s e l.0 k)
 
-run_sound : (x : List Entry) → IsLawful blank x → IsSound (after_all blank x)
-unfolding blank
-run_sound x l = sound-all blank x l tt
+run_sound : (b : Begin) (x : List Entry) → IsLawful (begun b) x → IsSound (after_all (begun b) x)
+unfolding begun
+run_sound b x l = sound-all (begun b) x l tt
 
 -- a task is visited while it runs, and before the deadline
 runs-visited : (running left rest : List ℕ) (task : ℕ) → from_running running left ≡ task ∷ rest → has_number task running ≡ true
 runs-visited running [] rest task h = absurd (cc)
 runs-visited running (k ∷ left) rest task h = grind (arith, runs-visited running left rest task)
 
-module _ (x y : List Entry) (task : ℕ) (l : IsLawful blank (x ++ Visit task ∷ y)) where
-  pub run_visited : Contains (after_all blank x).running task
+module _ (b : Begin) (x y : List Entry) (task : ℕ) (l : IsLawful (begun b) (x ++ Visit task ∷ y)) where
+  pub run_visited : Contains (after_all (begun b) x).running task
   run_visited =
-      let s = after_all blank x in
-      let m = (lawful-tail blank x (Visit task ∷ y) l).0.1 in
+      let s = after_all (begun b) x in
+      let m = (lawful-tail (begun b) x (Visit task ∷ y) l).0.1 in
       contains-from_has task s.running (runs-visited s.running (left_of s.phase) (drop 1 (from_running s.running (left_of s.phase))) task m.1)
 
-  pub run_visited_early : is_late (after_all blank x).clock ≡ false
+  pub run_visited_early : is_late (after_all (begun b) x).clock ≡ false
   run_visited_early =
-      let s = after_all blank x in
-      let m = (lawful-tail blank x (Visit task ∷ y) l).0.1 in
-      let k = run_sound x (lawful-front blank x (Visit task ∷ y) l) in
+      let s = after_all (begun b) x in
+      let m = (lawful-tail (begun b) x (Visit task ∷ y) l).0.1 in
+      let k = run_sound b x (lawful-front (begun b) x (Visit task ∷ y) l) in
       let early : IsSoundAt (Visiting (left_of s.phase)) s.clock = rw m.0 at k in
       early
 
@@ -94,33 +110,33 @@ both-true : (a b : Bool) → (a && b) ≡ true → b ≡ true
 both-true true b h = h
 both-true false b h = absurd (cc)
 
-stalled-turning : (skip : Option ℕ) (late : Bool) (firing : Option ℕ) (ready : List ℕ) (set : List Alarm) → turning_cause skip late firing ready set ≡ Some Stalled → (ready ≡ []) × (set ≡ [])
-stalled-turning (Some due) late firing ready set h = absurd (cc)
-stalled-turning None true firing ready set h = absurd (cc)
-stalled-turning None false (Some alarm) ready set h = absurd (cc)
+stalled-turning : (skip : Option ℕ) (late : Bool) (firing : Option ℕ) (ready : List ℕ) (alarms : List Alarm) → turning_cause skip late firing ready alarms ≡ Some Stalled → (ready ≡ []) × (alarms ≡ [])
+stalled-turning (Some due) late firing ready alarms h = absurd (cc)
+stalled-turning None true firing ready alarms h = absurd (cc)
+stalled-turning None false (Some alarm) ready alarms h = absurd (cc)
 stalled-turning None false None [] [] h = (refl, refl)
-stalled-turning None false None [] (a ∷ set) h = absurd (cc)
+stalled-turning None false None [] (a ∷ alarms) h = absurd (cc)
 stalled-turning None false None (k ∷ ready) set h = absurd (cc)
 
-late-turning : (skip : Option ℕ) (late : Bool) (firing : Option ℕ) (ready : List ℕ) (set : List Alarm) → turning_cause skip late firing ready set ≡ Some Timeout → late ≡ true
-late-turning (Some due) late firing ready set h = absurd (cc)
-late-turning None true firing ready set h = refl
-late-turning None false (Some alarm) ready set h = absurd (cc)
+late-turning : (skip : Option ℕ) (late : Bool) (firing : Option ℕ) (ready : List ℕ) (alarms : List Alarm) → turning_cause skip late firing ready alarms ≡ Some Timeout → late ≡ true
+late-turning (Some due) late firing ready alarms h = absurd (cc)
+late-turning None true firing ready alarms h = refl
+late-turning None false (Some alarm) ready alarms h = absurd (cc)
 late-turning None false None [] [] h = absurd (cc)
-late-turning None false None [] (a ∷ set) h = absurd (cc)
+late-turning None false None [] (a ∷ alarms) h = absurd (cc)
 late-turning None false None (k ∷ ready) set h = absurd (cc)
 
-no-overflow-turning : (skip : Option ℕ) (late : Bool) (firing : Option ℕ) (ready : List ℕ) (set : List Alarm) → turning_cause skip late firing ready set ≡ Some TimeOverflow → ⊥
-no-overflow-turning (Some due) late firing ready set h = cc
-no-overflow-turning None true firing ready set h = cc
-no-overflow-turning None false (Some alarm) ready set h = cc
+no-overflow-turning : (skip : Option ℕ) (late : Bool) (firing : Option ℕ) (ready : List ℕ) (alarms : List Alarm) → turning_cause skip late firing ready alarms ≡ Some TimeOverflow → ⊥
+no-overflow-turning (Some due) late firing ready alarms h = cc
+no-overflow-turning None true firing ready alarms h = cc
+no-overflow-turning None false (Some alarm) ready alarms h = cc
 no-overflow-turning None false None [] [] h = cc
-no-overflow-turning None false None [] (a ∷ set) h = cc
+no-overflow-turning None false None [] (a ∷ alarms) h = cc
 no-overflow-turning None false None (k ∷ ready) set h = cc
 
 -- what each cause needs
 abbrev Needs : FinishCause → State → Type 0
-Needs Stalled s = (s.ready ≡ []) × (s.alarms.set ≡ [])
+Needs Stalled s = (s.ready ≡ []) × (s.alarms.alarms ≡ [])
 Needs Timeout s = is_late s.clock ≡ true
 Needs TimeOverflow s = overflows s.clock ≡ true
 Needs _ s = Unit {0}
@@ -132,9 +148,9 @@ needs-round TimeOverflow s h = elim h [ inl e ↦ absurd (cc) | inr e ↦ absurd
 needs-round _ s h = tt
 
 needs-turning : (cause : FinishCause) (s : State) → cause_at Turning s ≡ Some cause → Needs cause s
-needs-turning Stalled s h = stalled-turning (skip_to s.ready s.alarms.set s.clock.time) (is_late s.clock) (fires s.alarms.set s.clock.time) s.ready s.alarms.set h
-needs-turning Timeout s h = late-turning (skip_to s.ready s.alarms.set s.clock.time) (is_late s.clock) (fires s.alarms.set s.clock.time) s.ready s.alarms.set h
-needs-turning TimeOverflow s h = absurd (no-overflow-turning (skip_to s.ready s.alarms.set s.clock.time) (is_late s.clock) (fires s.alarms.set s.clock.time) s.ready s.alarms.set h)
+needs-turning Stalled s h = stalled-turning (skip_to s.ready s.alarms.alarms s.clock.time) (is_late s.clock) (fires s.alarms.alarms s.clock.time) s.ready s.alarms.alarms h
+needs-turning Timeout s h = late-turning (skip_to s.ready s.alarms.alarms s.clock.time) (is_late s.clock) (fires s.alarms.alarms s.clock.time) s.ready s.alarms.alarms h
+needs-turning TimeOverflow s h = absurd (no-overflow-turning (skip_to s.ready s.alarms.alarms s.clock.time) (is_late s.clock) (fires s.alarms.alarms s.clock.time) s.ready s.alarms.alarms h)
 needs-turning _ s h = tt
 
 needs-at : (p : Phase) (cause : FinishCause) (s : State) → IsSoundAt p s.clock → MayClose p → cause_at p s ≡ Some cause → Needs cause s
@@ -145,22 +161,23 @@ needs-at (Visiting left) cause s k m h =
     rw (← w.1) (both-true (is_nil (from_running s.running left)) (overflows s.clock) w.0)
 needs-at Turning cause s k m h = needs-turning cause s h
 needs-at (Over of) cause s k m h = let e : of ≡ cause = cc in rw (← e) (needs-round of s k)
+needs-at (Cleaning of) cause s k m h = absurd m
 needs-at (Closing of) cause s k m h = absurd m
 needs-at (Crashed of) cause s k m h = absurd m
 needs-at (Finished of) cause s k m h = absurd m
 needs-at _ cause s k m h = absurd (cc)
 
-needs : (x y : List Entry) (cause : FinishCause) → IsLawful blank (x ++ Cleanup ∷ y) → (after_all blank (x ++ Cleanup ∷ y)).phase ≡ Finished cause → cause ≢ OutOfMemory → Needs cause (after_all blank x)
-needs x y cause l h n =
-    let s = after_all blank x in
-    needs-at s.phase cause s (run_sound x (lawful-front blank x (Cleanup ∷ y) l)) (lawful-tail blank x (Cleanup ∷ y) l).0.1 (run_cause x y cause l h n)
+needs : (b : Begin) (x y : List Entry) (cause : FinishCause) → IsLawful (begun b) (x ++ Cleanup ∷ y) → (after_all (begun b) (x ++ Cleanup ∷ y)).phase ≡ Finished cause → cause ≢ OutOfMemory → Needs cause (after_all (begun b) x)
+needs b x y cause l h n =
+    let s = after_all (begun b) x in
+    needs-at s.phase cause s (run_sound b x (lawful-front (begun b) x (Cleanup ∷ y) l)) (lawful-tail (begun b) x (Cleanup ∷ y) l).0.1 (run_cause b x y cause l h n)
 
-module _ (x y : List Entry) (l : IsLawful blank (x ++ Cleanup ∷ y)) where
-  pub run_stalled : (after_all blank (x ++ Cleanup ∷ y)).phase ≡ Finished Stalled → ((after_all blank x).ready ≡ []) × ((after_all blank x).alarms.set ≡ [])
-  run_stalled h = needs x y Stalled l h (λ e. cc)
+module _ (b : Begin) (x y : List Entry) (l : IsLawful (begun b) (x ++ Cleanup ∷ y)) where
+  pub run_stalled : (after_all (begun b) (x ++ Cleanup ∷ y)).phase ≡ Finished Stalled → ((after_all (begun b) x).ready ≡ []) × ((after_all (begun b) x).alarms.alarms ≡ [])
+  run_stalled h = needs b x y Stalled l h (λ e. cc)
 
-  pub run_late : (after_all blank (x ++ Cleanup ∷ y)).phase ≡ Finished Timeout → is_late (after_all blank x).clock ≡ true
-  run_late h = needs x y Timeout l h (λ e. cc)
+  pub run_late : (after_all (begun b) (x ++ Cleanup ∷ y)).phase ≡ Finished Timeout → is_late (after_all (begun b) x).clock ≡ true
+  run_late h = needs b x y Timeout l h (λ e. cc)
 
-  pub run_overflows : (after_all blank (x ++ Cleanup ∷ y)).phase ≡ Finished TimeOverflow → overflows (after_all blank x).clock ≡ true
-  run_overflows h = needs x y TimeOverflow l h (λ e. cc)
+  pub run_overflows : (after_all (begun b) (x ++ Cleanup ∷ y)).phase ≡ Finished TimeOverflow → overflows (after_all (begun b) x).clock ≡ true
+  run_overflows h = needs b x y TimeOverflow l h (λ e. cc)

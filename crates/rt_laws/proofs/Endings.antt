@@ -11,9 +11,10 @@ use Rattle.rt_audit.specs.declared.finish.FinishCause.{FinishCause}
 use Rattle.rt_audit.specs.declared.finish.FinishCause.TheVariants.{NoMemory as OutOfMemory}
 use Rattle.rt_audit.specs.declared.entry.Entry.{Entry}
 use Rattle.rt_audit.specs.declared.entry.Entry.TheVariants.{Start, Call as CallEntry, Event, Wake, Draw, Root, Round, Visit, Answer, NodeEnd, Advance, Skip, Fire, Cleanup, Crash, Finish}
-use Rattle.rt_model.specs.State.{State, Phase, Between, Turning, Closing, Crashed, Finished, Nodes, blank}
+use Rattle.rt_model.specs.declared.begin.Begin.{Begin}
+use Rattle.rt_model.specs.State.{State, Phase, Between, Turning, Cleaning, Closing, Crashed, Finished, begun, Ending}
 use Rattle.rt_model.specs.Causes.{reached, ends_next}
-use Rattle.rt_model.specs.Effects.{after, after_all, is_closing, due_called, cause_of, answered}
+use Rattle.rt_model.specs.Effects.{after, after_all, is_closing, due_called, cause_of, answered, cleaned, ended}
 use Rattle.rt_model.specs.Rules.{May, CallsAt, MayAnswer, MayRound, MayClose, MayCrash, MayFinish, IsLawful}
 use Rattle.rt_model.proofs.Append.{after_all-append}
 use Rattle.rt_laws.specs.Cleanup.{IsOfCleanup}
@@ -21,17 +22,19 @@ use Rattle.rt_laws.proofs.Clock.{lawful-tail}
 
 -- in a cleanup that began for this cause, if it had one, or behind it
 abbrev pub EndsFor : Option FinishCause → Phase → Type 0
+EndsFor cause (Cleaning of) = of ≡ cause
 EndsFor cause (Closing of) = of ≡ cause
 EndsFor cause (Crashed of) = of ≡ cause
 EndsFor cause (Finished end) = (end ≡ OutOfMemory) ⊎ (cause ≡ Some end)
 EndsFor cause _ = ⊥
 
 module _ (cause : Option FinishCause) where
-  call-closing : (p : Phase) (nodes : Nodes) (next by : Option ℕ) → EndsFor cause p → CallsAt p nodes next by → is_closing p ≡ true
-  call-closing (Closing of) nodes next by k m = refl
-  call-closing (Crashed of) nodes next by k m = absurd m
-  call-closing (Finished end) nodes next by k m = absurd m
-  call-closing _ nodes next by k m = absurd k
+  call-closing : (p : Phase) (root next by : Option ℕ) → EndsFor cause p → CallsAt p root next by → is_closing p ≡ true
+  call-closing (Closing of) root next by k m = refl
+  call-closing (Cleaning of) root next by k m = absurd m
+  call-closing (Crashed of) root next by k m = absurd m
+  call-closing (Finished end) root next by k m = absurd m
+  call-closing _ root next by k m = absurd k
 
   no-round : (p : Phase) (s : State) → EndsFor cause p → MayRound p s → ⊥
   no-round Between s k m = k
@@ -39,24 +42,33 @@ module _ (cause : Option FinishCause) where
   no-round _ s k m = m
 
   no-cleanup : (p : Phase) → EndsFor cause p → MayClose p → ⊥
+  no-cleanup (Cleaning of) k m = m
   no-cleanup (Closing of) k m = m
   no-cleanup (Crashed of) k m = m
   no-cleanup (Finished end) k m = m
   no-cleanup _ k m = k
 
-  crash-ends : (p : Phase) (nodes : Nodes) (running : List ℕ) → EndsFor cause p → MayCrash p nodes running → cause_of p ≡ cause
-  crash-ends (Closing of) nodes running k m = k
-  crash-ends _ nodes running k m = absurd m
+  crash-ends : (p : Phase) (running : List ℕ) → EndsFor cause p → MayCrash p running → cause_of p ≡ cause
+  crash-ends (Closing of) running k m = k
+  crash-ends _ running k m = absurd m
+
+  cleaned-ends : (p : Phase) → EndsFor cause p → EndsFor cause (cleaned p)
+  cleaned-ends (Cleaning of) k = k
+  cleaned-ends _ k = k
 
   finish-ends : (p : Phase) (end : FinishCause) → EndsFor cause p → MayFinish p end → (end ≡ OutOfMemory) ⊎ (cause ≡ Some end)
   finish-ends (Crashed of) end k m = elim m [ inl h ↦ inl h | inr h ↦ inr (sym k ∙ h) ]
   finish-ends _ end k m = absurd m
 
-  answer-ends : (s : State) (task : ℕ) (kind : AnswerKind) → EndsFor cause s.phase → MayAnswer s task kind → IsOfCleanup (Answer task kind) × EndsFor cause (answered s.phase kind)
+  ended-ends : (p : Phase) → EndsFor cause p → EndsFor cause (ended p)
+  ended-ends (Ending task left) k = absurd k
+  ended-ends _ k = k
+
+  answer-ends : (s : State) (task : ℕ) (kind : AnswerKind) → EndsFor cause s.phase → MayAnswer s task kind → IsOfCleanup (Answer task kind) × EndsFor cause (answered s.root s.phase task kind)
   answer-ends s task Pending k m = absurd (rw m at k)
   answer-ends s task Ready k m = absurd (rw m at k)
   answer-ends s task NoMemory k m = absurd (rw m at k)
-  answer-ends s task Ended k m = (tt, k)
+  answer-ends s task Ended k m = (tt, ended-ends s.phase k)
   answer-ends s task _ k m = absurd m
 
   owes-none : (call : Call) (reply : CallReply) → due_called true call reply ≡ []
@@ -70,24 +82,24 @@ module _ (cause : Option FinishCause) where
 
   ends-entry : (s : State) (e : Entry) → s.owed ≡ [] → EndsFor cause s.phase → May s e → IsOfCleanup e × ((after s e).owed ≡ []) × EndsFor cause (after s e).phase
   unfolding after
-  ends-entry s (Start next now deadline cycle) o k m = absurd (rw m.1 at k)
-  ends-entry s (CallEntry by call reply) o k m = (tt, owes-called (is_closing s.phase) call reply (call-closing s.phase s.nodes (ends_next s.running s.root) by k m.1.0), k)
+  ends-entry s (Start next now deadline cycle) o k m = absurd (rw m.1.0 at k)
+  ends-entry s (CallEntry by call reply) o k m = (tt, owes-called (is_closing s.phase) call reply (call-closing s.phase s.root (ends_next s.running s.root) by k m.1.0), k)
   ends-entry s (Event label fields) o k m = absurd (rw m.1.0 at k)
   ends-entry s (Wake task) o k m = absurd (cc)
-  ends-entry s (Draw value) o k m = absurd m.1
+  ends-entry s (Draw value) o k m = absurd (no-round s.phase s k m.1)
   ends-entry s (Root task) o k m = absurd (rw m.1.0 at k)
   ends-entry s (Round order) o k m = absurd (no-round s.phase s k m.1.0)
   ends-entry s (Visit task) o k m = absurd (rw m.1.0 at k)
   ends-entry s (Answer task kind) o k m = let a = answer-ends s task kind k m.1 in (a.0, refl, a.1)
-  ends-entry s (NodeEnd node) o k m = (tt, refl, k)
+  ends-entry s (NodeEnd node) o k m = (tt, refl, cleaned-ends s.phase k)
   ends-entry s (Advance now) o k m = absurd (rw m.1.0 at k)
   ends-entry s (Skip now) o k m = absurd (rw m.1.0 at k)
   ends-entry s (Fire alarm) o k m = absurd (rw m.1.0 at k)
   ends-entry s Cleanup o k m = absurd (no-cleanup s.phase k m.1)
-  ends-entry s (Crash choices) o k m = (tt, refl, crash-ends s.phase s.nodes s.running k m.1.0)
+  ends-entry s (Crash choices) o k m = (tt, refl, crash-ends s.phase s.running k m.1.0)
   ends-entry s (Finish end) o k m = (tt, refl, finish-ends s.phase end k m.1)
 
-  ends-all : (s : State) (x : List Entry) → s.owed ≡ [] → EndsFor cause s.phase → IsLawful s x → AllByRecursion IsOfCleanup x × EndsFor cause (after_all s x).phase
+  pub ends-all : (s : State) (x : List Entry) → s.owed ≡ [] → EndsFor cause s.phase → IsLawful s x → AllByRecursion IsOfCleanup x × EndsFor cause (after_all s x).phase
   ends-all s [] o k l = (tt, k)
   ends-all s (e ∷ x) o k l =
       let h = ends-entry s e o k l.0 in
@@ -106,25 +118,25 @@ clock-all s [] h = refl
 clock-all s (e ∷ x) h = clock-all (after s e) x h.1 ∙ clock-entry s e h.0
 
 -- behind a cleanup
-module _ (x y : List Entry) (l : IsLawful blank (x ++ Cleanup ∷ y)) where
+module _ (b : Begin) (x y : List Entry) (l : IsLawful (begun b) (x ++ Cleanup ∷ y)) where
   abbrev closes : State
-  closes = after_all blank x
+  closes = after_all (begun b) x
 
-  cleaned : AllByRecursion IsOfCleanup y × EndsFor (reached closes) (after_all (after closes Cleanup) y).phase
+  behind : AllByRecursion IsOfCleanup y × EndsFor (reached closes) (after_all (after closes Cleanup) y).phase
   unfolding after
-  cleaned = ends-all (reached closes) (after closes Cleanup) y refl refl (lawful-tail blank x (Cleanup ∷ y) l).1
+  behind = ends-all (reached closes) (after closes Cleanup) y refl refl (lawful-tail (begun b) x (Cleanup ∷ y) l).1
 
   pub run_cleaned : All IsOfCleanup y
-  run_cleaned = All-from_recursion IsOfCleanup y cleaned.0
+  run_cleaned = All-from_recursion IsOfCleanup y behind.0
 
-  pub run_still : (after_all blank (x ++ Cleanup ∷ y)).clock ≡ (after_all blank x).clock
+  pub run_still : (after_all (begun b) (x ++ Cleanup ∷ y)).clock ≡ (after_all (begun b) x).clock
   unfolding after
-  run_still = rw (after_all-append blank x (Cleanup ∷ y)) (clock-all (after closes Cleanup) y cleaned.0)
+  run_still = rw (after_all-append (begun b) x (Cleanup ∷ y)) (clock-all (after closes Cleanup) y behind.0)
 
-pub run_cause : (x y : List Entry) (cause : FinishCause) → IsLawful blank (x ++ Cleanup ∷ y) → (after_all blank (x ++ Cleanup ∷ y)).phase ≡ Finished cause → cause ≢ OutOfMemory → reached (after_all blank x) ≡ Some cause
-run_cause x y cause l h n =
-    let s = after_all blank x in
-    let k = (cleaned x y l).1 in
-    let e : (after_all (after s Cleanup) y).phase ≡ Finished cause = ap (λ (s : State). s.phase) (sym (after_all-append blank x (Cleanup ∷ y))) ∙ h in
+pub run_cause : (b : Begin) (x y : List Entry) (cause : FinishCause) → IsLawful (begun b) (x ++ Cleanup ∷ y) → (after_all (begun b) (x ++ Cleanup ∷ y)).phase ≡ Finished cause → cause ≢ OutOfMemory → reached (after_all (begun b) x) ≡ Some cause
+run_cause b x y cause l h n =
+    let s = after_all (begun b) x in
+    let k = (behind b x y l).1 in
+    let e : (after_all (after s Cleanup) y).phase ≡ Finished cause = ap (λ (s : State). s.phase) (sym (after_all-append (begun b) x (Cleanup ∷ y))) ∙ h in
     let z : EndsFor (reached s) (Finished cause) = rw e at k in
     elim z [ inl m ↦ absurd (n m) | inr m ↦ m ]

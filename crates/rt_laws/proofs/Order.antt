@@ -1,27 +1,29 @@
 -- Alarms stay in order of their due times.
-use Rattle.std.proofs.Common.{◌≡◌, ◌≤◌, ◌<◌, ℕ, sym, List, [], ◌∷◌, ◌++◌, drop, Option, Some, refl, arith, All}
+use Rattle.std.proofs.Common.{◌≡◌, ◌≤◌, ◌<◌, ◌==◌, inl, inr, ℕ, sym, List, [], ◌∷◌, ◌++◌, map, drop, Option, Some, refl, arith, All}
+use Rattle.std.proofs.lemmas.Bool.{cases_Bool}
 use Rattle.std.proofs.lemmas.List.Elements.{All-from_recursion}
 use Rattle.rt_audit.specs.declared.call.Call.{Call}
-use Rattle.rt_audit.specs.declared.call.Call.TheVariants.{CloseNode, Wake as WakeCall, SleepPoll}
+use Rattle.rt_audit.specs.declared.call.Call.TheVariants.{SleepPoll}
 use Rattle.rt_audit.specs.declared.reply.CallReply.{CallReply}
 use Rattle.rt_audit.specs.declared.reply.CallReply.TheVariants.{PendingAt}
 use Rattle.rt_audit.specs.declared.entry.Entry.{Entry}
-use Rattle.rt_audit.specs.declared.entry.Entry.TheVariants.{Start, Call as CallEntry, Fire, Cleanup, Skip}
-use Rattle.rt_model.specs.declared.alarm.Alarm.{Alarm}
-use Rattle.rt_model.specs.State.{State, Alarms, blank}
-use Rattle.rt_model.specs.Alarms.{with_alarm, rewoken, slept, skip_to, ahead}
+use Rattle.rt_audit.specs.declared.entry.Entry.TheVariants.{Call as CallEntry, Fire, Cleanup, Skip}
+use Rattle.rt_super.specs.Alarms.{Alarm, AlarmList, with_alarm, waking}
+use Rattle.rt_model.specs.declared.begin.Begin.{Begin}
+use Rattle.rt_model.specs.State.{State, begun}
+use Rattle.rt_model.specs.Alarms.{slept, skip_to, ahead}
 use Rattle.rt_model.specs.Effects.{after, after_all, alarms_after, alarms_called}
 use Rattle.rt_model.specs.Rules.{IsLawful}
 use Rattle.rt_laws.specs.Earliest.{IsEarliest}
 use Rattle.rt_laws.proofs.Clock.{lawful-tail}
-use Rattle.rt_laws.proofs.Each.{Each, each-with, each-rewoken}
+use Rattle.rt_laws.proofs.Each.{Each, each-with, each-waking}
 
 -- none of them is due before this time
 abbrev pub NoneBefore : ℕ → List Alarm → Type 0
-NoneBefore due set = Each (λ at number. due ≤ at) set
+NoneBefore due alarms = Each (λ at number. due ≤ at) alarms
 
-pub none-before : (due : ℕ) (set : List Alarm) → NoneBefore due set → All (λ (b : Alarm). due ≤ b.due) set
-none-before due set h = All-from_recursion (λ (b : Alarm). due ≤ b.due) set h
+pub none-before : (due : ℕ) (alarms : List Alarm) → NoneBefore due alarms → All (λ (b : Alarm). due ≤ b.due) alarms
+none-before due alarms h = All-from_recursion (λ (b : Alarm). due ≤ b.due) alarms h
 
 abbrev pub AreOrdered : List Alarm → Type 0
 AreOrdered [] = Unit {0}
@@ -35,57 +37,59 @@ order-with : (a : Alarm) (xs : List Alarm) → AreOrdered xs → AreOrdered (wit
 order-with a [] h = (tt, tt)
 order-with a (x ∷ xs) h = grind (arith, order-with a xs h.1, each-with (λ at number. x.due ≤ at) a xs, none-sooner a.due x.due xs)
 
-order-rewoken : (due number : ℕ) (task : Option ℕ) (xs : List Alarm) → AreOrdered xs → AreOrdered (rewoken due number task xs)
-order-rewoken due number task [] h = tt
-order-rewoken due number task (x ∷ xs) h = grind (arith, order-rewoken due number task xs h.1, each-rewoken (λ at told. x.due ≤ at) due number task xs h.0)
+order-waking : (number : ℕ) (task : Option ℕ) (xs : List Alarm) → AreOrdered xs → AreOrdered (map (waking number task) xs)
+order-waking number task [] h = tt
+order-waking number task (x ∷ xs) h =
+    let all = each-waking (λ at told. x.due ≤ at) number task xs h.0 in
+    elim (cases_Bool (x.number == number)) [
+      | inl e ↦ rw e (all, order-waking number task xs h.1)
+      | inr e ↦ rw e (all, order-waking number task xs h.1)
+    ]
 
-order-slept : (a : Alarms) (by : Option ℕ) (due number : ℕ) → AreOrdered a.set → AreOrdered (slept a by due number).set
-order-slept a by due number h = grind (arith, order-with (record { due = due; number = number; task = by }) a.set h, order-rewoken due number by a.set h)
+order-slept : (a : AlarmList) (by : Option ℕ) (due number : ℕ) → AreOrdered a.alarms → AreOrdered (slept a by due number).alarms
+order-slept a by due number h = grind (arith, order-with (record { due = due; number = a.count; task = by }) a.alarms h, order-waking number by a.alarms h)
 
-order-called : (a : Alarms) (by : Option ℕ) (call : Call) (reply : CallReply) → AreOrdered a.set → AreOrdered (alarms_called a by call reply).set
+order-called : (a : AlarmList) (by : Option ℕ) (call : Call) (reply : CallReply) → AreOrdered a.alarms → AreOrdered (alarms_called a by call reply).alarms
 order-called a by (SleepPoll due) (PendingAt number) h = order-slept a by due number h
-order-called a by (SleepPoll due) _ h = h
-order-called a by (WakeCall task) reply h = h
-order-called a by (CloseNode node) reply h = h
+order-called a by _ _ h = h
 
 order-drop : (xs : List Alarm) → AreOrdered xs → AreOrdered (drop 1 xs)
 order-drop [] h = tt
 order-drop (x ∷ xs) h = h.1
 
-order-entry : (a : Alarms) (e : Entry) → AreOrdered a.set → AreOrdered (alarms_after a e).set
-order-entry a (Start next now deadline cycle) h = tt
+order-entry : (a : AlarmList) (e : Entry) → AreOrdered a.alarms → AreOrdered (alarms_after a e).alarms
 order-entry a (CallEntry by call reply) h = order-called a by call reply h
-order-entry a (Fire number) h = order-drop a.set h
+order-entry a (Fire number) h = order-drop a.alarms h
 order-entry a Cleanup h = tt
 order-entry a _ h = h
 
-pub order-after : (s : State) (e : Entry) → AreOrdered s.alarms.set → AreOrdered (after s e).alarms.set
+pub order-after : (s : State) (e : Entry) → AreOrdered s.alarms.alarms → AreOrdered (after s e).alarms.alarms
 unfolding after
 order-after s e h = order-entry s.alarms e h
 
-order-all : (s : State) (es : List Entry) → AreOrdered s.alarms.set → AreOrdered (after_all s es).alarms.set
+order-all : (s : State) (es : List Entry) → AreOrdered s.alarms.alarms → AreOrdered (after_all s es).alarms.alarms
 order-all s [] h = h
 order-all s (e ∷ es) h = order-all (after s e) es (order-after s e h)
 
 -- the alarms of a run are in order
-pub run_order : (xs : List Entry) → AreOrdered (after_all blank xs).alarms.set
-unfolding blank
-run_order xs = order-all blank xs tt
+pub run_order : (b : Begin) (xs : List Entry) → AreOrdered (after_all (begun b) xs).alarms.alarms
+unfolding begun
+run_order b xs = order-all (begun b) xs tt
 
-ahead-earliest : (set : List Alarm) (time now : ℕ) → AreOrdered set → ahead set time ≡ Some now → IsEarliest set now × (time < now)
+ahead-earliest : (alarms : List Alarm) (time now : ℕ) → AreOrdered alarms → ahead alarms time ≡ Some now → IsEarliest alarms now × (time < now)
 ahead-earliest [] time now o h = cc
-ahead-earliest (a ∷ set) time now o h =
+ahead-earliest (a ∷ alarms) time now o h =
     let p : (a.due ≡ now) × (time < now) = grind arith in
-    let all = none-before a.due (a ∷ set) (omega arith, o.0) in
+    let all = none-before a.due (a ∷ alarms) (omega arith, o.0) in
     (((a, (0, omega arith, refl), p.0), rw (sym p.0) all), p.1)
 
-skip-earliest : (ready : List ℕ) (set : List Alarm) (time now : ℕ) → AreOrdered set → skip_to ready set time ≡ Some now → (ready ≡ []) × (IsEarliest set now × (time < now))
-skip-earliest [] set time now o h = (refl, ahead-earliest set time now o h)
-skip-earliest (k ∷ ready) set time now o h = cc
+skip-earliest : (ready : List ℕ) (alarms : List Alarm) (time now : ℕ) → AreOrdered alarms → skip_to ready alarms time ≡ Some now → (ready ≡ []) × (IsEarliest alarms now × (time < now))
+skip-earliest [] alarms time now o h = (refl, ahead-earliest alarms time now o h)
+skip-earliest (k ∷ ready) alarms time now o h = cc
 
 -- a skip that may come in a run goes to the earliest of its alarms
-pub run_skip : (x y : List Entry) (now : ℕ) → IsLawful blank (x ++ Skip now ∷ y) → ((after_all blank x).ready ≡ []) × IsEarliest (after_all blank x).alarms.set now × ((after_all blank x).clock.time < now)
-run_skip x y now l =
-    let s = after_all blank x in
-    let h = skip-earliest s.ready s.alarms.set s.clock.time now (run_order x) (lawful-tail blank x (Skip now ∷ y) l).0.1.1 in
+pub run_skip : (b : Begin) (x y : List Entry) (now : ℕ) → IsLawful (begun b) (x ++ Skip now ∷ y) → ((after_all (begun b) x).ready ≡ []) × IsEarliest (after_all (begun b) x).alarms.alarms now × ((after_all (begun b) x).clock.time < now)
+run_skip b x y now l =
+    let s = after_all (begun b) x in
+    let h = skip-earliest s.ready s.alarms.alarms s.clock.time now (run_order b x) (lawful-tail (begun b) x (Skip now ∷ y) l).0.1.1 in
     (h.0, h.1.0, h.1.1)

@@ -1,5 +1,5 @@
 -- A round that runs to its end visits each task that was ready and runs.
-use Rattle.std.proofs.Common.{◌≡◌, ◌⊎◌, inl, inr, ℕ, zero, suc, List, [], ◌∷◌, ◌++◌, drop, true, false, eqb, ap, arith, Contains}
+use Rattle.std.proofs.Common.{◌≡◌, ◌⊎◌, inl, inr, ℕ, zero, suc, List, [], ◌∷◌, ◌++◌, drop, true, false, eqb, ap, arith, Contains, Bool, Option}
 use Rattle.std.proofs.lemmas.Bool.{cases_Bool}
 use Rattle.std.proofs.lemmas.List.Elements.{Contains-append_right}
 use Rattle.std.proofs.lemmas.List.Sorted.{Contains-permutation}
@@ -8,14 +8,15 @@ use Rattle.rt_audit.specs.declared.answer.AnswerKind.TheVariants.{Pending, Ready
 use Rattle.rt_audit.specs.declared.finish.FinishCause.{FinishCause}
 use Rattle.rt_audit.specs.declared.entry.Entry.{Entry}
 use Rattle.rt_audit.specs.declared.entry.Entry.TheVariants.{Start, Event, Draw, Root, Round, Visit, Answer, NodeEnd, Advance, Skip, Fire, Cleanup, Crash, Finish}
-use Rattle.rt_model.specs.Lists.{has_number}
-use Rattle.rt_model.specs.State.{State, Phase, Visiting, Entered, Polling, Over, Closing, Crashed, Finished, Between, Turning, Nodes, blank}
-use Rattle.rt_model.specs.Causes.{from_running}
-use Rattle.rt_model.specs.Effects.{after, after_all, answered, entered, left_of}
-use Rattle.rt_model.specs.Rules.{May, MayAnswer, MayRound, MayCrash, MayFinish, IsLawful}
+use Rattle.rt_model.specs.Lists.{has_number, without_number, is_some_number}
+use Rattle.rt_model.specs.declared.begin.Begin.{Begin}
+use Rattle.rt_model.specs.State.{State, Phase, Visiting, Entered, Polling, Over, Cleaning, Closing, Crashed, Finished, Between, Turning, begun, Ending}
+use Rattle.rt_model.specs.Causes.{from_running, ends_next}
+use Rattle.rt_model.specs.Effects.{after, after_all, answered, entered, cleaned, ended, finished, left_of}
+use Rattle.rt_model.specs.Rules.{May, MayAnswer, MayRound, MayCrash, MayFinish, IsLawful, MayEnd}
 use Rattle.rt_laws.proofs.Clock.{lawful-front, lawful-tail}
 
-pub has-from_contains : (k : ℕ) (xs : List ℕ) → Contains xs k → has_number k xs ≡ true
+has-from_contains : (k : ℕ) (xs : List ℕ) → Contains xs k → has_number k xs ≡ true
 has-from_contains k [] (i, l, e) = absurd (omega arith)
 has-from_contains k (x ∷ xs) (zero, l, e) = grind arith
 has-from_contains k (x ∷ xs) (suc i, l, e) = grind (arith, has-from_contains k xs (i, omega arith, e))
@@ -36,15 +37,22 @@ rest-has : (k other : ℕ) (left : List ℕ) → has_number k left ≡ true → 
 rest-has k other [] h is e = absurd (cc)
 rest-has k other (x ∷ left) h is e = let same : x ≡ other = cc in grind arith
 
-abbrev IsInRound : Phase → Type 0
-IsInRound (Visiting left) = Unit {0}
-IsInRound (Entered task left) = Unit {0}
-IsInRound (Polling task left) = Unit {0}
-IsInRound _ = ⊥
+-- in a round, and not in the visit of this task
+abbrev IsInRound : ℕ → Phase → Type 0
+IsInRound task (Visiting left) = Unit {0}
+IsInRound task (Entered other left) = eqb other task ≡ false
+IsInRound task (Polling other left) = eqb other task ≡ false
+IsInRound task (Ending other left) = eqb other task ≡ false
+IsInRound task _ = ⊥
+
+has-without : (task other : ℕ) (running : List ℕ) → eqb other task ≡ false → has_number task running ≡ true → has_number task (without_number other running) ≡ true
+has-without task other [] e h = cc
+has-without task other (x ∷ running) e h = grind (arith, has-without task other running)
 
 -- past all rounds
 abbrev IsPast : Phase → Type 0
 IsPast (Over cause) = Unit {0}
+IsPast (Cleaning cause) = Unit {0}
 IsPast (Closing cause) = Unit {0}
 IsPast (Crashed cause) = Unit {0}
 IsPast (Finished cause) = Unit {0}
@@ -54,25 +62,35 @@ past-entered : (p : Phase) → IsPast p → IsPast (entered p)
 past-entered (Entered task left) k = absurd k
 past-entered _ k = k
 
+past-cleaned : (p : Phase) → IsPast p → IsPast (cleaned p)
+past-cleaned (Cleaning cause) k = tt
+past-cleaned _ k = k
+
 past-round : (p : Phase) (s : State) → IsPast p → MayRound p s → ⊥
 past-round Between s k m = k
 past-round Turning s k m = k
 past-round _ s k m = m
 
-past-answered : (s : State) (task : ℕ) (kind : AnswerKind) → IsPast s.phase → MayAnswer s task kind → IsPast (answered s.phase kind)
+past-ended : (p : Phase) → IsPast p → IsPast (ended p)
+past-ended (Ending task left) k = absurd k
+past-ended _ k = k
+
+past-answered : (s : State) (task : ℕ) (kind : AnswerKind) → IsPast s.phase → MayAnswer s task kind → IsPast (answered s.root s.phase task kind)
 past-answered s task Pending k m = absurd (rw m at k)
-past-answered s task Ready k m = tt
+past-answered s task Ready k m = absurd (rw m at k)
 past-answered s task NoMemory k m = tt
+past-answered s task Ended k m = past-ended s.phase k
 past-answered s task _ k m = k
 
 past-after : (s : State) (e : Entry) → IsPast s.phase → May s e → IsPast (after s e).phase
 unfolding after
-past-after s (Start next now deadline cycle) k m = absurd (rw m.1 at k)
+past-after s (Start next now deadline cycle) k m = absurd (rw m.1.0 at k)
 past-after s (Event label fields) k m = past-entered s.phase k
 past-after s (Root task) k m = absurd (rw m.1.0 at k)
 past-after s (Round order) k m = absurd (past-round s.phase s k m.1.0)
 past-after s (Visit task) k m = absurd (rw m.1.0 at k)
 past-after s (Answer task kind) k m = past-answered s task kind k m.1
+past-after s (NodeEnd node) k m = past-cleaned s.phase k
 past-after s (Advance now) k m = absurd (rw m.1.0 at k)
 past-after s Cleanup k m = tt
 past-after s (Crash choices) k m = tt
@@ -90,7 +108,7 @@ EndsRound s = (s.phase ≡ Visiting (left_of s.phase)) × (from_running s.runnin
 -- the task runs, and is still to be visited in this round
 module _ (task : ℕ) where
   abbrev Waits : Phase → List ℕ → Type 0
-  Waits p running = IsInRound p × (has_number task (left_of p) ≡ true) × (has_number task running ≡ true)
+  Waits p running = IsInRound task p × (has_number task (left_of p) ≡ true) × (has_number task running ≡ true)
 
   abbrev Next : Entry → State → Type 0
   Next e s = (e ≡ Visit task) ⊎ (IsPast s.phase ⊎ Waits s.phase s.running)
@@ -99,16 +117,16 @@ module _ (task : ℕ) where
   waits-entered (Entered other left) running w = w
   waits-entered _ running w = w
 
-  no-round : (p : Phase) (s : State) → IsInRound p → MayRound p s → ⊥
+  no-round : (p : Phase) (s : State) → IsInRound task p → MayRound p s → ⊥
   no-round Between s k m = k
   no-round Turning s k m = k
   no-round _ s k m = m
 
-  no-crash : (p : Phase) (nodes : Nodes) (running : List ℕ) → IsInRound p → MayCrash p nodes running → ⊥
-  no-crash (Closing cause) nodes running k m = k
-  no-crash _ nodes running k m = m
+  no-crash : (p : Phase) (running : List ℕ) → IsInRound task p → MayCrash p running → ⊥
+  no-crash (Closing cause) running k m = k
+  no-crash _ running k m = m
 
-  no-finish : (p : Phase) (cause : FinishCause) → IsInRound p → MayFinish p cause → ⊥
+  no-finish : (p : Phase) (cause : FinishCause) → IsInRound task p → MayFinish p cause → ⊥
   no-finish (Crashed reached) cause k m = k
   no-finish _ cause k m = m
 
@@ -119,15 +137,24 @@ module _ (task : ℕ) where
     | inr e ↦ (
         let left = from_running s.running (left_of s.phase) in
         let h : has_number task left ≡ true = not-passed s.running (left_of s.phase) task w.2 w.1 in
-        inr (inr (tt, rest-has task other left h m.1.1 e, w.2)))
+        inr (inr (e, rest-has task other left h m.1.1 e, w.2)))
   ]
+
+  waits-finished : (is_root : Bool) (other : ℕ) (left running : List ℕ) → eqb other task ≡ false → has_number task left ≡ true → has_number task running ≡ true → IsPast (finished is_root other left) ⊎ Waits (finished is_root other left) running
+  waits-finished true other left running e h r = inl tt
+  waits-finished false other left running e h r = inr (e, h, r)
+
+  waits-ended : (p : Phase) (next : Option ℕ) (other : ℕ) (running : List ℕ) → Waits p running → MayEnd p next other → Waits (ended p) (without_number other running)
+  waits-ended (Ending ends left) next other running w m = (tt, w.1, rw m (has-without task ends running w.0 w.2))
+  waits-ended (Closing cause) next other running w m = absurd w.0
+  waits-ended _ next other running w m = absurd m
 
   next-answer : (s : State) (other : ℕ) (kind : AnswerKind) → Waits s.phase s.running → May s (Answer other kind) → Next (Answer other kind) (after s (Answer other kind))
   unfolding after
   next-answer s other Pending w m = inr (inr (tt, w.1, w.2))
-  next-answer s other Ready w m = inr (inl tt)
+  next-answer s other Ready w m = inr (waits-finished (is_some_number other s.root) other (left_of s.phase) s.running (let k = w.0 in rw m.1 at k) w.1 w.2)
   next-answer s other NoMemory w m = inr (inl tt)
-  next-answer s other Ended w m = let k = w.0 in absurd (rw m.1.0 at k)
+  next-answer s other Ended w m = inr (inr (waits-ended s.phase (ends_next s.running s.root) other s.running w m.1))
   next-answer s other _ w m = absurd m.1
 
   not-over : (s : State) → Waits s.phase s.running → EndsRound s → ⊥
@@ -138,9 +165,9 @@ module _ (task : ℕ) where
 
   next : (s : State) (e : Entry) → Waits s.phase s.running → May s e → Next e (after s e)
   unfolding after
-  next s (Start first now deadline cycle) w m = let k = w.0 in absurd (rw m.1 at k)
+  next s (Start first now deadline cycle) w m = let k = w.0 in absurd (rw m.1.0 at k)
   next s (Event label fields) w m = inr (inr (waits-entered s.phase s.running w))
-  next s (Draw value) w m = absurd m.1
+  next s (Draw value) w m = absurd (no-round s.phase s w.0 m.1)
   next s (Root other) w m = let k = w.0 in absurd (rw m.1.0 at k)
   next s (Round order) w m = absurd (no-round s.phase s w.0 m.1.0)
   next s (Visit other) w m = next-visit s other w m
@@ -150,7 +177,7 @@ module _ (task : ℕ) where
   next s (Skip now) w m = let k = w.0 in absurd (rw m.1.0 at k)
   next s (Fire alarm) w m = let k = w.0 in absurd (rw m.1.0 at k)
   next s Cleanup w m = inr (inl tt)
-  next s (Crash choices) w m = absurd (no-crash s.phase s.nodes s.running w.0 m.1.0)
+  next s (Crash choices) w m = absurd (no-crash s.phase s.running w.0 m.1.0)
   next s (Finish cause) w m = absurd (no-finish s.phase cause w.0 m.1)
   next s _ w m = inr (inr w)
 
@@ -164,11 +191,11 @@ module _ (task : ℕ) where
     ]
   ]
 
-pub run_visits : (x y z : List Entry) (order : List ℕ) (now task : ℕ) → IsLawful blank (x ++ Round order ∷ (y ++ Advance now ∷ z)) → Contains (after_all blank x).ready task → Contains (after_all blank x).running task → Contains y (Visit task)
+pub run_visits : (b : Begin) (x y z : List Entry) (order : List ℕ) (now task : ℕ) → IsLawful (begun b) (x ++ Round order ∷ (y ++ Advance now ∷ z)) → Contains (after_all (begun b) x).ready task → Contains (after_all (begun b) x).running task → Contains y (Visit task)
 unfolding after
-run_visits x y z order now task l ready runs =
-    let s = after_all blank x in
-    let t = lawful-tail blank x (Round order ∷ (y ++ Advance now ∷ z)) l in
+run_visits b x y z order now task l ready runs =
+    let s = after_all (begun b) x in
+    let t = lawful-tail (begun b) x (Round order ∷ (y ++ Advance now ∷ z)) l in
     let r = after s (Round order) in
     let has = has-from_contains task order (Contains-permutation s.ready order task t.0.1.1 ready) in
     let m = (lawful-tail r y (Advance now ∷ z) t.1).0.1 in

@@ -1,2 +1,3 @@
 pub mod Cleanup
 pub mod Earliest
+pub mod Examples

@@ -1,8 +1,9 @@
 -- How many tasks run, and which of them a cleanup ends next.
 use Rattle.std.proofs.Common.{◌≡◌, ◌+◌, ℕ, List, [], ◌∷◌, refl, true, Option, Some, None, length, arith, ◌<◌}
-use Rattle.rt_model.specs.declared.alarm.Alarm.{Alarm}
+use Rattle.rt_super.specs.Alarms.{Alarm}
 use Rattle.rt_model.specs.Lists.{has_number, with_number, without_number}
 use Rattle.rt_model.specs.Alarms.{fires}
+use Rattle.rt_machine.specs.Places.{AreBelow}
 use Rattle.rt_model.specs.Causes.{ends_next}
 
 pub length-with : (k : ℕ) (ns : List ℕ) → length (with_number k ns) ≡ length ns + 1
@@ -28,4 +29,17 @@ pub fires-some : (set : List Alarm) (time number : ℕ) → fires set time ≡ S
 fires-some [] time number h = cc
 fires-some (a ∷ set) time number h = omega arith
 
-pub ruleset count_laws = (length-with, ends-fewer, ends-runs, ends-none, fires-some)
+-- numbers below a bound, with one more and with one fewer
+pub below-with : (bound k : ℕ) (ns : List ℕ) → k < bound → AreBelow bound ns → AreBelow bound (with_number k ns)
+below-with bound k [] h b = (h, tt)
+below-with bound k (n ∷ ns) h b = grind (arith, below-with bound k ns h b.1)
+
+pub below-without : (bound k : ℕ) (ns : List ℕ) → AreBelow bound ns → AreBelow bound (without_number k ns)
+below-without bound k [] b = tt
+below-without bound k (n ∷ ns) b = grind (arith, below-without bound k ns b.1)
+
+pub below-has : (bound k : ℕ) (ns : List ℕ) → AreBelow bound ns → has_number k ns ≡ true → k < bound
+below-has bound k [] b h = cc
+below-has bound k (n ∷ ns) b h = grind (arith, below-has bound k ns b.1)
+
+pub ruleset count_laws = (length-with, ends-fewer, ends-runs, ends-none, fires-some, below-with, below-without, below-has)

@@ -1,13 +1,14 @@
 -- The entries of a journal when one is added.
-use Rattle.std.proofs.Common.{◌≡◌, ◌≤◌, ℕ, List, [], ◌∷◌, ◌++◌, refl, ap, sym, ◌∙◌, true, length, take, drop, arith, length-append}
+use Rattle.std.proofs.Common.{◌≡◌, ◌≤◌, ℕ, List, [], ◌∷◌, ◌++◌, refl, ap, sym, ◌∙◌, true, length, take, drop, arith, length-append, Option, Some, None}
 use Rattle.std.proofs.lemmas.List.{take-append-le, drop-append-le, take-append-drop, length-take-le, drop_all, take_all}
 use Rattle.rt_audit.specs.declared.entry.Entry.{Entry}
 use Rattle.rt_audit.specs.declared.entry.Entry.TheVariants.{Call, Wake}
-use Rattle.rt_model.specs.State.{State, blank}
+use Rattle.rt_model.specs.declared.begin.Begin.{Begin}
+use Rattle.rt_model.specs.State.{State, begun}
 use Rattle.rt_model.specs.Effects.{after, after_all}
 use Rattle.rt_model.specs.Rules.{May, IsDrawn, IsLawful, AreDrawn}
 use Rattle.rt_model.proofs.Append.{after_all-append, IsLawful-append, AreDrawn-append}
-use Rattle.rt_machine.specs.Told.{told_from, IsKept, AreCalls, is_call, pushed, noted}
+use Rattle.rt_machine.specs.Told.{told_from, lacked_at, IsKept, IsWithin, AreCalls, is_call, pushed, noted}
 
 -- the parts on both sides of the mark
 pub joined : (xs : List Entry) (start mark : ℕ) → start ≤ mark → mark ≤ length xs → drop start (take mark xs) ++ drop mark xs ≡ drop start xs
@@ -34,39 +35,56 @@ lawful-more s es e h k = IsLawful-append s es (e ∷ []) h (k, tt)
 drawn-more : (s : State) (es : List Entry) (e : Entry) → AreDrawn s es → IsDrawn (after_all s es) e → AreDrawn s (es ++ e ∷ [])
 drawn-more s es e h k = AreDrawn-append s es (e ∷ []) h (k, tt)
 
-module _ (xs : List Entry) (start mark : ℕ) (e : Entry) (kept : IsKept xs start mark) where
-  within : start ≤ length xs
-  within = omega (arith, kept.start_first, kept.mark_within)
+within-more : (at : Option ℕ) (xs : List Entry) (e : Entry) → IsWithin at (length xs) → IsWithin at (length (xs ++ e ∷ []))
+within-more None xs e h = tt
+within-more (Some n) xs e h = omega (arith, length-append xs (e ∷ []))
 
-  pub note-kept : May (after_all blank (drop start xs)) e → is_call e ≡ true → IsKept (xs ++ e ∷ []) start mark
+lacked-more : (b : Begin) (xs : List Entry) (e : Entry) (start : ℕ) (at : Option ℕ) → IsWithin at (length xs) → lacked_at b (xs ++ e ∷ []) start at ≡ lacked_at b xs start at
+lacked-more b xs e start None h = refl
+lacked-more b xs e start (Some n) h = ap (λ ys. Some ((after_all (begun b) (drop start ys)).turns)) (take-append-le n xs (e ∷ []) h)
+
+-- a mark at the end
+pub lacked-here : (b : Begin) (xs : List Entry) (start len : ℕ) → len ≡ length xs → lacked_at b xs start (Some len) ≡ Some ((after_all (begun b) (drop start xs)).turns)
+lacked-here b xs start len is = ap (λ ys. Some ((after_all (begun b) (drop start ys)).turns)) (take_all len xs (omega arith))
+
+module _ (b : Begin) (xs : List Entry) (start mark : ℕ) (lacked : Option ℕ) (e : Entry) (kept : IsKept b xs start mark lacked) where
+  start_within : start ≤ length xs
+  start_within = omega (arith, kept.start_first, kept.mark_within)
+
+  pub note-kept : May (after_all (begun b) (drop start xs)) e → is_call e ≡ true → IsKept b (xs ++ e ∷ []) start mark lacked
   note-kept m k = record {
     start_first = kept.start_first;
     mark_within = omega (arith, kept.mark_within, length-append xs (e ∷ []));
-    lawful = rw (drop-append-le start xs (e ∷ []) within) (lawful-more blank (drop start xs) e kept.lawful m);
-    drawn = rw (drop-append-le start xs (e ∷ []) within) (drawn-more blank (drop start xs) e kept.drawn (call-drawn (after_all blank (drop start xs)) e k));
+    lawful = rw (drop-append-le start xs (e ∷ []) start_within) (lawful-more (begun b) (drop start xs) e kept.lawful m);
+    drawn = rw (drop-append-le start xs (e ∷ []) start_within) (drawn-more (begun b) (drop start xs) e kept.drawn (call-drawn (after_all (begun b) (drop start xs)) e k));
     calls = rw (drop-append-le mark xs (e ∷ []) kept.mark_within) (AreCalls-append (drop mark xs) e kept.calls k);
+    lacked_within = within-more lacked xs e kept.lacked_within;
   }
 
-  pub note-told : told_from (xs ++ e ∷ []) start mark ≡ noted (told_from xs start mark) e
+  pub note-told : told_from b (xs ++ e ∷ []) start mark ≡ noted (told_from b xs start mark) e
   note-told =
-      let within = within in
-      rw (take-append-le start xs (e ∷ []) within, take-append-le mark xs (e ∷ []) kept.mark_within, drop-append-le mark xs (e ∷ []) kept.mark_within, drop-append-le start xs (e ∷ []) within, state-more blank (drop start xs) e) refl
+      let start_within = start_within in
+      rw (take-append-le start xs (e ∷ []) start_within, take-append-le mark xs (e ∷ []) kept.mark_within, drop-append-le mark xs (e ∷ []) kept.mark_within, drop-append-le start xs (e ∷ []) start_within, state-more (begun b) (drop start xs) e) refl
 
-  pub push-kept : (len : ℕ) → len ≡ length (xs ++ e ∷ []) → May (after_all blank (drop start xs)) e → IsDrawn (after_all blank (drop start xs)) e → IsKept (xs ++ e ∷ []) start len
+  pub push-kept : (len : ℕ) → len ≡ length (xs ++ e ∷ []) → May (after_all (begun b) (drop start xs)) e → IsDrawn (after_all (begun b) (drop start xs)) e → IsKept b (xs ++ e ∷ []) start len lacked
   push-kept len is m d =
       let all : drop len (xs ++ e ∷ []) ≡ [] = drop_all len (xs ++ e ∷ []) (omega arith) in
       record {
         start_first = omega (arith, kept.start_first, kept.mark_within, length-append xs (e ∷ []));
         mark_within = omega arith;
-        lawful = rw (drop-append-le start xs (e ∷ []) within) (lawful-more blank (drop start xs) e kept.lawful m);
-        drawn = rw (drop-append-le start xs (e ∷ []) within) (drawn-more blank (drop start xs) e kept.drawn d);
+        lawful = rw (drop-append-le start xs (e ∷ []) start_within) (lawful-more (begun b) (drop start xs) e kept.lawful m);
+        drawn = rw (drop-append-le start xs (e ∷ []) start_within) (drawn-more (begun b) (drop start xs) e kept.drawn d);
         calls = rw all tt;
+        lacked_within = within-more lacked xs e kept.lacked_within;
       }
 
-  pub push-told : (len : ℕ) → len ≡ length (xs ++ e ∷ []) → told_from (xs ++ e ∷ []) start len ≡ pushed (told_from xs start mark) e
+  pub push-told : (len : ℕ) → len ≡ length (xs ++ e ∷ []) → told_from b (xs ++ e ∷ []) start len ≡ pushed (told_from b xs start mark) e
   push-told len is =
       let all = drop_all len (xs ++ e ∷ []) (omega arith) in
       let whole = take_all len (xs ++ e ∷ []) (omega arith) in
-      let within = within in
+      let start_within = start_within in
       let parts = joined xs start mark kept.start_first kept.mark_within in
-      rw (take-append-le start xs (e ∷ []) within, all, whole, drop-append-le start xs (e ∷ []) within, state-more blank (drop start xs) e, parts) refl
+      rw (take-append-le start xs (e ∷ []) start_within, all, whole, drop-append-le start xs (e ∷ []) start_within, state-more (begun b) (drop start xs) e, parts) refl
+
+  pub more-lacked : lacked_at b (xs ++ e ∷ []) start lacked ≡ lacked_at b xs start lacked
+  more-lacked = lacked-more b xs e start lacked kept.lacked_within

@@ -1,3 +1,4 @@
 pub mod Entries
 pub mod Alarms
 pub mod Counts
+pub mod Turning

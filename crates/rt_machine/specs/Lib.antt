@@ -1,4 +1,5 @@
 pub mod Told
 pub mod Places
 pub mod Calls
-pub mod Below
+pub mod Failures
+pub mod Steps

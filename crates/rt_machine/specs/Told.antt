@@ -1,30 +1,33 @@
 -- What the journal of a run tells.
-use Rattle.std.specs.Prelude.{◌≡◌, ◌≤◌, ℕ, List, [], ◌∷◌, ◌++◌, take, drop, length, Bool, true, false}
+use Rattle.std.specs.Prelude.{◌≡◌, ◌≤◌, ℕ, List, [], ◌∷◌, ◌++◌, take, drop, length, Bool, true, false, Option, Some, None, option_map}
 use Rattle.rt_audit.specs.declared.entry.Entry.{Entry}
-use Rattle.rt_audit.specs.declared.entry.Entry.TheVariants.{Call, Wake}
-use Rattle.rt_model.specs.State.{State, blank}
+use Rattle.rt_audit.specs.declared.entry.Entry.TheVariants.{Call, Wake, Root, Answer, Cleanup, Crash}
+use Rattle.rt_model.specs.declared.begin.Begin.{Begin}
+use Rattle.rt_model.specs.State.{State, Turn, begun}
 use Rattle.rt_model.specs.Effects.{after, after_all}
 use Rattle.rt_model.specs.Rules.{IsLawful, AreDrawn}
 
--- the entries that the run was given, its own up to the calls under way, the calls under way, and the state
+-- how the run began, the entries that it was given, its own up to the calls under way, the calls under way, and the state
 pub record Told : Type 0 where
+  pub begin : Begin
   pub given : List Entry
   pub past : List Entry
   pub calls : List Entry
   pub state : State
 
--- and how many more entries have room
+-- what is told, how many more entries have room, and the turns that were made before a call of the part under way lacked memory, if one did
 pub record Journaled : Type 0 where
   pub told : Told
   pub spare : ℕ
+  pub lacked : Option (List Turn)
 
 -- before the first entry of a run
-abbrev pub fresh : List Entry → Told
-fresh given = record { given = given; past = []; calls = []; state = blank }
+abbrev pub fresh : Begin → List Entry → Told
+fresh begin given = record { begin = begin; given = given; past = []; calls = []; state = begun begin }
 
 -- with a further entry, which ends the calls under way
 abbrev pub pushed : Told → Entry → Told
-pushed t e = record { given = t.given; past = (t.past ++ t.calls) ++ e ∷ []; calls = []; state = after t.state e }
+pushed t e = record { begin = t.begin; given = t.given; past = (t.past ++ t.calls) ++ e ∷ []; calls = []; state = after t.state e }
 
 abbrev pub pushed_all : Told → List Entry → Told
 pushed_all t [] = t
@@ -32,7 +35,7 @@ pushed_all t (e ∷ es) = pushed_all (pushed t e) es
 
 -- with a further call or wake
 abbrev pub noted : Told → Entry → Told
-noted t e = record { given = t.given; past = t.past; calls = t.calls ++ e ∷ []; state = after t.state e }
+noted t e = record { begin = t.begin; given = t.given; past = t.past; calls = t.calls ++ e ∷ []; state = after t.state e }
 
 abbrev pub is_call : Entry → Bool
 is_call (Call by call reply) = true
@@ -44,22 +47,54 @@ abbrev pub AreCalls : List Entry → Type 0
 AreCalls [] = Unit {0}
 AreCalls (e ∷ es) = (is_call e ≡ true) × AreCalls es
 
+-- the steps of no task decide the entry
+abbrev pub is_quiet : Entry → Bool
+is_quiet (Root task) = false
+is_quiet (Answer task kind) = false
+is_quiet Cleanup = false
+is_quiet (Crash choices) = false
+is_quiet _ = true
+
+abbrev pub AreQuiet : List Entry → Type 0
+AreQuiet [] = Unit {0}
+AreQuiet (e ∷ es) = (is_quiet e ≡ true) × AreQuiet es
+
+-- entries were added that the steps of no task decide
+pub record Quietly (old new : Told) : Type 0 where
+  pub entries : List Entry
+  pub quiet : AreQuiet entries
+  pub is : new ≡ pushed_all old entries
+
 -- all entries of the run
 abbrev pub own : Told → List Entry
 own t = t.past ++ t.calls
 
 -- what is told by the entries of a journal, whose run starts at one place and whose calls under way start at another
-abbrev pub told_from : List Entry → ℕ → ℕ → Told
-told_from entries start mark = record {
+abbrev pub told_from : Begin → List Entry → ℕ → ℕ → Told
+told_from begin entries start mark = record {
+  begin = begin;
   given = take start entries;
   past = drop start (take mark entries);
   calls = drop mark entries;
-  state = after_all blank (drop start entries);
+  state = after_all (begun begin) (drop start entries);
 }
 
-pub record IsKept (entries : List Entry) (start mark : ℕ) : Type 0 where
+-- the turns of the part under way when there were so many entries
+abbrev pub turns_at : Begin → List Entry → ℕ → ℕ → List Turn
+turns_at begin entries start len = (after_all (begun begin) (drop start (take len entries))).turns
+
+abbrev pub lacked_at : Begin → List Entry → ℕ → Option ℕ → Option (List Turn)
+lacked_at begin entries start len = option_map (turns_at begin entries start) len
+
+-- no place, or one within these
+abbrev pub IsWithin : Option ℕ → ℕ → Type 0
+IsWithin None len = Unit {0}
+IsWithin (Some at) len = at ≤ len
+
+pub record IsKept (begin : Begin) (entries : List Entry) (start mark : ℕ) (lacked : Option ℕ) : Type 0 where
   pub start_first : start ≤ mark
   pub mark_within : mark ≤ length entries
-  pub lawful : IsLawful blank (drop start entries)
-  pub drawn : AreDrawn blank (drop start entries)
+  pub lawful : IsLawful (begun begin) (drop start entries)
+  pub drawn : AreDrawn (begun begin) (drop start entries)
   pub calls : AreCalls (drop mark entries)
+  pub lacked_within : IsWithin lacked (length entries)

@@ -1,52 +1,68 @@
 //! The journal of a run: each entry may come where it stands.
 
-ghost use Rattle.std.specs.Prelude.{◌≡◌, ◌≤◌, ◌<◌, ◌+◌, ◌∷◌, ◌++◌, [], length, OnErr, OnOk, true};
-ghost use Rattle.rt_model.specs.State.{blank};
+ghost use Rattle.std.specs.Prelude.{◌≡◌, ◌≤◌, ◌<◌, ◌+◌, ◌∷◌, ◌++◌, [], length, OnErr, OnOk, true, None, is_some};
+ghost use Rattle.rt_model.specs.State.{begun};
 ghost use Rattle.rt_model.specs.Effects.{after_all};
 ghost use Rattle.rt_model.specs.Rules.{May, IsDrawn, IsLawful, AreDrawn};
 ghost use Rattle.rt_machine.specs.Told.{fresh, pushed, noted, is_call, AreCalls, own};
+ghost use Rattle.rt_machine.specs.Calls.{marked};
 
 use rt_audit::{Entry, Journal};
 use rt_base::NoMemory;
+use rt_model::Begin;
 use std::marker::Model;
 
 /// The entries of earlier runs, and of the one under way.
 ///
-/// Contracts see what the run's own entries tell, and how many more entries have room.
+/// Contracts see what the run's own entries tell, how many more entries have room, and after which turns a call of the
+/// part under way lacked memory first, if one did.
 #[derive(Drop)]
 pub struct RunJournal {
     journal: Journal,
+    begin: Begin,
     start: usize,
     mark: usize,
+    lacked: Option<usize>,
 }
 
 impl Model for RunJournal {
-    ghost use Rattle.rt_machine.specs.Told.{Journaled, told_from, IsKept};
+    ghost use Rattle.rt_machine.specs.Told.{Journaled, told_from, lacked_at, IsKept};
 
     ghost Value = { Journaled };
 
-    ghost view = { λ j. record { told = told_from j.journal.entries j.start j.mark; spare = j.journal.spare } };
+    ghost view = { λ j. record { told = told_from j.begin j.journal.entries j.start j.mark; spare = j.journal.spare; lacked = lacked_at j.begin j.journal.entries j.start j.lacked } };
 
-    ghost invariant = { λ j. IsKept j.journal.entries j.start j.mark };
+    ghost invariant = { λ j. IsKept j.begin j.journal.entries j.start j.mark j.lacked };
 }
 
 impl RunJournal {
-    /// A journal that goes on after these entries with a new run.
-    pub fn after(journal: Journal) -> Self
-        ensures told { result.told ≡ fresh journal.entries }
+    /// A journal that goes on after these entries with a run that begins so.
+    pub fn after(journal: Journal, begin: Begin) -> Self
+        ensures told { result.told ≡ fresh begin journal.entries }
         ensures spare { result.spare ≡ journal.spare }
+        ensures lacked { result.lacked ≡ None }
     {
         let len = journal.len();
         RunJournal {
             journal,
+            begin,
             start: len,
             mark: len,
+            lacked: None,
         }
+    }
+
+    /// How the run begins.
+    pub fn begin(&self) -> Begin
+        ensures { result ≡ self.now.told.begin }
+    {
+        self.begin
     }
 
     /// Takes room for at least so many further entries.
     pub fn reserve(&mut self, entries: usize) -> Result<(), NoMemory>
         ensures told { self.new.told ≡ self.old.told }
+        ensures lacked { self.new.lacked ≡ self.old.lacked }
         ensures kept { self.old.spare ≤ self.new.spare }
         ensures room { OnOk result (entries ≤ self.new.spare) }
     {
@@ -60,6 +76,7 @@ impl RunJournal {
         requires drawn { IsDrawn self.old.told.state entry }
         ensures told { self.new.told ≡ pushed self.old.told entry }
         ensures spare { self.new.spare + 1 ≡ self.old.spare }
+        ensures lacked { self.new.lacked ≡ self.old.lacked }
     {
         self.journal.push(entry);
         self.mark = self.journal.len();
@@ -72,15 +89,43 @@ impl RunJournal {
         requires call { is_call entry ≡ true }
         ensures told { self.new.told ≡ noted self.old.told entry }
         ensures spare { self.new.spare + 1 ≡ self.old.spare }
+        ensures lacked { self.new.lacked ≡ self.old.lacked }
     {
         self.journal.push(entry);
     }
 
+    /// Marks that a call lacked memory here. A mark that is there stays.
+    pub fn mark_lack(&mut self)
+        ensures told { self.new.told ≡ self.old.told }
+        ensures spare { self.new.spare ≡ self.old.spare }
+        ensures lacked { self.new.lacked ≡ marked self.old.lacked self.old.told.state.turns }
+    {
+        if self.lacked.is_none() {
+            self.lacked = Some(self.journal.len());
+        }
+    }
+
+    /// Whether there is such a mark.
+    pub fn has_lacked(&self) -> bool
+        ensures { result ≡ is_some self.now.lacked }
+    {
+        self.lacked.is_some()
+    }
+
+    /// Takes the mark off.
+    pub fn clear_lack(&mut self)
+        ensures told { self.new.told ≡ self.old.told }
+        ensures spare { self.new.spare ≡ self.old.spare }
+        ensures lacked { self.new.lacked ≡ None }
+    {
+        self.lacked = None;
+    }
+
     /// What is known of each journal.
     pub fn facts(&self)
-        ensures lawful { IsLawful blank (own self.now.told) }
-        ensures drawn { AreDrawn blank (own self.now.told) }
-        ensures state { self.now.told.state ≡ after_all blank (own self.now.told) }
+        ensures lawful { IsLawful (begun self.now.told.begin) (own self.now.told) }
+        ensures drawn { AreDrawn (begun self.now.told.begin) (own self.now.told) }
+        ensures state { self.now.told.state ≡ after_all (begun self.now.told.begin) (own self.now.told) }
         ensures calls { AreCalls self.now.told.calls }
     {
         let _ = &self.start;

@@ -3,28 +3,32 @@
 use crate::Machine;
 use rt_audit::{AnswerKind, FinishCause, Journal};
 use rt_base::{Error, NoMemory};
+use rt_model::Begin;
 use std::alloc::Global;
 use std::test::Fail;
 
 /// How many entries a run has in which the root sleeps, its alarm goes off, and its end wakes itself and a task that was
 /// never there.
-#[tactic(auto, using(crate::proofs::Counts::count_laws), unfolding(rt_model::specs::Effects::after, rt_model::specs::State::blank))]
+#[tactic(auto, using(crate::proofs::Counts::count_laws), unfolding(rt_model::specs::Effects::after, rt_model::specs::State::begun))]
 fn run(alloc: Global) -> Result<usize, NoMemory> {
-    let Ok(mut machine) = Machine::begin(alloc, Journal::new(alloc), 0, 1_000_000, None, 0) else {
+    let begin = Begin {
+        start: 0,
+        cycle: 1_000_000,
+        deadline: None,
+        first: 0,
+    };
+    let Ok(mut machine) = Machine::begin(alloc, Journal::new(alloc), begin) else {
         return Err(NoMemory);
     };
     let root = machine.register_root()?;
-    let _ = machine.round()?;
+    let mut order = Vec::new(alloc);
+    machine.round(&mut order)?;
     machine.visit(root)?;
     let _ = machine.sleep_poll(Some(root), 5_000_000, None)?;
     machine.answer(root, AnswerKind::Pending);
-    machine.advance()?;
-    if let Some(to) = machine.skip_to() {
-        machine.skip(to)?;
-    }
-    if let Some(alarm) = machine.fires() {
-        machine.fire(alarm);
-    }
+    let Ok(()) = machine.clock_step() else {
+        return Err(NoMemory);
+    };
     machine.cleanup();
     let Ok(()) = machine.wake(Some(root), root) else {
         return Err(NoMemory);

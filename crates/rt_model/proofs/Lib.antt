@@ -1,2 +1,4 @@
 pub mod Append
 pub mod Walks
+pub mod Time
+pub mod Rooted

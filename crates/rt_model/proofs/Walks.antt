@@ -1,32 +1,74 @@
 -- Walks, one after another.
-use Rattle.std.proofs.Common.{◌≡◌, List, [], ◌∷◌, ◌++◌, append_assoc}
-use Rattle.rt_model.specs.State.{Nodes, Turn}
-use Rattle.rt_model.specs.Walk.{Ask, Heard, Step, Does, Spends, Gives, Held, Goes, WalksFrom, Walks, Asks, heard_of, moved}
+use Rattle.std.proofs.Common.{◌≡◌, List, [], ◌∷◌, ◌++◌}
+use Rattle.rt_model.specs.State.{Stood, Turn}
+use Rattle.rt_model.specs.Turns.{Held, heard_of, moved}
+use Rattle.rt_model.specs.Walk.{Step, Does, Spends, Gives, Gave, Goes, Walks, Fronts, Lacks, Stops, then, stood_before}
 
-module _ {A L O R : Type 0} (f g : List (Heard O) → Step L O R) (before : List (Heard O)) (same : (heard : List (Heard O)) → f (before ++ heard) ≡ g heard) (nodes : Nodes) (answer : R) (left : L) (end : Held A O) where
-  goes : (turns : List Turn) → ((held : Held A O) (heard : List (Heard O)) (step : Step L O R) → WalksFrom g nodes answer left end turns held heard step → WalksFrom f nodes answer left end turns held (before ++ heard) step) → (held : Held A O) (heard : List (Heard O)) (step : Step L O R) (t : Turn) → Goes g (WalksFrom g nodes answer left end turns) held heard step t → Goes f (WalksFrom f nodes answer left end turns) held (before ++ heard) step t
-  goes turns on held heard (Does ask) t w =
-      let h = heard_of held t ∷ [] in
-      (w.0, rw (append_assoc before heard h, same (heard ++ h)) (on (moved held ask t) (heard ++ h) (g (heard ++ h)) w.1))
-  goes turns on held heard (Spends ask next) t w = (
-    λ there. ((w.0 there).0, (w.0 there).1, on (moved held ask t) heard next (w.0 there).2),
-    λ gone. goes turns on held heard next t (w.1 gone),
-  )
-  goes turns on held heard (Gives given state) t w = absurd w
+-- what is said of a step and of what follows from it is said, behind the next turn, of both
+goes-then : {A L O R M Q : Type 0} (more : R → L → Step A M O Q) (on : Held A O → Step A L O R → Type 0) (end : Held A O → Step A M O Q → Type 0) → ((held : Held A O) (step : Step A L O R) → on held step → end held (then step more)) → (held : Held A O) (step : Step A L O R) (t : Turn) → Goes on held step t → Goes end held (then step more) t
+unfolding then
+goes-then more on end lift held (Does ask step) t w = (w.0, lift (moved held ask t) (step (heard_of held t)) w.1)
+goes-then more on end lift held (Spends ask next) t w = (
+  λ there. ((w.0 there).0, (w.0 there).1, lift (moved held ask t) next (w.0 there).2),
+  λ gone. goes-then more on end lift held next t (w.1 gone),
+)
+goes-then more on end lift held (Gives given state) t w = absurd w
 
-  -- steps that go on as others do, behind what was heard before
-  pub walks-behind : (turns : List Turn) (held : Held A O) (heard : List (Heard O)) (step : Step L O R) → WalksFrom g nodes answer left end turns held heard step → WalksFrom f nodes answer left end turns held (before ++ heard) step
-  walks-behind [] held heard step w = w
-  walks-behind (t ∷ turns) held heard step w = goes turns (walks-behind turns) held heard step t w
+module _ {A L O R M Q : Type 0} (more : R → L → Step A M O Q) (s1 : Stood) (r : R) (a : L) (mid : Held A O) where
+  -- the first has made all its calls
+  gave-goes : (end : Held A O → Step A M O Q → Type 0) (u : Turn) (held : Held A O) (step : Step A L O R) → u.stood ≡ s1 → Gave s1 held step r a mid → Goes end mid (more r a) u → Goes end held (then step more) u
+  unfolding then
+  gave-goes end u held (Does ask on) e g w = absurd g
+  gave-goes end u held (Spends ask next) e g w = (λ there. cc (g.0), λ gone. gave-goes end u held next e g.1 w)
+  gave-goes end u held (Gives given state) e g w = rw (g.0, g.1, ← g.2) w
 
--- a call, and then what the steps do that have heard its reply
-pub walks-then : {A L O R : Type 0} → (f g : List (Heard O) → Step L O R) (ask : Ask O) (t : Turn) (more : List Turn) (nodes : Nodes) (answer : R) (left : L) (held end : Held A O) → f [] ≡ Does ask → Asks ask t → ((heard : List (Heard O)) → f (heard_of held t ∷ heard) ≡ g heard) → Walks g (moved held ask t) more nodes answer left end → Walks f held (t ∷ more) nodes answer left end
-walks-then f g ask t more nodes answer left held end asks is on w =
-    let h = heard_of held t ∷ [] in
-    let k : WalksFrom f nodes answer left end more (moved held ask t) (h ++ []) (g []) = walks-behind f g h on nodes answer left end more (moved held ask t) [] (g []) w in
-    rw asks (is, rw (on []) k)
+  gave-gave : (q : Q) (b : M) (end held : Held A O) (step : Step A L O R) → Gave s1 held step r a mid → Gave s1 mid (more r a) q b end → Gave s1 held (then step more) q b end
+  unfolding then
+  gave-gave q b end held (Does ask on) g w = absurd g
+  gave-gave q b end held (Spends ask next) g w = (g.0, gave-gave q b end held next g.1 w)
+  gave-gave q b end held (Gives given state) g w = rw (g.0, g.1, ← g.2) w
 
--- steps that are the same
-pub walks-same : {A L O R : Type 0} → (f g : List (Heard O) → Step L O R) (turns : List Turn) (nodes : Nodes) (answer : R) (left : L) (held end : Held A O) → ((heard : List (Heard O)) → f heard ≡ g heard) → Walks g held turns nodes answer left end → Walks f held turns nodes answer left end
-walks-same f g turns nodes answer left held end same w =
-    rw (same []) (walks-behind f g [] same nodes answer left end turns held [] (g []) w)
+  -- one after the other
+  pub walks-then : (s2 : Stood) (q : Q) (b : M) (end : Held A O) (ts us : List Turn) (held : Held A O) (step : Step A L O R) → stood_before us s2 ≡ s1 → Walks step held ts s1 r a mid → Walks (more r a) mid us s2 q b end → Walks (then step more) held (ts ++ us) s2 q b end
+  walks-then s2 q b end [] [] held step e w k = rw e (gave-gave q b end held step w (rw e at k))
+  walks-then s2 q b end [] (u ∷ us) held step e w k = gave-goes (λ held step. Walks step held us s2 q b end) u held step e w k
+  walks-then s2 q b end (t ∷ ts) us held step e w k =
+      goes-then more (λ held step. Walks step held ts s1 r a mid) (λ held step. Walks step held (ts ++ us) s2 q b end) (λ held step w. walks-then s2 q b end ts us held step e w k) held step t w
+
+  -- a front of the second is one of both
+  pub fronts-then : (s2 : Stood) (ts us : List Turn) (held : Held A O) (step : Step A L O R) → stood_before us s2 ≡ s1 → Walks step held ts s1 r a mid → Fronts (more r a) mid us → Fronts (then step more) held (ts ++ us)
+  fronts-then s2 [] [] held step e w k = tt
+  fronts-then s2 [] (u ∷ us) held step e w k = gave-goes (λ held step. Fronts step held us) u held step e w k
+  fronts-then s2 (t ∷ ts) us held step e w k =
+      goes-then more (λ held step. Walks step held ts s1 r a mid) (λ held step. Fronts step held (ts ++ us)) (λ held step w. fronts-then s2 ts us held step e w k) held step t w
+
+-- and so is a front of the first
+pub fronts-first : {A L O R M Q : Type 0} (more : R → L → Step A M O Q) (ts : List Turn) (held : Held A O) (step : Step A L O R) → Fronts step held ts → Fronts (then step more) held ts
+fronts-first more [] held step w = tt
+fronts-first more (t ∷ ts) held step w =
+    goes-then more (λ held step. Fronts step held ts) (λ held step. Fronts step held ts) (λ held step w. fronts-first more ts held step w) held step t w
+
+-- what follows from a step that lacks memory isn't reached
+lacks-then : {A L O R M Q : Type 0} (more : R → L → Step A M O Q) (stood : Stood) (step : Step A L O R) → Lacks stood step → Lacks stood (then step more)
+unfolding then
+lacks-then more stood (Does ask on) w = tt
+lacks-then more stood (Spends ask next) w = (w.0, lacks-then more stood next w.1)
+lacks-then more stood (Gives answer left) w = absurd w
+
+pub stops-first : {A L O R M Q : Type 0} (more : R → L → Step A M O Q) (stood : Stood) (ts : List Turn) (held : Held A O) (step : Step A L O R) → Stops step held ts stood → Stops (then step more) held ts stood
+stops-first more stood [] held step w = lacks-then more stood step w
+stops-first more stood (t ∷ ts) held step w =
+    goes-then more (λ held step. Stops step held ts stood) (λ held step. Stops step held ts stood) (λ held step w. stops-first more stood ts held step w) held step t w
+
+module _ {A L O R M Q : Type 0} (more : R → L → Step A M O Q) (s1 : Stood) (r : R) (a : L) (mid : Held A O) where
+  gave-lacks : (held : Held A O) (step : Step A L O R) → Gave s1 held step r a mid → Lacks s1 (more r a) → Lacks s1 (then step more)
+  unfolding then
+  gave-lacks held (Does ask on) g w = absurd g
+  gave-lacks held (Spends ask next) g w = (g.0, gave-lacks held next g.1 w)
+  gave-lacks held (Gives given state) g w = rw (g.0, g.1) w
+
+  pub stops-then : (s2 : Stood) (ts us : List Turn) (held : Held A O) (step : Step A L O R) → stood_before us s2 ≡ s1 → Walks step held ts s1 r a mid → Stops (more r a) mid us s2 → Stops (then step more) held (ts ++ us) s2
+  stops-then s2 [] [] held step e w k = rw e (gave-lacks held step w (rw e at k))
+  stops-then s2 [] (u ∷ us) held step e w k = gave-goes more s1 r a mid (λ held step. Stops step held us s2) u held step e w k
+  stops-then s2 (t ∷ ts) us held step e w k =
+      goes-then more (λ held step. Walks step held ts s1 r a mid) (λ held step. Stops step held (ts ++ us) s2) (λ held step w. stops-then s2 ts us held step e w k) held step t w

@@ -1,42 +1,21 @@
--- Alarms: a list in order of due times, and of numbers where these are equal.
-use Rattle.std.specs.Prelude.{ℕ, List, [], ◌∷◌, Option, Some, None, Bool, false, leb, ltb, eqb, if◌then◌else◌, ◌+◌, ◌&&◌, ◌||◌}
-use Rattle.rt_model.specs.declared.alarm.Alarm.{Alarm}
-use Rattle.rt_model.specs.State.{Alarms}
+-- Alarms, as a run sets them, skips to them and lets them go off.
+use Rattle.std.specs.Prelude.{ℕ, List, [], ◌∷◌, Option, Some, None, Bool, false, ltb, leb, eqb, ◌==◌, if◌then◌else◌}
+use Rattle.std.specs.Option.{option_map_or}
+use Rattle.rt_super.specs.Alarms.{Alarm, AlarmList, alarm_set, alarm_rewoken, alarm_at}
 use Rattle.rt_model.specs.Lists.{those}
 
--- an alarm in its place, after those that are due no later. A new alarm has the greatest number, so equal times stay in order of numbers
-abbrev pub with_alarm : Alarm → List Alarm → List Alarm
-with_alarm a [] = a ∷ []
-with_alarm a (b ∷ rest) = if ltb a.due b.due then a ∷ (b ∷ rest) else b ∷ with_alarm a rest
-
--- the alarm has this number and is due at this time
-abbrev pub is_alarm : ℕ → ℕ → Alarm → Bool
-is_alarm due number a = eqb a.number number && eqb a.due due
-
--- the alarm of this number and time, now waking this task
-abbrev pub rewoken : ℕ → ℕ → Option ℕ → List Alarm → List Alarm
-rewoken due number task [] = []
-rewoken due number task (b ∷ rest) =
-    if is_alarm due number b
-    then record { due = due; number = number; task = task } ∷ rest
-    else b ∷ rewoken due number task rest
-
--- an alarm of this number is set for this time
+-- the alarm of this number is set for this time
 abbrev pub is_set : List Alarm → ℕ → ℕ → Bool
-is_set [] due number = false
-is_set (a ∷ rest) due number = is_alarm due number a || is_set rest due number
+is_set alarms due number = option_map_or (λ a. a.due == due) (alarm_at alarms number) false
 
 -- the number of the alarm of a sleep that has had this one or none: its own where that is still set for this time, else the next
-abbrev pub alarm_of : Alarms → ℕ → Option ℕ → ℕ
+abbrev pub alarm_of : AlarmList → ℕ → Option ℕ → ℕ
 alarm_of a due None = a.count
-alarm_of a due (Some number) = if is_set a.set due number then number else a.count
+alarm_of a due (Some number) = if is_set a.alarms due number then number else a.count
 
 -- after a sleep was told this number: a new alarm, or its own with the task in the place of the one before
-abbrev pub slept : Alarms → Option ℕ → ℕ → ℕ → Alarms
-slept a by due number =
-    if eqb number a.count
-    then record { set = with_alarm (record { due = due; number = number; task = by }) a.set; count = a.count + 1 }
-    else record { set = rewoken due number by a.set; count = a.count }
+abbrev pub slept : AlarmList → Option ℕ → ℕ → ℕ → AlarmList
+slept a by due number = if eqb number a.count then alarm_set a due by else alarm_rewoken a number by
 
 -- the due time of the earliest alarm, where it lies ahead
 abbrev pub ahead : List Alarm → ℕ → Option ℕ

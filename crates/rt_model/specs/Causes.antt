@@ -3,9 +3,9 @@ use Rattle.std.specs.Prelude.{ℕ, List, [], ◌∷◌, Option, Some, None, Bool
 use Rattle.rt_base.specs.declared.time.TheConstants.{MAX_TIME}
 use Rattle.rt_audit.specs.declared.finish.FinishCause.{FinishCause}
 use Rattle.rt_audit.specs.declared.finish.FinishCause.TheVariants.{Timeout, Stalled, TimeOverflow, TooManyTasks}
-use Rattle.rt_model.specs.declared.alarm.Alarm.{Alarm}
+use Rattle.rt_super.specs.Alarms.{Alarm}
 use Rattle.rt_model.specs.Lists.{is_nil, has_number, is_some_number, or_else}
-use Rattle.rt_model.specs.State.{Phase, Blank, Making, Between, Visiting, Entered, Polling, Turning, Over, Closing, Crashed, Finished, Clock, State}
+use Rattle.rt_model.specs.State.{Phase, Blank, Making, Between, Visiting, Entered, Polling, Ending, Turning, Over, Cleaning, Closing, Crashed, Finished, Clock, State}
 use Rattle.rt_model.specs.Alarms.{skip_to, fires}
 
 -- the deadline is there
@@ -49,11 +49,13 @@ cause_at Between s = where_true (is_late s.clock) Timeout
 cause_at (Visiting left) s = where_true (is_nil (from_running s.running left) && overflows s.clock) TimeOverflow
 cause_at Turning s =
     turning_cause
-    (skip_to s.ready s.alarms.set s.clock.time) (is_late s.clock) (fires s.alarms.set s.clock.time) s.ready s.alarms.set
+    (skip_to s.ready s.alarms.alarms s.clock.time) (is_late s.clock) (fires s.alarms.alarms s.clock.time) s.ready s.alarms.alarms
 cause_at (Over cause) s = Some cause
 cause_at Blank s = None
 cause_at (Entered task left) s = None
 cause_at (Polling task left) s = None
+cause_at (Ending task left) s = None
+cause_at (Cleaning cause) s = cause
 cause_at (Closing cause) s = cause
 cause_at (Crashed cause) s = cause
 cause_at (Finished cause) s = Some cause

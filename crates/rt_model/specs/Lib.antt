@@ -1,10 +1,12 @@
 pub mod Lists
 pub mod State
 pub mod Alarms
+pub mod Draws
 pub mod Events
 pub mod Causes
 pub mod Effects
 pub mod Rules
+pub mod Turns
 pub mod Walk
 pub mod Tied
 pub mod Run

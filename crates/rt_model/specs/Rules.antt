@@ -13,10 +13,12 @@ use Rattle.rt_audit.specs.declared.finish.FinishCause.{FinishCause}
 use Rattle.rt_audit.specs.declared.finish.FinishCause.TheVariants.{NoMemory as OutOfMemory}
 use Rattle.rt_audit.specs.declared.entry.Entry.{Entry}
 use Rattle.rt_audit.specs.declared.entry.Entry.TheVariants.{Start, Call as CallEntry, Event, Wake, Draw, Root, Round, Visit, Answer, NodeEnd, Advance, Skip, Fire, Cleanup, Crash, Finish}
-use Rattle.rt_model.specs.State.{Phase, Blank, Making, Between, Visiting, Entered, Polling, Turning, Closing, Crashed, Finished, Numbers, Nodes, State}
+use Rattle.rt_super.specs.Ancestry.{is_live}
+use Rattle.rt_model.specs.State.{Phase, Blank, Making, Between, Visiting, Entered, Polling, Ending, Turning, Cleaning, Closing, Crashed, Finished, Numbers, State}
 use Rattle.rt_model.specs.Alarms.{is_set, skip_to, fires}
 use Rattle.rt_model.specs.Causes.{is_late, from_running, ends_next}
-use Rattle.rt_model.specs.Effects.{left_of, visited, cause_of, is_live, is_ended, after}
+use Rattle.rt_model.specs.Draws.{shuffled}
+use Rattle.rt_model.specs.Effects.{left_of, visited, cause_of, after}
 use Rattle.rt_model.specs.Events.{process_task, task_fields}
 
 -- this number was given to a task of this run
@@ -30,75 +32,95 @@ Answers s (WakeCall task) Done = WasGiven s.numbers task
 Answers s (WakeCall task) (Refused error) = (error ≡ UnknownToken) × (WasGiven s.numbers task → ⊥)
 Answers s (SleepPoll due) IsReady = due ≤ s.clock.time
 Answers s (SleepPoll due) (PendingAt alarm) =
-    (s.clock.time < due) × ((alarm ≡ s.alarms.count) ⊎ (is_set s.alarms.set due alarm ≡ true))
+    (s.clock.time < due) × (due ≤ MAX_TIME) × ((alarm ≡ s.alarms.count) ⊎ (is_set s.alarms.alarms due alarm ≡ true))
 Answers s _ _ = ⊥
 
--- who makes the calls here: the maker, the task that is polled, or in a cleanup the task that is ended next, once node 0 has ended
-abbrev pub CallsAt : Phase → Nodes → Option ℕ → Option ℕ → Type 0
-CallsAt Making nodes next by = by ≡ None
-CallsAt (Polling task left) nodes next by = by ≡ Some task
-CallsAt (Closing cause) nodes next by = (is_ended nodes 0 ≡ true) × (by ≡ next)
-CallsAt _ nodes next by = ⊥
+-- In a cleanup the task that is ended next makes the calls. Where none is left, a root makes them that was made and not taken in
+abbrev pub IsEndedNext : Option ℕ → Option ℕ → Option ℕ → Type 0
+IsEndedNext root None by = (root ≡ None) × (by ≡ None)
+IsEndedNext root (Some task) by = by ≡ Some task
+
+-- who makes the calls here: the maker, the task that is polled or ends in its visit, or in a cleanup the one that is ended next
+abbrev pub CallsAt : Phase → Option ℕ → Option ℕ → Option ℕ → Type 0
+CallsAt Making root next by = by ≡ None
+CallsAt (Polling task left) root next by = by ≡ Some task
+CallsAt (Ending task left) root next by = by ≡ Some task
+CallsAt (Closing cause) root next by = IsEndedNext root next by
+CallsAt _ root next by = ⊥
 
 abbrev pub MayCall : State → Option ℕ → Type 0
-MayCall s by = CallsAt s.phase s.nodes (ends_next s.running s.root) by
+MayCall s by = CallsAt s.phase s.root (ends_next s.running s.root) by
+
+-- this task's end may be over
+abbrev pub MayEnd : Phase → Option ℕ → ℕ → Type 0
+MayEnd (Ending ended left) next task = task ≡ ended
+MayEnd (Closing cause) next task = next ≡ Some task
+MayEnd _ next task = ⊥
 
 -- a visit, or the end of a task, may be answered so
 abbrev pub MayAnswer : State → ℕ → AnswerKind → Type 0
 MayAnswer s task Pending = s.phase ≡ Polling task (left_of s.phase)
 MayAnswer s task Ready = s.phase ≡ Polling task (left_of s.phase)
 MayAnswer s task NoMemory = s.phase ≡ Polling task (left_of s.phase)
-MayAnswer s task Ended =
-    (s.phase ≡ Closing (cause_of s.phase)) × (is_ended s.nodes 0 ≡ true) × (ends_next s.running s.root ≡ Some task)
+MayAnswer s task Ended = MayEnd s.phase (ends_next s.running s.root) task
 MayAnswer s task _ = ⊥
 
 -- a round may begin here
 abbrev pub MayRound : Phase → State → Type 0
 MayRound Between s = is_late s.clock ≡ false
-MayRound Turning s = (s.ready ≢ []) × (is_late s.clock ≡ false) × (fires s.alarms.set s.clock.time ≡ None)
+MayRound Turning s = (s.ready ≢ []) × (is_late s.clock ≡ false) × (fires s.alarms.alarms s.clock.time ≡ None)
 MayRound _ s = ⊥
 
--- the cleanup may begin here. Want of memory can cut a run off anywhere
+-- the cleanup may begin here. Want of memory can cut a run off between its parts
 abbrev pub MayClose : Phase → Type 0
 MayClose Blank = ⊥
+MayClose (Entered task left) = ⊥
+MayClose (Polling task left) = ⊥
+MayClose (Ending task left) = ⊥
+MayClose (Cleaning cause) = ⊥
 MayClose (Closing cause) = ⊥
 MayClose (Crashed cause) = ⊥
 MayClose (Finished cause) = ⊥
 MayClose _ = Unit {0}
 
-abbrev pub MayCrash : Phase → Nodes → List ℕ → Type 0
-MayCrash (Closing cause) nodes running = (is_ended nodes 0 ≡ true) × (running ≡ [])
-MayCrash _ nodes running = ⊥
+abbrev pub MayCrash : Phase → List ℕ → Type 0
+MayCrash (Closing cause) running = running ≡ []
+MayCrash _ running = ⊥
 
 abbrev pub MayFinish : Phase → FinishCause → Type 0
 MayFinish (Crashed reached) cause = (cause ≡ OutOfMemory) ⊎ (reached ≡ Some cause)
 MayFinish _ cause = ⊥
 
 abbrev pub MayFree : State → Entry → Type 0
-MayFree s (Start next now deadline cycle) = s.phase ≡ Blank
+MayFree s (Start next now deadline cycle) =
+    (s.phase ≡ Blank)
+    × (next ≡ s.clock.fixed.first)
+    × (now ≡ s.clock.fixed.start)
+    × (deadline ≡ s.clock.fixed.deadline)
+    × (cycle ≡ s.clock.fixed.cycle)
 MayFree s (CallEntry by call reply) = MayCall s by × Answers s call reply
 MayFree s (Event label fields) =
     (s.phase ≡ Entered (visited s.phase) (left_of s.phase))
     × (label ≡ process_task)
     × (fields ≡ task_fields (visited s.phase) [])
 MayFree s (Wake task) = ⊥
-MayFree s (Draw value) = ⊥
+MayFree s (Draw value) = MayRound s.phase s
 MayFree s (Root task) = (s.phase ≡ Making) × (task ≡ s.numbers.next) × (task < 2 ^ 64 - 1)
 MayFree s (Round order) = MayRound s.phase s × IsPermutation s.ready order
 MayFree s (Visit task) =
     (s.phase ≡ Visiting (left_of s.phase))
     × (from_running s.running (left_of s.phase) ≡ task ∷ drop 1 (from_running s.running (left_of s.phase)))
 MayFree s (Answer task kind) = MayAnswer s task kind
-MayFree s (NodeEnd node) = (node ≡ 0) × (s.phase ≡ Closing (cause_of s.phase)) × (is_ended s.nodes 0 ≡ false)
+MayFree s (NodeEnd node) = (node ≡ 0) × (s.phase ≡ Cleaning (cause_of s.phase))
 MayFree s (Advance now) =
     (s.phase ≡ Visiting (left_of s.phase))
     × (from_running s.running (left_of s.phase) ≡ [])
     × (now ≡ s.clock.time + s.clock.fixed.cycle)
     × (now ≤ MAX_TIME)
-MayFree s (Skip now) = (s.phase ≡ Turning) × (skip_to s.ready s.alarms.set s.clock.time ≡ Some now)
-MayFree s (Fire alarm) = (s.phase ≡ Turning) × (is_late s.clock ≡ false) × (fires s.alarms.set s.clock.time ≡ Some alarm)
+MayFree s (Skip now) = (s.phase ≡ Turning) × (skip_to s.ready s.alarms.alarms s.clock.time ≡ Some now)
+MayFree s (Fire alarm) = (s.phase ≡ Turning) × (is_late s.clock ≡ false) × (fires s.alarms.alarms s.clock.time ≡ Some alarm)
 MayFree s Cleanup = MayClose s.phase
-MayFree s (Crash choices) = MayCrash s.phase s.nodes s.running × (choices ≡ [])
+MayFree s (Crash choices) = MayCrash s.phase s.running × (choices ≡ [])
 MayFree s (Finish cause) = MayFinish s.phase cause
 
 -- the entry may come next. The wakes of an event come first, exactly these
@@ -111,9 +133,10 @@ abbrev pub IsLawful : State → List Entry → Type 0
 IsLawful s [] = Unit {0}
 IsLawful s (e ∷ es) = May s e × IsLawful (after s e) es
 
--- a round visits its numbers in the order in which they were queued: as long as nothing is drawn, this is what decides among the permutations
+-- Nothing is drawn yet, and a round's order is the ready list as its draws shuffle it. This is what decides among the permutations
 abbrev pub IsDrawn : State → Entry → Type 0
-IsDrawn s (Round order) = order ≡ s.ready
+IsDrawn s (Draw value) = ⊥
+IsDrawn s (Round order) = order ≡ shuffled s.ready s.draws
 IsDrawn s _ = Unit {0}
 
 abbrev pub AreDrawn : State → List Entry → Type 0

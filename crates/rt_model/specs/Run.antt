@@ -1,41 +1,44 @@
 -- What a run is: a list of entries.
-use Rattle.std.specs.Prelude.{◌≡◌, ◌⊎◌, List, [], ◌∷◌, drop, true}
+use Rattle.std.specs.Prelude.{◌≡◌, ◌≢◌, ◌⊎◌, List, [], true}
 use Rattle.rt_audit.specs.declared.finish.FinishCause.{FinishCause}
 use Rattle.rt_audit.specs.declared.finish.FinishCause.TheVariants.{NoMemory}
 use Rattle.rt_audit.specs.declared.entry.Entry.{Entry}
-use Rattle.rt_audit.specs.declared.entry.Entry.TheVariants.{Start}
-use Rattle.rt_model.specs.State.{State, Fixed, Finished, blank}
+use Rattle.rt_model.specs.declared.begin.Begin.{Begin}
+use Rattle.rt_model.specs.State.{State, Finished, begun}
 use Rattle.rt_model.specs.Effects.{after_all}
 use Rattle.rt_model.specs.Rules.{IsLawful}
 use Rattle.rt_model.specs.Tied.{Steps, Value, nothing, IsTied}
 
--- the entries begin with this start, and each may come where it stands
-pub record Begins (begin : Fixed) (x : List Entry) : Type 0 where
-  pub start : x ≡ Start begin.first begin.start begin.deadline begin.cycle ∷ drop 1 x
-  pub lawful : IsLawful blank x
-
 -- from this beginning, a run of these steps that ends for this cause, in this state and with these values
-pub record IsRun (A O : Type 0) (p : Steps A O) (begin : Fixed) (x : List Entry) (cause : FinishCause) (end : State) (value : Value A O) : Type 0 where
-  pub begins : Begins begin x
+pub record IsRun {A O : Type 0} (p : Steps A O) (begin : Begin) (x : List Entry) (cause : FinishCause) (end : State) (value : Value A O) : Type 0 where
+  -- each entry may come where it stands. The first is the start
+  pub lawful : IsLawful (begun begin) x
   -- each entry has one effect
-  pub reaches : after_all blank x ≡ end
+  pub reaches : after_all (begun begin) x ≡ end
   pub ends : end.phase ≡ Finished cause
+  -- a run that lacks memory is cut off
+  pub caused : cause ≢ NoMemory
   -- the maker, and each task in its polls and its end, makes the calls of its own steps and answers so
-  pub tied : IsTied p blank nothing x value
+  pub tied : IsTied p (begun begin) nothing x value
   pub whole : value.whole ≡ true
 
--- a run that was cut off for want of memory: the part under way is free, and so is the end of a task that lacked memory itself
-pub record IsCutOff (A O : Type 0) (p : Steps A O) (begin : Fixed) (x : List Entry) : Type 0 where
+-- a run that was cut off for want of memory. Of a part that lacked it a front is tied; the values of the others are as they were
+pub record IsCutOff {A O : Type 0} (p : Steps A O) (begin : Begin) (x : List Entry) : Type 0 where
   pub value : Value A O
-  pub begins : Begins begin x
-  pub ends : (after_all blank x).phase ≡ Finished NoMemory
-  pub tied : IsTied p blank nothing x value
+  pub lawful : IsLawful (begun begin) x
+  pub ends : (after_all (begun begin) x).phase ≡ Finished NoMemory
+  pub tied : IsTied p (begun begin) nothing x value
 
 -- nothing of the run was written, or it was cut off
-abbrev pub IsInterrupted : (A O : Type 0) → Steps A O → Fixed → List Entry → Type 0
-IsInterrupted A O p begin x = (x ≡ []) ⊎ IsCutOff A O p begin x
+abbrev pub IsInterrupted : {A O : Type 0} → Steps A O → Begin → List Entry → Type 0
+IsInterrupted p begin x = (x ≡ []) ⊎ IsCutOff p begin x
 
 -- a run failed so
-abbrev pub FailedBy : (A O : Type 0) → Steps A O → Fixed → List Entry → FinishCause → Type 0
-FailedBy A O p begin x NoMemory = IsInterrupted A O p begin x
-FailedBy A O p begin x cause = (end : State) × (value : Value A O) × IsRun A O p begin x cause end value
+abbrev pub FailedBy : {A O : Type 0} → Steps A O → Begin → List Entry → FinishCause → Type 0
+FailedBy p begin x NoMemory = IsInterrupted p begin x
+FailedBy {A = A} {O = O} p begin x cause = (end : State) × (value : Value A O) × IsRun p begin x cause end value
+
+-- each run from this beginning completes. Want of memory, which may come at any time, is no run
+abbrev pub IsValidInput : {A O : Type 0} → Steps A O → Begin → Type 0
+IsValidInput {A = A} {O = O} p begin =
+    (entries : List Entry) (cause : FinishCause) (end : State) (value : Value A O) → IsRun p begin entries cause end value → cause ≡ Rattle.rt_audit.specs.declared.finish.FinishCause.TheVariants.Completed

@@ -6,21 +6,27 @@ use Rattle.rt_audit.specs.declared.entry.Entry.{Entry}
 use Rattle.rt_audit.specs.declared.entry.Entry.TheVariants.{Root, Answer as AnswerEntry, Cleanup, Crash}
 use Rattle.rt_model.specs.declared.answer.Answer.{Answer}
 use Rattle.rt_model.specs.declared.answer.Answer.TheVariants.{Pending, Ready}
-use Rattle.rt_model.specs.State.{State, Phase, Making}
+use Rattle.rt_model.specs.Lists.{is_some_number}
+use Rattle.rt_model.specs.State.{State, Phase, Making, stood_in}
 use Rattle.rt_model.specs.Effects.{after}
-use Rattle.rt_model.specs.Walk.{Step, Heard, Held, Walks}
+use Rattle.rt_model.specs.Turns.{Held}
+use Rattle.rt_model.specs.Walk.{Step, Last, Walks, Fronts, Breaks}
 
 -- what a task type does, by the state of a task, the time and its number: in a poll, and in its end
 pub record TaskSteps (A O : Type 0) : Type 0 where
-  pub next : A → ℕ → ℕ → List (Heard O) → Step A O (Answer O)
-  pub last : A → ℕ → ℕ → List (Heard O) → Step (Unit {0}) O (Unit {0})
+  pub next : A → ℕ → ℕ → Step A A O (Answer O)
+  pub last : A → ℕ → ℕ → Last A O
 
--- and with it what a maker of the root does, by the time
+-- what a maker of the root does, by the time
+abbrev pub First : (A O : Type 0) → Type 0
+First A O = ℕ → Step A A O (Unit {0})
+
+-- the steps of a task type, and of the maker
 pub record Steps (A O : Type 0) : Type 0 where
   pub task : TaskSteps A O
-  pub first : ℕ → List (Heard O) → Step A O (Unit {0})
+  pub first : First A O
 
-abbrev pub with_first : {A O : Type 0} → TaskSteps A O → (ℕ → List (Heard O) → Step A O (Unit {0})) → Steps A O
+abbrev pub with_first : {A O : Type 0} → TaskSteps A O → First A O → Steps A O
 with_first task first = record { task = task; first = first }
 
 -- the values of a run: those that the world holds, the root's output, a root that was made and not taken in, and whether no part has lacked memory
@@ -69,50 +75,59 @@ pub record Polls {A O : Type 0} (p : Steps A O) (s : State) (task : ℕ) (held :
   pub left : A
   pub moved : Held A O
   pub there : find task held.tasks ≡ Some before
-  pub walks : Walks (p.task.next before s.clock.time task) (taken task held) s.turns s.nodes answer left moved
+  pub walks : Walks (p.task.next before s.clock.time task) (taken task held) s.turns (stood_in s) answer left moved
   pub is : end ≡ put task left moved
 
--- the calls are those of the end of this state
-abbrev pub Ends : {A O : Type 0} → Steps A O → State → ℕ → A → Held A O → Held A O → Type 0
-Ends p s number before held end = Walks (p.task.last before s.clock.time number) held s.turns s.nodes tt tt end
+-- the poll of this task broke off: its own state is free, and the others stay
+pub record PollBreaks {A O : Type 0} (p : Steps A O) (s : State) (task : ℕ) (v w : Value A O) : Type 0 where
+  pub before : A
+  pub left : A
+  pub there : find task v.held.tasks ≡ Some before
+  pub breaks : Breaks (p.task.next before s.clock.time task) (taken task v.held) s.turns (stood_in s) ⊎ Fronts (p.task.next before s.clock.time task) (taken task v.held) s.turns
+  pub is : w ≡ record v { held = put task left (taken task v.held); whole = false }
+
+-- the calls are those of the end of this state, or its end lacked memory
+abbrev pub EndsState : {A O : Type 0} → Steps A O → State → ℕ → A → Held A O → Value A O → Value A O → Type 0
+EndsState p s number before held v w =
+    (Walks (p.task.last before s.clock.time number) held s.turns (stood_in s) tt tt w.held × (w ≡ record v { held = w.held }))
+    ⊎ (Breaks (p.task.last before s.clock.time number) held s.turns (stood_in s) × (w ≡ record v { held = held; whole = false }))
+
+-- the end of a running task
+abbrev pub EndsTask : {A O : Type 0} → Steps A O → State → Value A O → ℕ → Value A O → Type 0
+EndsTask {A = A} p s v task w = (a : A) × (find task v.held.tasks ≡ Some a) × EndsState p s task a (taken task v.held) v w
 
 -- the calls are those of the maker, which makes this state
 abbrev pub Makes : {A O : Type 0} → Steps A O → State → Held A O → A → Held A O → Type 0
-Makes p s held made end = Walks (p.first s.clock.time) held s.turns s.nodes tt made end
+Makes p s held made end = Walks (p.first s.clock.time) held s.turns (stood_in s) tt made end
 
--- the end of a running task: by its own steps, or it lacked memory itself
-abbrev pub MovesEnded : {A O : Type 0} → Steps A O → State → Value A O → ℕ → Value A O → Type 0
-MovesEnded {A = A} p s v task w =
-    ((a : A) × (find task v.held.tasks ≡ Some a) × Ends p s task a (taken task v.held) w.held × Keeps v w)
-    ⊎ ((w.output ≡ v.output) × (w.whole ≡ false))
+-- the root's output is the run's
+abbrev pub output_after : {O : Type 0} → Option ℕ → ℕ → O → Option O → Option O
+output_after root task o output = if is_some_number task root then Some o else output
 
 abbrev pub MovesAnswer : {A O : Type 0} → Steps A O → State → Value A O → ℕ → AnswerKind → Value A O → Type 0
 MovesAnswer p s v task IsPending w = Polls p s task v.held Pending w.held × Keeps v w
 MovesAnswer {O = O} p s v task IsReady w =
-    (o : O) × Polls p s task v.held (Ready o) w.held × (w.output ≡ Some o) × (w.unmade ≡ v.unmade) × (w.whole ≡ v.whole)
--- a poll that lacked memory isn't tied
-MovesAnswer p s v task LacksMemory w = (w.output ≡ v.output) × (w.whole ≡ false)
-MovesAnswer p s v task IsEnded w = MovesEnded p s v task w
+    (o : O) × Polls p s task v.held (Ready o) w.held × (w.output ≡ output_after s.root task o v.output) × (w.unmade ≡ v.unmade) × (w.whole ≡ v.whole)
+MovesAnswer p s v task LacksMemory w = PollBreaks p s task v w
+MovesAnswer p s v task IsEnded w = EndsTask p s v task w
 MovesAnswer p s v task _ w = ⊥
 
--- a run that ends before its root is taken in: the maker made one, or it lacked memory
+-- a run that ends before its root is taken in: the maker made one, or it lacked memory, and then what it made is free
 abbrev pub MovesCleanup : {A O : Type 0} → Steps A O → State → Value A O → Phase → Value A O → Type 0
 MovesCleanup {A = A} p s v Making w =
-    ((a : A) × Makes p s v.held a w.held × (w.unmade ≡ Some a) × (w.output ≡ v.output) × (w.whole ≡ v.whole))
-    ⊎ ((w.output ≡ v.output) × (w.whole ≡ false))
+    ((a : A) × Makes p s v.held a w.held × (w ≡ record v { held = w.held; unmade = Some a }))
+    ⊎ ((unmade : Option A) × (Breaks (p.first s.clock.time) v.held s.turns (stood_in s) ⊎ Fronts (p.first s.clock.time) v.held s.turns) × (w ≡ record v { unmade = unmade; whole = false }))
 MovesCleanup p s v _ w = w ≡ v
 
--- the end of a root that was not taken in
+-- the end of a root that was not taken in. Without one nobody makes a call
 abbrev pub MovesCrash : {A O : Type 0} → Steps A O → State → Value A O → Option A → Value A O → Type 0
-MovesCrash p s v None w = w ≡ v
-MovesCrash p s v (Some a) w =
-    (Ends p s no_number a v.held w.held × (w.unmade ≡ None) × (w.output ≡ v.output) × (w.whole ≡ v.whole))
-    ⊎ ((w.output ≡ v.output) × (w.whole ≡ false))
+MovesCrash p s v None w = (w ≡ v) × (s.turns ≡ [])
+MovesCrash p s v (Some a) w = EndsState p s no_number a v.held (record v { unmade = None }) w
 
 -- the entry moves the values so
 abbrev pub Moves : {A O : Type 0} → Steps A O → State → Value A O → Entry → Value A O → Type 0
 Moves {A = A} {O = O} p s v (Root task) w =
-    (a : A) × (end : Held A O) × Makes p s v.held a end × (w.held ≡ put task a end) × Keeps v w
+    (a : A) × (end : Held A O) × Makes p s v.held a end × (w ≡ record v { held = put task a end })
 Moves p s v (AnswerEntry task kind) w = MovesAnswer p s v task kind w
 Moves p s v Cleanup w = MovesCleanup p s v s.phase w
 Moves p s v (Crash choices) w = MovesCrash p s v v.unmade w

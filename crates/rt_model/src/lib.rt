@@ -2,8 +2,8 @@
 //! The definitions stand in `specs/`; the functions here state laws about them.
 #![tactic(auto)]
 
-mod alarm;
 mod answer;
+mod begin;
 
-pub use alarm::Alarm;
 pub use answer::Answer;
+pub use begin::Begin;

@@ -1,15 +1,15 @@
 -- Calls on a listener leave each address where it is, and the listener at an address is found by it.
 use Rattle.std.proofs.Common.{◌≡◌, ℕ, zero, suc, ◌+◌, Bool, true, false, cond, ◌&&◌, List, [], ◌∷◌, ◌++◌, Option, Some, None, Result, Ok, Err, refl, sym, ap, ◌∙◌, subst, arith, rules, is_some, inl, inr}
-use Rattle.std.specs.Prelude.{slice_set, option_map, drop}
+use Rattle.std.specs.Prelude.{slice_set, slice_index_or, option_map, OnOk, OnErr}
 use Rattle.std.specs.List.{slice_get, position_from}
-use Rattle.std.proofs.lemmas.Option.{slice_get-map}
+use Rattle.std.proofs.lemmas.Option.{slice_get-map, get_or_from_slice_get}
 use Rattle.rt_base.specs.declared.addr.Addr.{Addr}
-use Rattle.rt_base.specs.declared.error.Error.{Error}
 use Rattle.rt_base.specs.declared.poll.Poll.{Poll}
 use Rattle.rt_base.specs.declared.poll.Poll.TheVariants.{Ready, Pending}
-use Rattle.rt_net.specs.declared.connection.Connection.{Connection}
 use Rattle.rt_net.proofs.Places.{bool-cases}
-use Rattle.rt_net.specs.Network.{ListenerState, addresses, addr_eq, if_listener_lives, live_listener, at_listener, listener_at, with_accepted, with_connection, without_task, without_listener, closed_listener}
+use Rattle.rt_net.specs.declared.place.Place.{Place}
+use Rattle.rt_net.specs.Place.{IsIndexed}
+use Rattle.rt_net.specs.Network.{ListenerState, addresses, addr_eq, if_listener_lives, live_listener, at_listener, listener_at, after_accept}
 
 lives-at : (x l : ListenerState) (b : Bool) → x.alive ≡ b → if_listener_lives (Some x) ≡ Some l → (let o : Option ListenerState = Some x in o) ≡ Some l
 lives-at x l true h e =
@@ -35,30 +35,6 @@ addresses-set (x ∷ ls) zero l m e a =
     let s : x ≡ l = cc in
     ap (λ y. y ∷ addresses ls) (a ∙ ap (λ (y : ListenerState). y.address) (sym s))
 addresses-set (x ∷ ls) (suc n) l m e a = ap (λ ys. x.address ∷ ys) (addresses-set ls n l m e a)
-
-at-option : (ls : List ListenerState) (n : ℕ) (f : ListenerState → ListenerState) → ((l : ListenerState) → (f l).address ≡ l.address) → (o : Option ListenerState) → live_listener ls n ≡ o → addresses (at_listener ls n f o) ≡ addresses ls
-at-option ls n f same None e = refl
-at-option ls n f same (Some l) e = addresses-set ls n l (f l) (live-get ls n l e) (same l)
-
--- a call that isn't refused
-pub addresses-at : (ls : List ListenerState) (n : ℕ) (f : ListenerState → ListenerState) → ((l : ListenerState) → (f l).address ≡ l.address) → addresses (at_listener ls n f (live_listener ls n)) ≡ addresses ls
-addresses-at ls n f same = at-option ls n f same (live_listener ls n) refl
-
--- an accept
-pub addresses_accept : {A : Type 0} (ls : List ListenerState) (n task : ℕ) (r : Result (Poll A) Error) → addresses (with_accepted ls n task r) ≡ addresses ls
-addresses_accept ls n task (Ok (Ready _)) = addresses-at ls n (λ l. record l { waiting = drop 1 l.waiting; task = None }) (λ l. refl)
-addresses_accept ls n task (Ok Pending) = addresses-at ls n (λ l. record l { task = Some task }) (λ l. refl)
-addresses_accept ls n task (Err _) = refl
-
--- a connection that waits, a wait that is given up, and a listener that is closed
-pub addresses_connection : (ls : List ListenerState) (n : ℕ) (c : Connection) → addresses (with_connection ls n c) ≡ addresses ls
-addresses_connection ls n c = addresses-at ls n (λ l. record l { waiting = l.waiting ++ c ∷ []; task = None }) (λ l. refl)
-
-pub addresses_give_up : (ls : List ListenerState) (n : ℕ) → addresses (without_task ls n) ≡ addresses ls
-addresses_give_up ls n = addresses-at ls n (λ l. record l { task = None }) (λ l. refl)
-
-pub addresses_close : (ls : List ListenerState) (n : ℕ) → addresses (without_listener ls n) ≡ addresses ls
-addresses_close ls n = addresses-at ls n closed_listener (λ l. refl)
 
 same-address : (a b : Addr) → addr_eq a b ≡ true → a ≡ b
 same-address a b e = search rules
@@ -144,3 +120,42 @@ pub listener-none : (ls : List ListenerState) (a : Addr) → ((m : ℕ) → slic
 listener-none ls a none =
     position-none (λ l. l.alive && addr_eq l.address a) ls 0 (λ m l e t.
     none m (address-get ls m l e ∙ ap some-address (same-address l.address a (and-both l.alive (addr_eq l.address a) t).1)))
+
+-- A live listener that was read at its number, and what is written back there. Contracts name the list itself.
+
+abbrev some-listener : ListenerState → Option ListenerState
+some-listener l = Some l
+
+pub live-here : (ls now : List ListenerState) (n : ℕ) (x d : ListenerState) → ls ≡ now → x ≡ slice_index_or ls n d → is_some (live_listener now n) ≡ true → live_listener now n ≡ Some x
+live-here ls now n x d is e lives =
+    let l = live-some (slice_get now n) lives in
+    let read : slice_index_or now n d ≡ l.0 = get_or_from_slice_get now n l.0 d l.1 in
+    let there : x ≡ l.0 = e ∙ ap (λ ks. slice_index_or ks n d) is ∙ read in
+    ap if_listener_lives l.1 ∙ cond-true l.0.alive (Some l.0) None l.2 ∙ ap some-listener (sym there)
+
+pub set-here : (ls now : List ListenerState) (n : ℕ) (f : ListenerState → ListenerState) (x m : ListenerState) → ls ≡ now → live_listener now n ≡ Some x → m ≡ f x → slice_set ls n m ≡ at_listener now n f (live_listener now n)
+set-here ls now n f x m is live e = ap (slice_set ls n) e ∙ ap (λ ks. slice_set ks n (f x)) is ∙ sym (ap (at_listener now n f) live)
+
+-- the map finds the addresses still
+pub indexed-here : (find : Place → Option ℕ) (ls now : List ListenerState) (n : ℕ) (x m : ListenerState) → ls ≡ now → live_listener now n ≡ Some x → m.address ≡ x.address → IsIndexed find (addresses ls) → IsIndexed find (addresses (slice_set ls n m))
+indexed-here find ls now n x m is live same old =
+    let here : live_listener ls n ≡ Some x = ap (λ ks. live_listener ks n) is ∙ live in
+    subst (λ (xs : List Addr). IsIndexed find xs) (sym (addresses-set ls n x m (live-get ls n x here) same)) old
+
+pub on-ok : {A B P Q : Type 0} (r : Result A B) → (P → Q) → OnOk r P → OnOk r Q
+on-ok (Ok _) f p = f p
+on-ok (Err _) f p = p
+
+-- an address that stays, whether the call was refused or not
+pub address-either : {A B : Type 0} (r : Result A B) (f : ListenerState → ListenerState) (m x : ListenerState) → ((l : ListenerState) → (f l).address ≡ l.address) → OnOk r (m ≡ f x) → OnErr r (m ≡ x) → m.address ≡ x.address
+address-either (Ok _) f m x same ok err = ap (λ (l : ListenerState). l.address) ok ∙ same x
+address-either (Err _) f m x same ok err = ap (λ (l : ListenerState). l.address) err
+
+pub address-accept : {A : Type 0} (l : ListenerState) (task : ℕ) (p : Poll A) → (after_accept l task p).address ≡ l.address
+address-accept l task (Ready _) = refl
+address-accept l task Pending = refl
+
+-- one listener more
+pub addresses-more : (ls : List ListenerState) (l : ListenerState) → addresses (ls ++ l ∷ []) ≡ addresses ls ++ l.address ∷ []
+addresses-more [] l = refl
+addresses-more (x ∷ ls) l = ap (λ ys. x.address ∷ ys) (addresses-more ls l)

@@ -11,20 +11,21 @@ use Rattle.rt_net.specs.declared.half.Parked.{Parked}
 use Rattle.rt_net.specs.Channel.{ChannelState, IsQuiet, left, held, unread, is_open, Answers, started_length}
 
 -- a `recv` that parks for what is missing
-pub parked-quiet : (c : ChannelState) (h len task : ℕ) → held c ≡ h → IsQuiet c → h < len → is_open c.sink ≡ true → left c < len - h → IsQuiet (record c { receiver = Some (record { need = len - h; task = task }); receiving = Some len })
-parked-quiet c h len task same quiet lacks opened empty =
-    let P : Parked → Type 0 = λ w. (left c < w.need) × (is_open c.sink ≡ true) × (let e : Option ℕ = Some (w.need + held c) in Some len ≡ e) in
+pub parked-quiet : (c : ChannelState) (h len task : ℕ) → held c ≡ h → IsQuiet c → h < len → is_open c.sink ≡ true → is_open c.stream ≡ true → left c < len - h → IsQuiet (record c { receiver = Some (record { need = len - h; task = task }); receiving = Some len })
+parked-quiet c h len task same quiet lacks opened alive empty =
+    let P : Parked → Type 0 = λ w. (left c < w.need) × (is_open c.sink ≡ true) × (is_open c.stream ≡ true) × (let e : Option ℕ = Some (w.need + held c) in Some len ≡ e) in
     let sum : len ≡ len - h + held c = omega arith in
     record {
       receiver = λ w k.
           let r : Parked = record { need = len - h; task = task } in
           let e : r ≡ w = cc in
-          subst P e (empty, opened, ap (λ n. let o : Option ℕ = Some n in o) sum);
+          subst P e (empty, opened, alive, ap (λ n. let o : Option ℕ = Some n in o) sum);
       sender = quiet.sender;
-      started = λ n k l o.
+      receiving = λ n k l o.
           let e : len ≡ n = cc in
           let d : len - h ≡ n - held c = omega arith in
           (task, ap (λ m. let o : Option Parked = Some (record { need = m; task = task }) in o) d);
+      sending = quiet.sending;
     }
 
 -- a started `recv` whose bytes are held is answered by them

@@ -248,9 +248,12 @@ fresh size = record {
   sending = false;
 }
 
--- A waiting task's cause isn't there: a parked `recv` lacks bytes of an open sink, and a parked `send` has more than
--- the buffer size before it and a stream that is alive.
+-- Who waits. A parked `recv` is a started one that lacks bytes, and both halves are open. A parked `send` is a started
+-- one with more than the buffer size before it, and both halves are alive; its sink may have failed, since the token of
+-- another network's sink, with this number, may poll here. A started `recv` that lacks bytes of an open sink is parked,
+-- and so is a started `send` with more than the buffer size before it and a stream that is alive.
 pub record IsQuiet (c : ChannelState) : Type 0 where
-  pub receiver : (w : Parked) → c.receiver ≡ Some w → (left c < w.need) × (is_open c.sink ≡ true) × (c.receiving ≡ Some (w.need + held c))
-  pub sender : (t : ℕ) → c.sender ≡ Some t → (c.buffer_size < left c) × (c.stream.alive ≡ true)
-  pub started : (len : ℕ) → c.receiving ≡ Some len → held c < len → is_open c.sink ≡ true → (t : ℕ) × (c.receiver ≡ Some (record { need = len - held c; task = t }))
+  pub receiver : (w : Parked) → c.receiver ≡ Some w → (left c < w.need) × (is_open c.sink ≡ true) × (is_open c.stream ≡ true) × (c.receiving ≡ Some (w.need + held c))
+  pub sender : (t : ℕ) → c.sender ≡ Some t → (c.buffer_size < left c) × (c.stream.alive ≡ true) × (c.sink.alive ≡ true) × (c.sending ≡ true)
+  pub receiving : (len : ℕ) → c.receiving ≡ Some len → held c < len → is_open c.sink ≡ true → (t : ℕ) × (c.receiver ≡ Some (record { need = len - held c; task = t }))
+  pub sending : c.sending ≡ true → c.buffer_size < left c → c.stream.alive ≡ true → (t : ℕ) × (c.sender ≡ Some t)

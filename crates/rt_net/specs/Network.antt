@@ -185,6 +185,6 @@ abbrev pub without_waiting : List ChannelState → Option ListenerState → List
 without_waiting cs None = cs
 without_waiting cs (Some l) = after_closing cs l.waiting
 
--- no wait for a connection is there while one waits
+-- a wait for a connection is at a live listener, where none waits
 abbrev pub IsQuietListener : ListenerState → Type 0
-IsQuietListener l = (t : ℕ) → l.task ≡ Some t → l.waiting ≡ []
+IsQuietListener l = (t : ℕ) → l.task ≡ Some t → (l.waiting ≡ []) × (l.alive ≡ true)

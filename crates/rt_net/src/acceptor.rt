@@ -22,7 +22,7 @@ pub struct Acceptor {
 }
 
 impl Model for Acceptor {
-    ghost use Rattle.std.specs.Prelude.{◌≡◌, ◌*◌, ◌≤◌, [], ℕ, Some, length};
+    ghost use Rattle.std.specs.Prelude.{◌≡◌, ◌*◌, ◌≤◌, [], ℕ, Some, length, true};
     ghost use Rattle.std.specs.VecDeque.{deque_capacity};
     ghost use Rattle.rt_net.specs.Network.{ListenerState};
 
@@ -30,7 +30,7 @@ impl Model for Acceptor {
 
     ghost view = { λ a. record { address = a.address; alive = a.alive; waiting = a.waiting.items; task = a.task } };
 
-    ghost invariant = { λ a. ((t : ℕ) → a.task ≡ Some t → a.waiting.items ≡ []) × (a.woken.items ≡ []) × (2 * length a.waiting.items ≤ deque_capacity a.woken) };
+    ghost invariant = { λ a. ((t : ℕ) → a.task ≡ Some t → (a.waiting.items ≡ []) × (a.alive ≡ true)) × (a.woken.items ≡ []) × (2 * length a.waiting.items ≤ deque_capacity a.woken) };
 }
 
 impl Acceptor {
@@ -83,6 +83,7 @@ impl Acceptor {
 
     /// Takes the first connection, or lets the task wait for one.
     pub fn accept(&mut self, task: u64) -> Poll<Connection>
+        requires { self.old.alive ≡ true }
         ensures first { Accepts self.old result }
         ensures after { self.new ≡ after_accept self.old task result }
     {

@@ -3,19 +3,24 @@
 #![tactic(auto)]
 
 mod acceptor;
-mod addresses;
 mod answers;
 mod byte_queue;
 pub mod channel;
 mod channels;
 pub mod connection;
+#[cfg(test)]
+mod ending;
 mod forgotten;
 pub mod half;
 pub mod halves;
+#[cfg(test)]
+mod line;
 pub mod listener;
 mod listeners;
 pub mod net;
 pub mod network;
+#[cfg(test)]
+mod notebook;
 #[cfg(test)]
 mod noting;
 mod pipe;

@@ -1,12 +1,11 @@
 // The network in memory.
-ghost use Rattle.std.specs.Prelude.{◌≡◌, ◌+◌, ◌<◌, ◌≤◌, ◌↔◌, [], ◌∷◌, ◌++◌, length, IsTrue, IfOk, OnErr, OnOk, Ok, Err, Some, None, true, false, slice_get, IfSome, is_some};
+ghost use Rattle.std.specs.Prelude.{◌≡◌, ◌+◌, ◌<◌, ◌≤◌, ◌↔◌, [], ◌∷◌, ◌++◌, length, IsTrue, IfOk, OnErr, OnOk, Ok, Err, Some, None, false, slice_get};
 ghost use Rattle.rt_net.specs.Channel.{fresh, ChannelState, IsQuiet};
-ghost use Rattle.rt_net.specs.Network.{ListenerState, IsQuietListener, waiting_halves, waiting_task, listener_at, live_listener, addresses};
+ghost use Rattle.rt_net.specs.Network.{ListenerState, IsQuietListener, waiting_halves, waiting_task};
 ghost use Rattle.rt_net.specs.Calls.{IsDialerAddress, NetBinds, NetDials, NetAccepts, net_after_bind, net_after_dial, net_after_accept, opened, idle_sink, idle_stream};
 ghost use Rattle.rt_net.specs.Kept.{empty_net, moved_to};
 ghost use Rattle.rt_net.specs.Refusals.{counted, Counts};
 
-use crate::addresses::Addresses;
 use crate::answers::{is_pending, still_waits, waits};
 use crate::channels::Channels;
 use crate::connection::Connection;
@@ -40,22 +39,20 @@ pub const DEFAULT_BUFFER_SIZE: usize = 65536;
 pub struct Net {
     channels: Channels,
     listeners: Listeners,
-    bound: Addresses,
     port: u16,
     woken: VecDeque<u64>,
     refusals: u64,
 }
 
 impl Model for Net {
-    ghost use Rattle.std.specs.Prelude.{◌≡◌, ◌≤◌};
+    ghost use Rattle.std.specs.Prelude.{◌≤◌};
     ghost use Rattle.rt_net.specs.Kept.{Kept};
-    ghost use Rattle.rt_net.specs.Network.{addresses};
 
     ghost Value = { Kept };
 
-    ghost view = { λ n. record { state = record { port = n.port; listeners = n.listeners.list; channels = n.channels.list; woken = n.woken.items }; refusals = n.refusals } };
+    ghost view = { λ n. record { state = record { port = n.port; listeners = n.listeners; channels = n.channels.list; woken = n.woken.items }; refusals = n.refusals } };
 
-    ghost invariant = { λ n. (n.port ≤ 61000) × (n.bound ≡ addresses n.listeners.list) };
+    ghost invariant = { λ n. n.port ≤ 61000 };
 }
 
 impl Net {
@@ -66,7 +63,6 @@ impl Net {
         Ok(Net {
             channels: Channels::new(alloc),
             listeners: Listeners::new(alloc),
-            bound: Addresses::new(alloc),
             port: FIRST_PORT,
             woken: VecDeque::new(alloc),
             refusals: 0,
@@ -120,36 +116,17 @@ impl Net {
         if is_dialer_address(socket) {
             return Err(Error::BindFailed);
         }
-        if let Some(_) = self.bound.number_of(socket) {
+        if let Some(_) = self.listeners.number_of(socket) {
             return Err(Error::BindFailed);
         }
-        let number = self.listeners.len() as u64;
-        self.listeners.reserve()?;
-        self.bound.add(socket)?;
-        self.listeners.add(socket);
+        let number = self.listeners.bind(socket)?;
         Ok(Listener {
             number,
             address: socket,
         })
     }
 
-    // The number of the live listener at this address, where there is one.
-    fn live_at(&self, address: Addr) -> Option<u64>
-        ensures number { result ≡ listener_at self.now.state.listeners address }
-        ensures live { IfSome result (λ n. is_some (live_listener self.now.state.listeners n) ≡ true) }
-    {
-        let Some(number) = self.bound.number_of(address) else {
-            return None;
-        };
-        if self.listeners.has(number) {
-            Some(number)
-        } else {
-            None
-        }
-    }
-
     // Connects to a listener.
-    #[tactic(auto, using(crate::proofs::ListenerLemmas::addresses_connection))]
     fn connect(&mut self, socket: Addr) -> Result<Reply<(Sink, Stream)>, Error>
         ensures dials { NetDials self.old.state socket result }
         ensures after { self.new ≡ moved_to self.old (net_after_dial self.old.state socket result) }
@@ -157,7 +134,7 @@ impl Net {
         if self.port == LAST_PORT {
             return Err(Error::PortsExhausted);
         }
-        let Some(listener) = self.live_at(socket) else {
+        let Some(listener) = self.listeners.live_at(socket) else {
             self.port += 1;
             return Err(Error::ConnectionFailed);
         };
@@ -185,7 +162,6 @@ impl Net {
     }
 
     // Takes a connection.
-    #[tactic(auto, using(crate::proofs::ListenerLemmas::addresses_accept))]
     fn take(&mut self, number: u64, task: u64) -> Result<Poll<(Addr, Sink, Stream)>, Error>
         ensures accepts { NetAccepts self.old.state number result }
         ensures after { self.new ≡ moved_to self.old (net_after_accept self.old.state number task result) }
@@ -395,12 +371,10 @@ impl Network for Net {
         listener.address
     }
 
-    #[tactic(auto, using(crate::proofs::ListenerLemmas::addresses_give_up))]
     fn give_up_accept(&mut self, listener: &mut Listener) {
         self.listeners.give_up(listener.number);
     }
 
-    #[tactic(auto, using(crate::proofs::ListenerLemmas::addresses_close))]
     fn close_listener(&mut self, listener: Listener) {
         let Listener { number, address: _ } = listener;
         if let Some(woken) = self.listeners.close(number, &mut self.channels) {

@@ -145,6 +145,27 @@ fn count_of_reply(answer: &Result<Reply<Poll<IoBufs>>, Error>) -> u64
 }
 
 impl<N: Network> Noting<N> {
+    // A wrapper that counted nothing yet.
+    pub fn new(alloc: Global, inner: N) -> Noting<N> {
+        Noting {
+            inner,
+            alloc,
+            sent: 0,
+            received: 0,
+        }
+    }
+
+    // What it wraps, and how many bytes were sent and received.
+    pub fn into_parts(self) -> (N, u64, u64) {
+        let Noting {
+            inner,
+            alloc: _,
+            sent,
+            received,
+        } = self;
+        (inner, sent, received)
+    }
+
     // Takes the room of a call, makes its events and notes the first.
     fn begin<E: Env>(
         &self,

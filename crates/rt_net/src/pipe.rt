@@ -277,7 +277,8 @@ impl Pipe {
 
     // The sender goes on, or parks.
     fn settle(&mut self, task: u64) -> Poll<()>
-        requires { self.old.stream.alive ≡ true }
+        requires sink { self.old.sink.alive ≡ true }
+        requires stream { self.old.stream.alive ≡ true }
         ensures answer { Settles self.old result }
         ensures after { self.new ≡ settled self.old task result }
     {
@@ -318,9 +319,9 @@ impl Pipe {
 
     // Parks the `recv` of `len` bytes.
     fn park(&mut self, len: usize, task: u64)
-        requires alive { self.old.stream.alive ≡ true }
+        requires stream { is_open self.old.stream ≡ true }
         requires lacks { held self.old < len }
-        requires opened { is_open self.old.sink ≡ true }
+        requires sink { is_open self.old.sink ≡ true }
         requires empty { left self.old < len - held self.old }
         ensures { self.new ≡ parked self.old len task }
     {

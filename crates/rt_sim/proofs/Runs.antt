@@ -1,23 +1,47 @@
--- Runs that begin as a runner says.
-use Rattle.std.proofs.Common.{◌≡◌, ℕ, List, [], subst, ℤ, slice_index_or, slice_get, Some, ◌<◌, length, refl}
+-- A run as a simulation reports it.
+use Rattle.std.proofs.Common.{◌≡◌, ℕ, List, [], subst, sym, ℤ, slice_index_or, slice_get, Some, ◌<◌, length, refl}
+use Rattle.std.proofs.lemmas.List.{append-nil}
 use Rattle.std.proofs.lemmas.Option.{slice_get_read}
+use Rattle.rand_chacha.specs.ChaCha.{ChaCha}
 use Rattle.rt_audit.specs.declared.entry.Entry.{Entry}
 use Rattle.rt_audit.specs.declared.finish.FinishCause.{FinishCause}
-use Rattle.rt_model.specs.State.{Fixed}
 use Rattle.rt_model.specs.Tied.{Steps}
 use Rattle.rt_core.specs.Starting.{Starting, Kept}
-use Rattle.rt_core.specs.Outcome.{Completes, Fails}
+use Rattle.rt_core.specs.Outcome.{Completes, Fails, DrawsNothing}
+use Rattle.rt_scenario.specs.declared.scenario.Scenario.{Scenario}
+use Rattle.rt_scenario.specs.declared.scenario.ScriptText.{ScriptText}
+use Rattle.rt_sim.specs.declared.maker.RootScript.{RootScript}
+use Rattle.rt_sim.specs.declared.outcome.RunResult.{RunResult}
+use Rattle.rt_sim.specs.declared.outcome.RunReport.{RunReport}
+use Rattle.rt_sim.specs.declared.outcome.Outcome.{Outcome}
 use Rattle.rt_sim.specs.declared.script.Script.{Script}
+use Rattle.rt_sim.specs.Ran.{Makes, Comes, IsReported, Simulates, report_of, starting}
+use Rattle.rt_sim.specs.Asked.{Reports}
 
-pub completes-from : (p : Steps Script ℤ) (r : Starting) (begin : Fixed) (output : ℤ) (kept : Kept) → r ≡ record { begin = begin; given = [] } → Completes Script ℤ p r.begin r.given output kept → Completes Script ℤ p begin [] output kept
-completes-from p r begin output kept is run = subst (λ from. Completes Script ℤ p from.begin from.given output kept) is run
+-- the runner begins as the scenario says
+module _ (p : Steps Script ℤ) (r from : Starting ChaCha) (same : r ≡ from) where
+  pub completes-from : (output : ℤ) (kept : Kept ChaCha) → Completes p r output kept → Completes p from output kept
+  completes-from output kept run = subst (λ s. Completes p s output kept) same run
 
-pub fails-from : (p : Steps Script ℤ) (r : Starting) (begin : Fixed) (journal : List Entry) (cause : FinishCause) → r ≡ record { begin = begin; given = [] } → Fails Script ℤ p r.begin r.given journal cause → Fails Script ℤ p begin [] journal cause
-fails-from p r begin journal cause is run = subst (λ from. Fails Script ℤ p from.begin from.given journal cause) is run
+  pub fails-from : (journal : List Entry) (cause : FinishCause) → Fails p r journal cause → Fails p from journal cause
+  fails-from journal cause run = subst (λ s. Fails p s journal cause) same run
 
-pub fails-as : (p : Steps Script ℤ) (begin : Fixed) (one other : List Entry) (cause : FinishCause) → one ≡ other → Fails Script ℤ p begin [] one cause → Fails Script ℤ p begin [] other cause
-fails-as p begin one other cause same fails = subst (λ journal. Fails Script ℤ p begin [] journal cause) same fails
+  pub draws-from : (journal : List Entry) → DrawsNothing r journal → DrawsNothing from journal
+  draws-from journal drawn = subst (λ s. DrawsNothing s journal) same drawn
 
--- the element that was taken out of a copy
-pub was-there : {V : Type 0} (xs ys : List V) (place : ℕ) (x : V) → xs ≡ ys → place < length xs → x ≡ slice_index_or xs place x → slice_get ys place ≡ Some x
-was-there xs ys place x same h value = subst (λ list. slice_get list place ≡ Some x) same (slice_get_read xs (length xs) place x refl h value)
+-- the script that was taken out of a copy
+pub makes-taken : (s : Scenario) (scripts : List ScriptText) (script : ScriptText) (m : RootScript) → scripts ≡ s.scripts → s.root < length scripts → script ≡ slice_index_or scripts s.root script → m.lines.items ≡ script.lines → Makes s s.root script m
+makes-taken s scripts script m same h value lines = record {
+  there = subst (λ list. slice_get list s.root ≡ Some script) same (slice_get_read scripts (length scripts) s.root script refl h value);
+  lines = lines;
+}
+
+pub reported : (s : Scenario) (script : ScriptText) (m : RootScript) (result : RunResult) (time : ℕ) (entries : List Entry) (run : RunReport) → run ≡ report_of script.name result time 0 entries → Makes s s.root script m → Comes m (starting s.timeout) entries time result → DrawsNothing (starting s.timeout) entries → IsReported s s.root (starting s.timeout) 0 entries run
+reported s script m result time entries run is makes comes drawn = rw is (record { script = script; maker = m; makes = makes; comes = comes; drawn = drawn; is = refl })
+
+-- the only run of a scenario
+pub simulates : (s : Scenario) (run : RunReport) (entries : List Entry) (o : Outcome) → IsReported s s.root (starting s.timeout) 0 entries run → Reports run entries o → Simulates s o
+simulates s run entries o is reports = record {
+  chain = rw (reports.1, reports.2) (entries, [], sym (append-nil entries), is, refl);
+  status = rw (reports.1) reports.0;
+}

@@ -1,10 +1,12 @@
 -- What the program is asked for, and how its call ends.
 use Rattle.std.specs.Prelude.{◌≡◌, ◌⊎◌, ℕ, nat_lt, Bool, false, if◌then◌else◌, List, [], ◌∷◌, length, codes, Option, IfSome}
+use Rattle.rt_audit.specs.declared.entry.Entry.{Entry}
 use Rattle.rt_base.specs.Outside.{Appends}
 use Rattle.rt_scenario.specs.Words.{is_text}
 use Rattle.rt_scenario.specs.Scenario.{Reading, Whole, BrokenAt, scenario_of}
-use Rattle.rt_sim.specs.Ran.{Simulates}
+use Rattle.rt_sim.specs.Ran.{Simulates, Halts, starting, status_of}
 use Rattle.rt_sim.specs.Report.{IsPart, reports_text, usage_text, too_long_text, refusal_text}
+use Rattle.rt_sim.specs.declared.outcome.RunReport.{RunReport}
 use Rattle.rt_sim.specs.declared.outcome.Outcome.{Outcome}
 
 -- the words are no command, the input has too many bytes, or this is how it is read
@@ -32,6 +34,10 @@ IsAsked words told asked = (bytes : List ℕ) × IfSome told (λ left. bytes ≡
 abbrev pub Refuses : ℕ → Outcome → Type 0
 Refuses status o = (o.status ≡ status) × (o.runs ≡ []) × (o.journal.entries ≡ [])
 
+-- this run is reported, with these entries
+abbrev pub Reports : RunReport → List Entry → Outcome → Type 0
+Reports run entries o = (o.status ≡ status_of run.result) × (o.runs ≡ run ∷ []) × (o.journal.entries ≡ entries)
+
 -- the outcome where nothing fails
 abbrev pub Answers : Asked → Outcome → Type 0
 Answers NoCommand o = Refuses 2 o
@@ -55,13 +61,22 @@ abbrev pub IsCut : (Outcome → Type 0) → List ℕ → Outcome → Option (Lis
 IsCut is text o before after =
     ((o.status ≡ 5) ⊎ (o.status ≡ 7)) × ((status : ℕ) × is (record o { status = status })) × IsPart before text after
 
--- a read failed, or memory was wanting: no run is reported, and nothing was written
+-- a read failed, or memory was wanting: nothing was run and nothing written
 abbrev pub IsBare : Outcome → Option (List ℕ) → Option (List ℕ) → Type 0
-IsBare o before after = ((o.status ≡ 4) ⊎ (o.status ≡ 7)) × (o.runs ≡ []) × (after ≡ before)
+IsBare o before after = ((o.status ≡ 4) ⊎ (o.status ≡ 7)) × (o.runs ≡ []) × (o.journal.entries ≡ []) × (after ≡ before)
 
 -- how a call ends that has such an outcome and writes this text where nothing fails
 abbrev pub EndsAs : (Outcome → Type 0) → List ℕ → Outcome → Option (List ℕ) → Option (List ℕ) → Type 0
 EndsAs is text o before after = IsDone is text o before after ⊎ (IsCut is text o before after ⊎ IsBare o before after)
 
+-- a run of what was asked lacked memory and left these entries
+abbrev pub Lacks : Asked → List Entry → Type 0
+Lacks (Reads (Whole s)) entries = Halts s s.root (starting s.timeout) entries
+Lacks asked entries = ⊥
+
+-- a run lacked memory: it isn't reported, its entries stand in the journal, and nothing was written
+abbrev pub IsHalted : Asked → Outcome → Option (List ℕ) → Option (List ℕ) → Type 0
+IsHalted asked o before after = (o.status ≡ 7) × (o.runs ≡ []) × Lacks asked o.journal.entries × (after ≡ before)
+
 abbrev pub Ends : Asked → Outcome → Option (List ℕ) → Option (List ℕ) → Type 0
-Ends asked o before after = EndsAs (Answers asked) (text_of asked o) o before after
+Ends asked o before after = EndsAs (Answers asked) (text_of asked o) o before after ⊎ IsHalted asked o before after

@@ -1,5 +1,4 @@
 pub mod Asked
-pub mod Did
 pub mod Ran
 pub mod Report
 pub mod Script

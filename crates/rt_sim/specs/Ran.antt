@@ -1,14 +1,16 @@
 -- What a simulation has run.
-use Rattle.std.specs.Prelude.{◌≡◌, ◌+◌, ℕ, ℤ, List, [], ◌∷◌, length, slice_get, Option, Some}
+use Rattle.std.specs.Prelude.{◌≡◌, ◌≢◌, ◌+◌, ◌++◌, ℕ, ℤ, List, [], ◌∷◌, length, slice_get, Option, Some}
+use Rattle.rand_chacha.specs.ChaCha.{ChaCha}
 use Rattle.rt_audit.specs.declared.entry.Entry.{Entry}
 use Rattle.rt_audit.specs.declared.entry.Entry.TheVariants.{Round}
+use Rattle.rt_audit.specs.declared.finish.FinishCause.TheVariants.{NoMemory as LackedMemory}
 use Rattle.rt_audit.specs.Journal.{last_time}
 use Rattle.rt_model.specs.Walk.{Gives}
 use Rattle.rt_model.specs.Tied.{Steps, with_first}
-use Rattle.rt_world.specs.Failures.{finish_of}
-use Rattle.rt_core.specs.Starting.{Kept, first_begin}
-use Rattle.rt_core.specs.Outcome.{Completes, Fails}
-use Rattle.rt_scenario.specs.declared.line.Line.{Line}
+use Rattle.rt_machine.specs.Failures.{finish_of}
+use Rattle.rt_machine.specs.declared.run_error.RunError.TheVariants.{NoMemory}
+use Rattle.rt_core.specs.Starting.{Starting, Kept, first_begin, seeded, default_seed}
+use Rattle.rt_core.specs.Outcome.{Completes, Fails, DrawsNothing}
 use Rattle.rt_scenario.specs.declared.scenario.Scenario.{Scenario}
 use Rattle.rt_scenario.specs.declared.scenario.ScriptText.{ScriptText}
 use Rattle.rt_sim.specs.declared.maker.RootScript.{RootScript}
@@ -21,42 +23,80 @@ use Rattle.rt_sim.specs.Script.{script_steps, begun}
 
 -- a script whose root this maker makes
 abbrev pub root_steps : RootScript → Steps Script ℤ
-root_steps m = with_first script_steps (λ now heard. Gives tt (begun m))
+root_steps m = with_first script_steps (λ now. Gives tt (begun m))
 
--- a script of these lines ran under this timeout, these are the run's entries and its last moment, and it came to this
-abbrev pub Ran : Option ℕ → List Line → List Entry → ℕ → RunResult → Type 0
-Ran timeout lines journal time (Ok output) =
-    (m : RootScript) × (kept : Kept) × (m.lines.items ≡ lines) × (kept.journal ≡ journal) × (kept.time ≡ time) × Completes Script ℤ (root_steps m) (first_begin 1000000 0 timeout) [] output kept
-Ran timeout lines journal time (Failed error) =
-    (m : RootScript) × (m.lines.items ≡ lines) × (last_time journal ≡ time) × Fails Script ℤ (root_steps m) (first_begin 1000000 0 timeout) [] journal (finish_of error)
+-- how the first run begins under this timeout
+abbrev pub starting : Option ℕ → Starting ChaCha
+starting timeout = record { begin = first_begin 1000000 0 timeout; given = []; rng = seeded default_seed }
 
-abbrev pub status_of : RunResult → ℕ
-status_of (Ok output) = 0
-status_of (Failed error) = 6
+-- this maker makes the root of this script of the scenario
+pub record Makes (s : Scenario) (root : ℕ) (script : ScriptText) (m : RootScript) : Type 0 where
+  pub there : slice_get s.scripts root ≡ Some script
+  pub lines : m.lines.items ≡ script.lines
+
+-- these entries are a run, which came to this at this moment
+abbrev pub Comes : RootScript → Starting ChaCha → List Entry → ℕ → RunResult → Type 0
+Comes m s entries time (Ok output) =
+    (kept : Kept ChaCha) × (kept.journal ≡ s.given ++ entries) × (kept.time ≡ time) × Completes (root_steps m) s output kept
+Comes m s entries time (Failed error) =
+    (error ≢ NoMemory) × (last_time (s.given ++ entries) ≡ time) × Fails (root_steps m) s (s.given ++ entries) (finish_of error)
+
+-- these entries are those of a run that lacked memory
+pub record Halts (s : Scenario) (root : ℕ) (from : Starting ChaCha) (entries : List Entry) : Type 0 where
+  pub script : ScriptText
+  pub maker : RootScript
+  pub makes : Makes s root script maker
+  pub lacks : Fails (root_steps maker) from (from.given ++ entries) LackedMemory
+  pub drawn : DrawsNothing from (from.given ++ entries)
 
 abbrev pub rounds_in : List Entry → ℕ
 rounds_in [] = 0
 rounds_in (Round order ∷ entries) = rounds_in entries + 1
 rounds_in (entry ∷ entries) = rounds_in entries
 
--- the only run that is reported: this result and time, and all entries of the journal
-pub record Reports (name : List ℕ) (result : RunResult) (time : ℕ) (o : Outcome) : Type 0 where
-  pub report : RunReport
-  pub runs : o.runs ≡ report ∷ []
-  pub named : report.root ≡ name
-  pub comes : report.result ≡ result
-  pub from : report.from ≡ 0
-  pub to : report.to ≡ length o.journal.entries
-  pub digest : report.digest ≡ 0 ∷ 0 ∷ 0 ∷ 0 ∷ []
-  pub moment : report.time ≡ time
-  pub rounds : report.rounds ≡ rounds_in o.journal.entries
-  pub status : o.status ≡ status_of result
+-- the report of a run of these entries, which stand in the journal from this place on
+abbrev pub report_of : List ℕ → RunResult → ℕ → ℕ → List Entry → RunReport
+report_of root result time place entries = record {
+  root = root;
+  result = result;
+  from = place;
+  to = place + length entries;
+  digest = 0 ∷ 0 ∷ 0 ∷ 0 ∷ [];
+  time = time;
+  rounds = rounds_in entries;
+}
 
--- the scenario's root ran, and is reported
-pub record Simulates (s : Scenario) (o : Outcome) : Type 0 where
+-- a run of this root from this beginning, whose entries stand from this place on, is reported so
+pub record IsReported (s : Scenario) (root : ℕ) (from : Starting ChaCha) (place : ℕ) (entries : List Entry) (run : RunReport) : Type 0 where
   pub script : ScriptText
-  pub result : RunResult
-  pub time : ℕ
-  pub is_root : slice_get s.scripts s.root ≡ Some script
-  pub ran : Ran s.timeout script.lines o.journal.entries time result
-  pub reports : Reports script.name result time o
+  pub maker : RootScript
+  pub makes : Makes s root script maker
+  pub comes : Comes maker from entries run.time run.result
+  pub drawn : DrawsNothing from (from.given ++ entries)
+  pub is : run ≡ report_of script.name run.result run.time place entries
+
+-- the runs of these roots from these beginnings are reported one after another, and have these entries
+abbrev pub Chain : Scenario → List (ℕ × Starting ChaCha) → ℕ → List RunReport → List Entry → Type 0
+Chain s [] place [] entries = entries ≡ []
+Chain s (due ∷ dues) place (run ∷ runs) entries =
+    (own : List Entry) × (rest : List Entry) × (entries ≡ own ++ rest) × IsReported s due.0 due.1 place own run × Chain s dues run.to runs rest
+Chain s dues place runs entries = ⊥
+
+-- the runs of a scenario: one of its root
+abbrev pub runs_of : Scenario → List (ℕ × Starting ChaCha)
+runs_of s = (s.root, starting s.timeout) ∷ []
+
+abbrev pub status_of : RunResult → ℕ
+status_of (Ok output) = 0
+status_of (Failed error) = 6
+
+-- the status behind these reports: the last one's
+abbrev pub last_status : List RunReport → ℕ
+last_status [] = 0
+last_status (run ∷ []) = status_of run.result
+last_status (run ∷ next ∷ runs) = last_status (next ∷ runs)
+
+-- the scenario's runs are reported, and the journal has their entries
+pub record Simulates (s : Scenario) (o : Outcome) : Type 0 where
+  pub chain : Chain s (runs_of s) 0 o.runs o.journal.entries
+  pub status : o.status ≡ last_status o.runs

@@ -4,8 +4,8 @@ use Rattle.std.specs.Fmt.{decimal, signed_decimal}
 use Rattle.rt_base.specs.Outside.{Appends}
 use Rattle.rt_audit.specs.declared.entry.Entry.{Entry}
 use Rattle.rt_audit.specs.Lines.{line_of}
-use Rattle.rt_world.specs.declared.run_error.RunError.{RunError}
-use Rattle.rt_world.specs.declared.run_error.RunError.TheVariants.{Timeout, Stalled, TimeOverflow, TooManyTasks, NoMemory}
+use Rattle.rt_machine.specs.declared.run_error.RunError.{RunError}
+use Rattle.rt_machine.specs.declared.run_error.RunError.TheVariants.{Timeout, Stalled, TimeOverflow, TooManyTasks, NoMemory}
 use Rattle.rt_scenario.specs.KindWords.{kind_word}
 use Rattle.rt_scenario.specs.declared.kind.Kind.{Kind}
 use Rattle.rt_sim.specs.declared.outcome.RunResult.{RunResult}

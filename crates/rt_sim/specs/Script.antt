@@ -1,103 +1,93 @@
 -- What a script does, line by line.
-use Rattle.std.specs.Prelude.{ℕ, ◌+◌, List, [], ◌∷◌, drop, Option, Some, None, ltb, if◌then◌else◌, ℤ, pos, negsuc}
-use Rattle.rt_base.specs.declared.time.TheConstants.{MAX_TIME}
-use Rattle.rt_audit.specs.declared.call.Call.TheVariants.{CloseNode, Wake}
-use Rattle.rt_audit.specs.declared.reply.CallReply.{CallReply}
-use Rattle.rt_audit.specs.declared.reply.CallReply.TheVariants.{Done, PendingAt, Ready as IsReady}
+use Rattle.std.specs.Prelude.{ℕ, ◌+◌, List, [], ◌∷◌, drop, Result, Ok, Err, ℤ, pos, negsuc}
+use Rattle.rt_base.specs.declared.error.Error.{Error}
+use Rattle.rt_base.specs.declared.poll.Poll.{Poll}
+use Rattle.rt_base.specs.declared.poll.Poll.TheVariants.{Ready as IsReady, Pending as IsPending}
 use Rattle.rt_model.specs.declared.answer.Answer.{Answer}
-use Rattle.rt_model.specs.declared.answer.Answer.TheVariants.{Pending, Ready}
-use Rattle.rt_model.specs.Walk.{Plainly, Sleeping, Heard, Plain, Handed, Step, Does, Spends, Gives}
+use Rattle.rt_model.specs.declared.answer.Answer.TheVariants.{Pending, Ready, NoMemory}
+use Rattle.rt_model.specs.Walk.{Step, Last, Gives, then, followed_by}
 use Rattle.rt_model.specs.Tied.{TaskSteps}
+use Rattle.rt_core.specs.Sleeper.{Sleeper}
+use Rattle.rt_core.specs.Pollers.{sleep_for, sleep_polls, sleep_spends, reschedule_polls, reschedule_spends, unqueued, closes}
+use Rattle.rt_core.specs.declared.yields.Reschedule.{Reschedule}
 use Rattle.rt_scenario.specs.declared.line.Line.{Line}
 use Rattle.rt_scenario.specs.declared.line.Line.TheVariants.{Sleep, Yield, Pend, End, EndLast}
 use Rattle.rt_sim.specs.declared.script.Script.{Script}
 use Rattle.rt_sim.specs.declared.maker.RootScript.{RootScript}
 use Rattle.rt_sim.specs.declared.script.Waits.{Waits}
-use Rattle.rt_sim.specs.declared.script.Waits.TheVariants.{Nothing, Sleeps}
+use Rattle.rt_sim.specs.declared.script.Waits.TheVariants.{Nothing, Sleeps, Yields}
+
+abbrev pub Next : Type 0
+Next = Step Script Script ℤ (Answer ℤ)
+
+abbrev pub Polled : Type 0
+Polled = Poll (Result (Unit {0}) Error)
+
+abbrev pub waiting : Script → Waits → Script
+waiting s waits = record s { waits = waits }
 
 -- past its line, which left this value
 abbrev pub passed : Script → ℤ → Script
-passed s last = record s { place = s.place + 1; last = last }
+passed s value = record s { place = s.place + 1; last = value; waits = Nothing }
 
--- past a sleep that isn't over
-abbrev pub asleep : Script → ℕ → ℕ → Script
-asleep s due alarm = record s { place = s.place + 1; last = pos 0; waits = Sleeps due alarm }
+-- its sleep answered so
+abbrev pub slept : Script → (Script → Next) → Polled → Sleeper → Next
+slept s on IsPending sleep = Gives Pending (waiting s (Sleeps sleep))
+slept s on (IsReady (Ok over)) sleep = on (passed s (pos 0))
+slept s on (IsReady (Err error)) sleep = Gives NoMemory (waiting s Nothing)
 
-abbrev pub Steps : Type 0
-Steps = List (Heard ℤ) → Step Script ℤ (Answer ℤ)
+-- its sleep, where it doesn't end too late
+abbrev pub begun_sleep : Script → (Script → Next) → Result Sleeper Error → Next
+begun_sleep s on (Ok sleep) = then (sleep_polls sleep) (slept s on)
+begun_sleep s on (Err error) = on (passed s (negsuc 10))
 
--- a sleep was polled: it is over, and the script goes on, or its alarm has this number
-abbrev pub slept_plain : Script → ℕ → Steps → CallReply → List (Heard ℤ) → Step Script ℤ (Answer ℤ)
-slept_plain s due on IsReady rest = on rest
-slept_plain s due on (PendingAt alarm) rest = Gives Pending (asleep s due alarm)
-slept_plain s due on _ rest = Gives Pending s
+-- the sleep under way, or a new one
+abbrev pub sleep_in : Waits → ℕ → ℕ → Result Sleeper Error
+sleep_in (Sleeps sleep) duration time = Ok sleep
+sleep_in waits duration time = sleep_for time duration
 
-abbrev pub slept : Script → ℕ → Steps → Heard ℤ → List (Heard ℤ) → Step Script ℤ (Answer ℤ)
-slept s due on (Plain reply) rest = slept_plain s due on reply rest
-slept s due on (Handed value) rest = Gives Pending s
+unfoldable pub sleeps : Script → (Script → Next) → ℕ → ℕ → Next
+sleeps s on duration time = begun_sleep s on (sleep_in s.waits duration time)
 
-abbrev pub sleeps : Script → ℕ → Option ℕ → Steps → Steps
-sleeps s due alarm on [] = Does (Sleeping due alarm)
-sleeps s due alarm on (heard ∷ rest) = slept s due on heard rest
+-- its turn of the others answered so
+abbrev pub yielded : Script → (Script → Next) → Polled → Reschedule → Next
+yielded s on IsPending turn = Gives Pending (waiting s (Yields turn))
+yielded s on (IsReady (Ok over)) turn = on (passed s (pos 0))
+yielded s on (IsReady (Err error)) turn = Gives NoMemory (waiting s Nothing)
 
--- a yield queues its own task, and waits once
-abbrev pub yielded_plain : Script → Steps → CallReply → List (Heard ℤ) → Step Script ℤ (Answer ℤ)
-yielded_plain s on Done rest = Gives Pending (passed s (pos 0))
-yielded_plain s on _ rest = on rest
+-- the turn under way, or a new one
+abbrev pub turn_in : Waits → Reschedule
+turn_in (Yields turn) = turn
+turn_in waits = unqueued
 
-abbrev pub yielded : Script → Steps → Heard ℤ → List (Heard ℤ) → Step Script ℤ (Answer ℤ)
-yielded s on (Plain reply) rest = yielded_plain s on reply rest
-yielded s on (Handed value) rest = Gives Pending s
+unfoldable pub yields : Script → (Script → Next) → ℕ → Next
+yields s on task = then (reschedule_polls (turn_in s.waits) task) (yielded s on)
 
-abbrev pub yields : Script → ℕ → Steps → Steps
-yields s task on [] = Does (Plainly (Wake task))
-yields s task on (heard ∷ rest) = yielded s on heard rest
-
--- the lines from a place on, at a time and under a number. A refused line leaves minus its number, and the script goes on:
--- 11 where a sleep would end past the last moment, 12 where a number is unknown. The end of the lines acts as `end 0`
-abbrev pub goes_on : List Line → Script → ℕ → ℕ → Steps
-goes_on [] s time task heard = Gives (Ready (pos 0)) s
-goes_on (End value ∷ lines) s time task heard = Gives (Ready value) (record s { last = value })
-goes_on (EndLast ∷ lines) s time task heard = Gives (Ready s.last) s
-goes_on (Pend ∷ lines) s time task heard = Gives Pending s
-goes_on (Yield ∷ lines) s time task heard =
-    yields s task (goes_on lines (passed s (negsuc 11)) time task) heard
-goes_on (Sleep duration ∷ lines) s time task heard =
-    if ltb MAX_TIME (time + duration)
-    then goes_on lines (passed s (negsuc 10)) time task heard
-    else sleeps s (time + duration) None (goes_on lines (passed s (pos 0)) time task) heard
+-- the lines from a place on, at a time and under a number. A sleep that would end past the last moment leaves -11, and the
+-- script goes on. The end of the lines acts as `end 0`
+unfoldable pub goes_on : List Line → Script → ℕ → ℕ → Next
+goes_on [] s time task = Gives (Ready (pos 0)) s
+goes_on (End value ∷ lines) s time task = Gives (Ready value) s
+goes_on (EndLast ∷ lines) s time task = Gives (Ready s.last) s
+goes_on (Pend ∷ lines) s time task = Gives Pending s
+goes_on (Yield ∷ lines) s time task = yields s (λ next. goes_on lines next time task) task
+goes_on (Sleep duration ∷ lines) s time task = sleeps s (λ next. goes_on lines next time task) duration time
 
 abbrev pub lines_from : Script → List Line
 lines_from s = drop s.place s.lines.items
 
--- a sleep under way was polled again
-abbrev pub roused_plain : Script → ℕ → Steps → CallReply → List (Heard ℤ) → Step Script ℤ (Answer ℤ)
-roused_plain s due on IsReady rest = on rest
-roused_plain s due on (PendingAt alarm) rest = Gives Pending (record s { waits = Sleeps due alarm })
-roused_plain s due on _ rest = Gives Pending s
+-- a poll goes on from the script's place
+abbrev pub polled : Script → ℕ → ℕ → Next
+polled s time task = goes_on (lines_from s) s time task
 
-abbrev pub roused : Script → ℕ → Steps → Heard ℤ → List (Heard ℤ) → Step Script ℤ (Answer ℤ)
-roused s due on (Plain reply) rest = roused_plain s due on reply rest
-roused s due on (Handed value) rest = Gives Pending s
+-- an end gives up what it waits for, and closes the context
+abbrev pub ended : Script → Waits → Last Script ℤ
+ended s Nothing = closes s.context.node
+ended s (Sleeps sleep) = followed_by (sleep_spends sleep) (closes s.context.node)
+ended s (Yields turn) = followed_by (reschedule_spends turn) (closes s.context.node)
 
-abbrev pub rouses : Script → ℕ → ℕ → Steps → Steps
-rouses s due alarm on [] = Does (Sleeping due (Some alarm))
-rouses s due alarm on (heard ∷ rest) = roused s due on heard rest
-
--- a poll: the sleep under way first, which is never past the last moment, and then the lines from the script's place on
-abbrev pub polled : Waits → Script → ℕ → ℕ → Steps
-polled Nothing s time task heard = goes_on (lines_from s) s time task heard
-polled (Sleeps due alarm) s time task heard =
-    if ltb MAX_TIME due
-    then Gives Pending s
-    else rouses s due alarm (goes_on (lines_from s) (record s { waits = Nothing }) time task) heard
-
--- an end closes the context
 abbrev pub script_steps : TaskSteps Script ℤ
-script_steps = record {
-  next = λ s time task heard. polled s.waits s time task heard;
-  last = λ s time task heard. Spends (Plainly (CloseNode s.context.node)) (Gives tt tt);
-}
+script_steps = record { next = λ s time task. polled s time task; last = λ s time number. ended s s.waits }
 
 -- the script that a maker makes: at its first line, on node 0
 abbrev pub begun : RootScript → Script

@@ -1,11 +1,8 @@
 //! The maker of a scenario's root.
 
 use crate::Script;
-use rand_core::Rng;
-use rt_base::NoMemory;
-use rt_core::{Context, RootMaker};
+use rt_core::{Context, NoMemory, Rng, RootMaker, World};
 use rt_scenario::Line;
-use rt_world::World;
 
 /// Makes a script of these lines the root, with no call.
 #[derive(Drop)]
@@ -24,11 +21,12 @@ impl RootScript {
     }
 }
 
+#[tactic(auto, using(rt_world::proofs::Walked::maker_laws))]
 impl RootMaker<Script> for RootScript {
     ghost use Rattle.rt_model.specs.Walk.{Gives};
     ghost use Rattle.rt_sim.specs.Script.{begun};
 
-    ghost first = { λ m now heard. Gives tt (begun m) };
+    ghost first = { λ m now. Gives tt (begun m) };
 
     fn make<G: Rng>(
         self,

@@ -1,46 +1,34 @@
 //! The task type of a scenario.
 
-ghost use Rattle.std.specs.Prelude.{◌≡◌, ◌++◌, ◌∷◌, [], List, true, false, Some, drop, ◌<◌, ◌≤◌, ◌+◌, vec_len, ℤ, pos, IfSome, IfNone};
-ghost use Rattle.rt_model.specs.Rules.{MayCall};
-ghost use Rattle.rt_world.specs.Calls.{Kept};
-ghost use Rattle.rt_scenario.specs.declared.line.Line.TheVariants.{Sleep, Yield};
-ghost use Rattle.rt_sim.specs.Did.{DidBy, GoneBy, PolledBy, IsNext, Runs};
+ghost use Rattle.std.specs.Prelude.{◌≡◌, ◌∷◌, ◌+◌, ◌<◌, List, pos, vec_len, IfNone};
+ghost use Rattle.rt_world.specs.Calls.{IsPolling, Kept};
+ghost use Rattle.rt_world.specs.Walked.{Advanced};
+ghost use Rattle.rt_scenario.specs.declared.line.Line.{Line};
+ghost use Rattle.rt_sim.specs.Script.{Next, sleeps, yields, goes_on, passed};
 
-use rand_core::Rng;
-use rt_base::{MAX_TIME, Nanos};
-use rt_core::Context;
+use rt_core::utils::reschedule;
+use rt_core::{
+    Answer, Context, Cx, Nanos, Outcome, Poll, Poller, Reschedule, Rng, Sleep, Task, World,
+};
 use rt_scenario::Line;
-use rt_world::{Answer, Cx, Outcome, Task, World};
+use std::mem;
 
 /// What a script waits for.
-#[derive(Clone, Copy, Debug)]
+#[derive(Debug, Drop)]
 pub enum Waits {
     Nothing,
-    /// A sleep that is over at `due`, in nanoseconds since the epoch, and the number of its alarm.
-    Sleeps { due: Nanos, alarm: u64 },
+    Sleeps(Sleep),
+    Yields(Reschedule),
 }
 
-/// A script that runs: its lines, the place of the next one, the value of the last one, what it waits for, and its
-/// context.
+/// A script that runs: its lines, the place of the one that it is at, the value of the one before, what it waits for, and
+/// its context.
 pub struct Script {
     lines: Vec<Line>,
     place: usize,
     last: i64,
     waits: Waits,
     context: Context,
-}
-
-/// How a line went.
-#[derive(Drop)]
-pub enum Did {
-    /// The script goes on with the next line.
-    On,
-    /// It waits.
-    Stays,
-    /// The script gives its last value.
-    Ends,
-    /// A call lacked memory.
-    Lacks,
 }
 
 impl Outcome for Script {
@@ -60,162 +48,126 @@ impl Script {
             context,
         }
     }
+}
 
-    /// Begins a sleep.
+#[tactic(auto, using(rt_world::proofs::Walked::task_laws))]
+impl Script {
+    /// Goes past a line, which left this value.
+    fn pass(&mut self, value: i64)
+        requires { self.old.place < vec_len self.old.lines }
+        ensures { self.new ≡ passed self.old value }
+    {
+        self.place += 1;
+        self.last = value;
+        self.waits = Waits::Nothing;
+    }
+
+    /// Sleeps, or begins to. Answers none where the script goes on.
+    #[tactic(auto, using(rt_world::proofs::Walked::task_laws), unfolding(crate::specs::Script::sleeps))]
     fn sleep<G: Rng>(
         &mut self,
         world: &mut World<Script, i64, G>,
-        task: u64,
+        cx: &Cx,
         duration: Nanos,
-    ) -> Did
-        requires next { IsNext self.old (Sleep duration) }
+    ) -> Option<Answer<i64>>
         requires room { self.old.place < vec_len self.old.lines }
-        requires calling { MayCall world.old.told.state world.old.out }
-        ensures kept { Kept Script ℤ world.old world.new }
-        ensures runs { Runs self.old self.new }
-        ensures place { self.new.place ≡ self.old.place + 1 }
-        ensures waits { result ≡ Did.On → self.new.waits ≡ self.old.waits }
-        ensures did { DidBy world.old.told.state.clock.time task self.old self.new world.old world.new result }
+        requires polling { IsPolling world.old cx.now.task }
+        ensures kept { Kept world.old world.new }
+        ensures place { IfNone result (self.new.place ≡ self.old.place + 1) }
+        ensures lines { self.new.lines ≡ self.old.lines }
+        ensures steps { (on : Script → Next) → Advanced (sleeps self.old on duration world.old.told.state.clock.time) (on self.new) world.old world.new result self.new }
     {
-        let now = world.now();
-        self.place += 1;
-        let Some(due) = moment_after(now, duration) else {
-            self.last = -11;
-            return Did::On;
+        let begun = match mem::replace(&mut self.waits, Waits::Nothing) {
+            Waits::Sleeps(sleep) => Ok(sleep),
+            _ => self.context.sleep(world, duration),
         };
-        match world.sleep_poll(due, None) {
-            Ok(None) => {
-                self.last = 0;
-                Did::On
-            }
-            Ok(Some(alarm)) => {
-                self.last = 0;
-                self.waits = Waits::Sleeps { due, alarm };
-                Did::Stays
-            }
-            Err(_) => Did::Lacks,
-        }
-    }
-
-    /// Gives way once.
-    fn give_way<G: Rng>(&mut self, world: &mut World<Script, i64, G>, task: u64) -> Did
-        requires next { IsNext self.old Yield }
-        requires room { self.old.place < vec_len self.old.lines }
-        requires calling { MayCall world.old.told.state world.old.out }
-        ensures kept { Kept Script ℤ world.old world.new }
-        ensures runs { Runs self.old self.new }
-        ensures place { self.new.place ≡ self.old.place + 1 }
-        ensures waits { self.new.waits ≡ self.old.waits }
-        ensures did { DidBy world.old.told.state.clock.time task self.old self.new world.old world.new result }
-    {
-        self.place += 1;
-        let Err(_) = world.wake(task) else {
-            self.last = 0;
-            return Did::Stays;
+        let Ok(mut sleep) = begun else {
+            self.pass(-11);
+            return None;
         };
-        if world.is_short() {
-            return Did::Lacks;
-        }
-        self.last = -12;
-        Did::On
-    }
-
-    /// Does the next line.
-    fn take_line<G: Rng>(&mut self, world: &mut World<Script, i64, G>, task: u64, line: Line) -> Did
-        requires next { IsNext self.old line }
-        requires room { self.old.place < vec_len self.old.lines }
-        requires calling { MayCall world.old.told.state world.old.out }
-        ensures kept { Kept Script ℤ world.old world.new }
-        ensures runs { Runs self.old self.new }
-        ensures place { result ≡ Did.On → self.new.place ≡ self.old.place + 1 }
-        ensures did { DidBy world.old.told.state.clock.time task self.old self.new world.old world.new result }
-    {
-        match line {
-            Line::Sleep(duration) => {
-                let did = self.sleep(world, task, duration);
-                did
+        match sleep.poll(world, cx) {
+            Poll::Pending => {
+                self.waits = Waits::Sleeps(sleep);
+                Some(Answer::Pending)
             }
-            Line::Yield => {
-                let did = self.give_way(world, task);
-                did
+            Poll::Ready(Ok(())) => {
+                self.pass(0);
+                None
             }
-            Line::Pend => Did::Stays,
-            Line::End(value) => {
-                self.last = value;
-                Did::Ends
-            }
-            Line::EndLast => Did::Ends,
+            Poll::Ready(Err(_)) => Some(Answer::NoMemory),
         }
     }
 
-    /// Does the lines from the script's place on, up to one that waits or ends.
-    fn go_on<G: Rng>(&mut self, world: &mut World<Script, i64, G>, task: u64) -> Answer<i64>
-        requires calling { MayCall world.old.told.state world.old.out }
-        ensures kept { Kept Script ℤ world.old world.new }
-        ensures did { world.new.short ≡ false → GoneBy world.old.told.state.clock.time task self.old self.new world.old world.new result }
-    {
-        while self.place < self.lines.len() {
-            let line = self.lines[self.place];
-            match self.take_line(world, task, line) {
-                Did::On => {}
-                Did::Stays => return Answer::Pending,
-                Did::Ends => return Answer::Ready(self.last),
-                Did::Lacks => return Answer::NoMemory,
-            }
-        }
-        Answer::Ready(0)
-    }
-}
-
-impl Script {
-    /// Polls the sleep under way, and goes on once it is over.
-    fn wake_up<G: Rng>(
+    /// Gives way once. Answers none where the script goes on.
+    #[tactic(auto, using(rt_world::proofs::Walked::task_laws), unfolding(crate::specs::Script::yields))]
+    fn give_way<G: Rng>(
         &mut self,
         world: &mut World<Script, i64, G>,
-        task: u64,
-        due: Nanos,
-        alarm: u64,
-    ) -> Answer<i64>
-        requires waits { self.old.waits ≡ Waits.Sleeps due alarm }
-        requires calling { MayCall world.old.told.state world.old.out }
-        ensures kept { Kept Script ℤ world.old world.new }
-        ensures did { world.new.short ≡ false → PolledBy world.old.told.state.clock.time task self.old self.new world.old world.new result }
+        cx: &Cx,
+    ) -> Option<Answer<i64>>
+        requires room { self.old.place < vec_len self.old.lines }
+        requires polling { IsPolling world.old cx.now.task }
+        ensures kept { Kept world.old world.new }
+        ensures place { IfNone result (self.new.place ≡ self.old.place + 1) }
+        ensures lines { self.new.lines ≡ self.old.lines }
+        ensures steps { (on : Script → Next) → Advanced (yields self.old on cx.now.task) (on self.new) world.old world.new result self.new }
     {
-        if MAX_TIME < due {
-            return Answer::Pending;
+        let mut turn = match mem::replace(&mut self.waits, Waits::Nothing) {
+            Waits::Yields(turn) => turn,
+            _ => reschedule(),
+        };
+        match turn.poll(world, cx) {
+            Poll::Pending => {
+                self.waits = Waits::Yields(turn);
+                Some(Answer::Pending)
+            }
+            Poll::Ready(Ok(())) => {
+                self.pass(0);
+                None
+            }
+            Poll::Ready(Err(_)) => Some(Answer::NoMemory),
         }
-        match world.sleep_poll(due, Some(alarm)) {
-            Ok(None) => {
-                self.waits = Waits::Nothing;
-                let answer = self.go_on(world, task);
-                answer
-            }
-            Ok(Some(alarm)) => {
-                self.waits = Waits::Sleeps { due, alarm };
-                Answer::Pending
-            }
-            Err(_) => Answer::NoMemory,
+    }
+
+    /// Does the line that the script is at. Answers none where the script goes on.
+    #[tactic(auto, using(rt_world::proofs::Walked::task_laws), unfolding(crate::specs::Script::goes_on))]
+    fn take_line<G: Rng>(
+        &mut self,
+        world: &mut World<Script, i64, G>,
+        cx: &Cx,
+        line: Line,
+    ) -> Option<Answer<i64>>
+        requires room { self.old.place < vec_len self.old.lines }
+        requires polling { IsPolling world.old cx.now.task }
+        ensures kept { Kept world.old world.new }
+        ensures place { IfNone result (self.new.place ≡ self.old.place + 1) }
+        ensures lines { self.new.lines ≡ self.old.lines }
+        ensures steps { (lines : List Line) → Advanced (goes_on (line ∷ lines) self.old world.old.told.state.clock.time cx.now.task) (goes_on lines self.new world.old.told.state.clock.time cx.now.task) world.old world.new result self.new }
+    {
+        match line {
+            Line::Sleep(duration) => self.sleep(world, cx, duration),
+            Line::Yield => self.give_way(world, cx),
+            Line::Pend => Some(Answer::Pending),
+            Line::End(value) => Some(Answer::Ready(value)),
+            Line::EndLast => Some(Answer::Ready(self.last)),
         }
     }
 }
 
+#[tactic(auto, using(rt_world::proofs::Walked::task_laws))]
 impl Task for Script {
     ghost use Rattle.rt_sim.specs.Script.{script_steps};
 
     ghost steps = { script_steps };
 
-    #[tactic(auto, using(crate::proofs::Scripts::poll_laws))]
     fn poll<G: Rng>(&mut self, world: &mut World<Script, i64, G>, cx: &Cx) -> Answer<i64> {
-        match self.waits {
-            Waits::Nothing => {
-                let answer = self.go_on(world, cx.task());
-                answer
-            }
-            Waits::Sleeps { due, alarm } => {
-                let answer = self.wake_up(world, cx.task(), due, alarm);
-                answer
+        while self.place < self.lines.len() {
+            let line = self.lines[self.place];
+            if let Some(answer) = self.take_line(world, cx, line) {
+                return answer;
             }
         }
+        Answer::Ready(0)
     }
 
     fn end<G: Rng>(self, world: &mut World<Script, i64, G>) {
@@ -223,23 +175,14 @@ impl Task for Script {
             lines: _,
             place: _,
             last: _,
-            waits: _,
+            waits,
             context,
         } = self;
+        match waits {
+            Waits::Nothing => {}
+            Waits::Sleeps(sleep) => sleep.give_up(world),
+            Waits::Yields(turn) => turn.give_up(world),
+        }
         context.close(world);
     }
-}
-
-/// The moment that lies so far ahead, where there is one.
-fn moment_after(now: Nanos, duration: Nanos) -> Option<Nanos>
-    ensures some { IfSome result (λ due. (due ≡ now + duration) × (now + duration ≤ MAX_TIME)) }
-    ensures none { IfNone result (MAX_TIME < now + duration) }
-{
-    if MAX_TIME < now {
-        return None;
-    }
-    if MAX_TIME - now < duration {
-        return None;
-    }
-    Some(now + duration)
 }

@@ -3,8 +3,8 @@
 ghost use Rattle.std.specs.Prelude.{◌≡◌, ◌≢◌, ◌<◌, ◌≤◌, ◌⊎◌, ◌∷◌, [], false, Some, IfSome, length, map, vec_len, vec_capacity, string_bytes};
 ghost use Rattle.rt_base.specs.Outside.{HasRisen};
 ghost use Rattle.rt_scenario.specs.Scenario.{scenario_of, CanRun, Whole, BrokenAt};
-ghost use Rattle.rt_sim.specs.Asked.{Asked, Reads, IsAsked, Refuses, EndsAs, Ends, says_run};
-ghost use Rattle.rt_sim.specs.Ran.{rounds_in, status_of, Reports};
+ghost use Rattle.rt_sim.specs.Asked.{Asked, Reads, IsAsked, Refuses, Reports, EndsAs, Ends, says_run};
+ghost use Rattle.rt_sim.specs.Ran.{report_of, rounds_in, status_of};
 ghost use Rattle.rt_sim.specs.Report.{reports_text};
 
 use crate::report::{Unwritten, write_report};
@@ -36,6 +36,7 @@ pub fn simulate_alone<S: Source, K: Sink8>(
     ensures report { (asked : Asked) × IsAsked (map string_bytes words.now) (S.left source.old) asked × Ends asked result (K.held sink.old) (K.held sink.new) }
     ensures to_the_end { (result.status ≡ 0) ⊎ ((result.status ≡ 3) ⊎ (result.status ≡ 6)) → IfSome (S.left source.old) (λ left. length left ≤ LONGEST → S.left source.new ≡ Some []) }
     ensures words { says_run (map string_bytes words.now) ≡ false → (result.status ≡ 2) ⊎ (result.status ≡ 5) }
+    ensures untouched { says_run (map string_bytes words.now) ≡ false → source.new ≡ source.old }
     ensures unread { result.status ≡ 4 → HasRisen (S.faults source.old) (S.faults source.new) × (sink.new ≡ sink.old) }
     ensures unwritten { result.status ≡ 5 → HasRisen (K.faults sink.old) (K.faults sink.new) }
 {
@@ -64,19 +65,10 @@ fn is_run_command(words: &[String]) -> bool
 fn nothing(alloc: Global, status: u8) -> Outcome
     ensures { Refuses status result }
 {
-    unreported(alloc, status, Journal::new(alloc))
-}
-
-/// An outcome whose runs aren't reported.
-fn unreported(alloc: Global, status: u8, journal: Journal) -> Outcome
-    ensures status { result.status ≡ status }
-    ensures runs { result.runs ≡ [] }
-    ensures journal { result.journal ≡ journal }
-{
     Outcome {
         status,
         runs: Items::of(Vec::new(alloc)),
-        journal,
+        journal: Journal::new(alloc),
     }
 }
 
@@ -130,6 +122,9 @@ fn run_scenario<K: Sink8>(alloc: Global, scenario: Scenario, sink: &mut K) -> Ou
         scripts,
         root,
     } = scenario;
+    let Ok(place) = Vec::with_capacity(alloc, 1) else {
+        return nothing(alloc, 7);
+    };
     let mut scripts = scripts.into_inner();
     let script = scripts.swap_remove(root);
     let Ok(runner) = Runner::new(Config::new().with_timeout(timeout)) else {
@@ -142,38 +137,39 @@ fn run_scenario<K: Sink8>(alloc: Global, scenario: Scenario, sink: &mut K) -> Ou
             let Finished { output, checkpoint } = finished;
             let time = checkpoint.time();
             let journal = checkpoint.into_journal();
-            report_run(alloc, sink, name, RunResult::Ok(output), time, journal)
+            let run = report_of(name, RunResult::Ok(output), time, &journal);
+            report_run(alloc, sink, place, run, journal)
         }
         Err(failure) => {
             let Failure { cause, journal } = failure;
             if cause == RunError::NoMemory {
-                return unreported(alloc, 7, journal);
+                return halted(alloc, journal);
             }
             let time = journal.last_time();
-            report_run(alloc, sink, name, RunResult::Failed(cause), time, journal)
+            let run = report_of(name, RunResult::Failed(cause), time, &journal);
+            report_run(alloc, sink, place, run, journal)
         }
     }
 }
 
-/// Reports a run whose entries are all of the journal.
-fn report_run<K: Sink8>(
-    alloc: Global,
-    sink: &mut K,
-    root: Text,
-    ended: RunResult,
-    time: Nanos,
-    journal: Journal,
-) -> Outcome
-    ensures ends { EndsAs (Reports root ended time) (reports_text result.runs result.journal.entries) result (K.held sink.old) (K.held sink.new) }
+/// The outcome of a run that lacked memory.
+fn halted(alloc: Global, journal: Journal) -> Outcome
+    ensures status { result.status ≡ 7 }
+    ensures runs { result.runs ≡ [] }
     ensures journal { result.journal ≡ journal }
-    ensures read { result.status ≢ 4 }
-    ensures unwritten { result.status ≡ 5 → HasRisen (K.faults sink.old) (K.faults sink.new) }
 {
-    let Ok(place) = Vec::with_capacity(alloc, 1) else {
-        return unreported(alloc, 7, journal);
-    };
-    let status = status_of(&ended);
-    let run = RunReport {
+    Outcome {
+        status: 7,
+        runs: Items::of(Vec::new(alloc)),
+        journal,
+    }
+}
+
+/// The report of a run whose entries are all of the journal.
+fn report_of(root: Text, ended: RunResult, time: Nanos, journal: &Journal) -> RunReport
+    ensures { result ≡ report_of root ended time 0 journal.now.entries }
+{
+    RunReport {
         root,
         result: ended,
         from: 0,
@@ -181,7 +177,24 @@ fn report_run<K: Sink8>(
         digest: [0; 4],
         time,
         rounds: count_rounds(journal.entries()),
-    };
+    }
+}
+
+/// Writes the report of a run, for which there is a place.
+fn report_run<K: Sink8>(
+    alloc: Global,
+    sink: &mut K,
+    place: Vec<RunReport>,
+    run: RunReport,
+    journal: Journal,
+) -> Outcome
+    requires empty { vec_len place ≡ 0 }
+    requires room { 0 < vec_capacity place }
+    ensures ends { EndsAs (Reports run journal.entries) (reports_text result.runs result.journal.entries) result (K.held sink.old) (K.held sink.new) }
+    ensures read { result.status ≢ 4 }
+    ensures unwritten { result.status ≡ 5 → HasRisen (K.faults sink.old) (K.faults sink.new) }
+{
+    let status = status_of(&run.result);
     match write_report(alloc, sink, &run, journal.entries()) {
         Ok(()) => reported(place, run, status, journal),
         Err(Unwritten::Failed) => reported(place, run, 5, journal),

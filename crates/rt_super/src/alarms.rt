@@ -126,6 +126,13 @@ impl Alarms {
         self.dues.clear();
     }
 
+    /// How many alarms were ever set, which is the number of the next.
+    pub fn count(&self) -> u64
+        ensures { result ≡ self.now.count }
+    {
+        self.count
+    }
+
     /// How many alarms are set.
     pub fn len(&self) -> usize
         ensures count { result ≡ length self.now.alarms }

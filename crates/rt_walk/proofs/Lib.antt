@@ -1,4 +1,3 @@
-pub mod Alarms
 pub mod Members
 pub mod Permutations
 pub mod Prefixes

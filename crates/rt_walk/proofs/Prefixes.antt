@@ -3,7 +3,8 @@ use Rattle.std.proofs.Common.{◌≡◌, ◌<◌, ◌+◌, ℕ, zero, suc, Some,
 use Rattle.std.proofs.lemmas.List.{take_more}
 use Rattle.std.proofs.lemmas.Option.{slice_get-get_or, slice_get_within, get_or_from_slice_get}
 use Rattle.rt_audit.specs.declared.entry.Entry.{Entry}
-use Rattle.rt_model.specs.State.{State, blank}
+use Rattle.rt_model.specs.declared.begin.Begin.{Begin}
+use Rattle.rt_model.specs.State.{State, begun}
 use Rattle.rt_model.specs.Effects.{after, after_all}
 use Rattle.rt_model.specs.Rules.{May, IsLawful}
 use Rattle.rt_model.proofs.Append.{after_all-append, IsLawful-append}
@@ -14,15 +15,15 @@ use Rattle.rt_walk.specs.First.{BreaksAt}
 take-further : (xs : List Entry) (i : ℕ) (e : Entry) → i < length xs → e ≡ get_or xs i e → take (i + 1) xs ≡ take i xs ++ e ∷ []
 take-further xs i e l there = take_more xs i e l ∙ ap (λ x. take i xs ++ x ∷ []) (sym there)
 
-pub after-further : (xs : List Entry) (i : ℕ) (e : Entry) → i < length xs → e ≡ get_or xs i e → after_all blank (take (i + 1) xs) ≡ after (after_all blank (take i xs)) e
-after-further xs i e l there = rw (take-further xs i e l there, after_all-append blank (take i xs) (e ∷ [])) refl
+pub after-further : (s : State) (xs : List Entry) (i : ℕ) (e : Entry) → i < length xs → e ≡ get_or xs i e → after_all s (take (i + 1) xs) ≡ after (after_all s (take i xs)) e
+after-further s xs i e l there = rw (take-further xs i e l there, after_all-append s (take i xs) (e ∷ [])) refl
 
-pub lawful-further : (xs : List Entry) (i : ℕ) (e : Entry) → i < length xs → e ≡ get_or xs i e → IsLawful blank (take i xs) → May (after_all blank (take i xs)) e → IsLawful blank (take (i + 1) xs)
-lawful-further xs i e l there before next =
-    rw (take-further xs i e l there) (IsLawful-append blank (take i xs) (e ∷ []) before (next, tt))
+pub lawful-further : (s : State) (xs : List Entry) (i : ℕ) (e : Entry) → i < length xs → e ≡ get_or xs i e → IsLawful s (take i xs) → May (after_all s (take i xs)) e → IsLawful s (take (i + 1) xs)
+lawful-further s xs i e l there before next =
+    rw (take-further xs i e l there) (IsLawful-append s (take i xs) (e ∷ []) before (next, tt))
 
-pub breaks-here : (xs : List Entry) (i : ℕ) (e : Entry) → i < length xs → e ≡ get_or xs i e → IsLawful blank (take i xs) → (May (after_all blank (take i xs)) e → ⊥) → BreaksAt xs i
-breaks-here xs i e l there before breaks = record {
+pub breaks-here : (b : Begin) (xs : List Entry) (i : ℕ) (e : Entry) → i < length xs → e ≡ get_or xs i e → IsLawful (begun b) (take i xs) → (May (after_all (begun b) (take i xs)) e → ⊥) → BreaksAt b xs i
+breaks-here b xs i e l there before breaks = record {
   entry = e;
   there = slice_get-get_or xs i e l ∙ ap Some (sym there);
   before = before;
@@ -35,7 +36,7 @@ lawful-there s [] i d l h = absurd (omega arith)
 lawful-there s (x ∷ xs) zero d l h = h.0
 lawful-there s (x ∷ xs) (suc i) d l h = lawful-there (after s x) xs i d (omega arith) h.1
 
-pub broken-unlawful : (xs : List Entry) (i : ℕ) → BreaksAt xs i → IsLawful blank xs → ⊥
-broken-unlawful xs i b h =
-    let l = slice_get_within xs i b.entry b.there in
-    b.breaks (rw (get_or_from_slice_get xs i b.entry b.entry b.there) at (lawful-there blank xs i b.entry l h))
+pub broken-unlawful : (b : Begin) (xs : List Entry) (i : ℕ) → BreaksAt b xs i → IsLawful (begun b) xs → ⊥
+broken-unlawful b xs i at-it h =
+    let l = slice_get_within xs i at-it.entry at-it.there in
+    at-it.breaks (rw (get_or_from_slice_get xs i at-it.entry at-it.entry at-it.there) at (lawful-there (begun b) xs i at-it.entry l h))

@@ -7,8 +7,8 @@ use Rattle.rt_audit.specs.declared.call.Call.TheVariants.{CloseNode, Wake as Wak
 use Rattle.rt_audit.specs.declared.reply.CallReply.{CallReply}
 use Rattle.rt_audit.specs.declared.reply.CallReply.TheVariants.{Done, PendingAt, Ready as IsReady, Refused}
 use Rattle.rt_audit.specs.declared.entry.Entry.{Entry}
-use Rattle.rt_audit.specs.declared.entry.Entry.TheVariants.{Call as CallEntry, Wake, Round, Answer, Cleanup}
-use Rattle.rt_model.specs.State.{State, Phase, Making, Between, Visiting, Turning, Closing}
+use Rattle.rt_audit.specs.declared.entry.Entry.TheVariants.{Call as CallEntry, Wake, Draw, Round, Answer, Cleanup}
+use Rattle.rt_model.specs.State.{State, Phase, Making, Between, Visiting, Turning, Cleaning}
 use Rattle.rt_model.specs.Causes.{cause_at}
 use Rattle.rt_model.specs.Effects.{after, phase_after, owed_after}
 use Rattle.rt_model.specs.Rules.{Answers, May, MayAnswer, MayRound}
@@ -38,6 +38,7 @@ may-quiet : (s : State) (e : Entry) → May s e ≡ May (quiet s) e
 may-quiet s (CallEntry by call reply) = rw (answers-quiet s call reply) refl
 may-quiet s (Answer task kind) = rw (answer-quiet s task kind) refl
 may-quiet s (Round order) = rw (round-quiet s.phase s) refl
+may-quiet s (Draw value) = rw (round-quiet s.phase s) refl
 may-quiet s (Wake task) = refl
 may-quiet s _ = refl
 
@@ -49,7 +50,7 @@ cause-quiet Turning s = refl
 cause-quiet _ s = refl
 
 phase-quiet : (s : State) (e : Entry) → phase_after s e ≡ phase_after (quiet s) e
-phase-quiet s Cleanup = ap Closing (cause-quiet s.phase s)
+phase-quiet s Cleanup = ap Cleaning (cause-quiet s.phase s)
 phase-quiet s _ = refl
 
 owed-quiet : (s : State) (e : Entry) → owed_after s e ≡ owed_after (quiet s) e

@@ -11,6 +11,7 @@ quiet s = record {
   root = s.root;
   running = s.running;
   ready = s.ready;
+  draws = s.draws;
   alarms = s.alarms;
   nodes = s.nodes;
   owed = s.owed;

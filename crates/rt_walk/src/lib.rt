@@ -1,7 +1,6 @@
 //! Walks over the entries of a journal, and says whether each may come where it stands.
 #![tactic(auto)]
 
-mod alarm_set;
 mod first;
 mod left;
 mod may;
@@ -10,6 +9,7 @@ mod stage;
 mod step;
 #[cfg(test)]
 mod tests;
+mod told_alarms;
 mod walker;
 
 pub use first::first_unlawful;

@@ -1,18 +1,17 @@
 //! What may come next.
 
-ghost use Rattle.std.specs.Prelude.{◌≡◌, ◌↔◌, ◌⊎◌, [], IfOk, OnErr, IsTrue, List, ℕ, true};
+ghost use Rattle.std.specs.Prelude.{◌≡◌, ◌↔◌, [], IfOk, OnErr, IsTrue, List, ℕ, true};
 ghost use Rattle.std.specs.Int.{to_be_bytes, w128};
-ghost use Rattle.rt_audit.specs.declared.entry.Entry.TheVariants.{Event, Root, Round, Visit, Answer, NodeEnd, Advance, Skip, Fire, Crash, Finish};
+ghost use Rattle.rt_audit.specs.declared.entry.Entry.TheVariants.{Start, Event, Root, Round, Visit, Answer, NodeEnd, Advance, Skip, Fire, Crash, Finish};
 ghost use Rattle.rt_model.specs.State.{Polling, State};
-ghost use Rattle.rt_model.specs.Alarms.{is_set};
 ghost use Rattle.rt_model.specs.Causes.{ends_next};
-ghost use Rattle.rt_model.specs.Effects.{is_ended, left_of};
+ghost use Rattle.rt_model.specs.Effects.{left_of};
 ghost use Rattle.rt_model.specs.Events.{task_fields};
-ghost use Rattle.rt_model.specs.Rules.{Answers, May, MayAnswer, MayCall, MayFree, MayRound};
+ghost use Rattle.rt_model.specs.Rules.{Answers, IsEndedNext, May, MayAnswer, MayCall, MayFree, MayRound};
 ghost use Rattle.rt_walk.specs.Quiet.{quiet};
 
 use crate::Walker;
-use crate::numbers::{ends_next, first_running, has_number, is_permutation};
+use crate::numbers::{ends_next, first_running, is_permutation};
 use crate::stage::Stage;
 use rt_audit::{AnswerKind, Call, CallReply, Entry, FinishCause};
 use rt_base::{Choice, Error, Items, MAX_TIME, Nanos, NoMemory, Text};
@@ -37,10 +36,16 @@ impl Walker {
         ensures err { OnErr result ((order : List ℕ) × (entry.now ≡ Round order)) }
     {
         Ok(match entry {
-            Entry::Start { .. } => matches!(self.stage, Stage::Blank),
+            Entry::Start {
+                next,
+                now,
+                deadline,
+                cycle,
+            } => self.may_start(*next, *now, *deadline, *cycle),
             Entry::Call { by, call, reply } => self.may_call(*by) && self.answers(*call, reply),
             Entry::Event { label, fields } => self.may_event(label, fields),
-            Entry::Wake { .. } | Entry::Draw { .. } => false,
+            Entry::Wake { .. } => false,
+            Entry::Draw { .. } => self.may_round(),
             Entry::Root { task } => self.may_root(*task),
             Entry::Round { order } => {
                 self.may_round()
@@ -58,23 +63,37 @@ impl Walker {
         })
     }
 
+    /// Whether the start agrees with what was fixed.
+    fn may_start(&self, next: u64, now: Nanos, deadline: Option<Nanos>, cycle: Nanos) -> bool
+        ensures { IsTrue result ↔ MayFree self.now (Start next now deadline cycle) }
+    {
+        matches!(self.stage, Stage::Blank)
+            && next == self.begin.first
+            && now == self.begin.start
+            && deadline == self.begin.deadline
+            && cycle == self.begin.cycle
+    }
+
     /// Whether this is who makes the calls here.
     fn may_call(&self, by: Option<u64>) -> bool
         ensures { IsTrue result ↔ MayCall self.now by }
     {
         match &self.stage {
             Stage::Making => by.is_none(),
-            Stage::Polling { task, .. } => by == Some(*task),
-            Stage::Closing { .. } => self.has_ended() && by == self.ends_next(),
+            Stage::Polling { task, .. } | Stage::Ending { task, .. } => by == Some(*task),
+            Stage::Closing { .. } => self.is_ended_next(by),
             _ => false,
         }
     }
 
-    /// Whether the end of node 0 was asked for.
-    fn has_ended(&self) -> bool
-        ensures { result ≡ is_ended self.now.nodes 0 }
+    /// Whether this is whom a cleanup ends next: a task, or behind the last a root that was made and not taken in.
+    fn is_ended_next(&self, by: Option<u64>) -> bool
+        ensures { IsTrue result ↔ IsEndedNext self.now.root (ends_next self.now.running self.now.root) by }
     {
-        has_number(self.ends.as_slice(), 0)
+        match self.ends_next() {
+            None => self.root.is_none() && by.is_none(),
+            next => by == next,
+        }
     }
 
     /// The task that a cleanup ends next.
@@ -89,24 +108,17 @@ impl Walker {
         ensures { IsTrue result ↔ Answers self.now call reply.now }
     {
         match (call, reply) {
-            (Call::CloseNode { node }, CallReply::Done) => has_number(self.live.as_slice(), node),
+            (Call::CloseNode { node }, CallReply::Done) => self.nodes.lives(node),
             (Call::Wake { task }, CallReply::Done) => self.was_given(task),
             (Call::Wake { task }, CallReply::Refused { error }) => {
                 matches!(error.error(), Error::UnknownToken) && !self.was_given(task)
             }
             (Call::SleepPoll { due }, CallReply::Ready) => due <= self.time,
             (Call::SleepPoll { due }, CallReply::PendingAt { alarm }) => {
-                self.time < due && self.may_sleep(due, *alarm)
+                self.time < due && due <= MAX_TIME && self.alarms.may_tell(due, *alarm)
             }
             _ => false,
         }
-    }
-
-    /// Whether a sleep may be told this number: the next, or that of its own alarm.
-    fn may_sleep(&self, due: Nanos, alarm: u64) -> bool
-        ensures { IsTrue result ↔ ((alarm ≡ self.now.alarms.count) ⊎ (is_set self.now.alarms.set due alarm ≡ true)) }
-    {
-        alarm == self.alarms.count() || self.alarms.is_set(due, alarm)
     }
 
     fn may_event(&self, label: &Text, fields: &Items<Items<u8>>) -> bool
@@ -169,17 +181,21 @@ impl Walker {
         }
     }
 
-    /// Whether a cleanup ends this task next.
+    /// Whether this task's end may be over.
     fn may_end(&self, task: u64) -> bool
         ensures { IsTrue result ↔ MayAnswer self.now task AnswerKind.Ended }
     {
-        self.stage.is_closing() && self.has_ended() && self.ends_next() == Some(task)
+        match &self.stage {
+            Stage::Ending { task: ended, .. } => task == *ended,
+            Stage::Closing { .. } => self.ends_next() == Some(task),
+            _ => false,
+        }
     }
 
     fn may_end_node(&self, node: u64) -> bool
         ensures { IsTrue result ↔ MayFree self.now (NodeEnd node) }
     {
-        node == 0 && self.stage.is_closing() && !self.has_ended()
+        node == 0 && matches!(self.stage, Stage::Cleaning { .. })
     }
 
     fn may_advance(&self, now: Nanos) -> bool
@@ -188,7 +204,7 @@ impl Walker {
         match &self.stage {
             Stage::Visiting { left } => {
                 first_running(self.running.as_slice(), left.as_slice()).is_none()
-                    && self.time.checked_add(self.cycle) == Some(now)
+                    && self.time.checked_add(self.begin.cycle) == Some(now)
                     && now <= MAX_TIME
             }
             _ => false,
@@ -210,10 +226,7 @@ impl Walker {
     fn may_crash(&self, choices: &Items<Choice>) -> bool
         ensures { IsTrue result ↔ MayFree self.now (Crash choices.now) }
     {
-        self.stage.is_closing()
-            && self.has_ended()
-            && self.running.is_empty()
-            && choices.as_slice().is_empty()
+        self.stage.is_closing() && self.running.is_empty() && choices.as_slice().is_empty()
     }
 
     fn may_finish(&self, cause: FinishCause) -> bool

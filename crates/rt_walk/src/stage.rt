@@ -1,7 +1,7 @@
 //! Where a run stands.
 
 ghost use Rattle.std.specs.Prelude.{◌≡◌, IfOk, ◌↔◌, IsTrue};
-ghost use Rattle.rt_model.specs.Effects.{left_of, entered, answered, cause_of, is_closing};
+ghost use Rattle.rt_model.specs.Effects.{left_of, entered, ended, answered, cleaned, cause_of, is_closing};
 ghost use Rattle.rt_model.specs.Rules.{MayClose};
 ghost use Rattle.rt_walk.specs.Stage.{phase_of};
 
@@ -18,8 +18,10 @@ pub enum Stage {
     Visiting { left: Left },
     Entered { task: u64, left: Left },
     Polling { task: u64, left: Left },
+    Ending { task: u64, left: Left },
     Turning,
     Over { cause: FinishCause },
+    Cleaning { cause: Option<FinishCause> },
     Closing { cause: Option<FinishCause> },
     Crashed { cause: Option<FinishCause> },
     Finished { cause: FinishCause },
@@ -34,6 +36,7 @@ impl Stage {
             Stage::Visiting { left } => left,
             Stage::Entered { left, .. } => left,
             Stage::Polling { left, .. } => left,
+            Stage::Ending { left, .. } => left,
             _ => Left::new(alloc),
         }
     }
@@ -48,21 +51,52 @@ impl Stage {
         }
     }
 
+    /// Behind an end, which leaves its visit if it was within one.
+    fn into_ended(self) -> Stage
+        ensures { phase_of result ≡ ended (phase_of self) }
+    {
+        match self {
+            Stage::Ending { left, .. } => Stage::Visiting { left },
+            stage => stage,
+        }
+    }
+
     /// Behind the answer of a visit, or of an end.
-    pub fn into_answered(self, alloc: Global, kind: AnswerKind) -> Stage
-        ensures { phase_of result ≡ answered (phase_of self) kind }
+    pub fn into_answered(
+        self,
+        alloc: Global,
+        root: Option<u64>,
+        task: u64,
+        kind: AnswerKind,
+    ) -> Stage
+        ensures { phase_of result ≡ answered root (phase_of self) task kind }
     {
         match kind {
             AnswerKind::Pending => Stage::Visiting {
                 left: self.into_left(alloc),
             },
-            AnswerKind::Ready => Stage::Over {
+            AnswerKind::Ready if root == Some(task) => Stage::Over {
                 cause: FinishCause::Completed,
+            },
+            AnswerKind::Ready => Stage::Ending {
+                task,
+                left: self.into_left(alloc),
             },
             AnswerKind::NoMemory => Stage::Over {
                 cause: FinishCause::NoMemory,
             },
-            _ => self,
+            AnswerKind::Ended => self.into_ended(),
+            AnswerKind::Panicked | AnswerKind::Stopped => self,
+        }
+    }
+
+    /// Behind the end of node 0 in a cleanup.
+    pub fn into_cleaned(self) -> Stage
+        ensures { phase_of result ≡ cleaned (phase_of self) }
+    {
+        match self {
+            Stage::Cleaning { cause } => Stage::Closing { cause },
+            stage => stage,
         }
     }
 
@@ -71,12 +105,13 @@ impl Stage {
         ensures { result ≡ cause_of (phase_of self.now) }
     {
         match self {
-            Stage::Closing { cause } | Stage::Crashed { cause } => *cause,
+            Stage::Cleaning { cause } | Stage::Closing { cause } | Stage::Crashed { cause } =>
+                *cause,
             _ => None,
         }
     }
 
-    /// Whether a cleanup is under way.
+    /// Whether the tasks end one by one.
     pub fn is_closing(&self) -> bool
         ensures { result ≡ is_closing (phase_of self.now) }
     {
@@ -87,9 +122,13 @@ impl Stage {
     pub fn may_close(&self) -> bool
         ensures { IsTrue result ↔ MayClose (phase_of self.now) }
     {
-        !matches!(
+        matches!(
             self,
-            Stage::Blank | Stage::Closing { .. } | Stage::Crashed { .. } | Stage::Finished { .. }
+            Stage::Making
+                | Stage::Between
+                | Stage::Visiting { .. }
+                | Stage::Turning
+                | Stage::Over { .. }
         )
     }
 }

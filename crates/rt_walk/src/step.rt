@@ -1,14 +1,13 @@
 //! What an entry does.
 
-ghost use Rattle.std.specs.Prelude.{◌≡◌, OnOk, ℕ, List};
-ghost use Rattle.rt_audit.specs.declared.entry.Entry.TheVariants.{Start, Call as CallEntry, Event, Wake, Root, Round, Visit, Answer, NodeEnd, Advance, Skip, Fire, Cleanup, Crash, Finish};
+ghost use Rattle.std.specs.Prelude.{◌≡◌, OnOk, ℕ, List, Option};
+ghost use Rattle.rt_audit.specs.declared.entry.Entry.TheVariants.{Start, Call as CallEntry, Event, Wake, Draw, Root, Round, Visit, Answer, NodeEnd, Advance, Skip, Fire, Cleanup, Crash, Finish};
 ghost use Rattle.rt_base.specs.declared.choice.Choice.{Choice};
 ghost use Rattle.rt_model.specs.State.{State};
 ghost use Rattle.rt_model.specs.Effects.{after};
 ghost use Rattle.rt_walk.specs.Quiet.{quiet};
 
 use crate::Walker;
-use crate::alarm_set::AlarmSet;
 use crate::left::Left;
 use crate::numbers::{add_number, remove_number};
 use crate::stage::Stage;
@@ -18,29 +17,24 @@ use std::mem;
 
 #[tactic(auto, unfolding(rt_model::specs::Effects::after))]
 impl Walker {
-    /// Takes an entry in. Where memory is lacking, or no number is left for a further alarm, nothing is known of the
-    /// walker any more.
+    /// Takes an entry in. It answers `NoMemory` also where no number is left for a further alarm, and for a sleep of the
+    /// task `u64::MAX`, which is no task's number. After that answer nothing is known of the walker any more.
     #[tactic(auto, using(crate::proofs::Quiet::quiet_laws), unfolding(rt_model::specs::Effects::after))]
     pub fn step(&mut self, entry: &Entry) -> Result<(), NoMemory>
         ensures here { OnOk result (self.new ≡ quiet (after self.old entry.now)) }
         ensures alike { OnOk result ((s : State) → quiet s ≡ self.old → self.new ≡ quiet (after s entry.now)) }
     {
         match entry {
-            Entry::Start {
-                next,
-                now,
-                deadline,
-                cycle,
-            } => self.start(*next, *now, *deadline, *cycle)?,
+            Entry::Start { .. } => self.start(),
             Entry::Call { by, call, reply } => self.call(*by, *call, reply)?,
             Entry::Event { .. } => self.enter(),
             Entry::Wake { task } => self.wake(*task)?,
-            Entry::Draw { .. } => self.owed = None,
+            Entry::Draw { value } => self.draw(*value)?,
             Entry::Root { task } => self.take_root(*task)?,
             Entry::Round { order } => self.round(order.as_slice())?,
             Entry::Visit { task } => self.visit(*task),
             Entry::Answer { task, kind } => self.answer(*task, *kind),
-            Entry::NodeEnd { node } => self.end_node(*node)?,
+            Entry::NodeEnd { node } => self.end_node(*node),
             Entry::Advance { now } => self.advance(*now),
             Entry::Skip { now } => self.skip(*now),
             Entry::Fire { .. } => self.fire(),
@@ -51,35 +45,11 @@ impl Walker {
         Ok(())
     }
 
-    fn start(
-        &mut self,
-        next: u64,
-        now: Nanos,
-        deadline: Option<Nanos>,
-        cycle: Nanos,
-    ) -> Result<(), NoMemory>
-        ensures { OnOk result (self.new ≡ quiet (after self.old (Start next now deadline cycle))) }
+    fn start(&mut self)
+        ensures { (next now : ℕ) (deadline : Option ℕ) (cycle : ℕ) → self.new ≡ quiet (after self.old (Start next now deadline cycle)) }
     {
-        let alloc = self.allocator();
-        let mut live = Vec::new(alloc);
-        live.push(0)?;
-        *self = Walker {
-            time: now,
-            start: now,
-            cycle,
-            deadline,
-            stage: Stage::Making,
-            first: next,
-            next: next as u128,
-            root: None,
-            running: Vec::new(alloc),
-            ready: Vec::new(alloc),
-            alarms: AlarmSet::new(alloc),
-            live,
-            ends: Vec::new(alloc),
-            owed: None,
-        };
-        Ok(())
+        self.stage = Stage::Making;
+        self.owed = None;
     }
 
     fn call(&mut self, by: Option<u64>, call: Call, reply: &CallReply) -> Result<(), NoMemory>
@@ -90,7 +60,7 @@ impl Walker {
             _ => None,
         };
         match (call, reply) {
-            (Call::CloseNode { node }, _) => remove_number(&mut self.live, node),
+            (Call::CloseNode { node }, CallReply::Done) => self.nodes.release(node),
             (Call::SleepPoll { due }, CallReply::PendingAt { alarm }) => {
                 self.alarms.sleep(by, due, *alarm)?;
             }
@@ -103,6 +73,14 @@ impl Walker {
         ensures { OnOk result (self.new ≡ quiet (after self.old (Wake task))) }
     {
         self.ready.push(task)?;
+        self.owed = None;
+        Ok(())
+    }
+
+    fn draw(&mut self, value: u64) -> Result<(), NoMemory>
+        ensures { OnOk result (self.new ≡ quiet (after self.old (Draw value))) }
+    {
+        self.draws.push(value)?;
         self.owed = None;
         Ok(())
     }
@@ -124,17 +102,18 @@ impl Walker {
     {
         let left = Left::of(self.allocator(), order)?;
         self.ready.clear();
+        self.draws.clear();
         self.stage = Stage::Visiting { left };
         self.owed = None;
         Ok(())
     }
 
-    fn end_node(&mut self, node: u64) -> Result<(), NoMemory>
-        ensures { OnOk result (self.new ≡ quiet (after self.old (NodeEnd node))) }
+    fn end_node(&mut self, node: u64)
+        ensures { self.new ≡ quiet (after self.old (NodeEnd node)) }
     {
-        self.ends.push(node)?;
+        self.nodes.end(node);
+        self.stage = mem::replace(&mut self.stage, Stage::Blank).into_cleaned();
         self.owed = None;
-        Ok(())
     }
 
     fn enter(&mut self)
@@ -161,7 +140,9 @@ impl Walker {
             remove_number(&mut self.running, task);
         }
         let alloc = self.allocator();
-        self.stage = mem::replace(&mut self.stage, Stage::Blank).into_answered(alloc, kind);
+        self.stage = mem::replace(&mut self.stage, Stage::Blank).into_answered(
+            alloc, self.root, task, kind,
+        );
         self.owed = None;
     }
 
@@ -189,7 +170,7 @@ impl Walker {
     fn clean_up(&mut self)
         ensures { self.new ≡ quiet (after self.old Cleanup) }
     {
-        self.stage = Stage::Closing {
+        self.stage = Stage::Cleaning {
             cause: self.reached(),
         };
         self.ready.clear();

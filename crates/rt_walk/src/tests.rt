@@ -2,15 +2,15 @@
 
 use crate::{Walker, first_unlawful};
 use rt_audit::{AnswerKind, Call, CallReply, Entry, FinishCause, Refusal};
-use rt_base::{Choice, Error, Items, Nanos, NoMemory, Text};
+use rt_base::{Choice, Error, Items, MAX_TIME, Nanos, NoMemory, Text};
+use rt_model::Begin;
 use std::alloc::Global;
 use std::test::Fail;
 
 /// A line of a journal whose only task is 0, as far as the lines differ.
 #[derive(Clone, Copy)]
 enum Line {
-    /// With this deadline, from time 0 and number 0 on, with a cycle of a millisecond.
-    Start(Option<Nanos>),
+    Start(Begin),
     Root(u64),
     Round(&'static [u64]),
     Visit(u64),
@@ -20,12 +20,15 @@ enum Line {
     Slept(u64),
     /// A sleep of ten milliseconds that is told this alarm.
     Sleeps(u64, u64),
+    /// A sleep to this moment that is told alarm 0.
+    SleepsTo(Nanos),
     WakeDone(u64),
+    WakeByNobody(u64),
     WakeUnknown(u64),
     WakeClosed(u64),
-    CloseNode,
+    CloseNode(Option<u64>),
     Wake(u64),
-    Draw,
+    Draw(u64),
     Answer(u64, AnswerKind),
     NodeEnd(u64),
     Advance(Nanos),
@@ -40,11 +43,11 @@ enum Line {
 /// The entry of a line.
 fn entry(alloc: Global, line: Line) -> Result<Entry, NoMemory> {
     Ok(match line {
-        Line::Start(deadline) => Entry::Start {
-            next: 0,
-            now: 0,
-            deadline,
-            cycle: 1_000_000,
+        Line::Start(begin) => Entry::Start {
+            next: begin.first,
+            now: begin.start,
+            deadline: begin.deadline,
+            cycle: begin.cycle,
         },
         Line::Root(task) => Entry::Root { task },
         Line::Round(order) => Entry::Round {
@@ -52,18 +55,20 @@ fn entry(alloc: Global, line: Line) -> Result<Entry, NoMemory> {
         },
         Line::Visit(task) => Entry::Visit { task },
         Line::Event(task) => event(alloc, task)?,
-        Line::Slept(task) => sleep(task, CallReply::Ready),
-        Line::Sleeps(task, alarm) => sleep(task, CallReply::PendingAt { alarm }),
-        Line::WakeDone(task) => wake(task, CallReply::Done),
+        Line::Slept(task) => sleep(task, 10_000_000, CallReply::Ready),
+        Line::Sleeps(task, alarm) => sleep(task, 10_000_000, CallReply::PendingAt { alarm }),
+        Line::SleepsTo(due) => sleep(0, due, CallReply::PendingAt { alarm: 0 }),
+        Line::WakeDone(task) => wake(Some(0), task, CallReply::Done),
+        Line::WakeByNobody(task) => wake(None, task, CallReply::Done),
         Line::WakeUnknown(task) => refused_wake(alloc, task, Error::UnknownToken)?,
         Line::WakeClosed(task) => refused_wake(alloc, task, Error::Closed)?,
-        Line::CloseNode => Entry::Call {
-            by: Some(0),
+        Line::CloseNode(by) => Entry::Call {
+            by,
             call: Call::CloseNode { node: 0 },
             reply: CallReply::Done,
         },
         Line::Wake(task) => Entry::Wake { task },
-        Line::Draw => Entry::Draw { value: 0 },
+        Line::Draw(value) => Entry::Draw { value },
         Line::Answer(task, kind) => Entry::Answer { task, kind },
         Line::NodeEnd(node) => Entry::NodeEnd { node },
         Line::Advance(now) => Entry::Advance { now },
@@ -88,17 +93,17 @@ fn event(alloc: Global, task: u8) -> Result<Entry, NoMemory> {
     })
 }
 
-fn sleep(task: u64, reply: CallReply) -> Entry {
+fn sleep(task: u64, due: Nanos, reply: CallReply) -> Entry {
     Entry::Call {
         by: Some(task),
-        call: Call::SleepPoll { due: 10_000_000 },
+        call: Call::SleepPoll { due },
         reply,
     }
 }
 
-fn wake(task: u64, reply: CallReply) -> Entry {
+fn wake(by: Option<u64>, task: u64, reply: CallReply) -> Entry {
     Entry::Call {
-        by: Some(0),
+        by,
         call: Call::Wake { task },
         reply,
     }
@@ -106,7 +111,7 @@ fn wake(task: u64, reply: CallReply) -> Entry {
 
 fn refused_wake(alloc: Global, task: u64, error: Error) -> Result<Entry, NoMemory> {
     let error = Refusal::new(alloc, error)?;
-    Ok(wake(task, CallReply::Refused { error }))
+    Ok(wake(Some(0), task, CallReply::Refused { error }))
 }
 
 fn crash(choices: Vec<Choice>) -> Entry {
@@ -116,22 +121,22 @@ fn crash(choices: Vec<Choice>) -> Entry {
 }
 
 /// The place of the first line that may not come where it stands.
-fn first_of(alloc: Global, lines: &[Line]) -> Result<Option<usize>, NoMemory> {
+fn first_of(alloc: Global, begin: Begin, lines: &[Line]) -> Result<Option<usize>, NoMemory> {
     let mut entries = Vec::new(alloc);
     for line in lines {
         entries.push(entry(alloc, *line)?)?;
     }
-    first_unlawful(alloc, entries.as_slice())
+    first_unlawful(alloc, begin, entries.as_slice())
 }
 
 /// Whether each front of the journal is lawful, and the whole.
-fn is_accepted(alloc: Global, lines: &[Line]) -> Result<bool, NoMemory> {
+fn is_accepted(alloc: Global, begin: Begin, lines: &[Line]) -> Result<bool, NoMemory> {
     for place in 0..lines.len() {
-        if first_of(alloc, &lines[..place])?.is_some() {
+        if first_of(alloc, begin, &lines[..place])?.is_some() {
             return Ok(false);
         }
     }
-    Ok(first_of(alloc, lines)?.is_none())
+    Ok(first_of(alloc, begin, lines)?.is_none())
 }
 
 /// What is damaged at a place.
@@ -166,21 +171,48 @@ fn damaged(
 /// The first of these damaged copies, if any, that isn't refused at its place.
 fn not_refused(
     alloc: Global,
+    begin: Begin,
     lines: &[Line],
     copies: &[(&'static str, usize, Damage, usize)],
 ) -> Result<Option<&'static str>, NoMemory> {
     for (name, at, damage, place) in copies {
         let copy = damaged(alloc, lines, *at, *damage)?;
-        if first_of(alloc, copy.as_slice())? != Some(*place) {
+        if first_of(alloc, begin, copy.as_slice())? != Some(*place) {
             return Ok(Some(*name));
         }
     }
     Ok(None)
 }
 
+/// From time 0 and number 0 on, with a cycle of a millisecond.
+const BEGIN: Begin = Begin {
+    start: 0,
+    cycle: 1_000_000,
+    deadline: None,
+    first: 0,
+};
+
+/// With a deadline at ten milliseconds.
+const TIMED: Begin = Begin {
+    start: 0,
+    cycle: 1_000_000,
+    deadline: Some(10_000_000),
+    first: 0,
+};
+
+/// What another start fixes.
+fn begin(first: u64, start: Nanos, cycle: Nanos, deadline: Option<Nanos>) -> Begin {
+    Begin {
+        start,
+        cycle,
+        deadline,
+        first,
+    }
+}
+
 /// A root that is ready at its first visit.
 const READY: [Line; 12] = [
-    Line::Start(None),
+    Line::Start(BEGIN),
     Line::Root(0),
     Line::Round(&[0]),
     Line::Visit(0),
@@ -188,7 +220,7 @@ const READY: [Line; 12] = [
     Line::Answer(0, AnswerKind::Ready),
     Line::Cleanup,
     Line::NodeEnd(0),
-    Line::CloseNode,
+    Line::CloseNode(Some(0)),
     Line::Answer(0, AnswerKind::Ended),
     Line::Crash,
     Line::Finish(FinishCause::Completed),
@@ -196,7 +228,7 @@ const READY: [Line; 12] = [
 
 /// A root that sleeps to its alarm.
 const SLEEP: [Line; 22] = [
-    Line::Start(None),
+    Line::Start(BEGIN),
     Line::Root(0),
     Line::Round(&[0]),
     Line::Visit(0),
@@ -214,7 +246,7 @@ const SLEEP: [Line; 22] = [
     Line::Answer(0, AnswerKind::Ready),
     Line::Cleanup,
     Line::NodeEnd(0),
-    Line::CloseNode,
+    Line::CloseNode(Some(0)),
     Line::Answer(0, AnswerKind::Ended),
     Line::Crash,
     Line::Finish(FinishCause::Completed),
@@ -222,7 +254,7 @@ const SLEEP: [Line; 22] = [
 
 /// A root that sleeps to the deadline.
 const LATE: [Line; 15] = [
-    Line::Start(Some(10_000_000)),
+    Line::Start(TIMED),
     Line::Root(0),
     Line::Round(&[0]),
     Line::Visit(0),
@@ -233,15 +265,15 @@ const LATE: [Line; 15] = [
     Line::Skip(10_000_000),
     Line::Cleanup,
     Line::NodeEnd(0),
-    Line::CloseNode,
+    Line::CloseNode(Some(0)),
     Line::Answer(0, AnswerKind::Ended),
     Line::Crash,
     Line::Finish(FinishCause::Timeout),
 ];
 
-/// A root that wakes itself twice and then waits, and ends for want of anything to do.
-const STALL: [Line; 25] = [
-    Line::Start(None),
+/// A root that wakes itself twice and then waits, and ends for want of anything to do. A draw shuffles its second round.
+const STALL: [Line; 26] = [
+    Line::Start(BEGIN),
     Line::Root(0),
     Line::Round(&[0]),
     Line::Visit(0),
@@ -253,6 +285,7 @@ const STALL: [Line; 25] = [
     Line::Wake(0),
     Line::Answer(0, AnswerKind::Pending),
     Line::Advance(1_000_000),
+    Line::Draw(7),
     Line::Round(&[0, 0]),
     Line::Visit(0),
     Line::Event(0),
@@ -270,43 +303,73 @@ const STALL: [Line; 25] = [
 
 /// A run that is cut off before its first round.
 const CUT: [Line; 8] = [
-    Line::Start(None),
+    Line::Start(BEGIN),
     Line::Root(0),
     Line::Cleanup,
     Line::NodeEnd(0),
-    Line::CloseNode,
+    Line::CloseNode(Some(0)),
     Line::Answer(0, AnswerKind::Ended),
+    Line::Crash,
+    Line::Finish(FinishCause::NoMemory),
+];
+
+/// A run that is cut off before its root is taken in.
+const UNMADE: [Line; 6] = [
+    Line::Start(BEGIN),
+    Line::Cleanup,
+    Line::NodeEnd(0),
+    Line::CloseNode(None),
     Line::Crash,
     Line::Finish(FinishCause::NoMemory),
 ];
 
 #[test]
 fn one_ready_root(rt: HostRuntime) -> Result<(), Fail> {
-    assert!(rt; is_accepted(rt.alloc(), &READY)?);
+    assert!(rt; is_accepted(rt.alloc(), BEGIN, &READY)?);
     Ok(())
 }
 
 #[test]
 fn sleeps_to_its_alarm(rt: HostRuntime) -> Result<(), Fail> {
-    assert!(rt; is_accepted(rt.alloc(), &SLEEP)?);
+    assert!(rt; is_accepted(rt.alloc(), BEGIN, &SLEEP)?);
     Ok(())
 }
 
 #[test]
 fn deadline_before_the_alarm(rt: HostRuntime) -> Result<(), Fail> {
-    assert!(rt; is_accepted(rt.alloc(), &LATE)?);
+    assert!(rt; is_accepted(rt.alloc(), TIMED, &LATE)?);
     Ok(())
 }
 
 #[test]
 fn wakes_itself_and_stalls(rt: HostRuntime) -> Result<(), Fail> {
-    assert!(rt; is_accepted(rt.alloc(), &STALL)?);
+    assert!(rt; is_accepted(rt.alloc(), BEGIN, &STALL)?);
     Ok(())
 }
 
 #[test]
 fn cut_off_for_want_of_memory(rt: HostRuntime) -> Result<(), Fail> {
-    assert!(rt; is_accepted(rt.alloc(), &CUT)?);
+    assert!(rt; is_accepted(rt.alloc(), BEGIN, &CUT)?);
+    Ok(())
+}
+
+#[test]
+fn cut_off_before_its_root(rt: HostRuntime) -> Result<(), Fail> {
+    assert!(rt; is_accepted(rt.alloc(), BEGIN, &UNMADE)?);
+    Ok(())
+}
+
+#[test]
+fn other_starts(rt: HostRuntime) -> Result<(), Fail> {
+    let alloc = rt.alloc();
+    for start in [
+        begin(1, 0, 1_000_000, None),
+        begin(0, 1, 1_000_000, None),
+        begin(0, 0, 1_000_001, None),
+        begin(0, 0, 1_000_000, Some(0)),
+    ] {
+        assert_eq!(rt; first_of(alloc, BEGIN, &[Line::Start(start)])?, Some(0));
+    }
     Ok(())
 }
 
@@ -314,7 +377,7 @@ fn cut_off_for_want_of_memory(rt: HostRuntime) -> Result<(), Fail> {
 fn damaged_visits(rt: HostRuntime) -> Result<(), Fail> {
     let copies = [
         ("a cut-off front", 0, Damage::Missing, 0),
-        ("two starts", 1, Damage::Before(Line::Start(None)), 1),
+        ("two starts", 1, Damage::Before(Line::Start(BEGIN)), 1),
         (
             "another number for the root",
             1,
@@ -322,7 +385,6 @@ fn damaged_visits(rt: HostRuntime) -> Result<(), Fail> {
             1,
         ),
         ("two roots", 2, Damage::Before(Line::Root(1)), 2),
-        ("a draw", 2, Damage::Before(Line::Draw), 2),
         (
             "a round without a number",
             2,
@@ -354,7 +416,15 @@ fn damaged_visits(rt: HostRuntime) -> Result<(), Fail> {
             Damage::Instead(Line::Event(1)),
             4,
         ),
+        (
+            "a cleanup before the event of a visit",
+            4,
+            Damage::Before(Line::Cleanup),
+            4,
+        ),
         ("two events", 5, Damage::Before(Line::Event(0)), 5),
+        ("a cleanup in a poll", 5, Damage::Before(Line::Cleanup), 5),
+        ("a draw in a poll", 5, Damage::Before(Line::Draw(0)), 5),
         (
             "another task's answer",
             5,
@@ -374,7 +444,7 @@ fn damaged_visits(rt: HostRuntime) -> Result<(), Fail> {
             5,
         ),
     ];
-    assert_eq!(rt; not_refused(rt.alloc(), &READY, &copies)?, None);
+    assert_eq!(rt; not_refused(rt.alloc(), BEGIN, &READY, &copies)?, None);
     Ok(())
 }
 
@@ -387,7 +457,25 @@ fn damaged_cleanups(rt: HostRuntime) -> Result<(), Fail> {
             Damage::Before(Line::Advance(1_000_000)),
             6,
         ),
+        (
+            "a draw once the root is ready",
+            6,
+            Damage::Before(Line::Draw(0)),
+            6,
+        ),
+        (
+            "a node that ends before the cleanup",
+            6,
+            Damage::Before(Line::NodeEnd(0)),
+            6,
+        ),
         ("two cleanups", 7, Damage::Before(Line::Cleanup), 7),
+        (
+            "a call before the node's end",
+            7,
+            Damage::Before(Line::WakeDone(0)),
+            7,
+        ),
         ("a node that doesn't end", 7, Damage::Missing, 7),
         (
             "another node's end",
@@ -399,7 +487,13 @@ fn damaged_cleanups(rt: HostRuntime) -> Result<(), Fail> {
         (
             "a context that is closed twice",
             9,
-            Damage::Before(Line::CloseNode),
+            Damage::Before(Line::CloseNode(Some(0))),
+            9,
+        ),
+        (
+            "a call by nobody with a task left",
+            9,
+            Damage::Before(Line::WakeByNobody(0)),
             9,
         ),
         ("a task that doesn't end", 9, Damage::Missing, 9),
@@ -412,7 +506,13 @@ fn damaged_cleanups(rt: HostRuntime) -> Result<(), Fail> {
         (
             "a call of a dead task",
             10,
-            Damage::Before(Line::Slept(0)),
+            Damage::Before(Line::WakeDone(0)),
+            10,
+        ),
+        (
+            "a call by nobody behind the last end",
+            10,
+            Damage::Before(Line::WakeByNobody(0)),
             10,
         ),
         ("no crash", 10, Damage::Missing, 10),
@@ -435,7 +535,7 @@ fn damaged_cleanups(rt: HostRuntime) -> Result<(), Fail> {
             12,
         ),
     ];
-    assert_eq!(rt; not_refused(rt.alloc(), &READY, &copies)?, None);
+    assert_eq!(rt; not_refused(rt.alloc(), BEGIN, &READY, &copies)?, None);
     Ok(())
 }
 
@@ -453,6 +553,18 @@ fn damaged_sleeps(rt: HostRuntime) -> Result<(), Fail> {
             5,
             Damage::Instead(Line::Slept(0)),
             5,
+        ),
+        (
+            "a sleep past the last moment",
+            5,
+            Damage::Instead(Line::SleepsTo(MAX_TIME + 1)),
+            5,
+        ),
+        (
+            "a skip to before a sleep to the last moment",
+            5,
+            Damage::Instead(Line::SleepsTo(MAX_TIME)),
+            8,
         ),
         (
             "another alarm's number",
@@ -488,7 +600,7 @@ fn damaged_sleeps(rt: HostRuntime) -> Result<(), Fail> {
         ("a fire before its skip", 8, Damage::Missing, 8),
         ("two skips", 9, Damage::Before(Line::Skip(10_000_000)), 9),
     ];
-    assert_eq!(rt; not_refused(rt.alloc(), &SLEEP, &copies)?, None);
+    assert_eq!(rt; not_refused(rt.alloc(), BEGIN, &SLEEP, &copies)?, None);
     Ok(())
 }
 
@@ -540,7 +652,7 @@ fn damaged_fires(rt: HostRuntime) -> Result<(), Fail> {
             14,
         ),
     ];
-    assert_eq!(rt; not_refused(rt.alloc(), &SLEEP, &copies)?, None);
+    assert_eq!(rt; not_refused(rt.alloc(), BEGIN, &SLEEP, &copies)?, None);
     Ok(())
 }
 
@@ -569,17 +681,17 @@ fn damaged_deadlines(rt: HostRuntime) -> Result<(), Fail> {
         (
             "a start without the deadline",
             0,
-            Damage::Instead(Line::Start(None)),
-            14,
+            Damage::Instead(Line::Start(BEGIN)),
+            0,
         ),
         (
             "a start with a later deadline",
             0,
-            Damage::Instead(Line::Start(Some(10_000_001))),
-            14,
+            Damage::Instead(Line::Start(begin(0, 0, 1_000_000, Some(10_000_001)))),
+            0,
         ),
     ];
-    assert_eq!(rt; not_refused(rt.alloc(), &LATE, &copies)?, None);
+    assert_eq!(rt; not_refused(rt.alloc(), TIMED, &LATE, &copies)?, None);
     Ok(())
 }
 
@@ -607,29 +719,94 @@ fn damaged_wakes(rt: HostRuntime) -> Result<(), Fail> {
         ),
         (
             "a round with a number once that was woken twice",
-            12,
+            13,
             Damage::Instead(Line::Round(&[0])),
-            12,
+            13,
+        ),
+        (
+            "a draw behind its round",
+            14,
+            Damage::Before(Line::Draw(7)),
+            14,
         ),
         (
             "a third visit of two",
-            19,
+            20,
             Damage::Before(Line::Visit(0)),
-            19,
+            20,
         ),
     ];
-    assert_eq!(rt; not_refused(rt.alloc(), &STALL, &copies)?, None);
+    assert_eq!(rt; not_refused(rt.alloc(), BEGIN, &STALL, &copies)?, None);
+    Ok(())
+}
+
+/// A walker behind these lines, whether they may come or not.
+fn behind(alloc: Global, lines: &[Line]) -> Result<Walker, NoMemory> {
+    let mut walker = Walker::new(alloc, BEGIN)?;
+    for line in lines {
+        walker.step(&entry(alloc, *line)?)?;
+    }
+    Ok(walker)
+}
+
+/// A root, and a task before it that is ready at its visit. No run has a second task yet: the second root is unlawful,
+/// and takes the place of the first.
+const ENDING: [Line; 7] = [
+    Line::Start(BEGIN),
+    Line::Root(0),
+    Line::Root(1),
+    Line::Round(&[0, 1]),
+    Line::Visit(0),
+    Line::Event(0),
+    Line::Answer(0, AnswerKind::Ready),
+];
+
+#[test]
+fn ends_within_its_visit(rt: HostRuntime) -> Result<(), Fail> {
+    let alloc = rt.alloc();
+    let walker = behind(alloc, &ENDING)?;
+    for (line, may) in [
+        (Line::WakeDone(1), true),
+        (Line::Sleeps(0, 0), true),
+        (Line::Sleeps(1, 0), false),
+        (Line::WakeByNobody(1), false),
+        (Line::Answer(0, AnswerKind::Ended), true),
+        (Line::Answer(1, AnswerKind::Ended), false),
+        (Line::Answer(0, AnswerKind::Ready), false),
+        (Line::Visit(1), false),
+        (Line::Cleanup, false),
+    ] {
+        assert_eq!(rt; walker.may(&entry(alloc, line)?)?, may);
+    }
+    Ok(())
+}
+
+#[test]
+fn goes_on_with_the_round_after_an_end(rt: HostRuntime) -> Result<(), Fail> {
+    let alloc = rt.alloc();
+    let mut walker = behind(alloc, &ENDING)?;
+    walker.step(&entry(alloc, Line::Answer(0, AnswerKind::Ended))?)?;
+    for (line, may) in [
+        (Line::Visit(1), true),
+        (Line::Visit(0), false),
+        (Line::Sleeps(0, 0), false),
+        (Line::Answer(0, AnswerKind::Ended), false),
+        (Line::Advance(1_000_000), false),
+        (Line::Cleanup, true),
+    ] {
+        assert_eq!(rt; walker.may(&entry(alloc, line)?)?, may);
+    }
     Ok(())
 }
 
 #[test]
 fn surface(rt: HostRuntime) -> Result<(), Fail> {
     let alloc = rt.alloc();
-    let start = entry(alloc, Line::Start(None))?;
-    let mut walker = Walker::new(alloc);
+    let start = entry(alloc, Line::Start(BEGIN))?;
+    let mut walker = Walker::new(alloc, BEGIN)?;
     assert!(rt; walker.may(&start)?);
     walker.step(&start)?;
     assert!(rt; !walker.may(&start)?);
-    assert_eq!(rt; first_unlawful(alloc, &[])?, None);
+    assert_eq!(rt; first_unlawful(alloc, BEGIN, &[])?, None);
     Ok(())
 }

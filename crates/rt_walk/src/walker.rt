@@ -1,7 +1,7 @@
 //! The state that the entries of a journal tell, walked entry by entry.
 
 ghost use Rattle.std.specs.Prelude.{◌≡◌, ◌↔◌, ◌&&◌, IfOk, OnOk, IsTrue};
-ghost use Rattle.rt_model.specs.State.{blank};
+ghost use Rattle.rt_model.specs.State.{begun};
 ghost use Rattle.rt_model.specs.Alarms.{fires, skip_to};
 ghost use Rattle.rt_model.specs.Lists.{is_nil};
 ghost use Rattle.rt_model.specs.Causes.{from_running, is_late, overflows, reached, turning_cause, where_true};
@@ -9,31 +9,30 @@ ghost use Rattle.rt_model.specs.Rules.{May, WasGiven};
 ghost use Rattle.rt_model.specs.Effects.{after};
 ghost use Rattle.rt_walk.specs.Quiet.{quiet};
 
-use crate::alarm_set::AlarmSet;
 use crate::numbers::first_running;
 use crate::stage::Stage;
+use crate::told_alarms::ToldAlarms;
 use rt_audit::{Entry, FinishCause};
 use rt_base::{MAX_TIME, Nanos, NoMemory};
+use rt_model::Begin;
+use rt_super::Tree;
 use std::alloc::Global;
 use std::marker::Model;
 
 /// What the entries of a journal tell so far. Contracts see the state of a run without its calls under way.
 #[derive(Drop)]
 pub struct Walker {
+    pub(crate) begin: Begin,
     pub(crate) time: Nanos,
-    pub(crate) start: Nanos,
-    pub(crate) cycle: Nanos,
-    pub(crate) deadline: Option<Nanos>,
     pub(crate) stage: Stage,
-    pub(crate) first: u64,
     // wide enough for the number behind the last one
     pub(crate) next: u128,
     pub(crate) root: Option<u64>,
     pub(crate) running: Vec<u64>,
     pub(crate) ready: Vec<u64>,
-    pub(crate) alarms: AlarmSet,
-    pub(crate) live: Vec<u64>,
-    pub(crate) ends: Vec<u64>,
+    pub(crate) draws: Vec<u64>,
+    pub(crate) alarms: ToldAlarms,
+    pub(crate) nodes: Tree,
     pub(crate) owed: Option<u64>,
 }
 
@@ -45,31 +44,29 @@ impl Model for Walker {
 
     ghost Value = { State };
 
-    ghost view = { λ w. record { clock = record { time = w.time; fixed = record { start = w.start; cycle = w.cycle; deadline = w.deadline; first = w.first } }; phase = phase_of w.stage; numbers = record { first = w.first; next = w.next }; root = w.root; running = w.running.items; ready = w.ready.items; alarms = w.alarms; nodes = record { live = w.live.items; ends = w.ends.items }; owed = those w.owed; turns = [] } };
+    ghost view = { λ w. record { clock = record { time = w.time; fixed = w.begin }; phase = phase_of w.stage; numbers = record { first = w.begin.first; next = w.next }; root = w.root; running = w.running.items; ready = w.ready.items; draws = w.draws.items; alarms = w.alarms; nodes = w.nodes; owed = those w.owed; turns = [] } };
 }
 
-#[tactic(auto, unfolding(rt_model::specs::Effects::after, rt_model::specs::State::blank))]
+#[tactic(auto, unfolding(rt_model::specs::Effects::after, rt_model::specs::State::begun))]
 impl Walker {
-    /// Before a run.
-    pub fn new(alloc: Global) -> Walker
-        ensures { result ≡ blank }
+    /// Before the first entry of a run. `begin` holds what the start of the run fixes, its first moment, cycle, deadline
+    /// and task number, and the `Start` entry must say the same.
+    pub fn new(alloc: Global, begin: Begin) -> Result<Walker, NoMemory>
+        ensures { IfOk result (λ walker. walker ≡ begun begin) }
     {
-        Walker {
-            time: 0,
-            start: 0,
-            cycle: 0,
-            deadline: None,
+        Ok(Walker {
+            begin,
+            time: begin.start,
             stage: Stage::Blank,
-            first: 0,
-            next: 0,
+            next: begin.first as u128,
             root: None,
             running: Vec::new(alloc),
             ready: Vec::new(alloc),
-            alarms: AlarmSet::new(alloc),
-            live: Vec::new(alloc),
-            ends: Vec::new(alloc),
+            draws: Vec::new(alloc),
+            alarms: ToldAlarms::new(alloc),
+            nodes: Tree::new(alloc)?,
             owed: None,
-        }
+        })
     }
 
     /// The allocator that the lists keep.
@@ -81,7 +78,7 @@ impl Walker {
     pub(crate) fn is_late(&self) -> bool
         ensures { result ≡ is_late self.now.clock }
     {
-        match self.deadline {
+        match self.begin.deadline {
             None => false,
             Some(deadline) => deadline <= self.time,
         }
@@ -91,12 +88,12 @@ impl Walker {
     pub(crate) fn overflows(&self) -> bool
         ensures { result ≡ overflows self.now.clock }
     {
-        self.time > MAX_TIME || MAX_TIME - self.time < self.cycle
+        self.time > MAX_TIME || MAX_TIME - self.time < self.begin.cycle
     }
 
     /// The moment that time skips to, if it skips.
     pub(crate) fn skip_to(&self) -> Option<Nanos>
-        ensures { result ≡ skip_to self.now.ready self.now.alarms.set self.now.clock.time }
+        ensures { result ≡ skip_to self.now.ready self.now.alarms.alarms self.now.clock.time }
     {
         if self.ready.is_empty() {
             self.alarms.ahead(self.time)
@@ -107,7 +104,7 @@ impl Walker {
 
     /// The number of the alarm that goes off now.
     pub(crate) fn fires(&self) -> Option<u64>
-        ensures { result ≡ fires self.now.alarms.set self.now.clock.time }
+        ensures { result ≡ fires self.now.alarms.alarms self.now.clock.time }
     {
         self.alarms.fires(self.time)
     }
@@ -116,7 +113,7 @@ impl Walker {
     pub(crate) fn was_given(&self, task: u64) -> bool
         ensures { IsTrue result ↔ WasGiven self.now.numbers task }
     {
-        self.first <= task && (task as u128) < self.next
+        self.begin.first <= task && (task as u128) < self.next
     }
 
     /// The cause that is reached where these numbers are left of a round.
@@ -134,7 +131,7 @@ impl Walker {
 
     /// The cause that is reached in a clock step.
     fn turning_cause(&self) -> Option<FinishCause>
-        ensures { result ≡ turning_cause (skip_to self.now.ready self.now.alarms.set self.now.clock.time) (is_late self.now.clock) (fires self.now.alarms.set self.now.clock.time) self.now.ready self.now.alarms.set }
+        ensures { result ≡ turning_cause (skip_to self.now.ready self.now.alarms.alarms self.now.clock.time) (is_late self.now.clock) (fires self.now.alarms.alarms self.now.clock.time) self.now.ready self.now.alarms.alarms }
     {
         if self.skip_to().is_some() {
             None
@@ -157,7 +154,8 @@ impl Walker {
             Stage::Visiting { left } => self.round_cause(left.as_slice()),
             Stage::Turning => self.turning_cause(),
             Stage::Over { cause } | Stage::Finished { cause } => Some(*cause),
-            Stage::Closing { cause } | Stage::Crashed { cause } => *cause,
+            Stage::Cleaning { cause } | Stage::Closing { cause } | Stage::Crashed { cause } =>
+                *cause,
             _ => None,
         }
     }

@@ -1,4 +1,5 @@
+pub mod Places
 pub mod Seats
 pub mod Follows
-pub mod Turning
 pub mod Running
+pub mod Walked

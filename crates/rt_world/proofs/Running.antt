@@ -1,44 +1,41 @@
 -- What lasts over rounds and clock steps, and over the ends of tasks.
-use Rattle.std.proofs.Common.{ap, ◌∙◌}
+use Rattle.std.proofs.Common.{ap, ◌∙◌, ◌≡◌}
 use Rattle.rt_model.specs.State.{Clock}
+use Rattle.rt_machine.specs.Steps.{Turns}
 use Rattle.rt_world.specs.World.{World}
 use Rattle.rt_world.specs.Visits.{Passes}
-use Rattle.rt_world.specs.Turns.{Turns}
 use Rattle.rt_world.specs.Rounds.{Runs}
 use Rattle.rt_world.specs.Ends.{Ends}
 
-module _ {A O : Type 0} (a b c : World A O) where
-  pub runs-runs : Runs A O a b → Runs A O b c → Runs A O a c
+module _ {A O G : Type 0} (a b c : World A O G) where
+  pub runs-runs : Runs a b → Runs b c → Runs a c
   runs-runs h k = record {
+    begin = k.begin ∙ h.begin;
     given = k.given ∙ h.given;
     fixed = k.fixed ∙ h.fixed;
     root = k.root ∙ h.root;
     out = k.out;
+    rng = k.rng ∙ h.rng;
   }
 
-  pub runs-passes : Runs A O a b → Passes A O b c → Runs A O a c
+  pub runs-passes : Runs a b → Passes b c → Runs a c
   runs-passes h k = record {
+    begin = k.begin ∙ h.begin;
     given = k.given ∙ h.given;
     fixed = ap (λ (x : Clock). x.fixed) k.clock ∙ h.fixed;
     root = k.root ∙ h.root;
     out = k.out;
+    rng = k.rng ∙ h.rng;
   }
 
-  pub runs-turns : Runs A O a b → Turns A O b c → Runs A O a c
-  runs-turns h k = record {
+  pub runs-turns : Runs a b → Turns b.told c.told → c.out ≡ b.out → c.rng ≡ b.rng → Runs a c
+  runs-turns h k out rng = record {
+    begin = k.begin ∙ h.begin;
     given = k.given ∙ h.given;
     fixed = k.fixed ∙ h.fixed;
     root = k.root ∙ h.root;
-    out = k.out ∙ h.out;
-  }
-
-  pub ends-ends : Ends A O a b → Ends A O b c → Ends A O a c
-  ends-ends h k = record {
-    closing = k.closing;
-    phase = k.phase ∙ h.phase;
-    given = k.given ∙ h.given;
-    clock = k.clock ∙ h.clock;
-    root = k.root ∙ h.root;
+    out = out ∙ h.out;
+    rng = rng ∙ h.rng;
   }
 
 pub ruleset run_laws = (runs-runs, runs-passes, runs-turns)

@@ -1,10 +1,10 @@
 -- Who is seated, as tasks are taken out and put back.
-use Rattle.std.proofs.Common.{◌≡◌, ◌≤◌, ◌<◌, ℕ, List, [], ◌∷◌, refl, true, false, arith, Option, Some, None, is_some, ◌∙◌, ◌++◌, eq-eqb}
+use Rattle.std.proofs.Common.{◌≡◌, ◌≤◌, ◌<◌, ◌+◌, ℕ, List, [], ◌∷◌, refl, true, false, arith, Option, Some, None, is_some, ◌∙◌, ◌++◌, eq-eqb}
 use Rattle.rt_model.specs.Lists.{has_number, with_number, without_number}
 use Rattle.rt_model.specs.Causes.{from_running, ends_next}
 use Rattle.rt_machine.proofs.Counts.{ends-runs}
 use Rattle.rt_model.specs.Tied.{find, without, with_task}
-use Rattle.rt_world.specs.Seats.{numbers_of, AreAbove, AreSorted}
+use Rattle.rt_world.specs.Seats.{numbers_of, AreRising}
 
 pub numbers-without : {A : Type 0} → (k : ℕ) (ts : List (ℕ × A)) → numbers_of (without k ts) ≡ without_number k (numbers_of ts)
 numbers-without k [] = refl
@@ -18,43 +18,45 @@ pub find-none : {A : Type 0} → (k : ℕ) (ts : List (ℕ × A)) → find k ts 
 find-none k [] h = refl
 find-none k (t ∷ ts) h = grind (arith, find-none k ts)
 
--- a number that is in is not below what is above it
-above-in : (k n : ℕ) (ns : List ℕ) → AreAbove n ns → has_number k ns ≡ true → n ≤ k
-above-in k n [] s h = cc
-above-in k n (m ∷ ns) s h = grind (arith, above-in k n ns)
+rising-fits : (n m : ℕ) (ns : List ℕ) → AreRising n ns m → n ≤ m
+rising-fits n m [] s = s
+rising-fits n m (j ∷ ns) s = omega (arith, rising-fits (j + 1) m ns s.1, s.0)
 
--- a number below all goes to the front
-join-front : (n : ℕ) (ns : List ℕ) → (m : ℕ) → n < m → AreAbove m ns → with_number n ns ≡ n ∷ ns
-join-front n [] m h s = refl
-join-front n (x ∷ ns) m h s = grind (arith)
+-- a number that is in has its place
+pub rising-has : (k n m : ℕ) (ns : List ℕ) → AreRising n ns m → has_number k ns ≡ true → (n ≤ k) × (k < m)
+rising-has k n m [] s h = cc
+rising-has k n m (j ∷ ns) s h = grind (arith, rising-has k (j + 1) m ns s.1, rising-fits (j + 1) m ns s.1)
 
-put-front : (k : ℕ) (ns : List ℕ) → AreAbove k ns → with_number k ns ≡ k ∷ ns
-put-front k [] s = refl
-put-front k (m ∷ ns) s = grind (arith, put-front k ns)
+pub rising-wider : (l n m : ℕ) (ns : List ℕ) → l ≤ n → AreRising n ns m → AreRising l ns m
+rising-wider l n m [] h s = omega (arith, s)
+rising-wider l n m (j ∷ ns) h s = (omega (arith, s.0), s.1)
 
-pub put-back : (k : ℕ) (ns : List ℕ) → AreSorted ns → has_number k ns ≡ true → with_number k (without_number k ns) ≡ ns
-put-back k [] s h = cc
-put-back k (n ∷ ns) s h = grind (arith, put-back k ns, above-in k n ns, put-front k ns)
+-- without one of them they rise, and it is gone
+pub rising-without : (k n m : ℕ) (ns : List ℕ) → AreRising n ns m → AreRising n (without_number k ns) m
+rising-without k n m [] s = s
+rising-without k n m (j ∷ ns) s = grind (arith, rising-without k (j + 1) m ns s.1, rising-wider n (j + 1) m ns)
 
-above-with : (k n : ℕ) (ns : List ℕ) → n ≤ k → AreAbove n ns → AreAbove n (with_number k ns)
-above-with k n [] h s = (h, tt)
-above-with k n (m ∷ ns) h s = grind (arith, above-with k n ns)
+rising-below : (k n m : ℕ) (ns : List ℕ) → k < n → AreRising n ns m → has_number k ns ≡ false
+rising-below k n m [] h s = refl
+rising-below k n m (j ∷ ns) h s = grind (arith, rising-below k (j + 1) m ns)
 
-above-below : (k n : ℕ) (ns : List ℕ) → k ≤ n → AreAbove n ns → AreAbove k ns
-above-below k n [] h s = tt
-above-below k n (m ∷ ns) h s = (omega (arith, s.0), above-below k n ns h s.1)
+pub rising-gone : (k n m : ℕ) (ns : List ℕ) → AreRising n ns m → has_number k (without_number k ns) ≡ false
+rising-gone k n m [] s = refl
+rising-gone k n m (j ∷ ns) s = grind (arith, rising-gone k (j + 1) m ns s.1, rising-below k (j + 1) m ns)
 
-above-without : (k n : ℕ) (ns : List ℕ) → AreAbove n ns → AreAbove n (without_number k ns)
-above-without k n [] s = tt
-above-without k n (m ∷ ns) s = grind (arith, above-without k n ns)
+put-front : (k n m : ℕ) (ns : List ℕ) → k < n → AreRising n ns m → with_number k ns ≡ k ∷ ns
+put-front k n m [] h s = refl
+put-front k n m (j ∷ ns) h s = grind (arith)
 
-pub sorted-with : (k : ℕ) (ns : List ℕ) → AreSorted ns → AreSorted (with_number k ns)
-sorted-with k [] s = (tt, tt)
-sorted-with k (n ∷ ns) s = grind (arith, sorted-with k ns, above-with k n ns, above-below k n ns)
+-- put back, it has its place again
+pub put-back : (k n m : ℕ) (ns : List ℕ) → AreRising n ns m → has_number k ns ≡ true → with_number k (without_number k ns) ≡ ns
+put-back k n m [] s h = cc
+put-back k n m (j ∷ ns) s h = grind (arith, put-back k (j + 1) m ns s.1, put-front k (j + 1) m ns, rising-has k (j + 1) m ns s.1)
 
-pub sorted-without : (k : ℕ) (ns : List ℕ) → AreSorted ns → AreSorted (without_number k ns)
-sorted-without k [] s = tt
-sorted-without k (n ∷ ns) s = grind (arith, sorted-without k ns, above-without k n ns)
+-- where no number has a place, none is in
+pub rising-none : (n m : ℕ) (ns : List ℕ) → AreRising n ns m → m ≡ n → ns ≡ []
+rising-none n m [] s h = refl
+rising-none n m (j ∷ ns) s h = absurd (omega (arith, rising-fits (j + 1) m ns s.1, s.0))
 
 pub runs-next : (k : ℕ) (running left rest : List ℕ) → from_running running left ≡ k ∷ rest → has_number k running ≡ true
 runs-next k running [] rest h = cc
@@ -64,15 +66,6 @@ pub find-some : {A : Type 0} → (k : ℕ) (ts : List (ℕ × A)) → is_some (f
 find-some k [] = refl
 find-some k (t ∷ ts) = grind (arith, find-some k ts)
 
--- a task that joins, while another is out
-pub join-out : (k n : ℕ) (ns : List ℕ) → AreSorted ns → has_number k ns ≡ true → without_number k (with_number n ns) ≡ with_number n (without_number k ns)
-join-out k n [] s h = cc
-join-out k n (m ∷ ns) s h = grind (arith, join-out k n ns, above-in k m ns, join-front n ns)
-
-pub has-with : (k n : ℕ) (ns : List ℕ) → has_number k ns ≡ true → has_number k (with_number n ns) ≡ true
-has-with k n [] h = cc
-has-with k n (m ∷ ns) h = grind (arith, has-with k n ns)
-
 pub numbers-none : {A : Type 0} → (ts : List (ℕ × A)) → numbers_of ts ≡ [] → ts ≡ []
 numbers-none [] h = refl
 numbers-none (t ∷ ts) h = cc
@@ -80,11 +73,15 @@ numbers-none (t ∷ ts) h = cc
 pub ends-found : {A : Type 0} → (ts : List (ℕ × A)) (root : Option ℕ) (k : ℕ) → ends_next (numbers_of ts) root ≡ Some k → is_some (find k ts) ≡ true
 ends-found ts root k h = find-some k ts ∙ ends-runs (numbers_of ts) root k h
 
+pub find-gone : {A : Type 0} → (k : ℕ) (ts : List (ℕ × A)) → has_number k (numbers_of ts) ≡ false → find k ts ≡ None
+find-gone k [] h = refl
+find-gone k (t ∷ ts) h = grind (arith, find-gone k ts)
+
 -- a number that is put last is in
 pub has-last : (k : ℕ) (ns : List ℕ) → has_number k (ns ++ k ∷ []) ≡ true
 has-last k [] = rw (eq-eqb k k refl) refl
 has-last k (n ∷ ns) = grind (arith, has-last k ns)
 
-pub ruleset seat_laws = (numbers-none, ends-found, join-out, has-with, find-some, numbers-without, numbers-with, find-none, put-back, sorted-with, sorted-without, runs-next)
+pub ruleset seat_laws = (numbers-none, ends-found, find-some, numbers-without, numbers-with, find-none, find-gone, put-back, rising-without, rising-gone, rising-has, rising-none, runs-next)
 
 pub ruleset closing_laws = (has-last)

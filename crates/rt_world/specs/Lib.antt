@@ -1,10 +1,8 @@
 pub mod World
-pub mod Failures
 pub mod Calls
-pub mod Polls
+pub mod Walked
 pub mod Seats
 pub mod Follows
 pub mod Visits
-pub mod Turns
 pub mod Rounds
 pub mod Ends

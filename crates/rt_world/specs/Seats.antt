@@ -1,11 +1,30 @@
 -- The tasks whose states are in.
-use Rattle.std.specs.Prelude.{◌≡◌, ◌≤◌, ℕ, List, [], ◌∷◌, true, Option, Some, None, map}
+use Rattle.std.specs.Prelude.{◌≡◌, ◌≤◌, ◌<◌, ◌+◌, ◌^◌, ℕ, List, [], ◌∷◌, true, Option, Some, None, map, is_some, get_or, length}
 use Rattle.rt_model.specs.Lists.{has_number, without_number}
+use Rattle.rt_model.specs.State.{Phase, Making}
 
--- a list, and how many more have room
+-- a list, the first number that has a place, the next that will have one, and how many more have room
 pub record Roomed (V : Type 0) : Type 0 where
   pub items : List V
+  pub first : ℕ
+  pub next : ℕ
   pub spare : ℕ
+
+-- what stands in places, the first of which has this number
+abbrev pub seats_from : {A : Type 0} → ℕ → List (Option A) → List (ℕ × A)
+seats_from n [] = []
+seats_from n (None ∷ places) = seats_from (n + 1) places
+seats_from n (Some a ∷ places) = (n, a) ∷ seats_from (n + 1) places
+
+-- before a place nobody is in but the last to end
+abbrev pub ArePassed : {A : Type 0} → Option ℕ → ℕ → ℕ → List (Option A) → Type 0
+ArePassed last first place places = (i : ℕ) → i < place → is_some (get_or places i None) ≡ true → last ≡ Some (first + i)
+
+-- the numbers fit, and the first places are passed
+pub record ArePlaced {A : Type 0} (first : ℕ) (places : List (Option A)) (ended : ℕ) (last : Option ℕ) : Type 0 where
+  pub fit : first + length places ≤ 2 ^ 64
+  pub within : ended ≤ length places
+  pub passed : ArePassed last first ended places
 
 abbrev pub numbers_of : {A : Type 0} → List (ℕ × A) → List ℕ
 numbers_of tasks = map (λ x. x.0) tasks
@@ -15,25 +34,18 @@ abbrev pub seated : Option ℕ → List ℕ → List ℕ
 seated None running = running
 seated (Some task) running = without_number task running
 
-abbrev pub out_places : Option ℕ → ℕ
-out_places None = 0
-out_places (Some task) = 1
-
-abbrev pub AreAbove : ℕ → List ℕ → Type 0
-AreAbove x [] = Unit {0}
-AreAbove x (y ∷ ys) = (x ≤ y) × AreAbove x ys
-
-abbrev pub AreSorted : List ℕ → Type 0
-AreSorted [] = Unit {0}
-AreSorted (x ∷ xs) = AreAbove x xs × AreSorted xs
+-- the numbers rise from one on, and stay below another
+abbrev pub AreRising : ℕ → List ℕ → ℕ → Type 0
+AreRising n [] next = n ≤ next
+AreRising n (k ∷ ks) next = (n ≤ k) × AreRising (k + 1) ks next
 
 abbrev pub OutRuns : Option ℕ → List ℕ → Type 0
 OutRuns None running = Unit {0}
 OutRuns (Some task) running = has_number task running ≡ true
 
--- the tasks that are in are the running ones but the one that is out, which has its place
-pub record AreSeated {A : Type 0} (tasks : List (ℕ × A)) (out : Option ℕ) (running : List ℕ) (spare : ℕ) : Type 0 where
-  pub numbers : numbers_of tasks ≡ seated out running
-  pub sorted : AreSorted running
-  pub places : out_places out ≤ spare
+-- the tasks that are in are the running ones but the one that is out, and each of these has its place. Before the root comes no number has one
+pub record AreSeated {A : Type 0} (tasks : Roomed (ℕ × A)) (out : Option ℕ) (running : List ℕ) (phase : Phase) : Type 0 where
+  pub numbers : numbers_of tasks.items ≡ seated out running
+  pub rising : AreRising tasks.first running tasks.next
   pub runs : OutRuns out running
+  pub making : phase ≡ Making → tasks.next ≡ tasks.first

@@ -1,11 +1,14 @@
 -- What contracts see of a world.
-use Rattle.std.specs.Prelude.{ℕ, Bool, Option}
-use Rattle.rt_model.specs.Walk.{Held}
+use Rattle.std.specs.Prelude.{ℕ, List, Option}
+use Rattle.rt_model.specs.State.{Turn}
+use Rattle.rt_model.specs.Turns.{Held}
 use Rattle.rt_machine.specs.Told.{Told}
 
--- what its journal tells, whether a call lacked memory, the values that it holds, and whose state is out
-pub record World (A O : Type 0) : Type 0 where
+-- what its journal tells; the turns that were made before a call of the part under way lacked memory, if one did; the values that it
+-- holds; whose state is out; and its generator
+pub record World (A O G : Type 0) : Type 0 where
   pub told : Told
-  pub short : Bool
+  pub lacked : Option (List Turn)
   pub held : Held A O
   pub out : Option ℕ
+  pub rng : G

@@ -1,19 +1,20 @@
 //! The cleanup of a run.
 
-ghost use Rattle.std.specs.Prelude.{◌≡◌, ◌≢◌, ◌<◌, ◌⊎◌, true, false, Option, ℕ, List, Bool, None, Some, [], length, OnSome, IfNone, MatchOption, ◌||◌};
+ghost use Rattle.std.specs.Prelude.{◌≡◌, ◌<◌, true, false, Option, ℕ, List, Bool, None, Some, [], length, OnSome, IfNone, ◌||◌};
+ghost use Rattle.rt_audit.specs.declared.finish.FinishCause.TheVariants.{NoMemory};
 ghost use Rattle.rt_model.specs.State.{Making, Closing, Crashed, Finished};
 ghost use Rattle.rt_model.specs.Causes.{reached};
 ghost use Rattle.rt_model.specs.Effects.{cause_of};
-ghost use Rattle.rt_model.specs.Rules.{MayFinish};
-ghost use Rattle.rt_model.specs.Walk.{Heard, Step};
-ghost use Rattle.rt_model.specs.Tied.{Steps, with_first};
+ghost use Rattle.rt_model.specs.Rules.{MayCrash, MayFinish};
+ghost use Rattle.rt_model.specs.Tied.{Steps, First, with_first};
+ghost use Rattle.rt_machine.specs.Steps.{IsCut};
+ghost use Rattle.rt_machine.specs.Told.{pushed};
 ghost use Rattle.rt_world.specs.Follows.{Agrees, AgreesWith, MakingAgrees, still};
-ghost use Rattle.rt_world.specs.Visits.{IsCut};
-ghost use Rattle.rt_world.specs.Ends.{Ends, EndsFor, IsClosing, IsFinal, Reaches, unless};
+ghost use Rattle.rt_world.specs.Ends.{Ends, EndsFor, IsClosing, IsFinal, Makes, Reaches, Seals, unless};
 
 use crate::{Task, World};
 use rand_core::Rng;
-use rt_audit::FinishCause;
+use rt_audit::{Entry, FinishCause};
 
 impl<T, O, G> World<T, O, G> {
     /// Begins the cleanup of a run whose root was taken in.
@@ -21,15 +22,17 @@ impl<T, O, G> World<T, O, G> {
     fn close(&mut self)
         requires phase { IsCut self.old.told.state.phase }
         requires none_out { self.old.out ≡ None }
-        ensures closing { IsClosing T O self.new }
+        ensures closing { IsClosing self.new }
         ensures phase { self.new.told.state.phase ≡ Closing (reached self.old.told.state) }
+        ensures begin { self.new.told.begin ≡ self.old.told.begin }
         ensures given { self.new.told.given ≡ self.old.told.given }
         ensures clock { self.new.told.state.clock ≡ self.old.told.state.clock }
         ensures root { self.new.told.state.root ≡ self.old.told.state.root }
-        ensures agrees { (p : Steps T O) (whole : Bool) (output : Option O) → Agrees T O p whole self.old output → Agrees T O p whole self.new output }
+        ensures rng { self.new.rng ≡ self.old.rng }
+        ensures agrees { (p : Steps T O) (whole : Bool) (output : Option O) → Agrees p whole self.old output → Agrees p whole self.new output }
     {
-        self.take_short();
-        self.note_cleanup();
+        self.machine.take_short();
+        self.machine.cleanup();
     }
 
     /// Begins the cleanup of a run whose root was not taken in.
@@ -37,28 +40,48 @@ impl<T, O, G> World<T, O, G> {
     fn close_unmade(&mut self)
         requires phase { self.old.told.state.phase ≡ Making }
         requires none_out { self.old.out ≡ None }
-        ensures closing { IsClosing T O self.new }
+        ensures closing { IsClosing self.new }
         ensures phase { self.new.told.state.phase ≡ Closing (reached self.old.told.state) }
+        ensures begin { self.new.told.begin ≡ self.old.told.begin }
         ensures given { self.new.told.given ≡ self.old.told.given }
         ensures clock { self.new.told.state.clock ≡ self.old.told.state.clock }
         ensures root { self.new.told.state.root ≡ self.old.told.state.root }
-        ensures agrees { (p : Steps T O) (whole : Bool) (unmade : Option T) → MakingAgrees T O p whole self.old unmade → AgreesWith T O p whole self.new None unmade }
+        ensures rng { self.new.rng ≡ self.old.rng }
+        ensures agrees { (p : Steps T O) (whole : Bool) (unmade : Option T) → MakingAgrees p whole self.old unmade → AgreesWith p whole self.new None unmade }
     {
-        self.take_short();
-        self.note_cleanup();
+        self.machine.take_short();
+        self.machine.cleanup();
+    }
+
+    /// The crash of the store.
+    #[tactic(auto, unfolding(rt_model::specs::Effects::after))]
+    fn crash(&mut self)
+        requires { MayCrash self.old.told.state.phase self.old.told.state.running }
+        ensures { self.new ≡ record self.old { told = pushed self.old.told (Entry.Crash []) } }
+    {
+        self.machine.crash();
+    }
+
+    /// The cause, behind the crash.
+    #[tactic(auto, unfolding(rt_model::specs::Effects::after))]
+    fn finish(&mut self, cause: FinishCause)
+        requires { MayFinish self.old.told.state.phase cause }
+        ensures phase { self.new.told.state.phase ≡ Finished cause }
+        ensures rest { self.new ≡ record self.old { told = pushed self.old.told (Entry.Finish cause) } }
+        ensures agrees { (p : Steps T O) (whole : Bool) (output : Option O) → Agrees p whole self.old output → Agrees p whole self.new output }
+    {
+        self.machine.finish(cause);
     }
 
     /// The last entries: the crash, and the cause.
     #[tactic(auto, unfolding(rt_model::specs::Effects::after))]
     fn seal(&mut self, cause: FinishCause)
-        requires closing { IsClosing T O self.old }
+        requires closing { IsClosing self.old }
         requires running { self.old.told.state.running ≡ [] }
         requires finish { MayFinish (Crashed (cause_of self.old.told.state.phase)) cause }
         ensures phase { self.new.told.state.phase ≡ Finished cause }
-        ensures given { self.new.told.given ≡ self.old.told.given }
-        ensures clock { self.new.told.state.clock ≡ self.old.told.state.clock }
-        ensures held { self.new.held ≡ self.old.held }
-        ensures agrees { (p : Steps T O) (whole : Bool) (output : Option O) → Agrees T O p whole self.old output → Agrees T O p whole self.new output }
+        ensures rest { self.new ≡ record self.old { told = pushed (pushed self.old.told (Entry.Crash [])) (Entry.Finish cause) } }
+        ensures agrees { (p : Steps T O) (whole : Bool) (output : Option O) → Agrees p whole self.old output → Agrees p whole self.new output }
     {
         self.crash();
         self.finish(cause);
@@ -69,15 +92,13 @@ impl<T: Task, G: Rng> World<T, T::Output, G> {
     /// Ends the state of the next task, if one is left. Answers whether its end lacked memory.
     #[tactic(auto, using(rt_machine::proofs::Counts::count_laws), unfolding(rt_model::specs::Effects::after))]
     fn end_task(&mut self) -> Option<bool>
-        requires { IsClosing T T.Output self.old }
-        ensures ends { Ends T T.Output self.old self.new }
+        requires { IsClosing self.old }
+        ensures ends { Ends self.old self.new }
         ensures fewer { OnSome result (length self.new.told.state.running < length self.old.told.state.running) }
         ensures none { IfNone result ((self.new.told.state.running ≡ []) × (self.new.held.tasks ≡ [])) }
-        ensures agrees { (first : ℕ → List (Heard T.Output) → Step T T.Output (Unit {0})) (whole : Bool) (output : Option T.Output) (unmade : Option T) → AgreesWith T T.Output (with_first T.steps first) whole self.old output unmade → AgreesWith T T.Output (with_first T.steps first) (unless result whole) self.new output unmade }
+        ensures agrees { (first : First T T.Output) (whole : Bool) (output : Option T.Output) (unmade : Option T) → AgreesWith (with_first T.steps first) whole self.old output unmade → AgreesWith (with_first T.steps first) (unless result whole) self.new output unmade }
     {
-        let Some(task) = self.ends_next() else {
-            return None;
-        };
+        let task = self.ends_next()?;
         let state = self.take_ending(task);
         state.end(self);
         self.facts();
@@ -91,33 +112,29 @@ impl<T: Task, G: Rng> World<T, T::Output, G> {
 
     /// Ends the states of all tasks. Answers whether an end lacked memory.
     fn end_all(&mut self) -> bool
-        requires { IsClosing T T.Output self.old }
-        ensures ends { Ends T T.Output self.old self.new }
+        requires { IsClosing self.old }
+        ensures ends { Ends self.old self.new }
         ensures none { (self.new.told.state.running ≡ []) × (self.new.held.tasks ≡ []) }
-        ensures agrees { (first : ℕ → List (Heard T.Output) → Step T T.Output (Unit {0})) (whole : Bool) (output : Option T.Output) (unmade : Option T) → AgreesWith T T.Output (with_first T.steps first) whole self.old output unmade → AgreesWith T T.Output (with_first T.steps first) (still result whole) self.new output unmade }
+        ensures agrees { (first : First T T.Output) (whole : Bool) (output : Option T.Output) (unmade : Option T) → AgreesWith (with_first T.steps first) whole self.old output unmade → AgreesWith (with_first T.steps first) (still result whole) self.new output unmade }
     {
         let mut lacked = false;
-        'ends: loop {
-            match self.end_task() {
-                None => return lacked,
-                Some(one) => lacked = lacked || one,
-            }
+        while let Some(one) = self.end_task() {
+            lacked = lacked || one;
         }
+        lacked
     }
 
-    /// Ends a run whose root was taken in: with the cause that it has reached, or cut off where there is none. Answers
-    /// the cause that the run's last entry has.
+    /// Ends a run whose root was taken in, for the cause that it has reached, or for want of memory. Answers the cause
+    /// that the run's last entry has.
     #[tactic(auto, unfolding(rt_model::specs::Effects::after))]
-    pub fn cleanup(&mut self, cause: Option<FinishCause>) -> FinishCause
+    pub fn cleanup(&mut self, cause: FinishCause) -> FinishCause
         requires stands { Reaches self.old.told.state cause }
         requires made { IsCut self.old.told.state.phase }
         requires none_out { self.old.out ≡ None }
         ensures phase { self.new.told.state.phase ≡ Finished result }
-        ensures given { self.new.told.given ≡ self.old.told.given }
-        ensures clock { self.new.told.state.clock ≡ self.old.told.state.clock }
-        ensures tasks { self.new.held.tasks ≡ [] }
+        ensures seals { Seals self.old self.new }
         ensures cause { IsFinal cause result }
-        ensures agrees { (first : ℕ → List (Heard T.Output) → Step T T.Output (Unit {0})) (whole : Bool) (output : Option T.Output) → Agrees T T.Output (with_first T.steps first) whole self.old output → EndsFor T T.Output (with_first T.steps first) self.new result output whole }
+        ensures agrees { (first : First T T.Output) (whole : Bool) (output : Option T.Output) → Agrees (with_first T.steps first) whole self.old output → EndsFor (with_first T.steps first) self.new result output whole }
     {
         self.close();
         let lacked = self.end_all();
@@ -125,28 +142,19 @@ impl<T: Task, G: Rng> World<T, T::Output, G> {
             self.seal(FinishCause::NoMemory);
             return FinishCause::NoMemory;
         }
-        match cause {
-            None => {
-                self.seal(FinishCause::NoMemory);
-                FinishCause::NoMemory
-            }
-            Some(cause) => {
-                self.seal(cause);
-                cause
-            }
-        }
+        self.seal(cause);
+        cause
     }
 
     /// Ends the state of a root that was not taken in, and writes the crash. Answers whether its end lacked memory.
     #[tactic(auto, unfolding(rt_model::specs::Effects::after))]
     fn crash_unmade(&mut self, unmade: T) -> bool
-        requires closing { IsClosing T T.Output self.old }
+        requires closing { IsClosing self.old }
         requires running { self.old.told.state.running ≡ [] }
+        requires root { self.old.told.state.root ≡ None }
         ensures phase { self.new.told.state.phase ≡ Crashed (cause_of self.old.told.state.phase) }
-        ensures given { self.new.told.given ≡ self.old.told.given }
-        ensures clock { self.new.told.state.clock ≡ self.old.told.state.clock }
-        ensures tasks { self.new.held.tasks ≡ [] }
-        ensures agrees { (first : ℕ → List (Heard T.Output) → Step T T.Output (Unit {0})) (whole : Bool) (output : Option T.Output) → AgreesWith T T.Output (with_first T.steps first) whole self.old output (Some unmade) → Agrees T T.Output (with_first T.steps first) (still result whole) self.new output }
+        ensures seals { Seals self.old self.new }
+        ensures agrees { (first : First T T.Output) (whole : Bool) (output : Option T.Output) → AgreesWith (with_first T.steps first) whole self.old output (Some unmade) → Agrees (with_first T.steps first) (still result whole) self.new output }
     {
         unmade.end(self);
         self.facts();
@@ -158,19 +166,19 @@ impl<T: Task, G: Rng> World<T, T::Output, G> {
         false
     }
 
-    /// Ends a run whose root was not taken in, with the cause that it has reached, or cut off where there is none. The
-    /// maker may have made a root. Answers the cause that the run's last entry has.
+    /// Ends a run whose root was not taken in, for the cause that it has reached, or for want of memory. The maker may
+    /// have made a root. Answers the cause that the run's last entry has.
     #[tactic(auto, unfolding(rt_model::specs::Effects::after))]
-    pub fn cleanup_unmade(&mut self, unmade: Option<T>, cause: Option<FinishCause>) -> FinishCause
+    pub fn cleanup_unmade(&mut self, unmade: Option<T>, cause: FinishCause) -> FinishCause
         requires stands { Reaches self.old.told.state cause }
+        requires makes { Makes unmade cause }
         requires making { self.old.told.state.phase ≡ Making }
+        requires root { self.old.told.state.root ≡ None }
         requires none_out { self.old.out ≡ None }
         ensures phase { self.new.told.state.phase ≡ Finished result }
-        ensures given { self.new.told.given ≡ self.old.told.given }
-        ensures clock { self.new.told.state.clock ≡ self.old.told.state.clock }
-        ensures tasks { self.new.held.tasks ≡ [] }
+        ensures seals { Seals self.old self.new }
         ensures cause { IsFinal cause result }
-        ensures agrees { (first : ℕ → List (Heard T.Output) → Step T T.Output (Unit {0})) (whole : Bool) → MakingAgrees T T.Output (with_first T.steps first) whole self.old unmade → EndsFor T T.Output (with_first T.steps first) self.new result None whole }
+        ensures agrees { (first : First T T.Output) (whole : Bool) → MakingAgrees (with_first T.steps first) whole self.old unmade → EndsFor (with_first T.steps first) self.new result None whole }
     {
         self.close_unmade();
         let lacked = self.end_all();
@@ -183,15 +191,7 @@ impl<T: Task, G: Rng> World<T, T::Output, G> {
             self.finish(FinishCause::NoMemory);
             return FinishCause::NoMemory;
         }
-        match cause {
-            None => {
-                self.finish(FinishCause::NoMemory);
-                FinishCause::NoMemory
-            }
-            Some(cause) => {
-                self.finish(cause);
-                cause
-            }
-        }
+        self.finish(cause);
+        cause
     }
 }

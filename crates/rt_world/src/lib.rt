@@ -6,22 +6,17 @@ mod ends;
 mod outcome;
 mod poller;
 mod rounds;
-mod run_error;
 mod task;
 mod tasks;
 #[cfg(test)]
 mod tests;
-mod turns;
 mod visits;
 mod world;
 
 pub use cx::Cx;
 pub use outcome::Outcome;
 pub use poller::Poller;
-pub use rounds::{Ending, Stepped};
-pub use rt_model::Answer;
-pub use run_error::RunError;
+pub use rt_machine::RunError;
+pub use rt_model::{Answer, Begin};
 pub use task::Task;
-pub use turns::Turn;
-pub use visits::Went;
 pub use world::{World, WorldOf};

@@ -1,112 +1,79 @@
-//! The rounds of a run.
+//! The rounds of a run, and the clock steps between them.
 
-ghost use Rattle.std.specs.Prelude.{◌≡◌, ◌≢◌, ◌≤◌, ◌<◌, true, false, [], Option, ℕ, List, None};
+ghost use Rattle.std.specs.Prelude.{◌≡◌, ◌≤◌, ◌<◌, ◌+◌, true, false, [], Option, ℕ, List, None, OnOk};
 ghost use Rattle.rt_model.specs.State.{Between, Visiting};
 ghost use Rattle.rt_model.specs.Causes.{from_running, is_late};
 ghost use Rattle.rt_model.specs.Effects.{left_of};
-ghost use Rattle.rt_model.specs.Walk.{Heard, Step};
-ghost use Rattle.rt_model.specs.Tied.{with_first, Steps};
+ghost use Rattle.rt_model.specs.Tied.{First, with_first, Steps};
+ghost use Rattle.rt_machine.specs.Steps.{Turns, StepStands};
 ghost use Rattle.rt_world.specs.Follows.{Agrees};
-ghost use Rattle.rt_world.specs.Rounds.{Runs, StandsBetween, EndStands, EndAgrees, StepStands};
+ghost use Rattle.rt_world.specs.Rounds.{Runs, StandsBetween, EndStands, EndAgrees};
 ghost use Rattle.rt_world.specs.Visits.{RoundStands, AgreesAfter};
 
-use crate::{RunError, Task, Turn, Went, World};
+use crate::{RunError, Task, World};
 use rand_core::Rng;
-use rt_base::MAX_TIME;
-
-/// How a clock step went, with the test of its overflow.
-#[derive(Debug, Drop)]
-pub enum Stepped {
-    /// A round may follow.
-    On,
-    /// The run has reached a cause to end.
-    Stopped(RunError),
-    /// Memory was lacking.
-    Broken,
-}
-
-/// How the rounds of a run ended.
-#[derive(Debug, Drop)]
-pub enum Ending<O> {
-    /// The root gave its output.
-    Completed(O),
-    /// The run has reached a cause to end without one.
-    Reached(RunError),
-    /// Memory was lacking.
-    Cut,
-}
+use rt_base::{MAX_TIME, NoMemory};
 
 impl<T, O, G> World<T, O, G> {
-    /// A clock step after a round, where time doesn't pass its last moment.
+    /// Moves time on by a cycle after a round, and then to where somebody is ready. Answers the cause that the run has
+    /// reached, where it ends there.
     #[tactic(auto, using(crate::proofs::Running::run_laws))]
-    pub(crate) fn step(&mut self) -> Stepped
+    pub fn clock_step(&mut self) -> Result<(), RunError>
         requires phase { self.old.told.state.phase ≡ Visiting (left_of self.old.told.state.phase) }
         requires round { from_running self.old.told.state.running (left_of self.old.told.state.phase) ≡ [] }
-        requires none_out { self.old.out ≡ None }
-        requires cycle { 1 ≤ self.old.told.state.clock.fixed.cycle }
-        ensures runs { Runs T O self.old self.new }
-        ensures later { result ≡ Stepped.On → (self.old.told.state.clock.time < MAX_TIME) × (self.old.told.state.clock.time < self.new.told.state.clock.time) }
+        ensures turns { Turns self.old.told self.new.told }
+        ensures later { OnOk result (self.old.told.state.clock.time + self.old.told.state.clock.fixed.cycle ≤ self.new.told.state.clock.time) }
+        ensures within { OnOk result (self.old.told.state.clock.time + self.old.told.state.clock.fixed.cycle ≤ MAX_TIME) }
         ensures stands { StepStands self.new.told.state result }
-        ensures short { self.new.short ≡ self.old.short }
-        ensures agrees { (p : Steps T O) → Agrees T O p true self.old None → Agrees T O p true self.new None }
+        ensures rest { self.new ≡ record self.old { told = self.new.told } }
+        ensures agrees { (p : Steps T O) → Agrees p true self.old None → Agrees p true self.new None }
     {
-        if self.overflows() {
-            return Stepped::Stopped(RunError::TimeOverflow);
-        }
-        match self.clock_step() {
-            Turn::Ready => Stepped::On,
-            Turn::Reached(cause) => Stepped::Stopped(cause),
-            Turn::Cut => Stepped::Broken,
-            Turn::Again => unreachable!(),
-        }
+        self.machine.clock_step()
     }
 }
 
 impl<T: Task, G: Rng> World<T, T::Output, G> {
-    /// A round: the ready list is drained, and its numbers are visited in the order of the round's entry.
+    /// A round: the ready list is drained, and its numbers are visited in the order of the round's entry, which is put
+    /// into `order`. Answers the root's output, once it has one.
     #[tactic(auto, using(crate::proofs::Running::run_laws), unfolding(rt_model::specs::Effects::after))]
-    pub fn round(&mut self) -> Went<T::Output>
+    pub fn round(&mut self, order: &mut Vec<u64>) -> Result<Option<T::Output>, NoMemory>
         requires between { StandsBetween self.old.told.state }
         requires early { is_late self.old.told.state.clock ≡ false }
         requires none_out { self.old.out ≡ None }
-        requires unmarked { self.old.short ≡ false }
-        ensures runs { Runs T T.Output self.old self.new }
+        requires unmarked { self.old.lacked ≡ None }
+        ensures runs { Runs self.old self.new }
         ensures clock { self.new.told.state.clock ≡ self.old.told.state.clock }
         ensures stands { RoundStands self.new.told.state result }
-        ensures unmarked { result ≢ Went.Cut → self.new.short ≡ false }
-        ensures agrees { (first : ℕ → List (Heard T.Output) → Step T T.Output (Unit {0})) → Agrees T T.Output (with_first T.steps first) true self.old None → AgreesAfter T T.Output (with_first T.steps first) self.new result }
+        ensures unmarked { OnOk result (self.new.lacked ≡ None) }
+        ensures agrees { (first : First T T.Output) → Agrees (with_first T.steps first) true self.old None → AgreesAfter (with_first T.steps first) self.new result }
     {
-        let Ok(order) = self.drain() else {
-            return Went::Cut;
-        };
+        self.drain(order)?;
         self.visit_all(order.as_slice())
     }
 
-    /// Rounds and clock steps by turns, until the run has reached a cause to end.
+    /// Rounds and clock steps by turns, until the run has reached a cause to end. Answers the root's output, or that
+    /// cause.
     #[tactic(auto, using(crate::proofs::Running::run_laws))]
-    pub fn run_rounds(&mut self) -> Ending<T::Output>
+    pub fn run_rounds(&mut self) -> Result<T::Output, RunError>
         requires phase { self.old.told.state.phase ≡ Between }
         requires none_out { self.old.out ≡ None }
-        requires unmarked { self.old.short ≡ false }
+        requires unmarked { self.old.lacked ≡ None }
         requires cycle { 1 ≤ self.old.told.state.clock.fixed.cycle }
-        ensures runs { Runs T T.Output self.old self.new }
+        ensures runs { Runs self.old self.new }
         ensures stands { EndStands self.new.told.state result }
-        ensures agrees { (first : ℕ → List (Heard T.Output) → Step T T.Output (Unit {0})) → Agrees T T.Output (with_first T.steps first) true self.old None → EndAgrees T T.Output (with_first T.steps first) self.new result }
+        ensures agrees { (first : First T T.Output) → Agrees (with_first T.steps first) true self.old None → EndAgrees (with_first T.steps first) self.new result }
     {
-        'rounds: loop {
+        let mut order = Vec::new(self.allocator());
+        loop {
             if self.is_late() {
-                return Ending::Reached(RunError::Timeout);
+                return Err(RunError::Timeout);
             }
-            match self.round() {
-                Went::On => {}
-                Went::Finished(output) => return Ending::Completed(output),
-                Went::Cut => return Ending::Cut,
+            match self.round(&mut order) {
+                Ok(None) => {}
+                Ok(Some(output)) => return Ok(output),
+                Err(NoMemory) => return Err(RunError::NoMemory),
             }
-            match self.step() {
-                Stepped::On => {}
-                Stepped::Stopped(cause) => return Ending::Reached(cause),
-                Stepped::Broken => return Ending::Cut,
-            }
+            self.clock_step()?;
         }
     }
 }

@@ -3,11 +3,12 @@
 ghost use Rattle.std.specs.Prelude.{◌≡◌, ◌≤◌, [], None, false};
 ghost use Rattle.rt_model.specs.State.{Between};
 
-use crate::{Answer, Cx, Ending, Outcome, Task, World, WorldOf};
+use crate::{Answer, Cx, Outcome, Task, World, WorldOf};
 use rand_core::utils::NextWord;
 use rand_core::{Rng, utils};
 use rt_audit::{FinishCause, Journal};
-use rt_base::NoMemory;
+use rt_base::{Error, NoMemory};
+use rt_model::Begin;
 use std::alloc::Global;
 use std::test::Fail;
 
@@ -41,33 +42,25 @@ impl Rng for Zeros {
     }
 }
 
-/// A task that is ready at once, or makes each call of a poll and breaks off then.
+/// A task that is ready at once.
 #[derive(Drop)]
-struct Probe {
-    calls: bool,
-}
+struct Probe;
 
 impl Outcome for Probe {
     type Output = u64;
 }
 
+#[tactic(auto, using(crate::proofs::Walked::task_laws, crate::proofs::Walked::poller_laws))]
 impl Task for Probe {
     ghost use Rattle.rt_audit.specs.declared.call.Call.TheVariants.{CloseNode};
     ghost use Rattle.rt_model.specs.declared.answer.Answer.TheVariants.{Ready};
-    ghost use Rattle.rt_model.specs.Walk.{Plainly, Spends, Gives};
+    ghost use Rattle.rt_model.specs.Turns.{Plainly};
+    ghost use Rattle.rt_model.specs.Walk.{Spends, Gives};
 
-    // what breaks off isn't tied to these
-    ghost steps = { record { next = λ probe now task heard. Gives (Ready 7) probe; last = λ probe now task heard. Spends (Plainly (CloseNode 0)) (Gives tt tt) } };
+    ghost steps = { record { next = λ probe now task. Gives (Ready 7) probe; last = λ probe now task. Spends (Plainly (CloseNode 0)) (Gives tt tt) } };
 
-    fn poll<G: Rng>(&mut self, world: &mut World<Self, u64, G>, cx: &Cx) -> Answer<u64> {
-        if !self.calls {
-            return Answer::Ready(7);
-        }
-        let _ = world.wake(cx.task());
-        let _ = world.wake(9);
-        let _ = world.sleep_poll(5, None);
-        let _ = world.sleep_poll(0, None);
-        Answer::NoMemory
+    fn poll<G: Rng>(&mut self, _world: &mut World<Self, u64, G>, _cx: &Cx) -> Answer<u64> {
+        Answer::Ready(7)
     }
 
     fn end<G: Rng>(self, world: &mut World<Self, u64, G>) {
@@ -100,63 +93,87 @@ fn taken_apart(world: WorldOf<Probe, Zeros>, output: Option<u64>, cause: FinishC
 fn run_root(mut world: WorldOf<Probe, Zeros>) -> Came
     requires phase { world.told.state.phase ≡ Between }
     requires none_out { world.out ≡ None }
-    requires unmarked { world.short ≡ false }
+    requires unmarked { world.lacked ≡ None }
     requires cycle { 1 ≤ world.told.state.clock.fixed.cycle }
 {
     match world.run_rounds() {
-        Ending::Completed(output) => {
-            let cause = world.cleanup(Some(FinishCause::Completed));
+        Ok(output) => {
+            let cause = world.cleanup(FinishCause::Completed);
             taken_apart(world, Some(output), cause)
         }
-        Ending::Reached(error) => {
-            let cause = world.cleanup(Some(error.cause()));
-            taken_apart(world, None, cause)
-        }
-        Ending::Cut => {
-            let cause = world.cleanup(None);
+        Err(error) => {
+            let cause = world.cleanup(error.cause());
             taken_apart(world, None, cause)
         }
     }
 }
 
 /// Runs a root from before a run to its end. A root that can't be taken in is ended.
-#[tactic(auto, unfolding(rt_model::specs::Effects::after, rt_model::specs::State::blank))]
-fn run(alloc: Global, root: Probe, taken_in: bool) -> Result<Came, NoMemory> {
-    let Ok(mut world) = WorldOf::<Probe, Zeros>::begin(
-        alloc,
-        Journal::new(alloc),
-        0,
-        1_000_000,
-        None,
-        0,
-        Zeros,
-    ) else {
+#[tactic(auto, unfolding(rt_model::specs::Effects::after, rt_model::specs::State::begun))]
+fn run(alloc: Global, taken_in: bool) -> Result<Came, NoMemory> {
+    let begin = Begin {
+        start: 0,
+        cycle: 1_000_000,
+        deadline: None,
+        first: 0,
+    };
+    let Ok(mut world) = WorldOf::<Probe, Zeros>::begin(alloc, Journal::new(alloc), begin, Zeros)
+    else {
         return Err(NoMemory);
     };
     if !taken_in || !world.has_number_left() {
-        let cause = world.cleanup_unmade(Some(root), None);
+        let cause = world.cleanup_unmade(Some(Probe), FinishCause::NoMemory);
         return Ok(taken_apart(world, None, cause));
     }
-    match world.register_root(root) {
+    match world.register_root(Probe) {
         Err(root) => {
-            let cause = world.cleanup_unmade(Some(root), None);
+            let cause = world.cleanup_unmade(Some(root), FinishCause::NoMemory);
             Ok(taken_apart(world, None, cause))
         }
         Ok(_) => Ok(run_root(world)),
     }
 }
 
+/// Whether calls before a root are answered as they should be, and are written.
+#[tactic(auto, unfolding(rt_model::specs::Effects::after, rt_model::specs::State::begun))]
+fn answers_calls(alloc: Global) -> Result<bool, NoMemory> {
+    let begin = Begin {
+        start: 3,
+        cycle: 1_000_000,
+        deadline: None,
+        first: 0,
+    };
+    let Ok(mut world) = WorldOf::<Probe, Zeros>::begin(alloc, Journal::new(alloc), begin, Zeros)
+    else {
+        return Err(NoMemory);
+    };
+    let over = world.sleep_poll(3, None);
+    let waits = world.sleep_poll(5, None);
+    let refused = world.wake(9);
+    world.close_node(0);
+    let now = world.now();
+    let cause = world.cleanup_unmade(None, FinishCause::NoMemory);
+    let came = taken_apart(world, None, cause);
+    Ok(
+        now == 3
+            && over == Ok(None)
+            && waits == Ok(Some(0))
+            && refused == Err(Error::UnknownToken)
+            && came.entries == 9,
+    )
+}
+
 #[test]
 fn surface(rt: HostRuntime) -> Result<(), Fail> {
-    for (calls, taken_in, output, cause, entries) in [
-        (false, true, Some(7), FinishCause::Completed, 12usize),
-        (true, true, None, FinishCause::NoMemory, 17),
-        (false, false, None, FinishCause::NoMemory, 6),
+    for (taken_in, output, cause, entries) in [
+        (true, Some(7), FinishCause::Completed, 12usize),
+        (false, None, FinishCause::NoMemory, 6),
     ] {
-        let came = run(rt.alloc(), Probe { calls }, taken_in)?;
+        let came = run(rt.alloc(), taken_in)?;
         assert_eq!(rt; came.output, output);
         assert_eq!(rt; came.cause, cause);
         assert_eq!(rt; came.entries, entries);
     }
+    assert!(rt; answers_calls(rt.alloc())?);
     Ok(())
 }

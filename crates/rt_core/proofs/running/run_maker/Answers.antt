@@ -1,18 +1,35 @@
-use Rattle.std.proofs.Common.{None, false}
+use Rattle.std.proofs.Common.{◌∙◌, inl, None, false, sym, Ok, Err}
 use Rattle.rt_model.specs.Tied.{with_first, Steps}
-use Rattle.rt_core.proofs.Outcomes.{ended-cut, making_cut}
+use Rattle.rt_world.specs.Follows.{value_of}
+use Rattle.rt_world.proofs.Walked.{rooted-broken, rooted-short, rooted-fresh, long}
+use Rattle.rt_core.proofs.Outcomes.{ended-cut, unmade, made}
 use Rattle.rt_core.proofs.running.run_maker.Goals as goal
 
 pub returns-in_default-clause-agrees : goal.returns-in_default-clause-agrees
 returns-in_default-clause-agrees g c f =
-    let p : Steps g.row.T.Denot g.row.T-Output.Denot = with_first g.T.Task.steps (g.M.RootMaker.first c.args.maker) in
-    ended-cut _ _ p _ _ None None false
-    (c.cleanup_unmade.ensures.agrees (g.M.RootMaker.first c.args.maker) false
-    (making_cut _ _ p c.make.new.world c.args.world.now (λ v h. c.facts.ensures.follows p c.args.world.now.told v h c.requires.calls c.make.ensures.kept.past) f))
+    let first = g.M.RootMaker.first c.args.maker in
+    let p : Steps g.row.T.Denot g.row.T-Output.Denot = with_first g.T.Task.steps first in
+    let kept = c.make.ensures.kept in
+    let breaks = rooted-broken c.args.world.now c.make.new.world _ c.requires.turns _ c.requires.unmarked (rw c.in_default.is at c.make.ensures.steps) in
+    ended-cut p _ _ None None false
+    (c.cleanup_unmade.ensures.agrees first false
+    (unmade p c.args.world.now c.make.new.world kept (c.facts.ensures.follows p c.args.world.now.told _ f c.requires.calls kept.begin kept.past) breaks))
 
 pub returns-then-is_short-clause-agrees : goal.returns-then-is_short-clause-agrees
 returns-then-is_short-clause-agrees g c f =
-    let p : Steps g.row.T.Denot g.row.T-Output.Denot = with_first g.T.Task.steps (g.M.RootMaker.first c.args.maker) in
-    ended-cut _ _ p _ _ None None false
-    (c.cleanup_unmade-then-is_short.ensures.agrees (g.M.RootMaker.first c.args.maker) false
-    (making_cut _ _ p c.make.new.world c.args.world.now (λ v h. c.facts-2.ensures.follows p c.args.world.now.told v h c.requires.calls c.make.ensures.kept.past) f))
+    let first = g.M.RootMaker.first c.args.maker in
+    let p : Steps g.row.T.Denot g.row.T-Output.Denot = with_first g.T.Task.steps first in
+    let kept = c.make.ensures.kept in
+    let breaks = rooted-short c.args.world.now c.make.new.world _ c.requires.turns _ c.requires.unmarked (sym c.if-is_short.ensures) c.make.ensures.steps in
+    ended-cut p _ _ None None false
+    (c.cleanup_unmade-then-is_short.ensures.agrees first false
+    (unmade p c.args.world.now c.make.new.world kept (c.facts-2.ensures.follows p c.args.world.now.told _ f c.requires.calls kept.begin kept.past) (inl breaks)))
+
+pub returns-clause-agrees : goal.returns-clause-agrees
+returns-clause-agrees g c f =
+    let first = g.M.RootMaker.first c.args.maker in
+    let p : Steps g.row.T.Denot g.row.T-Output.Denot = with_first g.T.Task.steps first in
+    let kept = c.make.ensures.kept in
+    let walks = rooted-fresh c.args.world.now c.make.new.world _ c.requires.turns _ (long (sym c.if-is_short.false ∙ c.is_short.ensures)) (rw c.in-Ok.is at c.make.ensures.steps) in
+    c.take_in.ensures.agrees first
+    (made p c.args.world.now c.make.new.world _ kept (c.facts-2.ensures.follows p c.args.world.now.told _ f c.requires.calls kept.begin kept.past) walks)

@@ -10,12 +10,12 @@ returns-then-not-is_run_command-clause-report g c =
 pub returns-in-Err-Failed-clause-report : goal.returns-in-Err-Failed-clause-report
 returns-in-Err-Failed-clause-report g c =
     let some = some_asked (map string_bytes c.args.words.now) (g.S.Source.left c.args.source.now) in
-    (some.0, some.1, inr (inr (inl (search rules), search rules, refl)))
+    (some.0, some.1, inl (inr (inr (inl (search rules), search rules, search rules, refl))))
 
 pub returns-in-Err-NoMemory-clause-report : goal.returns-in-Err-NoMemory-clause-report
 returns-in-Err-NoMemory-clause-report g c =
     let some = some_asked (map string_bytes c.args.words.now) (g.S.Source.left c.args.source.now) in
-    (some.0, some.1, inr (inr (inr (search rules), search rules, refl)))
+    (some.0, some.1, inl (inr (inr (inr (search rules), search rules, search rules, refl))))
 
 pub returns-in-Err-TooLong-clause-report : goal.returns-in-Err-TooLong-clause-report
 returns-in-Err-TooLong-clause-report g c =

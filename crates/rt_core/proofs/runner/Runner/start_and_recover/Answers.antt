@@ -1,54 +1,69 @@
-use Rattle.std.proofs.Common.{◌≡◌, ◌++◌, ◌∙◌, ap, sym, List}
+use Rattle.std.proofs.Common.{◌≡◌, ◌++◌, ◌∙◌, ap, refl, sym, List}
 use Rattle.rt_audit.specs.declared.entry.Entry.{Entry}
+use Rattle.rt_model.specs.State.{begun}
 use Rattle.rt_model.specs.Effects.{after}
 use Rattle.rt_model.specs.Tied.{with_first, Steps}
 use Rattle.rt_machine.specs.Told.{own}
 use Rattle.rt_world.specs.World.{World}
-use Rattle.rt_core.specs.Starting.{Starting}
 use Rattle.rt_core.proofs.Outcomes.{completes, failed_by, only_memory}
 use Rattle.rt_core.proofs.runner.Runner.start_and_recover.Goals as goal
 
+pub run_maker-outcome-requires-clause-root : goal.run_maker-outcome-requires-clause-root
+unfolding after begun
+run_maker-outcome-requires-clause-root g c = rw c.in-Ok.ensures.ok refl
+
 pub returns-in-Ok-outcome-clause-run : goal.returns-in-Ok-outcome-clause-run
-unfolding after
+unfolding after begun
 returns-in-Ok-outcome-clause-run g c =
     let p : Steps g.row.T.Denot g.row.T-Output.Denot = with_first g.T.Task.steps (g.M.RootMaker.first c.args.maker) in
-    let w : World g.row.T.Denot g.row.T-Output.Denot = c.run_maker-outcome.new.world in
-    let fixed : w.told.state.clock.fixed ≡ c.args.self.begin =
-    c.run_maker-outcome.ensures.fixed
-    ∙ ap (λ (u : World g.row.T.Denot g.row.T-Output.Denot). u.told.state.clock.fixed) c.in-Ok.ensures.ok
-    ∙ ap (λ (s : Starting). s.begin) c.self.view_is in
-    let given : w.told.given ≡ c.args.self.given =
-    c.run_maker-outcome.ensures.given
-    ∙ ap (λ (u : World g.row.T.Denot g.row.T-Output.Denot). u.told.given) c.in-Ok.ensures.ok
-    ∙ c.given_journal-given.ensures
-    ∙ ap (λ (s : Starting). s.given) c.self.view_is in
+    let w : World g.row.T.Denot g.row.T-Output.Denot g.row.G.Denot = c.run_maker-outcome.new.world in
+    let begin : w.told.begin ≡ c.self.inside.begin = c.run_maker-outcome.ensures.begin ∙ ap (λ (u : World g.row.T.Denot g.row.T-Output.Denot g.row.G.Denot). u.told.begin) c.in-Ok.ensures.ok in
+    let fixed : w.told.state.clock.fixed ≡ c.self.inside.begin = c.run_maker-outcome.ensures.fixed ∙ ap (λ (u : World g.row.T.Denot g.row.T-Output.Denot g.row.G.Denot). u.told.state.clock.fixed) c.in-Ok.ensures.ok in
+    let given = c.run_maker-outcome.ensures.given ∙ ap (λ (u : World g.row.T.Denot g.row.T-Output.Denot g.row.G.Denot). u.told.given) c.in-Ok.ensures.ok ∙ c.given_journal-given.ensures in
+    let rng = c.into_parts-journal.ensures.rng ∙ c.run_maker-outcome.ensures.rng ∙ ap (λ (u : World g.row.T.Denot g.row.T-Output.Denot g.row.G.Denot). u.rng) c.in-Ok.ensures.ok in
     let extends = c.into_parts-journal.ensures.entries ∙ ap (λ (ys : List Entry). ys ++ own w.told) given in
-    let cycle = sym (ap (λ (s : Starting). s.begin.cycle) c.self.view_is) in
-    let deadline = sym (ap (λ (s : Starting). s.begin.deadline) c.self.view_is) in
-    completes _ _ p c.args.self.begin w c.facts.ensures.lawful c.facts.ensures.state fixed c.args.self.given _ c.in-Ok-outcome.output _ _ _ c.in-Ok-outcome.ensures.phase (c.in-Ok-outcome.ensures.agrees (c.in-Ok.ensures.agrees p)) extends c.now-time.ensures cycle deadline
+    rw (← c.self.view_is, rng)
+    (completes p c.self.inside.begin w (rw begin at c.facts.ensures.lawful) (rw begin at c.facts.ensures.state) begin _ _ _ c.in-Ok-outcome.output _ _ _ c.in-Ok-outcome.ensures.phase (c.in-Ok-outcome.ensures.agrees (c.in-Ok.ensures.agrees p)) extends c.now-time.ensures.time fixed refl refl)
 
 pub returns-in-Err-outcome-clause-failure : goal.returns-in-Err-outcome-clause-failure
-unfolding after
+unfolding after begun
 returns-in-Err-outcome-clause-failure g c =
     let p : Steps g.row.T.Denot g.row.T-Output.Denot = with_first g.T.Task.steps (g.M.RootMaker.first c.args.maker) in
-    let w : World g.row.T.Denot g.row.T-Output.Denot = c.run_maker-outcome.new.world in
-    let fixed : w.told.state.clock.fixed ≡ c.args.self.begin =
-    c.run_maker-outcome.ensures.fixed
-    ∙ ap (λ (u : World g.row.T.Denot g.row.T-Output.Denot). u.told.state.clock.fixed) c.in-Ok.ensures.ok
-    ∙ ap (λ (s : Starting). s.begin) c.self.view_is in
-    let given : w.told.given ≡ c.args.self.given =
-    c.run_maker-outcome.ensures.given
-    ∙ ap (λ (u : World g.row.T.Denot g.row.T-Output.Denot). u.told.given) c.in-Ok.ensures.ok
-    ∙ c.given_journal-given.ensures
-    ∙ ap (λ (s : Starting). s.given) c.self.view_is in
-    record {
+    let w : World g.row.T.Denot g.row.T-Output.Denot g.row.G.Denot = c.run_maker-outcome.new.world in
+    let begin : w.told.begin ≡ c.self.inside.begin = c.run_maker-outcome.ensures.begin ∙ ap (λ (u : World g.row.T.Denot g.row.T-Output.Denot g.row.G.Denot). u.told.begin) c.in-Ok.ensures.ok in
+    let given = c.run_maker-outcome.ensures.given ∙ ap (λ (u : World g.row.T.Denot g.row.T-Output.Denot g.row.G.Denot). u.told.given) c.in-Ok.ensures.ok ∙ c.given_journal-given.ensures in
+    rw (← c.self.view_is) (record {
       entries = own w.told;
       extends = c.into_parts-journal.ensures.entries ∙ ap (λ (ys : List Entry). ys ++ own w.told) given;
-      failed = failed_by _ _ p c.args.self.begin w c.facts.ensures.lawful c.facts.ensures.state fixed c.in-Err-outcome.cause c.in-Err-outcome.ensures.phase (c.in-Err-outcome.ensures.agrees (c.in-Ok.ensures.agrees p));
-    }
+      failed = failed_by p c.self.inside.begin w (rw begin at c.facts.ensures.lawful) (rw begin at c.facts.ensures.state) begin c.in-Err-outcome.cause c.in-Err-outcome.ensures.phase (c.in-Err-outcome.ensures.agrees (c.in-Ok.ensures.agrees p));
+    })
 
 pub returns-in-Err-outcome-clause-complete : goal.returns-in-Err-outcome-clause-complete
 returns-in-Err-outcome-clause-complete g c v =
     let p : Steps g.row.T.Denot g.row.T-Output.Denot = with_first g.T.Task.steps (g.M.RootMaker.first c.args.maker) in
     let f = returns-in-Err-outcome-clause-failure g c in
-    only_memory _ _ p c.args.self.begin f.entries c.in-Err-outcome.cause v f.failed
+    only_memory p c.args.self.begin f.entries c.in-Err-outcome.cause v f.failed
+
+pub returns-in-Ok-outcome-clause-orders : goal.returns-in-Ok-outcome-clause-orders
+unfolding after begun
+returns-in-Ok-outcome-clause-orders g c =
+    let w : World g.row.T.Denot g.row.T-Output.Denot g.row.G.Denot = c.run_maker-outcome.new.world in
+    let begin : w.told.begin ≡ c.self.inside.begin = c.run_maker-outcome.ensures.begin ∙ ap (λ (u : World g.row.T.Denot g.row.T-Output.Denot g.row.G.Denot). u.told.begin) c.in-Ok.ensures.ok in
+    let given = c.run_maker-outcome.ensures.given ∙ ap (λ (u : World g.row.T.Denot g.row.T-Output.Denot g.row.G.Denot). u.told.given) c.in-Ok.ensures.ok ∙ c.given_journal-given.ensures in
+    rw (← c.self.view_is) (record {
+      entries = own w.told;
+      extends = c.into_parts-journal.ensures.entries ∙ ap (λ (ys : List Entry). ys ++ own w.told) given;
+      drawn = rw begin at c.facts.ensures.drawn;
+    })
+
+pub returns-in-Err-outcome-clause-orders : goal.returns-in-Err-outcome-clause-orders
+unfolding after begun
+returns-in-Err-outcome-clause-orders g c =
+    let w : World g.row.T.Denot g.row.T-Output.Denot g.row.G.Denot = c.run_maker-outcome.new.world in
+    let begin : w.told.begin ≡ c.self.inside.begin = c.run_maker-outcome.ensures.begin ∙ ap (λ (u : World g.row.T.Denot g.row.T-Output.Denot g.row.G.Denot). u.told.begin) c.in-Ok.ensures.ok in
+    let given = c.run_maker-outcome.ensures.given ∙ ap (λ (u : World g.row.T.Denot g.row.T-Output.Denot g.row.G.Denot). u.told.given) c.in-Ok.ensures.ok ∙ c.given_journal-given.ensures in
+    rw (← c.self.view_is) (record {
+      entries = own w.told;
+      extends = c.into_parts-journal.ensures.entries ∙ ap (λ (ys : List Entry). ys ++ own w.told) given;
+      drawn = rw begin at c.facts.ensures.drawn;
+    })

@@ -5,7 +5,7 @@ use Rattle.rt_net.proofs.pipe.Pipe.park.Goals as goal
 
 pub invariant_of-self : goal.invariant_of-self
 invariant_of-self c =
-    let quiet = parked-quiet (channel_of c.self.inside) c.self.inside.held c.args.len c.args.task (search (rules, arith)) c.self.invariant.quiet (search (rules, arith)) (search rules) (search (rules, arith)) in
+    let quiet = parked-quiet (channel_of c.self.inside) c.self.inside.held c.args.len c.args.task (search (rules, arith)) c.self.invariant.quiet (search (rules, arith)) (search rules) (search rules) (search (rules, arith)) in
     let lacks : c.self.inside.held < c.args.len = search (rules, arith) in
     record {
       within = c.self.invariant.within;

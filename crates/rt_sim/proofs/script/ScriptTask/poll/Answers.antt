@@ -1,10 +1,23 @@
-use Rattle.rt_sim.proofs.Scripts.{polls-awake, polls-asleep}
+use Rattle.std.proofs.Common.{rules, ◌≡◌, ◌∙◌, ◌∷◌, ◌+◌, drop, ap, sym, arith}
+use Rattle.std.proofs.lemmas.List.{drop_more}
+use Rattle.rt_model.specs.State.{Clock}
+use Rattle.rt_world.proofs.Walked.{kept-kept}
+use Rattle.rt_sim.specs.Script.{lines_from}
+use Rattle.rt_sim.proofs.Scripts.{leads-on, leads-end}
 use Rattle.rt_sim.proofs.script.ScriptTask.poll.Goals as goal
 
-pub returns-in-Nothing-clause-steps : goal.returns-in-Nothing-clause-steps
-returns-in-Nothing-clause-steps g c n =
-    polls-awake c.args.self.now _ _ _ c.args.world.now c.go_on-answer.new.world c.go_on-answer.result c.in-Nothing.is c.requires.fresh (rw c.task.ensures at (c.go_on-answer.ensures.did n))
+pub loop-self-preserved : goal.loop-self-preserved
+loop-self-preserved g c =
+    let i = c.loop-self.invariant in
+    let s = c.loop-self.self in
+    let next : lines_from s ≡ c.index-line.result.now ∷ drop (s.place + 1) s.lines.items =
+    drop_more s.lines.items s.place c.index-line.result.now (search rules) ∙ ap (λ x. x ∷ drop (s.place + 1) s.lines.items) (sym c.index-line.ensures) in
+    record {
+      kept = kept-kept _ _ _ i.kept c.take_line.ensures.kept;
+      lines = c.take_line.ensures.lines ∙ i.lines;
+      leads = leads-on c.args.self.now s c.take_line.new.self c.args.world.now.told.state.clock.time c.args.cx.now.task c.args.world.now c.loop-self.world c.take_line.new.world c.loop-self.world.told.state.clock.time c.index-line.result.now (sym (ap (λ (k : Clock). k.time) i.kept.clock)) next (search rules) c.take_line.ensures.lines i.leads (c.in_default.ensures.steps (drop (s.place + 1) s.lines.items));
+    }
 
-pub returns-in-Sleeps-clause-steps : goal.returns-in-Sleeps-clause-steps
-returns-in-Sleeps-clause-steps g c n =
-    polls-asleep c.args.self.now _ _ _ c.args.world.now c.wake_up-answer.new.world c.wake_up-answer.result c.requires.fresh (rw c.task-in-Sleeps.ensures at (c.wake_up-answer.ensures.did n))
+pub returns-clause-steps : goal.returns-clause-steps
+returns-clause-steps g c =
+    leads-end c.args.self.now c.loop-self.self c.args.world.now.told.state.clock.time c.args.cx.now.task c.args.world.now c.loop-self.world (omega arith) c.loop-self.invariant.leads

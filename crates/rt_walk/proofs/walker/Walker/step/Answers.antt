@@ -1,6 +1,12 @@
 use Rattle.rt_walk.proofs.Quiet.{after-states}
 use Rattle.rt_walk.proofs.walker.Walker.step.Goals as goal
 
+pub returns-in-Start-clause-here : goal.returns-in-Start-clause-here
+returns-in-Start-clause-here c = rw c.in-Start.is (c.start.ensures c.in-Start.next c.in-Start.now c.in-Start.deadline c.in-Start.cycle)
+
+pub returns-in-Start-clause-alike : goal.returns-in-Start-clause-alike
+returns-in-Start-clause-alike c s = after-states _ _ s _ (returns-in-Start-clause-here c)
+
 pub returns-in-Event-clause-here : goal.returns-in-Event-clause-here
 returns-in-Event-clause-here c = rw c.in-Event.is (c.enter.ensures c.in-Event.label c.in-Event.fields)
 

@@ -1,7 +1,7 @@
-use Rattle.std.proofs.Common.{None}
-use Rattle.rt_world.proofs.Follows.{agrees-closed}
+use Rattle.std.proofs.Common.{refl}
+use Rattle.rt_world.proofs.Follows.{follows-closed}
 use Rattle.rt_world.proofs.world.World.close.Goals as goal
 
 pub returns-clause-agrees : goal.returns-clause-agrees
 returns-clause-agrees g c p whole output f =
-    agrees-closed p c.take_short.new.self c.note_cleanup.new.self output None whole c.note_cleanup.ensures (rw c.take_short.ensures.gone c.requires.phase.made) (rw c.take_short.ensures.gone f)
+    follows-closed p c.self.inside.machine.told c.cleanup.new.self.told _ (rw (c.cleanup.ensures, c.take_short.ensures.gone) refl) (rw (← c.self.view_is) at c.requires.phase.made) (rw (← c.self.view_is) at f)

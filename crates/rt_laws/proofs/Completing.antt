@@ -1,0 +1,416 @@
+-- What is left of a run from a state on, and rules by which it completes, whatever the steps.
+use Rattle.std.proofs.Common.{◌≡◌, ◌≢◌, ◌≤◌, ◌<◌, ◌+◌, ◌⊎◌, inl, inr, ℕ, List, [], ◌∷◌, ◌++◌, drop, Option, Some, None, true, false, refl, sym, ap, ◌∙◌, arith, eq-eqb}
+use Rattle.std.specs.List.Sorted.{IsPermutation}
+use Rattle.rt_audit.specs.declared.call.Call.{Call}
+use Rattle.rt_audit.specs.declared.call.Call.TheVariants.{SleepPoll}
+use Rattle.rt_audit.specs.declared.reply.CallReply.{CallReply}
+use Rattle.rt_audit.specs.declared.reply.CallReply.TheVariants.{PendingAt, Ready as IsOver}
+use Rattle.rt_audit.specs.declared.answer.AnswerKind.TheVariants.{Pending as IsPending, Ready as IsReady, NoMemory as LacksMemory, Ended as IsEnded}
+use Rattle.rt_audit.specs.declared.finish.FinishCause.{FinishCause}
+use Rattle.rt_audit.specs.declared.finish.FinishCause.TheVariants.{Completed, NoMemory}
+use Rattle.rt_audit.specs.declared.entry.Entry.{Entry}
+use Rattle.rt_audit.specs.declared.entry.Entry.TheVariants.{Start, Call as CallEntry, Event, Wake, Draw, Root, Round, Visit, Answer as AnswerEntry, Advance, Skip, Fire, Cleanup}
+use Rattle.rt_model.specs.declared.answer.Answer.{Answer}
+use Rattle.rt_model.specs.declared.answer.Answer.TheVariants.{Pending, Ready}
+use Rattle.rt_model.specs.declared.begin.Begin.{Begin}
+use Rattle.rt_model.specs.State.{State, Phase, Making, Between, Visiting, Entered, Polling, Turning, Over, Finished, Turn, stood_in, begun}
+use Rattle.rt_model.specs.Events.{process_task, task_fields}
+use Rattle.rt_model.specs.Alarms.{alarm_of, skip_to, fires}
+use Rattle.rt_model.specs.Causes.{cause_at, reached, from_running}
+use Rattle.rt_model.specs.Effects.{after, after_all}
+use Rattle.rt_model.specs.Rules.{Answers, May, MayRound, IsLawful}
+use Rattle.rt_model.specs.Turns.{Held, Ask, Sleeping, Heard, Asks, Fits, call_of}
+use Rattle.rt_model.specs.Walk.{Step, Does, Gives, Gave, Walks, Fronts}
+use Rattle.rt_model.specs.Tied.{Steps, Value, nothing, MovesCleanup, Moves, Keeps, Polls, IsTied, find, taken, put}
+use Rattle.rt_model.specs.Run.{IsValidInput}
+use Rattle.rt_laws.proofs.Endings.{EndsFor, ends-all}
+use Rattle.rt_laws.proofs.Starts.{run_starts}
+use Rattle.rt_laws.proofs.Stands.{stands, may_stand}
+use Rattle.rt_laws.proofs.Values.{all-whole, not-whole, same-parts}
+use Rattle.rt_laws.proofs.Fronts.{LeadsTo, walks-front, front-front, leads-fronts, leads-gave}
+
+-- the rest of a run that finishes for this cause, and isn't cut off
+pub record Rest {A O : Type 0} (p : Steps A O) (s : State) (v : Value A O) (x : List Entry) (cause : FinishCause) : Type 0 where
+  pub value : Value A O
+  pub lawful : IsLawful s x
+  pub tied : IsTied p s v x value
+  pub whole : value.whole ≡ true
+  pub ends : (after_all s x).phase ≡ Finished cause
+  pub caused : cause ≢ NoMemory
+
+-- each such rest completes
+abbrev pub Completes : {A O : Type 0} → Steps A O → State → Value A O → Type 0
+Completes p s v = (x : List Entry) (cause : FinishCause) → Rest p s v x cause → cause ≡ Completed
+
+-- no cause is reached, or this one
+abbrev pub IsFine : Option FinishCause → Type 0
+IsFine None = Unit {0}
+IsFine (Some cause) = cause ≡ Completed
+
+module _ {A O : Type 0} (p : Steps A O) where
+  -- behind its first entry
+  further : (s : State) (v : Value A O) (e : Entry) (x : List Entry) (cause : FinishCause) (r : Rest p s v (e ∷ x) cause) → (u : Value A O) × Moves p s v e u × (u.whole ≡ true) × Rest p (after s e) u x cause
+  further s v e x cause r =
+      let t = r.tied in
+      let u : Value A O = t.0 in
+      (u, t.1, all-whole p (after s e) u r.value x t.2 r.whole, record { value = r.value; lawful = r.lawful.1; tied = t.2; whole = r.whole; ends = r.ends; caused = r.caused })
+
+  abbrev pub Continues : State → Value A O → Type 0
+  Continues s v = (e : Entry) (u : Value A O) → May s e → Moves p s v e u → u.whole ≡ true → Completes p (after s e) u
+
+  pub continues : (s : State) (v : Value A O) → ((cause : FinishCause) → s.phase ≢ Finished cause) → Continues s v → Completes p s v
+  continues s v n c [] cause r = absurd (n cause r.ends)
+  continues s v n c (e ∷ x) cause r = let m = further s v e x cause r in c e m.0 r.lawful.0 m.1 m.2 x cause m.3
+
+  -- a cleanup where no other cause is reached
+  fine-some : (of : Option FinishCause) (cause : FinishCause) → IsFine of → of ≡ Some cause → cause ≡ Completed
+  fine-some None cause f e = absurd (cc)
+  fine-some (Some reached) cause f e = let same : reached ≡ cause = cc in sym same ∙ f
+
+  fine-ends : (of : Option FinishCause) (cause : FinishCause) (q : Phase) → IsFine of → cause ≢ NoMemory → q ≡ Finished cause → EndsFor of q → cause ≡ Completed
+  fine-ends of cause q f n e k =
+      let z : EndsFor of (Finished cause) = rw e at k in
+      elim z [ inl m ↦ absurd (n m) | inr m ↦ fine-some of cause f m ]
+
+  cleanup : (s : State) (u : Value A O) → IsFine (reached s) → Completes p (after s Cleanup) u
+  unfolding after
+  cleanup s u f x cause r = fine-ends (reached s) cause (after_all (after s Cleanup) x).phase f r.caused r.ends (ends-all (reached s) (after s Cleanup) x refl refl r.lawful).1
+
+  pub over : (s : State) (v : Value A O) → s.phase ≡ Over Completed → s.owed ≡ [] → Completes p s v
+  over s v h o = continues s v (λ cause e. cc) c
+    where
+      c : Continues s v
+      c Cleanup u m k w = cleanup s u (rw h refl)
+      c (Wake task) u m k w = absurd (cc)
+      c e u m k w = let z : stands (Over Completed) e ≡ true = rw h at (may_stand s e m) in absurd (cc)
+
+  ready : (s : State) (v : Value A O) (task : ℕ) → s.root ≡ Some task → Completes p (after s (AnswerEntry task IsReady)) v
+  unfolding after
+  ready s v task root = over (after s (AnswerEntry task IsReady)) v (rw (root, eq-eqb task task refl) refl) refl
+
+  -- the calls of a part under way are a front of its walk
+
+  cleanup-front : (s : State) (v u : Value A O) (q : Phase) → q ≡ Making → MovesCleanup p s v q u → u.whole ≡ true → Fronts (p.first s.clock.time) v.held s.turns
+  cleanup-front s v u q h m w =
+      let k : MovesCleanup p s v Making u = rw h at m in
+      elim k [
+        | inl k ↦ walks-front (stood_in s) tt k.0 u.held s.turns v.held (p.first s.clock.time) k.1
+        | inr k ↦ not-whole u (record v { unmade = k.0; whole = false }) w refl k.2
+      ]
+
+  making-front : (s : State) (v : Value A O) (x : List Entry) (cause : FinishCause) → s.phase ≡ Making → Rest p s v x cause → Fronts (p.first s.clock.time) v.held s.turns
+  unfolding after
+  making-front s v [] cause h r = let e = r.ends in absurd (cc)
+  making-front s v (CallEntry by call reply ∷ x) cause h r =
+      let m = further s v (CallEntry by call reply) x cause r in
+      let t : Turn = record { call = call; reply = reply; stood = stood_in s } in
+      let k = making-front (after s (CallEntry by call reply)) m.0 x cause h m.3 in
+      front-front s.turns (t ∷ []) v.held (p.first s.clock.time) (rw m.1 at k)
+  making-front s v (Wake task ∷ x) cause h r =
+      let m = further s v (Wake task) x cause r in
+      let k = making-front (after s (Wake task)) m.0 x cause h m.3 in
+      rw m.1 at k
+  making-front s v (Root task ∷ x) cause h r =
+      let m = further s v (Root task) x cause r in
+      let k = m.1 in
+      walks-front (stood_in s) tt k.0 k.1 s.turns v.held (p.first s.clock.time) k.2
+  making-front s v (Cleanup ∷ x) cause h r =
+      let m = further s v Cleanup x cause r in
+      cleanup-front s v m.0 s.phase h m.1 m.2
+  making-front s v (e ∷ x) cause h r = let z : stands Making e ≡ true = rw h at (may_stand s e r.lawful.0) in absurd (cc)
+
+  -- the walk of a poll, from the state that the task is in
+  polls-walk : (s : State) (v : Value A O) (task other : ℕ) (a : A) (answer : Answer O) (end : Held A O) → other ≡ task → find task v.held.tasks ≡ Some a → (k : Polls p s other v.held answer end) → Walks (p.task.next a s.clock.time task) (taken task v.held) s.turns (stood_in s) answer k.left k.moved
+  polls-walk s v task other a answer end e f k =
+      let there : find task v.held.tasks ≡ Some k.before = rw e at k.there in
+      let same : k.before ≡ a = cc in
+      let walks = k.walks in
+      rw (e, same) at walks
+
+  polling-front : (s : State) (v : Value A O) (task : ℕ) (left : List ℕ) (a : A) (x : List Entry) (cause : FinishCause) → s.phase ≡ Polling task left → find task v.held.tasks ≡ Some a → Rest p s v x cause → Fronts (p.task.next a s.clock.time task) (taken task v.held) s.turns
+  unfolding after
+  polling-front s v task left a [] cause h f r = let e = r.ends in absurd (cc)
+  polling-front s v task left a (CallEntry by call reply ∷ x) cause h f r =
+      let m = further s v (CallEntry by call reply) x cause r in
+      let t : Turn = record { call = call; reply = reply; stood = stood_in s } in
+      let k = polling-front (after s (CallEntry by call reply)) m.0 task left a x cause h (rw m.1 f) m.3 in
+      front-front s.turns (t ∷ []) (taken task v.held) (p.task.next a s.clock.time task) (rw m.1 at k)
+  polling-front s v task left a (Wake other ∷ x) cause h f r =
+      let m = further s v (Wake other) x cause r in
+      let k = polling-front (after s (Wake other)) m.0 task left a x cause h (rw m.1 f) m.3 in
+      rw m.1 at k
+  polling-front s v task left a (AnswerEntry other IsPending ∷ x) cause h f r =
+      let m = further s v (AnswerEntry other IsPending) x cause r in
+      let n = r.lawful.0.1 in
+      let k : Polls p s other v.held Pending m.0.held = m.1.0 in
+      walks-front (stood_in s) Pending k.left k.moved s.turns (taken task v.held) (p.task.next a s.clock.time task) (polls-walk s v task other a Pending m.0.held (cc) f k)
+  polling-front s v task left a (AnswerEntry other IsReady ∷ x) cause h f r =
+      let m = further s v (AnswerEntry other IsReady) x cause r in
+      let n = r.lawful.0.1 in
+      let k = m.1 in
+      let o : O = k.0 in
+      let k : Polls p s other v.held (Ready o) m.0.held = k.1 in
+      walks-front (stood_in s) (Ready o) k.left k.moved s.turns (taken task v.held) (p.task.next a s.clock.time task) (polls-walk s v task other a (Ready o) m.0.held (cc) f k)
+  polling-front s v task left a (AnswerEntry other LacksMemory ∷ x) cause h f r =
+      let m = further s v (AnswerEntry other LacksMemory) x cause r in
+      let k = m.1 in
+      not-whole m.0 (record v { held = put other k.left (taken other v.held); whole = false }) m.2 refl k.is
+  polling-front s v task left a (AnswerEntry other IsEnded ∷ x) cause h f r = absurd (rw h at r.lawful.0.1)
+  polling-front s v task left a (AnswerEntry other kind ∷ x) cause h f r = absurd r.lawful.0.1
+  polling-front s v task left a (e ∷ x) cause h f r = let z : stands (Polling task left) e ≡ true = rw h at (may_stand s e r.lawful.0) in absurd (cc)
+
+  -- visits
+
+  module _ (s : State) (v : Value A O) (owes : s.owed ≡ []) where
+    pub entered : (task : ℕ) (left : List ℕ) → s.phase ≡ Entered task left → Completes p (after s (Event process_task (task_fields task []))) v → Completes p s v
+    entered task left h more = continues s v (λ cause e. cc) c
+      where
+        c : Continues s v
+        c (Event label fields) u m k w =
+            let same : fields ≡ task_fields task [] = rw h at m.1.2 in
+            rw (m.1.1, same, k) more
+        c (Wake other) u m k w = absurd (cc)
+        c e u m k w = let z : stands (Entered task left) e ≡ true = rw h at (may_stand s e m) in absurd (cc)
+
+    pub visiting : (task : ℕ) (left rest : List ℕ) → s.phase ≡ Visiting left → from_running s.running left ≡ task ∷ rest → IsFine (reached s) → Completes p (after s (Visit task)) v → Completes p s v
+    visiting task left rest h next f more = continues s v (λ cause e. cc) c
+      where
+        c : Continues s v
+        c (Visit other) u m k w =
+            let is : from_running s.running left ≡ other ∷ drop 1 (from_running s.running left) = rw h at m.1.1 in
+            let same : other ≡ task = cc in
+            rw (same, k) more
+        c (Advance now) u m k w =
+            let is : from_running s.running left ≡ [] = rw h at m.1.1 in
+            absurd (cc)
+        c Cleanup u m k w = cleanup s u f
+        c (Wake other) u m k w = absurd (cc)
+        c e u m k w = let z : stands (Visiting left) e ≡ true = rw h at (may_stand s e m) in absurd (cc)
+
+    pub visited : (left : List ℕ) → s.phase ≡ Visiting left → from_running s.running left ≡ [] → IsFine (reached s) → Completes p (after s (Advance (s.clock.time + s.clock.fixed.cycle))) v → Completes p s v
+    visited left h none f more = continues s v (λ cause e. cc) c
+      where
+        c : Continues s v
+        c (Visit other) u m k w =
+            let is : from_running s.running left ≡ other ∷ drop 1 (from_running s.running left) = rw h at m.1.1 in
+            absurd (cc)
+        c (Advance now) u m k w = rw (m.1.2, k) more
+        c Cleanup u m k w = cleanup s u f
+        c (Wake other) u m k w = absurd (cc)
+        c e u m k w = let z : stands (Visiting left) e ≡ true = rw h at (may_stand s e m) in absurd (cc)
+
+    -- polls
+
+    module _ (task : ℕ) (left : List ℕ) (a : A) (is : s.phase ≡ Polling task left) (there : find task v.held.tasks ≡ Some a) (now : Held A O) where
+      abbrev Leads : Step A A O (Answer O) → Type 0
+      Leads at = LeadsTo (p.task.next a s.clock.time task) (taken task v.held) s.turns at now
+
+      abbrev turned : Call → CallReply → Turn
+      turned call reply = record { call = call; reply = reply; stood = stood_in s }
+
+      -- a call that may come is the next one
+      called : (at : Step A A O (Answer O)) (call : Call) (reply : CallReply) (u : Value A O) (x : List Entry) (cause : FinishCause) → Leads at → u ≡ v → Rest p (after s (CallEntry (Some task) call reply)) u x cause → Fronts at now (turned call reply ∷ [])
+      unfolding after
+      called at call reply u x cause l k r =
+          let f = polling-front (after s (CallEntry (Some task) call reply)) u task left a x cause is (rw k there) r in
+          leads-fronts at now (turned call reply ∷ []) s.turns (taken task v.held) (p.task.next a s.clock.time task) l (rw k at f)
+
+      gave : (at : Step A A O (Answer O)) (answer : Answer O) (end : Held A O) (other : ℕ) → Leads at → other ≡ task → (k : Polls p s other v.held answer end) → Gave (stood_in s) now at answer k.left k.moved
+      gave at answer end other l e k = leads-gave at now (stood_in s) answer k.left k.moved s.turns (taken task v.held) (p.task.next a s.clock.time task) l (polls-walk s v task other a answer end e there k)
+
+      pub polling_does : (ask : Ask A O) (on : Heard O → Step A A O (Answer O)) → Leads (Does ask on) → ((reply : CallReply) → Answers s (call_of ask) reply → Fits ask (turned (call_of ask) reply) → Completes p (after s (CallEntry (Some task) (call_of ask) reply)) v) → Completes p s v
+      polling_does ask on l more = continues s v (λ cause e. cc) c
+        where
+          calls : (by : Option ℕ) (call : Call) (reply : CallReply) (u : Value A O) → by ≡ Some task → u ≡ v → Answers s call reply → Completes p (after s (CallEntry by call reply)) u
+          calls by call reply u e k m x cause r =
+              let rest : Rest p (after s (CallEntry (Some task) call reply)) u x cause = rw e at r in
+              let asks : Asks ask (turned call reply) = (called (Does ask on) call reply u x cause l k rest).0 in
+              let fits : Fits ask (turned call reply) = asks.1 in
+              let same : call ≡ call_of ask = asks.0 in
+              more reply (rw same at m) (rw same at fits) x cause (rw (same, k) at rest)
+
+          c : Continues s v
+          c (CallEntry by call reply) u m k w = calls by call reply u (rw is at m.1.0) k m.1.1
+          c (AnswerEntry other IsPending) u m k w = let n = m.1 in absurd (gave (Does ask on) Pending u.held other l (cc) k.0)
+          c (AnswerEntry other IsReady) u m k w = let n = m.1 in let o : O = k.0 in absurd (gave (Does ask on) (Ready o) u.held other l (cc) k.1)
+          c (AnswerEntry other LacksMemory) u m k w = not-whole u (record v { held = put other k.left (taken other v.held); whole = false }) w refl k.is
+          c (AnswerEntry other IsEnded) u m k w = absurd (rw is at m.1)
+          c (AnswerEntry other kind) u m k w = absurd m.1
+          c (Wake other) u m k w = absurd (cc)
+          c e u m k w = let z : stands (Polling task left) e ≡ true = rw is at (may_stand s e m) in absurd (cc)
+
+      -- a sleep, by whether it is due
+      pub polling_sleeps : (due : ℕ) (alarm : Option ℕ) (on : Heard O → Step A A O (Answer O)) → Leads (Does (Sleeping due alarm) on) → s.clock.time < due → Completes p (after s (CallEntry (Some task) (SleepPoll due) (PendingAt (alarm_of s.alarms due alarm)))) v → Completes p s v
+      polling_sleeps due alarm on l later more = polling_does (Sleeping due alarm) on l told
+        where
+          told : (reply : CallReply) → Answers s (SleepPoll due) reply → Fits {A = A} {O = O} (Sleeping due alarm) (turned (SleepPoll due) reply) → Completes p (after s (CallEntry (Some task) (SleepPoll due) reply)) v
+          told IsOver m f = absurd (omega arith)
+          told (PendingAt number) m f = rw f more
+          told _ m f = absurd m
+
+      pub polling_wakes : (due : ℕ) (alarm : Option ℕ) (on : Heard O → Step A A O (Answer O)) → Leads (Does (Sleeping due alarm) on) → due ≤ s.clock.time → Completes p (after s (CallEntry (Some task) (SleepPoll due) IsOver)) v → Completes p s v
+      polling_wakes due alarm on l late more = polling_does (Sleeping due alarm) on l told
+        where
+          told : (reply : CallReply) → Answers s (SleepPoll due) reply → Fits {A = A} {O = O} (Sleeping due alarm) (turned (SleepPoll due) reply) → Completes p (after s (CallEntry (Some task) (SleepPoll due) reply)) v
+          told IsOver m f = more
+          told (PendingAt number) m f = let l = m.0 in absurd (omega arith)
+          told _ m f = absurd m
+
+      pub polling_gives : (answer : Answer O) (next : A) → s.root ≡ Some task → Leads (Gives answer next) → (answer ≡ Pending → Completes p (after s (AnswerEntry task IsPending)) (record v { held = put task next now })) → Completes p s v
+      polling_gives answer next root l more = continues s v (λ cause e. cc) c
+        where
+          calls : (by : Option ℕ) (call : Call) (reply : CallReply) (u : Value A O) → by ≡ Some task → u ≡ v → Completes p (after s (CallEntry by call reply)) u
+          calls by call reply u e k x cause r =
+              let rest : Rest p (after s (CallEntry (Some task) call reply)) u x cause = rw e at r in
+              absurd (called (Gives answer next) call reply u x cause l k rest)
+
+          pends : (other : ℕ) (u : Value A O) → other ≡ task → Polls p s other v.held Pending u.held × Keeps v u → Completes p (after s (AnswerEntry other IsPending)) u
+          pends other u e k =
+              let g = gave (Gives answer next) Pending u.held other l e k.0 in
+              let held : u.held ≡ put task next now = k.0.is ∙ rw (e, ← g.1, g.2) refl in
+              let same : u ≡ record v { held = put task next now } = same-parts u (record v { held = put task next now }) held k.1.0 k.1.1 k.1.2 in
+              rw (e, same) (more g.0)
+
+          c : Continues s v
+          c (CallEntry by call reply) u m k w = calls by call reply u (rw is at m.1.0) k
+          c (AnswerEntry other IsPending) u m k w = let n = m.1 in pends other u (cc) k
+          c (AnswerEntry other IsReady) u m k w = let n = m.1 in let e : task ≡ other = cc in ready s u other (root ∙ ap Some e)
+          c (AnswerEntry other LacksMemory) u m k w = not-whole u (record v { held = put other k.left (taken other v.held); whole = false }) w refl k.is
+          c (AnswerEntry other IsEnded) u m k w = absurd (rw is at m.1)
+          c (AnswerEntry other kind) u m k w = absurd m.1
+          c (Wake other) u m k w = absurd (cc)
+          c e u m k w = let z : stands (Polling task left) e ≡ true = rw is at (may_stand s e m) in absurd (cc)
+
+    -- the maker
+
+    made : (at : Step A A O (Unit {0})) (now : Held A O) (by : Option ℕ) (call : Call) (reply : CallReply) (u : Value A O) (x : List Entry) (cause : FinishCause) → s.phase ≡ Making → LeadsTo (p.first s.clock.time) v.held s.turns at now → u ≡ v → Rest p (after s (CallEntry by call reply)) u x cause → Fronts at now (record { call = call; reply = reply; stood = stood_in s } ∷ [])
+    unfolding after
+    made at now by call reply u x cause h l k r =
+        let f = making-front (after s (CallEntry by call reply)) u x cause h r in
+        leads-fronts at now (record { call = call; reply = reply; stood = stood_in s } ∷ []) s.turns v.held (p.first s.clock.time) l (rw k at f)
+
+    pub making_gives : (next : A) (now : Held A O) → s.phase ≡ Making → LeadsTo (p.first s.clock.time) v.held s.turns (Gives tt next) now → IsFine (reached s) → Completes p (after s (Root s.numbers.next)) (record v { held = put s.numbers.next next now }) → Completes p s v
+    making_gives next now h l f more = continues s v (λ cause e. cc) c
+      where
+        takes : (task : ℕ) (u : Value A O) → task ≡ s.numbers.next → Moves p s v (Root task) u → Completes p (after s (Root task)) u
+        takes task u e k =
+            let g = leads-gave (Gives tt next) now (stood_in s) tt k.0 k.1 s.turns v.held (p.first s.clock.time) l k.2 in
+            let same : u ≡ record v { held = put s.numbers.next next now } = k.3 ∙ rw (e, ← g.1, g.2) refl in
+            rw (e, same) more
+
+        c : Continues s v
+        c (CallEntry by call reply) u m k w = λ x cause r. absurd (made (Gives tt next) now by call reply u x cause h l k r)
+        c (Root task) u m k w = takes task u m.1.1 k
+        c Cleanup u m k w = cleanup s u f
+        c (Wake other) u m k w = absurd (cc)
+        c e u m k w = let z : stands Making e ≡ true = rw h at (may_stand s e m) in absurd (cc)
+
+    -- clock steps
+
+    pub skips : (now : ℕ) → s.phase ≡ Turning → s.ready ≡ [] → fires s.alarms.alarms s.clock.time ≡ None → skip_to s.ready s.alarms.alarms s.clock.time ≡ Some now → IsFine (reached s) → Completes p (after s (Skip now)) v → Completes p s v
+    skips now h idle quiet to f more = continues s v (λ cause e. cc) c
+      where
+        busy : (q : Phase) → q ≡ Turning → MayRound q s → ⊥
+        busy q e m = let k : MayRound Turning s = rw e at m in k.0 idle
+
+        c : Continues s v
+        c (Draw value) u m k w = absurd (busy s.phase h m.1)
+        c (Round order) u m k w = absurd (busy s.phase h m.1.0)
+        c (Skip other) u m k w = let n = m.1.1 in let same : other ≡ now = cc in rw (same, k) more
+        c (Fire alarm) u m k w = let n = m.1.2 in absurd (cc)
+        c Cleanup u m k w = cleanup s u f
+        c (Wake other) u m k w = absurd (cc)
+        c e u m k w = let z : stands Turning e ≡ true = rw h at (may_stand s e m) in absurd (cc)
+
+    pub fired : (alarm : ℕ) → s.phase ≡ Turning → skip_to s.ready s.alarms.alarms s.clock.time ≡ None → fires s.alarms.alarms s.clock.time ≡ Some alarm → IsFine (reached s) → Completes p (after s (Fire alarm)) v → Completes p s v
+    fired alarm h none due f more = continues s v (λ cause e. cc) c
+      where
+        busy : (q : Phase) → q ≡ Turning → MayRound q s → ⊥
+        busy q e m = let k : MayRound Turning s = rw e at m in let n = k.2 in cc
+
+        c : Continues s v
+        c (Draw value) u m k w = absurd (busy s.phase h m.1)
+        c (Round order) u m k w = absurd (busy s.phase h m.1.0)
+        c (Skip other) u m k w = let n = m.1.1 in absurd (cc)
+        c (Fire other) u m k w = let n = m.1.2 in let same : other ≡ alarm = cc in rw (same, k) more
+        c Cleanup u m k w = cleanup s u f
+        c (Wake other) u m k w = absurd (cc)
+        c e u m k w = let z : stands Turning e ≡ true = rw h at (may_stand s e m) in absurd (cc)
+
+  -- a wake that an event owes
+  pub woken : (s : State) (v : Value A O) (task : ℕ) (rest : List ℕ) → s.owed ≡ task ∷ rest → ((cause : FinishCause) → s.phase ≢ Finished cause) → Completes p (after s (Wake task)) v → Completes p s v
+  woken s v task rest owes n more = continues s v n c
+    where
+      c : Continues s v
+      c (Wake other) u m k w = let same : other ≡ task = cc in rw (same, k) more
+      c e u m k w = let z = m.0 in absurd (cc)
+
+  -- rounds
+
+  -- a round begins here: time doesn't skip, and no alarm goes off
+  abbrev pub MustRound : State → Type 0
+  MustRound s =
+      (s.phase ≡ Between)
+      ⊎ ((s.phase ≡ Turning) × (skip_to s.ready s.alarms.alarms s.clock.time ≡ None) × (fires s.alarms.alarms s.clock.time ≡ None))
+
+  -- with these draws
+  abbrev drawn : State → List ℕ → State
+  drawn s draws = record s { draws = draws; owed = [] }
+
+  reached-drawn : (s : State) (draws : List ℕ) (q : Phase) → cause_at q (drawn s draws) ≡ cause_at q s
+  reached-drawn s draws Making = refl
+  reached-drawn s draws _ = refl
+
+  module _ (s : State) (v : Value A O) (must : MustRound s) (f : IsFine (reached s)) (more : (order : List ℕ) → IsPermutation s.ready order → Completes p (after s (Round order)) v) where
+    must-stand : (e : Entry) → stands Between e ≡ false → stands Turning e ≡ false → stands s.phase e ≡ true → ⊥
+    must-stand e n k h = elim must [
+      | inl z ↦ (let a : stands Between e ≡ true = rw z at h in cc)
+      | inr z ↦ (let a : stands Turning e ≡ true = rw z.0 at h in cc)
+    ]
+
+    round-drawn : (draws : List ℕ) → Completes p (drawn s draws) v
+    unfolding after
+    round-drawn draws [] cause r = let e = r.ends in elim must [ inl z ↦ absurd (cc) | inr z ↦ absurd (cc) ]
+    round-drawn draws (Draw value ∷ x) cause r =
+        let m = further (drawn s draws) v (Draw value) x cause r in
+        let rest : Rest p (drawn s (draws ++ value ∷ [])) v x cause = rw m.1 at m.3 in
+        round-drawn (draws ++ value ∷ []) x cause rest
+    round-drawn draws (Round order ∷ x) cause r =
+        let m = further (drawn s draws) v (Round order) x cause r in
+        let rest : Rest p (after s (Round order)) v x cause = rw m.1 at m.3 in
+        more order r.lawful.0.1.1 x cause rest
+    round-drawn draws (Cleanup ∷ x) cause r =
+        let m = further (drawn s draws) v Cleanup x cause r in
+        cleanup (drawn s draws) m.0 (rw (reached-drawn s draws s.phase) f) x cause m.3
+    round-drawn draws (Skip now ∷ x) cause r = let m = r.lawful.0.1 in elim must [ inl z ↦ absurd (cc) | inr z ↦ absurd (cc) ]
+    round-drawn draws (Fire alarm ∷ x) cause r = let m = r.lawful.0.1 in elim must [ inl z ↦ absurd (cc) | inr z ↦ absurd (cc) ]
+    round-drawn draws (Wake task ∷ x) cause r = let m = r.lawful.0 in absurd (cc)
+    round-drawn draws (e ∷ x) cause r = absurd (must-stand e refl refl (may_stand (drawn s draws) e r.lawful.0))
+
+    pub rounds : s.owed ≡ [] → Completes p s v
+    rounds owes =
+        let e : s ≡ drawn s s.draws = ap (λ owed. record s { owed = owed }) owes in
+        rw e (round-drawn s.draws)
+
+  -- from the beginning
+
+  begun-ends : (b : Begin) (cause : FinishCause) → (begun b).phase ≢ Finished cause
+  unfolding begun
+  begun-ends b cause e = cc
+
+  pub begins : (b : Begin) → Completes p (after (begun b) (Start b.first b.start b.deadline b.cycle)) nothing → IsValidInput p b
+  begins b more entries cause end value r =
+      continues (begun b) nothing (begun-ends b) c entries cause (record {
+        value = value;
+        lawful = r.lawful;
+        tied = r.tied;
+        whole = r.whole;
+        ends = ap (λ (s : State). s.phase) r.reaches ∙ r.ends;
+        caused = r.caused;
+      })
+    where
+      c : Continues (begun b) nothing
+      c e u m k w =
+          let same = run_starts b e [] (m, tt) in
+          let kept : u ≡ nothing = rw same at k in
+          rw (same, kept) more

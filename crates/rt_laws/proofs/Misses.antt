@@ -1,0 +1,107 @@
+-- The near misses of the examples are no runs.
+use Rattle.std.proofs.Common.{◌≡◌, ◌≢◌, ◌<◌, inl, inr, ℕ, true, false, leb, List, [], ◌∷◌, ◌++◌, Some, None, refl, sym, ap, ◌∙◌, arith}
+use Rattle.rt_base.specs.declared.time.TheConstants.{MAX_TIME}
+use Rattle.rt_audit.specs.declared.call.Call.{Call as CallOf}
+use Rattle.rt_audit.specs.declared.call.Call.TheVariants.{SleepPoll}
+use Rattle.rt_audit.specs.declared.reply.CallReply.{CallReply}
+use Rattle.rt_audit.specs.declared.reply.CallReply.TheVariants.{PendingAt}
+use Rattle.rt_audit.specs.declared.answer.AnswerKind.TheVariants.{Pending as AnswersPending, Ready as AnswersReady, Ended}
+use Rattle.rt_audit.specs.declared.finish.FinishCause.{FinishCause}
+use Rattle.rt_audit.specs.declared.finish.FinishCause.TheVariants.{Completed, NoMemory}
+use Rattle.rt_audit.specs.declared.entry.Entry.{Entry}
+use Rattle.rt_audit.specs.declared.entry.Entry.TheVariants.{Call, Event, Wake, Round, Visit, Answer as Answered, NodeEnd, Advance, Skip, Fire, Cleanup, Crash, Finish}
+use Rattle.rt_model.specs.Events.{process_task, task_fields}
+use Rattle.rt_model.specs.State.{State, begun}
+use Rattle.rt_model.specs.Effects.{after, after_all}
+use Rattle.rt_model.specs.Rules.{IsLawful}
+use Rattle.rt_model.specs.Tied.{Steps, Value, nothing, IsTied, taken}
+use Rattle.rt_model.specs.Run.{IsRun}
+use Rattle.rt_laws.specs.Examples.{small_begin, ready_root, opening, visiting_root, still_asleep, awake, root_ends, finishing, stray_call, open_node, unanswered_poll, second_task, ordered, finished_for, called, missing_wake, early_fire, early_sleep, skipped_journal}
+use Rattle.rt_laws.proofs.Clock.{lawful-tail}
+use Rattle.rt_laws.proofs.Valid.{only}
+use Rattle.rt_laws.proofs.Values.{all-whole, not-whole}
+
+-- behind a front that may come, this may not
+behind : (x y : List Entry) → (IsLawful (after_all (begun small_begin) x) y → ⊥) → IsLawful (begun small_begin) (x ++ y) → ⊥
+behind x y refused l = refused (lawful-tail (begun small_begin) x y l)
+
+abbrev ready : List Entry
+ready = opening ++ visiting_root ++ (Answered 0 AnswersReady ∷ [])
+
+pub no_stray_call : IsLawful (begun small_begin) stray_call → ⊥
+unfolding begun after
+no_stray_call = behind (ready ++ root_ends) (Call None (SleepPoll 5) (PendingAt 0) ∷ finishing Completed) (λ l. let h = l.0.1.0.0 in cc)
+
+pub no_unanswered_poll : IsLawful (begun small_begin) unanswered_poll → ⊥
+unfolding begun after
+no_unanswered_poll = behind (opening ++ visiting_root) (root_ends ++ finishing Completed) (λ l. l.0.1)
+
+pub no_second_task : IsLawful (begun small_begin) second_task → ⊥
+unfolding begun after
+no_second_task l = let m = (lawful-tail (begun small_begin) opening (Visit 1 ∷ Event process_task (task_fields 1 []) ∷ Answered 1 AnswersPending ∷ visiting_root ++ (Answered 0 AnswersReady ∷ []) ++ root_ends ++ finishing Completed) l).0.1.1 in cc
+
+pub no_other_order : (order : List ℕ) → order ≢ 0 ∷ [] → IsLawful (begun small_begin) (ordered order) → ⊥
+unfolding begun after
+no_other_order order n l = n (only 0 order l.1.1.0.1.1)
+
+pub no_other_cause : (cause : FinishCause) → cause ≢ Completed → cause ≢ NoMemory → IsLawful (begun small_begin) (finished_for cause) → ⊥
+unfolding begun after
+no_other_cause cause n k l = elim (lawful-tail (begun small_begin) (ready ++ root_ends ++ (Crash [] ∷ [])) (Finish cause ∷ []) l).0.1 [ inl e ↦ k e | inr e ↦ n (cc) ]
+
+pub no_missing_wake : (due : ℕ) → IsLawful (begun small_begin) (missing_wake due) → ⊥
+unfolding begun after
+no_missing_wake due l =
+    let m = (lawful-tail (begun small_begin) (opening ++ visiting_root ++ still_asleep due ++ (Advance 1000000 ∷ Skip due ∷ Fire 0 ∷ [])) (Round (0 ∷ []) ∷ visiting_root ++ awake due ++ root_ends ++ finishing Completed) l).0.0 in
+    cc
+
+pub no_early_fire : (due : ℕ) → 1000000 < due → IsLawful (begun small_begin) (early_fire due) → ⊥
+unfolding begun after
+no_early_fire due later l =
+    let m = (lawful-tail (begun small_begin) (opening ++ visiting_root ++ still_asleep due ++ (Advance 1000000 ∷ [])) (Fire 0 ∷ Wake 0 ∷ Skip due ∷ Round (0 ∷ []) ∷ visiting_root ++ awake due ++ root_ends ++ finishing Completed) l).0.1.2 in
+    let early : leb due 1000000 ≡ false = grind arith in
+    cc
+
+pub no_early_sleep : (due : ℕ) → 0 < due → IsLawful (begun small_begin) (early_sleep due) → ⊥
+unfolding begun after
+no_early_sleep due later l =
+    let m = (lawful-tail (begun small_begin) (opening ++ visiting_root) (awake due ++ root_ends ++ finishing Completed) l).0.1.1 in
+    absurd (omega arith)
+
+pub no_late_due : (due : ℕ) → MAX_TIME < due → IsLawful (begun small_begin) (skipped_journal due) → ⊥
+unfolding begun after
+no_late_due due late l =
+    let m = l.1.1.1.1.1.0.1.1.1 in
+    absurd (omega arith)
+
+-- behind a front that is tied, this is tied from some value
+tied-tail : {A O : Type 0} → (p : Steps A O) (s : State) (v w : Value A O) (x y : List Entry) → IsTied p s v (x ++ y) w → (u : Value A O) × IsTied p (after_all s x) u y w
+tied-tail p s v w [] y t = (v, t)
+tied-tail p s v w (e ∷ x) y t = tied-tail p (after s e) t.0 w x y t.2
+
+module _ (number : ℕ) (cause : FinishCause) (end : State) (value : Value (Unit {0}) ℕ) where
+  pub no_open_node : IsRun (ready_root number) small_begin open_node cause end value → ⊥
+  unfolding begun after
+  no_open_node r =
+      let p = ready_root number in
+      let front = ready ++ (Cleanup ∷ NodeEnd 0 ∷ []) in
+      let t = tied-tail p (begun small_begin) nothing value front (Answered 0 Ended ∷ finishing Completed) r.tied in
+      let u : Value (Unit {0}) ℕ = t.0 in
+      let w : Value (Unit {0}) ℕ = t.1.0 in
+      let whole : w.whole ≡ true = all-whole p (after_all (begun small_begin) (front ++ (Answered 0 Ended ∷ []))) w value (finishing Completed) t.1.2 r.whole in
+      elim t.1.1.2 [
+        | inl k ↦ (let closed = k.0.0 in absurd (cc))
+        | inr k ↦ not-whole w (record u { held = taken 0 u.held; whole = false }) whole refl k.1
+      ]
+
+  pub no_unasked_call : (call : CallOf) (reply : CallReply) → IsRun (ready_root number) small_begin (called call reply) cause end value → ⊥
+  unfolding begun after
+  no_unasked_call call reply r =
+      let t = tied-tail (ready_root number) (begun small_begin) nothing value (opening ++ visiting_root ++ (Call (Some 0) call reply ∷ [])) (Answered 0 AnswersReady ∷ root_ends ++ finishing Completed) r.tied in
+      t.1.1.1.walks
+
+  pub no_lacking_run : IsRun (ready_root number) small_begin (finished_for NoMemory) cause end value → ⊥
+  unfolding begun after
+  no_lacking_run r =
+      let e = ap (λ (s : State). s.phase) r.reaches ∙ r.ends in
+      let same : NoMemory ≡ cause = cc in
+      r.caused (sym same)

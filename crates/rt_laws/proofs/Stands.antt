@@ -1,0 +1,107 @@
+-- Which entries may come in which phase.
+use Rattle.std.proofs.Common.{◌≡◌, ℕ, List, [], Option, Bool, true, false, refl}
+use Rattle.rt_audit.specs.declared.call.Call.{Call}
+use Rattle.rt_audit.specs.declared.reply.CallReply.{CallReply}
+use Rattle.rt_audit.specs.declared.answer.AnswerKind.{AnswerKind}
+use Rattle.rt_audit.specs.declared.answer.AnswerKind.TheVariants.{Pending, Ready, NoMemory, Ended}
+use Rattle.rt_audit.specs.declared.finish.FinishCause.{FinishCause}
+use Rattle.rt_audit.specs.declared.entry.Entry.{Entry}
+use Rattle.rt_audit.specs.declared.entry.Entry.TheVariants.{Start, Call as CallEntry, Event, Wake, Draw, Root, Round, Visit, Answer, NodeEnd, Advance, Skip, Fire, Cleanup, Crash, Finish}
+use Rattle.rt_model.specs.State.{State, Phase, Blank, Making, Between, Visiting, Entered, Polling, Turning, Over, Cleaning, Closing, Crashed, Ending}
+use Rattle.rt_model.specs.Causes.{ends_next}
+use Rattle.rt_model.specs.Rules.{CallsAt, May, MayAnswer, MayRound, MayClose, MayCrash, MayFinish, MayEnd}
+
+-- the entry may come in this phase, if it may come at all
+abbrev pub stands : Phase → Entry → Bool
+stands p (Wake task) = true
+stands Blank (Start next now deadline cycle) = true
+stands Making (CallEntry by call reply) = true
+stands Making (Root task) = true
+stands Making Cleanup = true
+stands Between (Draw value) = true
+stands Between (Round order) = true
+stands Between Cleanup = true
+stands (Visiting left) (Visit task) = true
+stands (Visiting left) (Advance now) = true
+stands (Visiting left) Cleanup = true
+stands (Entered task left) (Event label fields) = true
+stands (Polling task left) (CallEntry by call reply) = true
+stands (Polling task left) (Answer other kind) = true
+stands (Ending task left) (CallEntry by call reply) = true
+stands (Ending task left) (Answer other kind) = true
+stands Turning (Draw value) = true
+stands Turning (Round order) = true
+stands Turning (Skip now) = true
+stands Turning (Fire alarm) = true
+stands Turning Cleanup = true
+stands (Over cause) Cleanup = true
+stands (Cleaning cause) (NodeEnd node) = true
+stands (Closing cause) (CallEntry by call reply) = true
+stands (Closing cause) (Answer task kind) = true
+stands (Closing cause) (Crash choices) = true
+stands (Crashed reached) (Finish cause) = true
+stands _ _ = false
+
+module _ (by : Option ℕ) (call : Call) (reply : CallReply) where
+  call-stands : (p : Phase) (root next : Option ℕ) → CallsAt p root next by → stands p (CallEntry by call reply) ≡ true
+  call-stands Making root next m = refl
+  call-stands (Polling task left) root next m = refl
+  call-stands (Ending task left) root next m = refl
+  call-stands (Closing cause) root next m = refl
+  call-stands _ root next m = absurd m
+
+draw-stands : (p : Phase) (s : State) (value : ℕ) → MayRound p s → stands p (Draw value) ≡ true
+draw-stands Between s value m = refl
+draw-stands Turning s value m = refl
+draw-stands _ s value m = absurd m
+
+round-stands : (p : Phase) (s : State) (order : List ℕ) → MayRound p s → stands p (Round order) ≡ true
+round-stands Between s order m = refl
+round-stands Turning s order m = refl
+round-stands _ s order m = absurd m
+
+end-stands : (p : Phase) (next : Option ℕ) (task : ℕ) → MayEnd p next task → stands p (Answer task Ended) ≡ true
+end-stands (Ending ended left) next task m = refl
+end-stands (Closing cause) next task m = refl
+end-stands _ next task m = absurd m
+
+answer-stands : (s : State) (task : ℕ) (kind : AnswerKind) → MayAnswer s task kind → stands s.phase (Answer task kind) ≡ true
+answer-stands s task Pending m = rw m refl
+answer-stands s task Ready m = rw m refl
+answer-stands s task NoMemory m = rw m refl
+answer-stands s task Ended m = end-stands s.phase (ends_next s.running s.root) task m
+answer-stands s task _ m = absurd m
+
+cleanup-stands : (p : Phase) → MayClose p → stands p Cleanup ≡ true
+cleanup-stands Making m = refl
+cleanup-stands Between m = refl
+cleanup-stands (Visiting left) m = refl
+cleanup-stands Turning m = refl
+cleanup-stands (Over cause) m = refl
+cleanup-stands _ m = absurd m
+
+crash-stands : (p : Phase) (running : List ℕ) → MayCrash p running → stands p (Crash []) ≡ true
+crash-stands (Closing cause) running m = refl
+crash-stands _ running m = absurd m
+
+finish-stands : (p : Phase) (cause : FinishCause) → MayFinish p cause → stands p (Finish cause) ≡ true
+finish-stands (Crashed reached) cause m = refl
+finish-stands _ cause m = absurd m
+
+pub may_stand : (s : State) (e : Entry) → May s e → stands s.phase e ≡ true
+may_stand s (Start next now deadline cycle) m = rw m.1.0 refl
+may_stand s (CallEntry by call reply) m = call-stands by call reply s.phase s.root (ends_next s.running s.root) m.1.0
+may_stand s (Event label fields) m = rw m.1.0 refl
+may_stand s (Wake task) m = refl
+may_stand s (Draw value) m = draw-stands s.phase s value m.1
+may_stand s (Root task) m = rw m.1.0 refl
+may_stand s (Round order) m = round-stands s.phase s order m.1.0
+may_stand s (Visit task) m = rw m.1.0 refl
+may_stand s (Answer task kind) m = answer-stands s task kind m.1
+may_stand s (NodeEnd node) m = rw m.1.1 refl
+may_stand s (Advance now) m = rw m.1.0 refl
+may_stand s (Skip now) m = rw m.1.0 refl
+may_stand s (Fire alarm) m = rw m.1.0 refl
+may_stand s Cleanup m = cleanup-stands s.phase m.1
+may_stand s (Crash choices) m = rw m.1.1 (crash-stands s.phase s.running m.1.0)
+may_stand s (Finish cause) m = finish-stands s.phase cause m.1

@@ -1,0 +1,137 @@
+-- The inputs of the examples are valid.
+use Rattle.std.proofs.Common.{◌≡◌, ◌≤◌, ◌<◌, ◌+◌, inl, inr, Contains, ℕ, zero, suc, true, false, leb, ltb, List, [], ◌∷◌, ◌++◌, Option, Some, None, refl, arith, eq-zero-or-pos}
+use Rattle.std.proofs.lemmas.Bool.{cases_Bool}
+use Rattle.std.specs.List.Sorted.{IsPermutation}
+use Rattle.std.proofs.lemmas.List.Sorted.{Contains-permutation, length_permutation}
+use Rattle.rt_audit.specs.declared.call.Call.TheVariants.{SleepPoll}
+use Rattle.rt_audit.specs.declared.reply.CallReply.TheVariants.{PendingAt, Ready as IsOver}
+use Rattle.rt_audit.specs.declared.answer.AnswerKind.TheVariants.{Pending as AnswersPending}
+use Rattle.rt_audit.specs.declared.entry.Entry.TheVariants.{Start, Call, Event, Wake, Root, Round, Visit, Answer as Answered, Advance, Fire}
+use Rattle.rt_model.specs.declared.answer.Answer.TheVariants.{Pending, Ready}
+use Rattle.rt_model.specs.Events.{process_task, task_fields}
+use Rattle.rt_model.specs.State.{State, begun}
+use Rattle.rt_model.specs.Effects.{after, after_all}
+use Rattle.rt_model.specs.Turns.{Held}
+use Rattle.rt_model.specs.Tied.{Value, nothing, put}
+use Rattle.rt_model.specs.Run.{IsValidInput}
+use Rattle.rt_laws.specs.Examples.{small_begin, ready_root, Sleeper, sleeper_heard, sleeping_root, opening, visiting_root, still_asleep}
+use Rattle.rt_laws.proofs.Completing.{Completes, begins, making_gives, rounds, visiting, entered, visited, polling_gives, polling_sleeps, polling_wakes, fired, skips, woken}
+
+-- there is one order of one number
+one : (k x : ℕ) → Contains (x ∷ []) k → x ≡ k
+one k x (zero, l, e) = e
+one k x (suc i, l, e) = absurd (omega arith)
+
+pub only : (k : ℕ) (order : List ℕ) → IsPermutation (k ∷ []) order → order ≡ k ∷ []
+only k [] perm = let e = length_permutation (k ∷ []) [] perm in absurd (omega arith)
+only k (x ∷ []) perm = rw (one k x (Contains-permutation (k ∷ []) (x ∷ []) k perm (0, omega arith, refl))) refl
+only k (x ∷ y ∷ rest) perm = let e = length_permutation (k ∷ []) (x ∷ y ∷ rest) perm in absurd (omega arith)
+
+pub ready_valid : (number : ℕ) → IsValidInput (ready_root number) small_begin
+unfolding begun after
+ready_valid number =
+    let p = ready_root number in
+    let s1 = after (begun small_begin) (Start 0 0 None 1000000) in
+    let s2 = after s1 (Root 0) in
+    let s3 = after s2 (Round (0 ∷ [])) in
+    let s4 = after s3 (Visit 0) in
+    let s5 = after s4 (Event process_task (task_fields 0 [])) in
+    let held : Held (Unit {0}) ℕ = nothing.held in
+    let v : Value (Unit {0}) ℕ = record nothing { held = put 0 tt held } in
+    let polls : Completes p s5 v = polling_gives p s5 v refl 0 [] tt refl refl held (Ready number) tt refl (refl, refl) (λ e. absurd (cc)) in
+    let visits : Completes p s3 v = visiting p s3 v refl 0 (0 ∷ []) [] refl refl tt (entered p s4 v refl 0 [] refl polls) in
+    begins p small_begin
+    (making_gives p s1 nothing refl tt held refl (refl, refl) tt
+    (rounds p s2 v (inl refl) tt (λ order perm. rw (only 0 order perm) visits) refl))
+
+-- a root that sleeps
+
+-- in the clock step behind its first poll, at this time
+abbrev pub asleep : ℕ → ℕ → State
+asleep due time = after_all (begun small_begin) (opening ++ visiting_root ++ still_asleep due ++ (Advance time ∷ []))
+
+abbrev pub with_root : ℕ → Option ℕ → Value Sleeper ℕ
+with_root due alarm = record nothing { held = put 0 (record { due = due; alarm = alarm }) nothing.held }
+
+abbrev pub no_values : Held Sleeper ℕ
+no_values = nothing.held
+
+-- in its first poll
+abbrev polled : ℕ → State
+polled due = after_all (begun small_begin) (opening ++ visiting_root)
+
+first-poll : (due : ℕ) → Completes (sleeping_root due) (polled due) (with_root due None) → IsValidInput (sleeping_root due) small_begin
+unfolding begun after
+first-poll due more =
+    let p = sleeping_root due in
+    let root : Sleeper = record { due = due; alarm = None } in
+    let s1 = after (begun small_begin) (Start 0 0 None 1000000) in
+    let s2 = after s1 (Root 0) in
+    let s3 = after s2 (Round (0 ∷ [])) in
+    let v = with_root due None in
+    let visits : Completes p s3 v = visiting p s3 v refl 0 (0 ∷ []) [] refl refl tt (entered p (after s3 (Visit 0)) v refl 0 [] refl more) in
+    let none : 0 + due ≡ due = omega arith in
+    begins p small_begin
+    (making_gives p s1 nothing refl root no_values refl (rw none refl, refl) tt
+    (rounds p s2 v (inl refl) tt (λ order perm. rw (only 0 order perm) visits) refl))
+
+falls-asleep : (due : ℕ) → 0 < due → Completes (sleeping_root due) (asleep due 1000000) (with_root due (Some 0)) → Completes (sleeping_root due) (polled due) (with_root due None)
+unfolding begun after
+falls-asleep due later more =
+    let p = sleeping_root due in
+    let root : Sleeper = record { due = due; alarm = None } in
+    let s = after (polled due) (Call (Some 0) (SleepPoll due) (PendingAt 0)) in
+    let v = with_root due None in
+    let w = with_root due (Some 0) in
+    let steps : Completes p (after s (Answered 0 AnswersPending)) w = visited p (after s (Answered 0 AnswersPending)) w refl [] refl refl tt more in
+    let answers : Completes p s v = polling_gives p s v refl 0 [] root refl refl no_values Pending (record { due = due; alarm = Some 0 }) refl ((refl, refl), (refl, refl)) (λ e. steps) in
+    polling_sleeps p (polled due) v refl 0 [] root refl refl no_values due None (sleeper_heard root) (refl, refl) later answers
+
+stays-awake : Completes (sleeping_root 0) (polled 0) (with_root 0 None)
+unfolding begun after
+stays-awake =
+    let p = sleeping_root 0 in
+    let root : Sleeper = record { due = 0; alarm = None } in
+    let s = after (polled 0) (Call (Some 0) (SleepPoll 0) IsOver) in
+    let v = with_root 0 None in
+    let answers : Completes p s v = polling_gives p s v refl 0 [] root refl refl no_values (Ready 0) root refl ((refl, tt), (refl, refl)) (λ e. absurd (cc)) in
+    polling_wakes p (polled 0) v refl 0 [] root refl refl no_values 0 None (sleeper_heard root) (refl, refl) (omega arith) answers
+
+-- where its alarm goes off
+wakes-up : (due time : ℕ) → due ≤ time → Completes (sleeping_root due) (asleep due time) (with_root due (Some 0))
+unfolding begun after
+wakes-up due time late =
+    let p = sleeping_root due in
+    let root : Sleeper = record { due = due; alarm = Some 0 } in
+    let s1 = asleep due time in
+    let s2 = after s1 (Fire 0) in
+    let s3 = after s2 (Wake 0) in
+    let s4 = after s3 (Round (0 ∷ [])) in
+    let s5 = after s4 (Visit 0) in
+    let s6 = after s5 (Event process_task (task_fields 0 [])) in
+    let s7 = after s6 (Call (Some 0) (SleepPoll due) IsOver) in
+    let v = with_root due (Some 0) in
+    let over : ltb time due ≡ false = grind arith in
+    let now : leb due time ≡ true = grind arith in
+    let answers : Completes p s7 v = polling_gives p s7 v refl 0 [] root refl refl no_values (Ready 0) root refl ((refl, tt), (refl, refl)) (λ e. absurd (cc)) in
+    let polls : Completes p s6 v = polling_wakes p s6 v refl 0 [] root refl refl no_values due (Some 0) (sleeper_heard root) (refl, refl) late answers in
+    let visits : Completes p s4 v = visiting p s4 v refl 0 (0 ∷ []) [] refl refl tt (entered p s5 v refl 0 [] refl polls) in
+    let round : Completes p s3 v = rounds p s3 v (inr (refl, refl, refl)) tt (λ order perm. rw (only 0 order perm) visits) refl in
+    fired p s1 v refl 0 refl (rw over refl) (rw now refl) (rw (over, now) tt) (woken p s2 v 0 [] refl (λ cause e. cc) round)
+
+-- where the clock skips to it
+skipped : (due : ℕ) → 1000000 < due → Completes (sleeping_root due) (asleep due 1000000) (with_root due (Some 0))
+unfolding begun after
+skipped due later =
+    let ahead : ltb 1000000 due ≡ true = grind arith in
+    let early : leb due 1000000 ≡ false = grind arith in
+    skips (sleeping_root due) (asleep due 1000000) (with_root due (Some 0)) refl due refl refl (rw early refl) (rw ahead refl) (rw ahead tt) (wakes-up due due (omega arith))
+
+pub sleeping_valid : (due : ℕ) → IsValidInput (sleeping_root due) small_begin
+sleeping_valid due = elim (eq-zero-or-pos due) [
+  | inl none ↦ rw none (first-poll 0 stays-awake)
+  | inr later ↦ elim (cases_Bool (leb due 1000000)) [
+    | inl soon ↦ first-poll due (falls-asleep due later (wakes-up due 1000000 (grind arith)))
+    | inr late ↦ first-poll due (falls-asleep due later (skipped due (grind arith)))
+  ]
+]

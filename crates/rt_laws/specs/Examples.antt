@@ -1,0 +1,191 @@
+-- Small roots, and what a run of each writes. The definitions are tried on them.
+use Rattle.std.specs.Prelude.{ℕ, ◌+◌, ◌-◌, ◌^◌, List, [], ◌∷◌, ◌++◌, Option, Some, None}
+use Rattle.rt_base.specs.declared.time.TheConstants.{MAX_TIME}
+use Rattle.rt_audit.specs.declared.call.Call.{Call as CallOf}
+use Rattle.rt_audit.specs.declared.call.Call.TheVariants.{CloseNode, SleepPoll, Wake as WakeCall}
+use Rattle.rt_audit.specs.declared.reply.CallReply.{CallReply}
+use Rattle.rt_audit.specs.declared.reply.CallReply.TheVariants.{Done, PendingAt, Ready as IsReady}
+use Rattle.rt_audit.specs.declared.answer.AnswerKind.TheVariants.{Pending as AnswersPending, Ready as AnswersReady, NoMemory as LacksMemory, Ended}
+use Rattle.rt_audit.specs.declared.finish.FinishCause.{FinishCause}
+use Rattle.rt_audit.specs.declared.finish.FinishCause.TheVariants.{Completed, Timeout, Stalled, TimeOverflow, TooManyTasks, NoMemory}
+use Rattle.rt_audit.specs.declared.entry.Entry.{Entry}
+use Rattle.rt_audit.specs.declared.entry.Entry.TheVariants.{Start, Call, Event, Wake, Draw, Root, Round, Visit, Answer as Answered, NodeEnd, Advance, Skip, Fire, Cleanup, Crash, Finish}
+use Rattle.rt_model.specs.declared.answer.Answer.{Answer}
+use Rattle.rt_model.specs.declared.answer.Answer.TheVariants.{Pending, Ready}
+use Rattle.rt_model.specs.declared.begin.Begin.{Begin}
+use Rattle.rt_model.specs.Events.{process_task, task_fields}
+use Rattle.rt_model.specs.Turns.{Plainly, Sleeping, Heard, Plain}
+use Rattle.rt_model.specs.Walk.{Step, Does, Spends, Gives, Last}
+use Rattle.rt_model.specs.Tied.{Steps, Value, with_first, nothing}
+
+-- from time 0 and number 0, by cycles of a millisecond, without a deadline
+abbrev pub small_begin : Begin
+small_begin = record { start = 0; cycle = 1000000; deadline = None; first = 0 }
+
+-- the same with this cycle, this deadline, and task numbers from this one on
+abbrev pub begin_by : ℕ → Option ℕ → ℕ → Begin
+begin_by cycle deadline first = record { start = 0; cycle = cycle; deadline = deadline; first = first }
+
+-- an end that closes the root's node
+abbrev pub closes_node : {A : Type 0} → Last A ℕ
+closes_node = Spends (Plainly (CloseNode 0)) (Gives tt tt)
+
+-- a root that is ready with this number at its first poll
+abbrev pub ready_root : ℕ → Steps (Unit {0}) ℕ
+ready_root number =
+    with_first (record { next = λ state now task. Gives (Ready number) state; last = λ state now task. closes_node }) (λ now. Gives tt tt)
+
+-- a root that is never ready
+abbrev pub pending_root : Steps (Unit {0}) ℕ
+pending_root = with_first (record { next = λ state now task. Gives Pending state; last = λ state now task. closes_node }) (λ now. Gives tt tt)
+
+-- until when a root sleeps, and the number of its alarm, once it was told one
+pub record Sleeper : Type 0 where
+  pub due : ℕ
+  pub alarm : Option ℕ
+
+-- it remembers its alarm, or the sleep is over
+abbrev pub sleeper_heard : Sleeper → Heard ℕ → Step Sleeper Sleeper ℕ (Answer ℕ)
+sleeper_heard sleeper (Plain (PendingAt alarm)) = Gives Pending (record sleeper { alarm = Some alarm })
+sleeper_heard sleeper _ = Gives (Ready 0) sleeper
+
+-- a root that sleeps for so long, and gives 0 then
+abbrev pub sleeping_root : ℕ → Steps Sleeper ℕ
+sleeping_root nanos =
+    with_first
+    (record {
+      next = λ sleeper now task. Does (Sleeping sleeper.due sleeper.alarm) (sleeper_heard sleeper);
+      last = λ sleeper now task. closes_node;
+    })
+    (λ now. Gives tt (record { due = now + nanos; alarm = None }))
+
+-- the values behind a run that gave this output
+abbrev pub gave : {A : Type 0} → ℕ → Value A ℕ
+gave number = record nothing { output = Some number }
+
+-- what their runs write, in parts
+
+-- up to the first round
+abbrev pub opening : List Entry
+opening = Start 0 0 None 1000000 ∷ Root 0 ∷ Round (0 ∷ []) ∷ []
+
+-- a visit of the root begins
+abbrev pub visiting_root : List Entry
+visiting_root = Visit 0 ∷ Event process_task (task_fields 0 []) ∷ []
+
+-- it polls its sleep
+abbrev pub still_asleep : ℕ → List Entry
+still_asleep due = Call (Some 0) (SleepPoll due) (PendingAt 0) ∷ Answered 0 AnswersPending ∷ []
+
+abbrev pub awake : ℕ → List Entry
+awake due = Call (Some 0) (SleepPoll due) IsReady ∷ Answered 0 AnswersReady ∷ []
+
+-- its alarm goes off, and the next round begins
+abbrev pub alarm_fires : List Entry
+alarm_fires = Fire 0 ∷ Wake 0 ∷ Round (0 ∷ []) ∷ []
+
+-- its end, up to the crash
+abbrev pub root_ends : List Entry
+root_ends = Cleanup ∷ NodeEnd 0 ∷ Call (Some 0) (CloseNode 0) Done ∷ Answered 0 Ended ∷ []
+
+abbrev pub finishing : FinishCause → List Entry
+finishing cause = Crash [] ∷ Finish cause ∷ []
+
+-- what the run of a root writes that is ready at once
+abbrev pub ready_journal : List Entry
+ready_journal = opening ++ visiting_root ++ (Answered 0 AnswersReady ∷ []) ++ root_ends ++ finishing Completed
+
+-- of one that sleeps until a moment that the clock skips to
+abbrev pub skipped_journal : ℕ → List Entry
+skipped_journal due =
+    opening ++ visiting_root ++ still_asleep due ++ (Advance 1000000 ∷ Skip due ∷ []) ++ alarm_fires ++ visiting_root ++ awake due ++ root_ends ++ finishing Completed
+
+-- and of one that sleeps for less than a cycle
+abbrev pub short_journal : ℕ → List Entry
+short_journal due =
+    opening ++ visiting_root ++ still_asleep due ++ (Advance 1000000 ∷ []) ++ alarm_fires ++ visiting_root ++ awake due ++ root_ends ++ finishing Completed
+
+-- a poll of the root that lacked memory, and the run that was cut off there
+abbrev pub cut_journal : List Entry
+cut_journal = opening ++ visiting_root ++ (Answered 0 LacksMemory ∷ []) ++ root_ends ++ finishing NoMemory
+
+-- what the run of a root writes that is never ready, by the cause for which it ends
+
+-- no alarm is set
+abbrev pub stalled_journal : List Entry
+stalled_journal = opening ++ visiting_root ++ (Answered 0 AnswersPending ∷ Advance 1000000 ∷ []) ++ root_ends ++ finishing Stalled
+
+-- its deadline is at the end of the first cycle, or at once
+abbrev pub late_journal : List Entry
+late_journal =
+    (Start 0 0 (Some 1000000) 1000000 ∷ Root 0 ∷ Round (0 ∷ []) ∷ []) ++ visiting_root ++ (Answered 0 AnswersPending ∷ Advance 1000000 ∷ []) ++ root_ends ++ finishing Timeout
+
+abbrev pub at_once_late_journal : List Entry
+at_once_late_journal = (Start 0 0 (Some 0) 1000000 ∷ Root 0 ∷ []) ++ root_ends ++ finishing Timeout
+
+-- its cycle passes the last moment
+abbrev pub overflow_journal : List Entry
+overflow_journal =
+    (Start 0 0 None (MAX_TIME + 1) ∷ Root 0 ∷ Round (0 ∷ []) ∷ []) ++ visiting_root ++ (Answered 0 AnswersPending ∷ []) ++ root_ends ++ finishing TimeOverflow
+
+-- there is no number for it, and nobody makes the calls of its end
+abbrev pub no_number_journal : List Entry
+no_number_journal = (Start (2 ^ 64 - 1) 0 None 1000000 ∷ Cleanup ∷ NodeEnd 0 ∷ Call None (CloseNode 0) Done ∷ []) ++ finishing TooManyTasks
+
+-- near misses: no run writes these
+
+-- a call of nobody behind the last end
+abbrev pub stray_call : List Entry
+stray_call = opening ++ visiting_root ++ (Answered 0 AnswersReady ∷ []) ++ root_ends ++ (Call None (SleepPoll 5) (PendingAt 0) ∷ []) ++ finishing Completed
+
+-- the node of the root stays open
+abbrev pub open_node : List Entry
+open_node = opening ++ visiting_root ++ (Answered 0 AnswersReady ∷ Cleanup ∷ NodeEnd 0 ∷ Answered 0 Ended ∷ []) ++ finishing Completed
+
+-- a cleanup in the midst of a poll
+abbrev pub unanswered_poll : List Entry
+unanswered_poll = opening ++ visiting_root ++ root_ends ++ finishing Completed
+
+-- a task that doesn't run is visited
+abbrev pub second_task : List Entry
+second_task =
+    opening ++ (Visit 1 ∷ Event process_task (task_fields 1 []) ∷ Answered 1 AnswersPending ∷ []) ++ visiting_root ++ (Answered 0 AnswersReady ∷ []) ++ root_ends ++ finishing Completed
+
+-- the first round has this order
+abbrev pub ordered : List ℕ → List Entry
+ordered order = (Start 0 0 None 1000000 ∷ Root 0 ∷ Round order ∷ []) ++ visiting_root ++ (Answered 0 AnswersReady ∷ []) ++ root_ends ++ finishing Completed
+
+-- it finishes for this cause
+abbrev pub finished_for : FinishCause → List Entry
+finished_for cause = opening ++ visiting_root ++ (Answered 0 AnswersReady ∷ []) ++ root_ends ++ finishing cause
+
+-- this was drawn for the first round
+abbrev pub drawn : ℕ → List Entry
+drawn value = (Start 0 0 None 1000000 ∷ Root 0 ∷ Draw value ∷ Round (0 ∷ []) ∷ []) ++ visiting_root ++ (Answered 0 AnswersReady ∷ []) ++ root_ends ++ finishing Completed
+
+-- the root makes this call before it is ready
+abbrev pub called : CallOf → CallReply → List Entry
+called call reply = opening ++ visiting_root ++ (Call (Some 0) call reply ∷ Answered 0 AnswersReady ∷ []) ++ root_ends ++ finishing Completed
+
+-- an alarm goes off and its task doesn't wake
+abbrev pub missing_wake : ℕ → List Entry
+missing_wake due =
+    opening ++ visiting_root ++ still_asleep due ++ (Advance 1000000 ∷ Skip due ∷ Fire 0 ∷ Round (0 ∷ []) ∷ []) ++ visiting_root ++ awake due ++ root_ends ++ finishing Completed
+
+-- it goes off before the clock skips to it
+abbrev pub early_fire : ℕ → List Entry
+early_fire due =
+    opening ++ visiting_root ++ still_asleep due ++ (Advance 1000000 ∷ Fire 0 ∷ Wake 0 ∷ Skip due ∷ Round (0 ∷ []) ∷ []) ++ visiting_root ++ awake due ++ root_ends ++ finishing Completed
+
+-- the sleep is over at its first poll
+abbrev pub early_sleep : ℕ → List Entry
+early_sleep due = opening ++ visiting_root ++ awake due ++ root_ends ++ finishing Completed
+
+-- the root was ready, and its end makes no call
+abbrev pub silent_end : List Entry
+silent_end = opening ++ visiting_root ++ (Answered 0 AnswersReady ∷ Cleanup ∷ NodeEnd 0 ∷ Answered 0 Ended ∷ []) ++ finishing NoMemory
+
+-- calls that no step of the root names, in its poll and in its end
+abbrev pub invented_calls : List Entry
+invented_calls =
+    opening ++ visiting_root ++ (Call (Some 0) (SleepPoll 5) (PendingAt 0) ∷ Call (Some 0) (CloseNode 0) Done ∷ Answered 0 LacksMemory ∷ []) ++ (Cleanup ∷ NodeEnd 0 ∷ Call (Some 0) (WakeCall 0) Done ∷ Answered 0 Ended ∷ []) ++ finishing NoMemory

@@ -1,0 +1,92 @@
+//! The definitions tried on small roots: what they write is a run, what comes near it is none, and their inputs are
+//! valid.
+
+ghost use Rattle.std.specs.Prelude.{◌≡◌, ◌≢◌, ◌≤◌, ◌<◌, ◌+◌, ◌-◌, ◌^◌, [], ◌∷◌, ℕ, List, Some, None};
+ghost use Rattle.rt_base.specs.declared.time.TheConstants.{MAX_TIME};
+ghost use Rattle.rt_audit.specs.declared.call.Call.{Call};
+ghost use Rattle.rt_audit.specs.declared.reply.CallReply.{CallReply};
+ghost use Rattle.rt_audit.specs.declared.finish.FinishCause.{FinishCause};
+ghost use Rattle.rt_audit.specs.declared.finish.FinishCause.TheVariants.{Completed, Timeout, Stalled, TimeOverflow, TooManyTasks, NoMemory};
+ghost use Rattle.rt_model.specs.State.{State, begun};
+ghost use Rattle.rt_model.specs.Effects.{after_all};
+ghost use Rattle.rt_model.specs.Rules.{IsLawful, AreDrawn};
+ghost use Rattle.rt_model.specs.Tied.{Value, nothing};
+ghost use Rattle.rt_model.specs.Run.{IsRun, IsCutOff, IsValidInput};
+ghost use Rattle.rt_laws.specs.Examples.{small_begin, begin_by, ready_root, pending_root, sleeping_root, gave, ready_journal, skipped_journal, short_journal, cut_journal, stalled_journal, late_journal, at_once_late_journal, overflow_journal, no_number_journal, drawn, stray_call, open_node, unanswered_poll, second_task, ordered, finished_for, called, missing_wake, early_fire, early_sleep, silent_end, invented_calls};
+
+/// A root that is ready with a number at its first poll gives it, at time 0.
+#[tactic(auto, using(crate::proofs::Runs::ready_time))]
+pub fn a_ready_root_has_its_run()
+    ensures run { (number : ℕ) → IsRun (ready_root number) small_begin ready_journal Completed (after_all (begun small_begin) ready_journal) (gave number) }
+    ensures time { (after_all (begun small_begin) ready_journal).clock.time ≡ 0 }
+{}
+
+/// A root that sleeps for more than a cycle gives 0 when its sleep is due: the clock skips to that moment. One that
+/// sleeps for less gives it behind the first cycle.
+#[tactic(auto, using(crate::proofs::Runs::skipped_time, crate::proofs::Runs::short_time))]
+pub fn a_sleeping_root_has_its_run()
+    ensures skipped { (due : ℕ) → 1000000 < due → due ≤ MAX_TIME → IsRun (sleeping_root due) small_begin (skipped_journal due) Completed (after_all (begun small_begin) (skipped_journal due)) (gave 0) }
+    ensures skipped_time { (due : ℕ) → (after_all (begun small_begin) (skipped_journal due)).clock.time ≡ due }
+    ensures short { (due : ℕ) → 0 < due → due ≤ 1000000 → IsRun (sleeping_root due) small_begin (short_journal due) Completed (after_all (begun small_begin) (short_journal due)) (gave 0) }
+    ensures short_time { (due : ℕ) → (after_all (begun small_begin) (short_journal due)).clock.time ≡ 1000000 }
+{}
+
+/// A run whose root lacked memory in its first poll, before it made a call, is cut off.
+#[tactic(auto, using(crate::proofs::Runs::cut_off))]
+pub fn a_run_that_lacked_memory_is_cut_off()
+    ensures { (due : ℕ) → IsCutOff (sleeping_root due) small_begin cut_journal }
+{}
+
+/// A root that is never ready stalls. With a deadline its run is late behind the first cycle, or at once. Where a cycle
+/// passes the last moment, time overflows. Where no task number is left, the root isn't taken in, and the call of its
+/// end is made by no task.
+pub fn each_other_cause_ends_a_run()
+    ensures stalled { IsRun pending_root small_begin stalled_journal Stalled (after_all (begun small_begin) stalled_journal) nothing }
+    ensures late { let b = begin_by 1000000 (Some 1000000) 0 in IsRun pending_root b late_journal Timeout (after_all (begun b) late_journal) nothing }
+    ensures at_once_late { let b = begin_by 1000000 (Some 0) 0 in IsRun pending_root b at_once_late_journal Timeout (after_all (begun b) at_once_late_journal) nothing }
+    ensures overflow { let b = begin_by (MAX_TIME + 1) None 0 in IsRun pending_root b overflow_journal TimeOverflow (after_all (begun b) overflow_journal) nothing }
+    ensures no_number { let b = begin_by 1000000 None (2 ^ 64 - 1) in IsRun pending_root b no_number_journal TooManyTasks (after_all (begun b) no_number_journal) nothing }
+{}
+
+/// The rounds of these runs follow the ready list as it stands, and none does that had a draw.
+pub fn small_rounds_are_not_drawn()
+    ensures ready { AreDrawn (begun small_begin) ready_journal }
+    ensures skipped { (due : ℕ) → AreDrawn (begun small_begin) (skipped_journal due) }
+    ensures short { (due : ℕ) → AreDrawn (begun small_begin) (short_journal due) }
+    ensures drawn { (value : ℕ) → AreDrawn (begun small_begin) (drawn value) → ⊥ }
+{}
+
+/// Each run of a root that is ready or sleeps completes, whatever its number. Not each run of one that is never ready does.
+pub fn small_inputs_are_valid()
+    ensures ready { (number : ℕ) → IsValidInput (ready_root number) small_begin }
+    ensures sleeping { (due : ℕ) → IsValidInput (sleeping_root due) small_begin }
+    ensures pending { IsValidInput pending_root small_begin → ⊥ }
+{}
+
+/// What comes near to the runs of these roots is no run of any steps.
+pub fn near_misses_are_not_lawful()
+    ensures stray_call { IsLawful (begun small_begin) stray_call → ⊥ }
+    ensures unanswered_poll { IsLawful (begun small_begin) unanswered_poll → ⊥ }
+    ensures second_task { IsLawful (begun small_begin) second_task → ⊥ }
+    ensures other_order { (order : List ℕ) → order ≢ 0 ∷ [] → IsLawful (begun small_begin) (ordered order) → ⊥ }
+    ensures other_cause { (cause : FinishCause) → cause ≢ Completed → cause ≢ NoMemory → IsLawful (begun small_begin) (finished_for cause) → ⊥ }
+    ensures missing_wake { (due : ℕ) → IsLawful (begun small_begin) (missing_wake due) → ⊥ }
+    ensures early_fire { (due : ℕ) → 1000000 < due → IsLawful (begun small_begin) (early_fire due) → ⊥ }
+    ensures early_sleep { (due : ℕ) → 0 < due → IsLawful (begun small_begin) (early_sleep due) → ⊥ }
+    ensures late_due { (due : ℕ) → MAX_TIME < due → IsLawful (begun small_begin) (skipped_journal due) → ⊥ }
+{}
+
+/// What may come near to the run of a root that is ready at once, and is no run of its steps: its node stays open, it
+/// makes a call in its poll, or the run finishes as one that lacked memory.
+pub fn near_misses_are_no_runs()
+    ensures open_node { (number : ℕ) (cause : FinishCause) (end : State) (value : Value (Unit {0}) ℕ) → IsRun (ready_root number) small_begin open_node cause end value → ⊥ }
+    ensures unasked_call { (number : ℕ) (cause : FinishCause) (end : State) (value : Value (Unit {0}) ℕ) (call : Call) (reply : CallReply) → IsRun (ready_root number) small_begin (called call reply) cause end value → ⊥ }
+    ensures lacking_run { (number : ℕ) (cause : FinishCause) (end : State) (value : Value (Unit {0}) ℕ) → IsRun (ready_root number) small_begin (finished_for NoMemory) cause end value → ⊥ }
+{}
+
+/// A journal whose root was ready and whose end makes no call is no run that was cut off, and neither is one whose root makes
+/// calls that its steps don't name.
+pub fn near_misses_are_not_cut_off()
+    ensures silent_end { (number : ℕ) → IsCutOff (ready_root number) small_begin silent_end → ⊥ }
+    ensures invented { (number : ℕ) → IsCutOff (ready_root number) small_begin invented_calls → ⊥ }
+{}

@@ -1,0 +1,17 @@
+use Rattle.std.proofs.Common.{◌≡◌, ◌≤◌, ◌+◌, length}
+use Rattle.rt_base.specs.declared.time.TheConstants.{MAX_TIME}
+use Rattle.rt_model.specs.State.{Turning}
+use Rattle.rt_machine.specs.Steps.{Turns}
+use Rattle.rt_machine.proofs.machine.Machine.clock_step.Given as goal
+
+abbrev pub invariant-loop : goal.invariant-loop
+invariant-loop l = record {
+  turns : Turns l.fn.self.told l.self.told;
+  phase : l.self.told.state.phase ≡ Turning;
+  later : l.fn.self.told.state.clock.time + l.fn.self.told.state.clock.fixed.cycle ≤ l.self.told.state.clock.time;
+  within : l.fn.self.told.state.clock.time + l.fn.self.told.state.clock.fixed.cycle ≤ MAX_TIME;
+  lacked : l.self.lacked ≡ l.fn.self.lacked;
+}
+
+abbrev pub decreases-loop : goal.decreases-loop
+decreases-loop l = length l.self.told.state.alarms.alarms

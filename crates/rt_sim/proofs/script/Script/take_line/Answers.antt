@@ -1,0 +1,30 @@
+use Rattle.std.proofs.Common.{rules, refl}
+use Rattle.std.proofs.lemmas.Int.{to_z-of_z}
+use mir.Syntax.{w64}
+use mir.Val.{SFits}
+use Rattle.rt_model.specs.declared.answer.Answer.TheVariants.{Ready}
+use Rattle.rt_world.proofs.Walked.{polled-gives}
+use Rattle.rt_sim.specs.Script.{goes_on}
+use Rattle.rt_sim.proofs.script.Script.take_line.Goals as goal
+
+pub returns-in-Sleep-clause-steps : goal.returns-in-Sleep-clause-steps
+unfolding goes_on
+returns-in-Sleep-clause-steps g c lines =
+    rw (c.in-Sleep.is) (c.sleep.ensures.steps (λ next. goes_on lines next c.args.world.now.told.state.clock.time c.args.cx.now.task))
+
+pub returns-in-Yield-clause-steps : goal.returns-in-Yield-clause-steps
+unfolding goes_on
+returns-in-Yield-clause-steps g c lines =
+    rw (c.in-Yield.is) (c.give_way.ensures.steps (λ next. goes_on lines next c.args.world.now.told.state.clock.time c.args.cx.now.task))
+
+pub returns-in-End-clause-steps : goal.returns-in-End-clause-steps
+unfolding goes_on
+returns-in-End-clause-steps g c lines =
+    let fits : SFits w64 c.in-End.value = (search rules) in
+    rw (c.in-End.is, to_z-of_z w64 c.in-End.value fits) (polled-gives c.args.world.now c.args.self.now (Ready c.in-End.value) c.args.self.now refl)
+
+pub returns-in-EndLast-clause-steps : goal.returns-in-EndLast-clause-steps
+unfolding goes_on
+returns-in-EndLast-clause-steps g c lines =
+    let fits : SFits w64 c.args.self.now.last = (search rules) in
+    rw (c.in-EndLast.is, to_z-of_z w64 c.args.self.now.last fits) (polled-gives c.args.world.now c.args.self.now (Ready c.args.self.now.last) c.args.self.now refl)

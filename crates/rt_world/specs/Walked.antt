@@ -1,0 +1,92 @@
+-- How far steps were walked between two worlds.
+use Rattle.std.specs.Prelude.{◌≡◌, ◌++◌, ℕ, List, Option, Some, None, true, is_some, Result, Ok, Err}
+use Rattle.rt_base.specs.declared.error.Error.{Error}
+use Rattle.rt_base.specs.declared.error.Error.TheVariants.{NoMemory as LacksMemory}
+use Rattle.rt_base.specs.declared.no_memory.NoMemory.{NoMemory as OutOfMemory}
+use Rattle.rt_base.specs.declared.poll.Poll.{Poll}
+use Rattle.rt_base.specs.declared.poll.Poll.TheVariants.{Ready as IsReady}
+use Rattle.rt_audit.specs.declared.call.Call.TheVariants.{CloseNode}
+use Rattle.rt_model.specs.declared.answer.Answer.{Answer}
+use Rattle.rt_model.specs.declared.answer.Answer.TheVariants.{NoMemory}
+use Rattle.rt_model.specs.State.{Turn, Stood, stood_in}
+use Rattle.rt_model.specs.Turns.{Plainly, Held}
+use Rattle.rt_model.specs.Walk.{Step, Last, Spends as IsSpent, Walks, Fronts, Stops, then, followed_by, stood_before}
+use Rattle.rt_world.specs.World.{World}
+use Rattle.rt_world.specs.Calls.{Closed}
+
+-- a call lacked memory behind these turns: those among the further ones are a front of the walk
+pub record Broke {A L O R : Type 0} (step : Step A L O R) (held : Held A O) (past made more : List Turn) (stood : Stood) : Type 0 where
+  pub front : List Turn
+  pub rest : List Turn
+  pub are : more ≡ front ++ rest
+  pub before : made ≡ past ++ front
+  pub walks : Stops step held front (stood_before rest stood)
+
+-- these turns are those of the steps, which gave this answer and left this state; or without one they are a front of them
+abbrev pub EndsWith : {A L O R : Type 0} → Step A L O R → Held A O → List Turn → Stood → Option (R × L) → Held A O → Type 0
+EndsWith step held turns stood None end = Fronts step held turns
+EndsWith step held turns stood (Some given) end = Walks step held turns stood given.0 given.1 end
+
+-- from the one world to the other these turns were made, which end so where no call lacked memory
+pub record Turned {A L O R G : Type 0} (step : Step A L O R) (old new : World A O G) (given : Option (R × L)) : Type 0 where
+  pub more : List Turn
+  pub turns : new.told.state.turns ≡ old.told.state.turns ++ more
+  pub stood : stood_before more (stood_in new.told.state) ≡ stood_in old.told.state
+  pub marked : (made : List Turn) → old.lacked ≡ Some made → new.lacked ≡ Some made
+  pub ends : new.lacked ≡ None → EndsWith step old.held more (stood_in new.told.state) given new.held
+  pub broke : (made : List Turn) → old.lacked ≡ None → new.lacked ≡ Some made → Broke step old.held old.told.state.turns made more (stood_in new.told.state)
+
+-- the steps were walked, and gave this answer
+unfoldable pub Walked : {A L O R G : Type 0} → Step A L O R → World A O G → World A O G → R → L → Type 0
+Walked step old new answer left = Turned step old new (Some (answer, left))
+
+-- the same of what gives nothing: an end, or what gives a poller up
+unfoldable pub Spent : {A O G : Type 0} → Last A O → World A O G → World A O G → Type 0
+Spent step old new = Turned step old new (Some (tt, tt))
+
+-- an answer of want of memory breaks off
+abbrev pub answered_by : {A O : Type 0} → Answer O → A → Option (Answer O × A)
+answered_by NoMemory left = None
+answered_by answer left = Some (answer, left)
+
+-- the same of a poll of a task
+unfoldable pub Polled : {A O G : Type 0} → Step A A O (Answer O) → World A O G → World A O G → Answer O → A → Type 0
+Polled step old new answer left = Turned step old new (answered_by answer left)
+
+-- without a root the maker broke off
+abbrev pub root_by : {A : Type 0} → Result A OutOfMemory → Option (Unit {0} × A)
+root_by (Ok root) = Some (tt, root)
+root_by (Err lack) = None
+
+-- the same of a maker
+unfoldable pub Rooted : {A O G : Type 0} → Step A A O (Unit {0}) → World A O G → World A O G → Result A OutOfMemory → Type 0
+Rooted step old new result = Turned step old new (root_by result)
+
+-- what a poll of a poller leaves: its steps were walked, and so whoever goes on from here has walked them and the rest
+pub record Goes {A L O R G : Type 0} (step : Step A L O R) (old new : World A O G) (answer : R) (left : L) : Type 0 where
+  pub walked : Walked step old new answer left
+  pub onward : (more : R → L → Step A A O (Answer O)) (end : World A O G) (given : Answer O) (state : A) → Polled (more answer left) new end given state → Polled (then step more) old end given state
+
+-- a poller that lacked memory itself answers so
+abbrev pub SaysLack : {A O G V : Type 0} → World A O G → World A O G → Poll (Result V Error) → Type 0
+SaysLack old new answer = old.lacked ≡ None → is_some new.lacked ≡ true → answer ≡ IsReady (Err LacksMemory)
+
+-- the same of what gives nothing
+pub record Spends {A O G : Type 0} (step : Last A O) (old new : World A O G) : Type 0 where
+  pub spent : Spent step old new
+  pub ends : (next : Last A O) (end : World A O G) → Spent next new end → Spent (followed_by step next) old end
+  pub onward : (next : Step A A O (Answer O)) (end : World A O G) (given : Answer O) (state : A) → Polled next new end given state → Polled (followed_by step next) old end given state
+
+-- the same of a context that is closed
+pub record Closes {A O G : Type 0} (node : ℕ) (old new : World A O G) : Type 0 where
+  pub closed : Closed old new node
+  pub ends : (next : Last A O) (end : World A O G) → Spent next new end → Spent (IsSpent (Plainly (CloseNode node)) next) old end
+
+-- the steps of a poll were walked up to where they go on as others do: whoever walks those from here has walked these
+pub record Leads {A O G : Type 0} (step other : Step A A O (Answer O)) (old new : World A O G) : Type 0 where
+  pub leads : (end : World A O G) (answer : Answer O) (left : A) → Polled other new end answer left → Polled step old end answer left
+
+-- a part of a poll: it goes on as others do, or gives the answer
+abbrev pub Advanced : {A O G : Type 0} → Step A A O (Answer O) → Step A A O (Answer O) → World A O G → World A O G → Option (Answer O) → A → Type 0
+Advanced step other old new None left = Leads step other old new
+Advanced step other old new (Some answer) left = Polled step old new answer left
