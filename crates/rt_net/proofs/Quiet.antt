@@ -1,7 +1,8 @@
 -- Channels whose waiting tasks lack their cause.
-use Rattle.std.proofs.Common.{◌≡◌, ℕ, ◌+◌, ◌-◌, ◌<◌, ◌≤◌, true, take, Some, Option, arith, ap, subst, sym, ◌∙◌}
+use Rattle.std.proofs.Common.{◌≡◌, ℕ, ◌+◌, ◌-◌, ◌<◌, ◌≤◌, true, take, length, Some, Option, arith, ap, subst, sym, ◌∙◌}
 use Rattle.std.specs.Option.{unwrap_or}
 use Rattle.std.proofs.lemmas.Grind.{common_steps}
+use Rattle.std.proofs.lemmas.List.{length-take-le}
 use Rattle.rt_base.specs.declared.poll.Poll.TheVariants.{Ready}
 use Rattle.rt_bufs.specs.Chunked.{Chunked}
 use Rattle.rt_net.specs.declared.pipe.Pipe.TheInside.{Inside}
@@ -29,9 +30,9 @@ parked-quiet c h len task same quiet lacks opened alive empty =
     }
 
 -- a started `recv` whose bytes are held is answered by them
-pub answer-started : (p : Inside) (len : ℕ) (b : Chunked) → p.receiving ≡ Some len → len ≤ p.held → IsWhole p.forgotten.past → b.bytes ≡ take len p.bytes → Answers (channel_of p) (started_length (channel_of p)) (Ready b)
-answer-started p len b started enough whole bytes =
+pub answer-started : (p : Inside) (len : ℕ) (b : Chunked) → p.receiving ≡ Some len → len ≤ p.held → p.held ≤ length p.bytes → IsWhole p.forgotten.past → b.bytes ≡ take len p.bytes → Answers (channel_of p) (started_length (channel_of p)) (Ready b)
+answer-started p len b started enough within whole bytes =
     let e : len ≡ started_length (channel_of p) = sym (ap (λ (o : Option ℕ). unwrap_or o 0) started) in
     let kept : unread (channel_of p) ≡ p.bytes = grind (arith, common_steps, whole.after) in
-    let P : ℕ → Type 0 = λ n. (n ≤ held (channel_of p)) × (b.bytes ≡ take n (unread (channel_of p))) in
-    subst P e (omega (arith, enough), bytes ∙ ap (take len) (sym kept))
+    let P : ℕ → Type 0 = λ n. (n ≤ held (channel_of p)) × (length b.bytes ≡ n) × (b.bytes ≡ take n (unread (channel_of p))) in
+    subst P e (omega (arith, enough), ap length bytes ∙ length-take-le len p.bytes (omega (arith, enough, within)), bytes ∙ ap (take len) (sym kept))

@@ -172,9 +172,9 @@ failed_recv c = record c { stream = failed c.stream; receiver = None; receiving 
 abbrev pub parked : ChannelState → ℕ → ℕ → ChannelState
 parked c len task = record c { receiver = Some (record { need = len - held c; task = task }); receiving = Some len }
 
--- what `recv` answers once `len` bytes are asked of what the stream holds
+-- what `recv` answers once `len` bytes are asked of what the stream holds: exactly so many, the next ones
 abbrev pub Answers : ChannelState → ℕ → Poll Chunked → Type 0
-Answers c len (Ready buffers) = (len ≤ held c) × (buffers.bytes ≡ take len (unread c))
+Answers c len (Ready buffers) = (len ≤ held c) × (length buffers.bytes ≡ len) × (buffers.bytes ≡ take len (unread c))
 Answers c len Pending = (held c < len) × (is_open c.sink ≡ true)
 
 abbrev pub after_answer : ChannelState → ℕ → ℕ → Poll Chunked → ChannelState

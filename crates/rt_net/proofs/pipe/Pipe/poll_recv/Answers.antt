@@ -19,4 +19,4 @@ returns-clause-polls c =
     let bytes = subst (λ (o : Option Chunked). IsSomeAnd o P) (sym c.take.ensures.value ∙ c.in-Some-take.is) made in
     let alive = ap (λ (x : ChannelState). x.stream.alive) c.self.view_is ∙ c.requires in
     subst (λ (x : ChannelState). Answers x (started_length x) (Ready c.in-Some-take.bytes)) c.self.view_is
-    (answer-started c.self.inside c.in-Some.len c.in-Some-take.bytes c.in-Some.is c.if-self-len.false (c.self.invariant.of_stream alive) bytes)
+    (answer-started c.self.inside c.in-Some.len c.in-Some-take.bytes c.in-Some.is c.if-self-len.false c.self.invariant.within (c.self.invariant.of_stream alive) bytes)
