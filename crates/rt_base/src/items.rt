@@ -2,6 +2,7 @@
 ghost use Rattle.std.specs.Prelude.{◌≡◌};
 
 use std::alloc::Global;
+use std::hash::{Hash, Hasher};
 use std::marker::Model;
 
 /// A `Vec` whose capacity nobody asks about. None of its calls takes memory.
@@ -62,4 +63,17 @@ impl<V: Eq> Eq for Items<V> {
     ghost use Rattle.std.specs.Cmp.Lexicographic.{lists_equiv};
 
     ghost laws = { lists_equiv V.Eq.laws };
+}
+
+impl<V: Hash> Hash for Items<V> {
+    ghost use Rattle.std.specs.Hash as fed;
+    ghost use Rattle.std.specs.Hash.{items_Alike};
+
+    ghost hash_input = { fed.slice V.hash_input };
+
+    ghost respects_eq = { (items_Alike (record { fed = V.respects_eq })).fed };
+
+    fn hash<H: Hasher>(&self, state: &mut H) {
+        self.as_slice().hash(state);
+    }
 }
