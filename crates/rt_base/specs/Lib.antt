@@ -1,6 +1,9 @@
 pub mod Address
 pub mod Attributes
+pub mod Counted
 pub mod InMemory
 pub mod Label
+pub mod Layout
 pub mod Noted
+pub mod Options
 pub mod Outside

@@ -1,9 +1,12 @@
 // The errors of the runtime, with upstream's names.
 ghost use Rattle.std.specs.Prelude.{◌≡◌, IfOk};
 
+use crate::io_kind::IoKind;
+use crate::layout::BlobLayout;
 use crate::metric_error::MetricError;
 use crate::no_memory::NoMemory;
 use crate::text::Text;
+use crate::version::BlobVersion;
 use std::alloc::{AllocError, AllocFailed};
 use thiserror::Error;
 
@@ -45,17 +48,37 @@ pub enum Error {
     /// The partition and the blob.
     #[error("blob already open: {0}/{1}")]
     BlobAlreadyOpen(Text, Text),
+    #[error("blob open failed: {0}/{1} error: {2}")]
+    BlobOpenFailed(Text, Text, IoKind),
     #[error("blob missing: {0}/{1}")]
     BlobMissing(Text, Text),
+    #[error("blob resize failed: {0}/{1} error: {2}")]
+    BlobResizeFailed(Text, Text, IoKind),
+    #[error("blob sync failed: {0}/{1} error: {2}")]
+    BlobSyncFailed(Text, Text, IoKind),
     #[error("blob insufficient length")]
     BlobInsufficientLength,
     /// The partition, the blob and the reason.
     #[error("blob corrupt: {0}/{1} reason: {2}")]
     BlobCorrupt(Text, Text, Text),
+    /// The least and the greatest layout that would do, and that of the blob.
+    #[error("blob layout mismatch: expected one of {}..={}, found {found}", .expected.0, .expected.1)]
+    BlobLayoutMismatch {
+        expected: (BlobLayout, BlobLayout),
+        found: BlobLayout,
+    },
+    /// The least and the greatest version that would do, and that of the blob.
+    #[error("blob version mismatch: expected one of {}..={}, found {found}", .expected.0, .expected.1)]
+    BlobVersionMismatch {
+        expected: (BlobVersion, BlobVersion),
+        found: BlobVersion,
+    },
     #[error("invalid or missing checksum")]
     InvalidChecksum,
     #[error("offset overflow")]
     OffsetOverflow,
+    #[error("io error: {0}")]
+    Io(IoKind),
     #[error("ports exhausted")]
     PortsExhausted,
     #[error("unknown token")]
@@ -97,10 +120,19 @@ impl Error {
                 partition.clone_value()?,
                 blob.clone_value()?,
             ),
+            Error::BlobOpenFailed(partition, blob, kind) => {
+                Error::BlobOpenFailed(partition.clone_value()?, blob.clone_value()?, *kind)
+            }
             Error::BlobMissing(partition, blob) => Error::BlobMissing(
                 partition.clone_value()?,
                 blob.clone_value()?,
             ),
+            Error::BlobResizeFailed(partition, blob, kind) => {
+                Error::BlobResizeFailed(partition.clone_value()?, blob.clone_value()?, *kind)
+            }
+            Error::BlobSyncFailed(partition, blob, kind) => {
+                Error::BlobSyncFailed(partition.clone_value()?, blob.clone_value()?, *kind)
+            }
             Error::BlobInsufficientLength => Error::BlobInsufficientLength,
             Error::BlobCorrupt(partition, blob, reason) => {
                 Error::BlobCorrupt(
@@ -109,8 +141,21 @@ impl Error {
                     reason.clone_value()?,
                 )
             }
+            Error::BlobLayoutMismatch { expected, found } => {
+                Error::BlobLayoutMismatch {
+                    expected: *expected,
+                    found: *found,
+                }
+            }
+            Error::BlobVersionMismatch { expected, found } => {
+                Error::BlobVersionMismatch {
+                    expected: *expected,
+                    found: *found,
+                }
+            }
             Error::InvalidChecksum => Error::InvalidChecksum,
             Error::OffsetOverflow => Error::OffsetOverflow,
+            Error::Io(kind) => Error::Io(*kind),
             Error::PortsExhausted => Error::PortsExhausted,
             Error::UnknownToken => Error::UnknownToken,
             Error::ClockOverflow => Error::ClockOverflow,
@@ -163,5 +208,16 @@ impl From<MetricError> for Error {
 
     fn from(kind: MetricError) -> Error {
         Error::Metric(kind)
+    }
+}
+
+impl From<IoKind> for Error {
+    ghost use Rattle.std.specs.Prelude.{◌≡◌};
+    ghost use Rattle.rt_base.specs.declared.error.Error.TheVariants.{Io};
+
+    ghost from_gives = { λ kind e. e ≡ Io kind };
+
+    fn from(kind: IoKind) -> Error {
+        Error::Io(kind)
     }
 }

@@ -2,10 +2,11 @@
 
 use crate::retried::{read_retried, write_retried};
 use crate::{
-    Addr, Choice, Env, Error, Event, Execution, Failed, Ip, Items, ListSink, ListSource, MAX_TIME,
-    MetricError, Name, NoEnv, NoMemory, Poll, Refused, SafeSink, SafeSource, Sink8, Source,
-    StdSink, StdSource, Text, Unread, add_attribute, child_label, prefixed_name, read_whole,
-    validate_label, write_whole,
+    Addr, BLOB_PAGE_SIZE, BlobLayout, BlobVersion, Choice, DEFAULT_BLOB_LAYOUT,
+    DEFAULT_BLOB_VERSION, Env, Error, Event, Execution, Failed, IoKind, Ip, Items, ListSink,
+    ListSource, MAX_TIME, MetricError, Name, NoEnv, NoMemory, Poll, ReadOptions, Refused, SafeSink,
+    SafeSource, Sink8, Source, StdSink, StdSource, Text, Unread, WriteOptions, add_attribute,
+    child_label, prefixed_name, read_whole, validate_label, write_whole,
 };
 use std::alloc::Global;
 use std::io;
@@ -20,6 +21,7 @@ fn text(alloc: Global, bytes: &str) -> Result<Text, NoMemory> {
 #[test]
 fn surface(rt: HostRuntime) -> Result<(), Fail> {
     small_types(&rt, rt.alloc())?;
+    blobs(&rt, rt.alloc())?;
     errors(&rt, rt.alloc())?;
     names(&rt, rt.alloc())?;
     environment(&rt, rt.alloc())?;
@@ -44,6 +46,35 @@ fn small_types(rt: &impl Abort, alloc: Global) -> Result<(), Fail> {
     Ok(())
 }
 
+fn blobs(rt: &impl Abort, alloc: Global) -> Result<(), Fail> {
+    let mut read = ReadOptions::default();
+    assert_eq!(rt;
+        (read.bits(), read.contains(ReadOptions::DONT_CACHE)),
+        (0, false)
+    );
+    read |= ReadOptions::DONT_CACHE;
+    assert!(rt; read == ReadOptions::DONT_CACHE | ReadOptions::default());
+    assert_eq!(rt; read.without(read), ReadOptions::default());
+    let mut write = WriteOptions::default();
+    for (option, bits) in [(WriteOptions::SYNC, 1), (WriteOptions::DONT_CACHE, 3)] {
+        assert!(rt; !write.contains(option));
+        write |= option;
+        assert_eq!(rt; (write.contains(option), write.bits()), (true, bits));
+    }
+    assert!(rt; write == WriteOptions::SYNC | WriteOptions::DONT_CACHE);
+    assert_eq!(rt; write.without(WriteOptions::SYNC).bits(), 2);
+    assert_eq!(rt;
+        (BLOB_PAGE_SIZE, DEFAULT_BLOB_LAYOUT),
+        (4096, BlobLayout::ALL.1)
+    );
+    assert!(rt; BlobLayout::ALL.0 < BlobLayout::V1);
+    assert_eq!(rt; BlobVersion::default(), DEFAULT_BLOB_VERSION);
+    let version = BlobVersion::new(65535);
+    assert!(rt; DEFAULT_BLOB_VERSION < version && version.get() == 65535);
+    assert_eq!(rt; format!(in alloc; "{version}")?.as_str(), "65535");
+    Ok(())
+}
+
 fn errors(rt: &impl Abort, alloc: Global) -> Result<(), Fail> {
     let error = Error::BlobMissing(text(alloc, "p")?, text(alloc, "62")?);
     assert!(rt; error.clone_value()? == error);
@@ -52,6 +83,9 @@ fn errors(rt: &impl Abort, alloc: Global) -> Result<(), Fail> {
     assert_eq!(rt; back, 7);
     assert!(rt; error != Error::from(MetricError::OtherHelp));
     assert!(rt; Error::from(NoMemory) == Error::NoMemory);
+    assert!(rt;
+        Error::from(IoKind::InjectedSyncFailure) != Error::Io(IoKind::InjectedStorageFault)
+    );
     Ok(())
 }
 
@@ -266,6 +300,36 @@ fn error_words(rt: HostRuntime) -> Result<(), Fail> {
             Error::Metric(MetricError::OtherHelp),
             "metric error: other help",
         ),
+        (
+            Error::Io(IoKind::InjectedStorageFault),
+            "io error: injected storage fault",
+        ),
+        (
+            Error::Io(IoKind::InjectedSyncFailure),
+            "io error: injected sync failure",
+        ),
+        (
+            Error::Io(IoKind::InjectedWriteFailure),
+            "io error: injected write failure",
+        ),
+        (
+            Error::Io(IoKind::InjectedPartitionSyncFault),
+            "io error: injected partition sync fault",
+        ),
+        (
+            Error::BlobLayoutMismatch {
+                expected: BlobLayout::ALL,
+                found: BlobLayout::V0,
+            },
+            "blob layout mismatch: expected one of V0..=V1, found V0",
+        ),
+        (
+            Error::BlobVersionMismatch {
+                expected: (BlobVersion::new(1), BlobVersion::new(20)),
+                found: BlobVersion::new(300),
+            },
+            "blob version mismatch: expected one of 1..=20, found 300",
+        ),
         (Error::NoMemory, "no memory"),
     ] {
         assert_eq!(rt; format!(in rt.alloc(); "{error}")?.as_str(), words);
@@ -303,6 +367,30 @@ fn error_texts(rt: HostRuntime) -> Result<(), Fail> {
         (
             Error::BlobMissing(text(alloc, "a")?, text(alloc, "b")?),
             "blob missing: a/b",
+        ),
+        (
+            Error::BlobOpenFailed(
+                text(alloc, "a")?,
+                text(alloc, "b")?,
+                IoKind::InjectedStorageFault,
+            ),
+            "blob open failed: a/b error: injected storage fault",
+        ),
+        (
+            Error::BlobResizeFailed(
+                text(alloc, "a")?,
+                text(alloc, "b")?,
+                IoKind::InjectedWriteFailure,
+            ),
+            "blob resize failed: a/b error: injected write failure",
+        ),
+        (
+            Error::BlobSyncFailed(
+                text(alloc, "a")?,
+                text(alloc, "b")?,
+                IoKind::InjectedSyncFailure,
+            ),
+            "blob sync failed: a/b error: injected sync failure",
         ),
         (
             Error::BlobCorrupt(text(alloc, "a")?, text(alloc, "b")?, text(alloc, "c")?),
