@@ -219,31 +219,31 @@ fn dials_listener<N: Network>(net: &mut N, socket: Addr, count: usize, end: Endi
     }
 }
 
+// So many dials are taken and the others refused, and then no port is left.
+fn uses_ports_up(rt: &impl Abort, alloc: Global, taken: usize) -> Result<(), Fail> {
+    let mut net = Net::new(alloc)?;
+    let refused = 28232usize.saturating_sub(taken);
+    let reached = dials_listener(&mut net, here(4000), taken, Ending::Done);
+    let failed = dials(
+        &mut net,
+        &mut NoEnv,
+        here(4000),
+        refused,
+        Ending::ConnectionFailed,
+    );
+    assert_eq!(rt; (reached, failed), (taken, refused));
+    let last = dial(&mut net, &mut NoEnv, here(4000));
+    assert_eq!(rt; last, Ending::PortsExhausted);
+    let heard = dials_listener(&mut net, here(5000), 1, Ending::PortsExhausted);
+    assert_eq!(rt; heard, 1);
+    Ok(())
+}
+
 #[test]
 fn ports_run_out(rt: HostRuntime) -> Result<(), Fail> {
-    let mut net = Net::new(rt.alloc())?;
-    assert_eq!(rt;
-        dials_listener(&mut net, here(4000), 14116, Ending::Done),
-        14116
-    );
-    assert_eq!(rt;
-        dials(
-            &mut net,
-            &mut NoEnv,
-            here(4000),
-            14116,
-            Ending::ConnectionFailed
-        ),
-        14116
-    );
-    assert_eq!(rt;
-        dial(&mut net, &mut NoEnv, here(4000)),
-        Ending::PortsExhausted
-    );
-    assert_eq!(rt;
-        dials_listener(&mut net, here(5000), 1, Ending::PortsExhausted),
-        1
-    );
+    for taken in [28232, 14116, 0] {
+        uses_ports_up(&rt, rt.alloc(), taken)?;
+    }
     Ok(())
 }
 
