@@ -2,6 +2,7 @@
 use Rattle.std.specs.Prelude.{◌≡◌, ℕ, ◌+◌, ◌%◌, ◌^◌, Bool, true, false, List, [], ◌∷◌, ◌++◌, length, Option, Some, None, Result, Ok, Err}
 use Rattle.rt_base.specs.declared.addr.Addr.{Addr}
 use Rattle.rt_base.specs.declared.error.Error.{Error}
+use Rattle.rt_base.specs.declared.error.Error.TheVariants.{NoMemory}
 use Rattle.rt_base.specs.declared.event.Event.{Event}
 use Rattle.rt_base.specs.declared.poll.Poll.{Poll}
 use Rattle.rt_base.specs.declared.poll.Poll.TheVariants.{Ready, Pending}
@@ -13,19 +14,24 @@ use Rattle.rt_net.specs.declared.reply.Reply.{Reply}
 abbrev pub named : List ℕ → Event
 named label = record { label = label; fields = [] }
 
--- how a call ended: whether it succeeded, or that it waits
+-- a call that was refused has failed, save where it was out of memory
+abbrev pub refusal : Error → Option Bool
+refusal NoMemory = None
+refusal e = Some false
+
+-- how a call ended: whether it succeeded, and nothing where it waits or was out of memory
 abbrev pub ending : {A : Type 0} → Result (Poll A) Error → Option Bool
 ending (Ok (Ready _)) = Some true
 ending (Ok Pending) = None
-ending (Err _) = Some false
+ending (Err e) = refusal e
 
 abbrev pub ending_of_reply : {A : Type 0} → Result (Reply (Poll A)) Error → Option Bool
 ending_of_reply {A = A} (Ok r) = let a : Result (Poll A) Error = Ok r.value in ending a
-ending_of_reply (Err _) = Some false
+ending_of_reply (Err e) = refusal e
 
 abbrev pub outcome : {A : Type 0} → Result A Error → Option Bool
 outcome (Ok _) = Some true
-outcome (Err _) = Some false
+outcome (Err e) = refusal e
 
 -- a call that has ended notes whether it succeeded
 abbrev pub closing_event : Event → Event → Option Bool → List Noted

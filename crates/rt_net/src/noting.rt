@@ -1,8 +1,9 @@
-// A network over any other. It notes an event before and after each call that can fail, counts bytes, and has tokens
+// A network over any other. It notes an event before and after each call that can fail, though none after one that was
+// out of memory, counts bytes, and has tokens
 // of its own, which know the other end's address. It is proved from the trait alone.
 ghost use Rattle.std.specs.Prelude.{◌≡◌, ◌+◌, ◌≤◌, ◌<◌, IfOk, OnOk, OnErr, Ok, ◌∷◌, []};
 ghost use Rattle.rt_base.specs.Noted.{Adds, Happened};
-ghost use Rattle.rt_net.specs.Noting.{named, ending, ending_of_reply, closing_event, count_if_ok, bytes_got, bytes_got_in_reply, with_taken, KnowDialer};
+ghost use Rattle.rt_net.specs.Noting.{named, refusal, ending, ending_of_reply, closing_event, count_if_ok, bytes_got, bytes_got_in_reply, with_taken, KnowDialer};
 
 use crate::halves::{Receiving, Sending};
 use crate::network::Network;
@@ -89,14 +90,24 @@ fn note_end<E: Env>(env: &mut E, endings: Endings, ended: Option<bool>)
     }
 }
 
-// Whether the call succeeded, or that it waits.
+// A call that was refused has failed, save where it was out of memory.
+fn refusal(error: &Error) -> Option<bool>
+    ensures { result ≡ refusal error.now }
+{
+    match error {
+        Error::NoMemory => None,
+        _ => Some(false),
+    }
+}
+
+// Whether the call succeeded, and nothing where it waits or was out of memory.
 fn ending<V>(answer: &Result<Poll<V>, Error>) -> Option<bool>
     ensures { result ≡ ending answer.now }
 {
     match answer {
         Ok(Poll::Ready(_)) => Some(true),
         Ok(Poll::Pending) => None,
-        Err(_) => Some(false),
+        Err(error) => refusal(error),
     }
 }
 
@@ -108,7 +119,7 @@ fn ending_of_reply<V>(answer: &Result<Reply<Poll<V>>, Error>) -> Option<bool>
             Poll::Ready(_) => Some(true),
             Poll::Pending => None,
         },
-        Err(_) => Some(false),
+        Err(error) => refusal(error),
     }
 }
 
@@ -375,7 +386,7 @@ impl<N: Network> Network for Noting<N> {
                 })
             }
             Err(error) => {
-                note_end(env, endings, Some(false));
+                note_end(env, endings, refusal(&error));
                 Err(error)
             }
         }
@@ -393,7 +404,7 @@ impl<N: Network> Network for Noting<N> {
                 Ok(with_remote(reply, socket))
             }
             Err(error) => {
-                note_end(env, endings, Some(false));
+                note_end(env, endings, refusal(&error));
                 Err(error)
             }
         }
