@@ -1,4 +1,3 @@
-pub mod Bytes
 pub mod ListenerLemmas
 pub mod NotingLemmas
 pub mod Places

@@ -92,12 +92,6 @@ handed_task c (Some w) = if is_receivable c w.need then Some w.task else None
 abbrev pub sent : ChannelState → List ℕ → ChannelState
 sent c bytes = handed (appended c bytes) c.receiver
 
--- the answer of the parked `recv`, where these bytes complete it
-abbrev pub IsNextAnswer : ChannelState → List ℕ → Option Parked → Option Chunked → Type 0
-IsNextAnswer c bytes None answer = answer ≡ None
-IsNextAnswer c bytes (Some w) (Some answer) = (is_receivable (appended c bytes) w.need ≡ true) × (answer.bytes ≡ take (w.need + held c) (unread c ++ bytes))
-IsNextAnswer c bytes (Some w) None = is_receivable (appended c bytes) w.need ≡ false
-
 -- the sender goes on where at most the buffer size is left, and parks otherwise
 abbrev pub Settles : ChannelState → Poll Unit → Type 0
 Settles c (Ready _) = is_drained c ≡ true

@@ -81,8 +81,8 @@ impl ByteQueue {
         Ok(())
     }
 
-    // Takes the bytes from `len` on away.
-    fn truncate(&mut self, len: usize)
+    /// Takes the bytes from `len` on away.
+    pub fn truncate(&mut self, len: usize)
         requires { len ≤ length self.old }
         ensures { self.new ≡ take len self.old }
     {

@@ -1,6 +1,6 @@
 // One channel: the bytes that were not answered yet, and who waits at its two ends.
 ghost use Rattle.std.specs.Prelude.{◌≡◌, ℕ, ◌+◌, ◌-◌, ◌<◌, ◌≤◌, min, [], ◌++◌, length, take, drop, OnOk, OnErr, IfOk, Ok, Err, Some, None, true, false};
-ghost use Rattle.rt_net.specs.Channel.{fresh, is_open, receiver_task, failed_send, Sends, PollsSend, after_send, after_poll_send, closed_sink, closed_stream, given_up_send, given_up_recv, sent, appended, handed_task, is_drained, Settles, settled, answered, pulled, drained_task, moved, failed_recv, parked, Receives, PollsReceive, after_recv, after_poll_recv, Peeks, held, left, IsNextAnswer, IsQuiet};
+ghost use Rattle.rt_net.specs.Channel.{fresh, is_open, receiver_task, failed_send, Sends, PollsSend, after_send, after_poll_send, closed_sink, closed_stream, given_up_send, given_up_recv, sent, appended, handed_task, is_drained, Settles, settled, answered, pulled, drained_task, moved, failed_recv, parked, Receives, PollsReceive, after_recv, after_poll_recv, Peeks, held, left, with_ended_sink, IsQuiet};
 
 use crate::byte_queue::ByteQueue;
 use crate::forgotten::Forgotten;
@@ -96,7 +96,7 @@ impl Pipe {
             let wake = self.fail_sink();
             return reply(Err(Error::SendFailed), wake);
         }
-        match self.accept(bufs) {
+        match self.accept(&bufs) {
             Ok(wake) => reply(Ok(self.settle(task)), wake),
             Err(_) => reply(Err(Error::NoMemory), None),
         }
@@ -108,18 +108,11 @@ impl Pipe {
         ensures polls { PollsSend self.old result }
         ensures after { self.new ≡ after_poll_send self.old task result }
     {
-        if self.bytes.len() - self.held <= self.buffer_size {
-            self.sender = None;
-            self.sending = false;
-            return Ok(Poll::Ready(()));
-        }
-        if !self.stream.alive {
+        if !self.stream.alive && !self.is_drained() {
             let _ = self.fail_sink();
             return Err(Error::SendFailed);
         }
-        self.sender = Some(task);
-        self.sending = true;
-        Ok(Poll::Pending)
+        Ok(self.settle(task))
     }
 
     /// Receives `len` bytes for `task`.
@@ -140,7 +133,7 @@ impl Pipe {
             self.park(len, task);
             return Ok(reply(Poll::Pending, wake));
         }
-        let bytes = first_bytes(self.bytes.alloc(), self.bytes.as_slice(), &[], len)?;
+        let bytes = first_bytes(self.bytes.alloc(), self.bytes.as_slice(), len)?;
         let wake = self.pull(len);
         self.answer(len);
         Ok(reply(Poll::Ready(bytes), wake))
@@ -199,6 +192,7 @@ impl Pipe {
         ensures { self.new ≡ given_up_recv self.old self.old.receiving }
     {
         if let Some(_) = self.receiving {
+            self.ready = None;
             self.receiver = None;
             self.receiving = None;
             self.stream.given_up = true;
@@ -210,11 +204,9 @@ impl Pipe {
         ensures woken { result ≡ receiver_task self.old.receiver }
         ensures closed { self.new ≡ closed_sink self.old }
     {
-        let wake = self.waiting_receiver();
-        self.sink.alive = false;
-        self.sender = None;
-        self.sending = false;
-        self.receiver = None;
+        let mut closed = self.sink;
+        closed.alive = false;
+        let wake = self.end_sink(closed);
         self.free();
         wake
     }
@@ -234,55 +226,43 @@ impl Pipe {
         wake
     }
 
-    // Takes bytes in, and answers the receiver that this wakes.
-    fn accept(&mut self, bufs: IoBufs) -> Result<Option<u64>, NoMemory>
+    // Takes bytes in and hands them to a parked `recv` that they complete, whose task it answers.
+    fn accept(&mut self, bufs: &IoBufs) -> Result<Option<u64>, NoMemory>
         requires { self.old.sink.alive ≡ true }
-        ensures woken { IfOk result (λ wake. wake ≡ handed_task (appended self.old bufs.bytes) self.old.receiver) }
-        ensures taken { OnOk result (self.new ≡ record (sent self.old bufs.bytes) { sender = None; sending = false }) }
+        ensures woken { IfOk result (λ wake. wake ≡ handed_task (appended self.old bufs.now.bytes) self.old.receiver) }
+        ensures taken { OnOk result (self.new ≡ record (sent self.old bufs.now.bytes) { sender = None; sending = false }) }
         ensures refused { OnErr result (self.new ≡ self.old) }
     {
-        if let None = self.receiver {
-            self.bytes.append(&bufs)?;
-            self.sender = None;
-            self.sending = false;
-            return Ok(None);
+        let kept = self.bytes.len();
+        self.bytes.append(bufs)?;
+        let left = self.bytes.len() - self.held;
+        let mut wake = None;
+        if let (Some(parked), Some(len)) = (self.receiver, self.receiving) {
+            if parked.need <= left {
+                let answer = first_bytes(self.bytes.alloc(), self.bytes.as_slice(), len);
+                let Ok(bytes) = answer else {
+                    self.bytes.truncate(kept);
+                    return Err(NoMemory);
+                };
+                self.held += left.min(parked.need.max(self.buffer_size));
+                self.ready = Some(bytes);
+                self.receiver = None;
+                wake = Some(parked.task);
+            }
         }
-        let bytes = bufs.coalesce()?;
-        let answer = self.next_answer(bytes.as_slice())?;
-        self.take_in(bytes.as_slice(), answer)
-    }
-
-    // Takes bytes in, and hands them to a parked `recv` that they complete.
-    fn take_in(&mut self, bytes: &[u8], answer: Option<IoBufs>) -> Result<Option<u64>, NoMemory>
-        requires alive { self.old.sink.alive ≡ true }
-        requires answer { IsNextAnswer self.old bytes.now self.old.receiver answer }
-        ensures woken { IfOk result (λ wake. wake ≡ handed_task (appended self.old bytes.now) self.old.receiver) }
-        ensures taken { OnOk result (self.new ≡ record (sent self.old bytes.now) { sender = None; sending = false }) }
-        ensures refused { OnErr result (self.new ≡ self.old) }
-    {
-        self.bytes.extend(bytes)?;
         self.sender = None;
         self.sending = false;
-        match (answer, self.receiver) {
-            (Some(answer), Some(parked)) => {
-                let left = self.bytes.len() - self.held;
-                self.held += left.min(parked.need.max(self.buffer_size));
-                self.ready = Some(answer);
-                self.receiver = None;
-                Ok(Some(parked.task))
-            }
-            (_, _) => Ok(None),
-        }
+        Ok(wake)
     }
 
     // The sender goes on, or parks.
     fn settle(&mut self, task: u64) -> Poll<()>
         requires sink { self.old.sink.alive ≡ true }
-        requires stream { self.old.stream.alive ≡ true }
+        requires stream { is_drained self.old ≡ false → self.old.stream.alive ≡ true }
         ensures answer { Settles self.old result }
         ensures after { self.new ≡ settled self.old task result }
     {
-        if self.bytes.len() - self.held <= self.buffer_size {
+        if self.is_drained() {
             self.sender = None;
             self.sending = false;
             return Poll::Ready(());
@@ -290,6 +270,14 @@ impl Pipe {
         self.sender = Some(task);
         self.sending = true;
         Poll::Pending
+    }
+
+    // Whether at most the buffer size is left in the channel.
+    fn is_drained(&self) -> bool
+        requires { self.now.sink.alive ≡ true }
+        ensures { result ≡ is_drained self.now }
+    {
+        self.bytes.len() - self.held <= self.buffer_size
     }
 
     // How many bytes the stream holds once a `recv` of `len` bytes has moved what it may.
@@ -359,29 +347,24 @@ impl Pipe {
         ensures woken { result ≡ receiver_task self.old.receiver }
         ensures ended { self.new ≡ failed_send self.old }
     {
+        let mut failed = self.sink;
+        failed.failed = true;
+        self.end_sink(failed)
+    }
+
+    // Leaves the sink so, which is open no more, and answers the receiver that this wakes.
+    fn end_sink(&mut self, sink: Half) -> Option<u64>
+        requires alive { sink.alive ≡ true → self.old.sink.alive ≡ true }
+        requires over { is_open sink ≡ false }
+        ensures woken { result ≡ receiver_task self.old.receiver }
+        ensures ended { self.new ≡ with_ended_sink self.old sink }
+    {
         let wake = self.waiting_receiver();
-        self.sink.failed = true;
+        self.sink = sink;
         self.sender = None;
         self.sending = false;
         self.receiver = None;
         wake
-    }
-
-    // The answer of the parked `recv`, where `bytes` complete it.
-    fn next_answer(&self, bytes: &[u8]) -> Result<Option<IoBufs>, NoMemory>
-        requires { self.now.sink.alive ≡ true }
-        ensures { IfOk result (λ r. IsNextAnswer self.now bytes.now self.now.receiver r) }
-    {
-        let Some(parked) = self.receiver else {
-            return Ok(None);
-        };
-        let left = self.bytes.len() - self.held;
-        if bytes.len() < parked.need - left {
-            return Ok(None);
-        }
-        let len = self.receiving.unwrap_or(0);
-        let answer = first_bytes(self.bytes.alloc(), self.bytes.as_slice(), bytes, len)?;
-        Ok(Some(answer))
     }
 
     // Gives the memory of the bytes back, where no half is alive.
@@ -417,14 +400,11 @@ fn reply<V>(value: V, wake: Option<u64>) -> Reply<V>
     }
 }
 
-// A copy of the first `len` bytes of `front` and then `back`.
-fn first_bytes(alloc: Global, front: &[u8], back: &[u8], len: usize) -> Result<IoBufs, NoMemory>
-    ensures { IfOk result (λ b. b.bytes ≡ take len (front.now ++ back.now)) }
+// A copy of the first `len` bytes.
+fn first_bytes(alloc: Global, bytes: &[u8], len: usize) -> Result<IoBufs, NoMemory>
+    requires { len ≤ length bytes.now }
+    ensures { IfOk result (λ b. b.bytes ≡ take len bytes.now) }
 {
-    let of_front = len.min(front.len());
-    let of_back = (len - of_front).min(back.len());
-    let mut bytes = Vec::with_capacity(alloc, of_front + of_back)?;
-    bytes.extend_from_slice(&front[..of_front])?;
-    bytes.extend_from_slice(&back[..of_back])?;
-    IoBufs::from_buf(alloc, IoBuf::from_vec(bytes)?)
+    let first = bytes[..len].to_vec(alloc)?;
+    IoBufs::from_buf(alloc, IoBuf::from_vec(first)?)
 }
