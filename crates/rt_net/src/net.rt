@@ -35,6 +35,18 @@ pub const DEFAULT_BUFFER_SIZE: usize = 65536;
 /// Channels, listeners and connections in memory.
 ///
 /// Contracts see the whole network, with the bytes that were answered, and the count of refusals.
+///
+/// Errors, each with its cause:
+/// - `bind`: `BindFailed` for an address of 127.0.0.1 with a port from 32,768 up to 60,999, and for one that was bound
+///   before, even if that listener was closed.
+/// - `dial`: `PortsExhausted` after 28,232 dials that were taken or answered with `ConnectionFailed`, and else
+///   `ConnectionFailed` where no listener is alive at the address.
+/// - `send`: `Closed` where the sink has failed or a `send` of it was given up, and else `SendFailed` where the stream was
+///   closed. A poll of it: `SendFailed` where the stream was closed and more than the buffer size is left.
+/// - `recv`: `Closed` where the stream has failed or a `recv` of it was given up, and else `RecvFailed` where fewer bytes
+///   than asked for are there and the sink has failed or was closed. A poll of it: `RecvFailed` as before.
+/// - `UnknownToken` for a half or a listener that isn't alive in this network.
+/// - `NoMemory` from `bind`, `dial`, `send`, `recv` and `peek`, where the network is out of memory.
 #[derive(Drop)]
 pub struct Net {
     channels: Channels,

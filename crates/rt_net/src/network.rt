@@ -28,6 +28,9 @@ pub type ListenerOf<N> = <N as Network>::Listener;
 
 /// Listeners, and channels whose halves are tokens that must be spent. `task` is the number of the task that calls,
 /// which waits where the answer is pending.
+///
+/// Errors are said as the network in memory (`Net`) gives them. Beside these, `UnknownToken` answers the token of another
+/// network, and `NoMemory` a call that is out of memory; neither changes a channel or a listener.
 pub trait Network {
     type Listener;
 
@@ -82,6 +85,9 @@ pub trait Network {
         ensures noted { E.noted env.new ≡ E.noted env.old };
 
     /// Sends the bytes, and is pending where too many are left in the channel.
+    ///
+    /// Errors: `Closed` where the sink has failed or a `send` of it was given up, and `SendFailed` where the stream was
+    /// closed. After either the sink has failed.
     fn send<E: Env>(
         &mut self,
         env: &mut E,
@@ -96,6 +102,8 @@ pub trait Network {
         ensures counts { Counts (refusals self.old) (refusals self.new) result.value };
 
     /// Polls a `send` that was pending. Where the poll is refused and nothing changes, the `send` still waits.
+    ///
+    /// Errors: `SendFailed` where too many bytes are left and the stream was closed. The sink has failed then.
     fn poll_send<E: Env>(
         &mut self,
         env: &mut E,
@@ -109,6 +117,9 @@ pub trait Network {
         ensures counts { Counts (refusals self.old) (refusals self.new) result };
 
     /// Receives `len` bytes, and is pending where they aren't there.
+    ///
+    /// Errors: `Closed` where the stream has failed or a `recv` of it was given up, and `RecvFailed` where bytes are
+    /// missing and the sink has failed or was closed. After `RecvFailed` the stream has failed.
     fn recv<E: Env>(
         &mut self,
         env: &mut E,
@@ -123,6 +134,8 @@ pub trait Network {
         ensures counts { Counts (refusals self.old) (refusals self.new) result };
 
     /// Polls a `recv` that was pending. Where the poll is refused and nothing changes, the `recv` still waits.
+    ///
+    /// Errors: `RecvFailed` where bytes are missing and the sink has failed or was closed. The stream has failed then.
     fn poll_recv<E: Env>(
         &mut self,
         env: &mut E,
@@ -169,12 +182,18 @@ pub trait Network {
         ensures counts { refusals self.old ≤ refusals self.new };
 
     /// Listens at an address.
+    ///
+    /// Errors: `BindFailed` where the address is one that dialers have, or was bound before, even if that listener was
+    /// closed.
     fn bind<E: Env>(&mut self, env: &mut E, socket: Addr) -> Result<Self::Listener, Error>
         ensures gives { Notes (E.noted env.old) (λ x. binds self.old socket result self.new x) (E.noted env.new) }
         ensures spent { E.spare env.old ≤ E.spare env.new + most }
         ensures counts { Counts (refusals self.old) (refusals self.new) result };
 
     /// Connects to the listener at an address.
+    ///
+    /// Errors: `PortsExhausted` where every port of a dialer is used up, and `ConnectionFailed` where no listener is alive
+    /// at the address. The latter uses up a port too.
     fn dial<E: Env>(
         &mut self,
         env: &mut E,
