@@ -5,13 +5,13 @@ use Rattle.rt_base.specs.declared.error.Error.TheVariants.{NoMemory}
 use Rattle.rt_base.specs.Noted.{Noted, Adds}
 use Rattle.rt_base.specs.Outside.{HasRisen}
 
--- the count never falls, and an error other than want of memory comes only where it rose
+-- the count never falls, and an error other than being out of memory comes only where it rose
 abbrev pub Counts : {A : Type 0} → ℕ → ℕ → Result A Error → Type 0
 Counts old new (Ok _) = old ≤ new
 Counts old new (Err NoMemory) = old ≤ new
 Counts old new (Err _) = (old ≤ new) × HasRisen old new
 
--- one more for an error other than want of memory, up to the type's end
+-- one more for an error other than being out of memory, up to the type's end
 abbrev pub counted : {A : Type 0} → ℕ → Result A Error → ℕ
 counted n (Ok _) = n
 counted n (Err NoMemory) = n

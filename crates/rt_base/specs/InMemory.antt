@@ -37,7 +37,7 @@ ReadsInMemory old room (Err e) buf new =
     FailsNext old × (new ≡ record (called old) { faults = counted_up old.faults })
 
 -- a write moves as many bytes as there are and as a call moves; it fails where its number is
--- listed, and otherwise only for want of memory
+-- listed, and otherwise only where it was out of memory
 abbrev pub WritesInMemory : InMemory → List ℕ → Result ℕ Failed → InMemory → Type 0
 WritesInMemory old piece (Ok n) new =
     (¬ FailsNext old)

@@ -49,7 +49,7 @@ pub use layout::{BLOB_PAGE_SIZE, BlobLayout, DEFAULT_BLOB_LAYOUT};
 pub use list_sink::ListSink;
 pub use list_source::ListSource;
 pub use metric_error::MetricError;
-pub use name::{Name, add_attribute};
+pub use name::{Name, add_attribute, clone_attributes};
 pub use no_memory::NoMemory;
 pub use options::{ReadOptions, WriteOptions};
 pub use poll::Poll;

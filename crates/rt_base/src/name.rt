@@ -22,16 +22,20 @@ impl Name {
     {
         Ok(Name {
             label: self.label.clone_value()?,
-            attributes: clone_attributes(&self.attributes)?,
+            attributes: clone_attributes(self.attributes.allocator(), self.attributes.as_slice())?,
         })
     }
 }
 
-fn clone_attributes(attributes: &Items<(Text, Text)>) -> Result<Items<(Text, Text)>, NoMemory>
+/// Equal attributes.
+pub fn clone_attributes(
+    alloc: Global,
+    attributes: &[(Text, Text)],
+) -> Result<Items<(Text, Text)>, NoMemory>
     ensures { IfOk result (λ copy. copy ≡ attributes.now) }
 {
-    let mut copy = Vec::new(attributes.allocator());
-    for (key, value) in attributes.as_slice() {
+    let mut copy = Vec::new(alloc);
+    for (key, value) in attributes {
         copy.push((key.clone_value()?, value.clone_value()?))?;
     }
     Ok(Items::of(copy))

@@ -1,4 +1,4 @@
-// Want of memory, and how a refused growth becomes it.
+// Out of memory, and how a refused growth becomes it.
 
 use std::alloc::{AllocError, AllocFailed};
 
