@@ -2,11 +2,11 @@
 use Rattle.std.proofs.Common.{◌≡◌, ℕ, zero, suc, ◌+◌, Bool, true, false, cond, ◌&&◌, List, [], ◌∷◌, ◌++◌, Option, Some, None, Result, Ok, Err, refl, sym, ap, ◌∙◌, subst, arith, rules, is_some, inl, inr}
 use Rattle.std.specs.Prelude.{slice_set, slice_index_or, option_map, OnOk, OnErr}
 use Rattle.std.specs.List.{slice_get, position_from}
+use Rattle.std.proofs.lemmas.Bool.{cases_Bool, cond-true, cond-false}
 use Rattle.std.proofs.lemmas.Option.{slice_get-map, get_or_from_slice_get}
 use Rattle.rt_base.specs.declared.addr.Addr.{Addr}
 use Rattle.rt_base.specs.declared.poll.Poll.{Poll}
 use Rattle.rt_base.specs.declared.poll.Poll.TheVariants.{Ready, Pending}
-use Rattle.rt_net.proofs.Places.{bool-cases}
 use Rattle.rt_net.specs.declared.place.Place.{Place}
 use Rattle.rt_net.specs.Place.{IsIndexed}
 use Rattle.rt_net.specs.Network.{ListenerState, addresses, addr_eq, if_listener_lives, live_listener, at_listener, listener_at, after_accept}
@@ -46,14 +46,6 @@ and-both : (x y : Bool) → x && y ≡ true → (x ≡ true) × (y ≡ true)
 and-both true y e = (refl, e)
 and-both false y e = absurd (cc)
 
-cond-true : {A : Type 0} (b : Bool) (x y : A) → b ≡ true → cond b x y ≡ x
-cond-true true x y e = refl
-cond-true false x y e = absurd (cc)
-
-cond-false : {A : Type 0} (b : Bool) (x y : A) → b ≡ false → cond b x y ≡ y
-cond-false true x y e = absurd (cc)
-cond-false false x y e = refl
-
 some-number : (m n : ℕ) → m ≡ n → (let o : Option ℕ = Some m in o) ≡ Some n
 some-number m n e = ap (λ k. let o : Option ℕ = Some k in o) e
 
@@ -64,7 +56,7 @@ position-only {X = X} p (y ∷ ys) i zero x e t only =
     let same : x ≡ y = cc in
     let P : X → Type 0 = λ z. p z ≡ true in
     cond-true (p y) (Some i) (position_from p (i + 1) ys) (subst P same t) ∙ some-number i (i + 0) (omega arith)
-position-only p (y ∷ ys) i (suc k) x e t only = elim (bool-cases (p y)) [
+position-only p (y ∷ ys) i (suc k) x e t only = elim (cases_Bool (p y)) [
   | inl h ↦ let no : 0 ≡ suc k = only 0 y refl h in absurd (omega (arith, no))
   | inr h ↦
       cond-false (p y) (Some i) (position_from p (i + 1) ys) h
@@ -74,7 +66,7 @@ position-only p (y ∷ ys) i (suc k) x e t only = elim (bool-cases (p y)) [
 
 position-none : {X : Type 0} (p : X → Bool) (xs : List X) (i : ℕ) → ((m : ℕ) (y : X) → slice_get xs m ≡ Some y → p y ≡ true → ⊥) → position_from p i xs ≡ None
 position-none p [] i none = refl
-position-none p (y ∷ ys) i none = elim (bool-cases (p y)) [
+position-none p (y ∷ ys) i none = elim (cases_Bool (p y)) [
   | inl h ↦ absurd (none 0 y refl h)
   | inr h ↦ cond-false (p y) (Some i) (position_from p (i + 1) ys) h ∙ position-none p ys (i + 1) (λ m z f g. none (suc m) z f g)
 ]
@@ -89,7 +81,7 @@ some-address a = Some a
 -- a listener that is live stands in the list
 live-some : (o : Option ListenerState) → is_some (if_listener_lives o) ≡ true → (l : ListenerState) × (o ≡ Some l) × (l.alive ≡ true)
 live-some None e = absurd (cc)
-live-some (Some l) e = elim (bool-cases l.alive) [
+live-some (Some l) e = elim (cases_Bool l.alive) [
   | inl h ↦ (l, refl, h)
   | inr h ↦
       let no : false ≡ true = sym (ap is_some (cond-false l.alive (Some l) None h)) ∙ e in

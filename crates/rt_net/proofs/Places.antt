@@ -1,6 +1,7 @@
 -- A map that finds each address by its key.
 use Rattle.std.proofs.Common.{◌≡◌, ℕ, zero, suc, Bool, true, false, cond, List, [], ◌∷◌, ◌++◌, length, Option, Some, refl, sym, ap, ◌∙◌, subst, ◌⊎◌, inl, inr}
 use Rattle.std.specs.List.{slice_get}
+use Rattle.std.proofs.lemmas.Bool.{cases_Bool}
 use Rattle.rt_base.specs.declared.addr.Addr.{Addr}
 use Rattle.rt_base.specs.declared.addr.Ip.{Ip}
 use Rattle.rt_base.specs.declared.addr.Ip.TheVariants as ip
@@ -39,10 +40,6 @@ get-before [] zs y n e = absurd (cc)
 get-before (x ∷ xs) zs y zero e = e
 get-before (x ∷ xs) zs y (suc n) e = get-before xs zs y n e
 
-pub bool-cases : (b : Bool) → (b ≡ true) ⊎ (b ≡ false)
-bool-cases true = inl refl
-bool-cases false = inr refl
-
 -- a map that finds the addresses finds one more, once its key has the next place
 pub indexed-more : (eq : Place → Place → Bool) (same : (p q : Place) → eq p q ≡ true → p ≡ q) (itself : (p : Place) → eq p p ≡ true) (find find' : Place → Option ℕ) (xs : List Addr) (a : Addr) → IsIndexed find xs → ((q : Place) → find' q ≡ cond (eq (place_of a) q) (Some (length xs)) (find q)) → ((n : ℕ) → slice_get xs n ≡ Some a → ⊥) → IsIndexed find' (xs ++ a ∷ [])
 indexed-more eq same itself find find' xs a old put absent =
@@ -50,7 +47,7 @@ indexed-more eq same itself find find' xs a old put absent =
     λ b t h. put (place_of b) ∙ ap (λ (u : Bool). cond u (Some (length xs)) (find (place_of b))) h in
     record {
       finds = λ n b h. elim (get-snoc xs a b n h) [
-        | inl k ↦ elim (bool-cases (eq (place_of a) (place_of b))) [
+        | inl k ↦ elim (cases_Bool (eq (place_of a) (place_of b))) [
           | inl t ↦
               let e : a ≡ b = place-injective a b (same (place_of a) (place_of b) t) in
               absurd (absent n (k ∙ ap (λ x. let o : Option Addr = Some x in o) (sym e)))
@@ -61,7 +58,7 @@ indexed-more eq same itself find find' xs a old put absent =
             let t : eq (place_of a) (place_of b) ≡ true = subst P k.1 (itself (place_of a)) in
             chosen b true t ∙ ap (λ m. let o : Option ℕ = Some m in o) (sym k.0)
       ];
-      found = λ b n h. elim (bool-cases (eq (place_of a) (place_of b))) [
+      found = λ b n h. elim (cases_Bool (eq (place_of a) (place_of b))) [
         | inl t ↦
             let e : a ≡ b = place-injective a b (same (place_of a) (place_of b) t) in
             let here : Some (length xs) ≡ Some n = sym (chosen b true t) ∙ h in
