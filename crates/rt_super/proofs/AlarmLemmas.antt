@@ -1,8 +1,8 @@
 -- Alarms in the order of (due, number).
-use Rattle.std.proofs.Common.{◌≡◌, ℕ, zero, suc, ◌<◌, Bool, true, false, cond, ◌||◌, ◌&&◌, eqb, ltb, leb, List, [], ◌∷◌, map, refl, sym, ap, ◌∙◌, arith, Option, Some, None}
+use Rattle.std.proofs.Common.{◌≡◌, ℕ, zero, suc, ◌<◌, Bool, true, false, cond, ◌||◌, ◌&&◌, eqb, ltb, leb, List, [], ◌∷◌, ◌++◌, length, map, refl, sym, ap, ◌∙◌, arith, Option, Some, None}
 use Rattle.std.specs.List.{AllByRecursion, All, slice_get}
 use Rattle.std.specs.List.Sorted.{IsStrictlySortedBy}
-use Rattle.std.specs.Option.{option_map}
+use Rattle.std.specs.Option.{option_map, is_some}
 use Rattle.std.specs.Ordering.{nat_cmp, ordering_then, match_ordering, is_eq}
 use Rattle.std.specs.Cmp.{nat_cmp_is}
 use Rattle.std.specs.declared.cmp.Ordering.{Ordering}
@@ -169,12 +169,15 @@ none_from_due (Some a) e = cc
 pub tail_none : (a : Alarm) (rest : List Alarm) (n : ℕ) → alarm_at (a ∷ rest) n ≡ None → alarm_at rest n ≡ None
 tail_none a rest n none = (not_first (eqb a.number n) a (alarm_at rest n) none).1
 
-pub dues_tail : (a : Alarm) (rest : List Alarm) (q : ℕ) → alarm_at rest a.number ≡ None → cond (eqb a.number q) None (option_map (λ x. x.due) (alarm_at (a ∷ rest) q)) ≡ option_map (λ x. x.due) (alarm_at rest q)
-dues_tail a rest q gone = by (eqb a.number q) refl
+pub due_in_tail : (a : Alarm) (rest : List Alarm) (q due : ℕ) → alarm_at rest a.number ≡ None → option_map (λ x. x.due) (alarm_at rest q) ≡ Some due → option_map (λ x. x.due) (alarm_at (a ∷ rest) q) ≡ Some due
+due_in_tail a rest q due gone at = by (eqb a.number q) refl
   where
-    by : (b : Bool) → eqb a.number q ≡ b → cond b None (option_map (λ x. x.due) (cond b (Some a) (alarm_at rest q))) ≡ option_map (λ x. x.due) (alarm_at rest q)
-    by true h = let same : a.number ≡ q = grind (arith, nat_tests) in rw (← same, gone) refl
-    by false h = refl
+    by : (b : Bool) → eqb a.number q ≡ b → option_map (λ x. x.due) (cond b (Some a) (alarm_at rest q)) ≡ Some due
+    by true h =
+        let same : a.number ≡ q = grind (arith, nat_tests) in
+        let none : option_map (λ x. x.due) (alarm_at rest q) ≡ None = rw (← same, gone) refl in
+        cc
+    by false h = at
 
 pub dues_set : (a : Alarm) (xs : List Alarm) (q : ℕ) → alarm_at xs a.number ≡ None → cond (eqb a.number q) (Some a.due) (option_map (λ x. x.due) (alarm_at xs q)) ≡ option_map (λ x. x.due) (alarm_at (with_alarm a xs) q)
 dues_set a xs q fresh = both (eqb a.number q) ∙ ap (λ o. option_map (λ x. x.due) o) (sym (alarm_at-with_alarm a xs q fresh))
@@ -194,3 +197,64 @@ first_due_is (x ∷ xs) e at = let same : x ≡ e = cc in rw same refl
 pub due_first_is : (es : List ((ℕ × ℕ) × ℕ)) (e : (ℕ × ℕ) × ℕ) (now : ℕ) → slice_get es 0 ≡ Some e → due_first (alarms_of es) now ≡ cond (leb e.0.0 now) (Some (alarm_of e)) None
 due_first_is [] e now at = cc
 due_first_is (x ∷ xs) e now at = let same : x ≡ e = cc in rw same refl
+
+-- the due times by number
+
+last_at : (xs : List ℕ) (x : ℕ) → slice_get (xs ++ x ∷ []) (length xs) ≡ Some x
+last_at [] x = refl
+last_at (y ∷ xs) x = last_at xs x
+
+still_at : (xs ys : List ℕ) (n x : ℕ) → slice_get xs n ≡ Some x → slice_get (xs ++ ys) n ≡ Some x
+still_at [] ys n x at = cc
+still_at (y ∷ xs) ys zero x at = at
+still_at (y ∷ xs) ys (suc n) x at = still_at xs ys n x at
+
+pub at_number : (dues : List ℕ) (due n x : ℕ) (o : Option ℕ) → (o ≡ Some x → slice_get dues n ≡ Some x) → cond (eqb (length dues) n) (Some due) o ≡ Some x → slice_get (dues ++ due ∷ []) n ≡ Some x
+at_number dues due n x o old = by (eqb (length dues) n) refl
+  where
+    by : (b : Bool) → eqb (length dues) n ≡ b → cond b (Some due) o ≡ Some x → slice_get (dues ++ due ∷ []) n ≡ Some x
+    by true e h =
+        let same : length dues ≡ n = grind (arith, nat_tests) in
+        let is : due ≡ x = cc in
+        rw (← same, ← is) (last_at dues due)
+    by false e h = still_at dues (due ∷ []) n x (old h)
+
+-- the key of a live alarm
+
+key_parts : (x y z w : Bool) → is_eq (ordering_then (cond x Less (cond y Equal Greater)) (cond z Less (cond w Equal Greater))) ≡ true → (y ≡ true) × (w ≡ true)
+key_parts true y z w h = cc
+key_parts false true true w h = cc
+key_parts false true false true h = (refl, refl)
+key_parts false true false false h = cc
+key_parts false false z w h = cc
+
+pub due_by_key : (es : List ((ℕ × ℕ) × ℕ)) (due n : ℕ) → AreOnce (alarms_of es) → is_some (lookup (is_at (key_cmp (due, n))) es) ≡ true → option_map (λ a. a.due) (alarm_at (alarms_of es) n) ≡ Some due
+due_by_key [] due n once has = cc
+due_by_key (e ∷ es) due n once has = by (is_at (key_cmp (due, n)) e.0) refl (λ k. due_by_key es due n once.1 k) has
+  where
+    by : (b : Bool) → is_at (key_cmp (due, n)) e.0 ≡ b → (is_some (lookup (is_at (key_cmp (due, n))) es) ≡ true → option_map (λ a. a.due) (alarm_at (alarms_of es) n) ≡ Some due) → is_some (cond b (Some e.1) (lookup (is_at (key_cmp (due, n))) es)) ≡ true → option_map (λ a. a.due) (alarm_at (alarms_of (e ∷ es)) n) ≡ Some due
+    by true h later k =
+        let parts = key_parts (ltb due e.0.0) (eqb due e.0.0) (ltb n e.0.1) (eqb n e.0.1) h in
+        let number : eqb e.0.1 n ≡ true = let g = parts.1 in grind (arith, nat_tests) in
+        let moment : e.0.0 ≡ due = let g = parts.0 in grind (arith, nat_tests) in
+        rw (number, moment) refl
+    by false h later k = due_in_tail (alarm_of e) (alarms_of es) n due once.0 (later k)
+
+pub key_of_due : (es : List ((ℕ × ℕ) × ℕ)) (due n : ℕ) → option_map (λ a. a.due) (alarm_at (alarms_of es) n) ≡ Some due → is_some (lookup (is_at (key_cmp (due, n))) es) ≡ true
+key_of_due [] due n at = cc
+key_of_due (e ∷ es) due n at = by (eqb e.0.1 n) refl (λ k. key_of_due es due n k) at
+  where
+    by : (b : Bool) → eqb e.0.1 n ≡ b → (option_map (λ a. a.due) (alarm_at (alarms_of es) n) ≡ Some due → is_some (lookup (is_at (key_cmp (due, n))) es) ≡ true) → option_map (λ a. a.due) (cond b (Some (alarm_of e)) (alarm_at (alarms_of es) n)) ≡ Some due → is_some (cond (is_at (key_cmp (due, n)) e.0) (Some e.1) (lookup (is_at (key_cmp (due, n))) es)) ≡ true
+    by true h later k =
+        let same : n ≡ e.0.1 = grind (arith, nat_tests) in
+        let moment : due ≡ e.0.0 = cc in
+        let test : is_at (key_cmp (due, n)) e.0 ≡ true = rw (moment, same) (same_key e.0.0 e.0.1) in
+        rw test refl
+    by false h later k =
+        let apart : eqb n e.0.1 ≡ false = grind (arith, nat_tests) in
+        let test : is_at (key_cmp (due, n)) e.0 ≡ false = rw apart (other_key (nat_cmp due e.0.0) (ltb n e.0.1)) in
+        rw test (later k)
+
+pub none_unless : (o : Option ℕ) → ((x : ℕ) → o ≡ Some x → ⊥) → o ≡ None
+none_unless None h = refl
+none_unless (Some x) h = absurd (h x refl)

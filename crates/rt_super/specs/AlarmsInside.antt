@@ -1,6 +1,5 @@
 -- How alarms are kept in memory.
-use Rattle.std.specs.Prelude.{◌≡◌, ℕ, nat_eq, List, map}
-use Rattle.std.specs.HashMap.{get}
+use Rattle.std.specs.Prelude.{◌≡◌, ℕ, List, map, length, Some, slice_get, vec_len}
 use Rattle.rt_super.specs.Wakers.{waker_of}
 use Rattle.rt_super.specs.Alarms.{Alarm, AlarmList, AreSet, due_at}
 use Rattle.rt_super.specs.declared.alarms.Alarms.TheInside.{Inside}
@@ -13,9 +12,10 @@ abbrev pub alarms_of : List ((ℕ × ℕ) × ℕ) → List Alarm
 alarms_of entries = map alarm_of entries
 
 abbrev pub list_of : Inside → AlarmList
-list_of a = record { alarms = alarms_of a.tasks.entries; count = a.count }
+list_of a = record { alarms = alarms_of a.tasks.entries; count = vec_len a.dues }
 
--- The due time under each number is its alarm's.
+-- The due times stand in places by number, and a live alarm's is its own.
 pub record IsWhole (a : Inside) : Type 0 where
   pub set : AreSet (list_of a)
-  pub dues : (n : ℕ) → get nat_eq a.dues n ≡ due_at (alarms_of a.tasks.entries) n
+  pub counted : vec_len a.dues ≡ length a.dues.items
+  pub dues : (n due : ℕ) → due_at (alarms_of a.tasks.entries) n ≡ Some due → slice_get a.dues.items n ≡ Some due

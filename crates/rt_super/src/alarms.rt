@@ -5,22 +5,20 @@ ghost use Rattle.rt_super.specs.Alarms.{no_alarms, alarm_set, alarm_rewoken, due
 
 use rt_base::{Nanos, NoMemory};
 use std::alloc::Global;
-use std::collections::{BTreeMap, HashMap};
+use std::collections::BTreeMap;
 use std::marker::Model;
 
 /// The alarms that are set. Each has a due time in nanoseconds, a number, and the task that it
 /// wakes, if it wakes one: `NOBODY` in its place stands for none. Alarms are numbered from 0 in the
 /// order of `set`.
 ///
-/// Only `set` takes memory.
+/// Only `set` takes memory: 16 bytes of it stay for each alarm that was ever set.
 #[derive(Drop)]
 pub struct Alarms {
     /// Whom each alarm wakes, by due time and number.
     tasks: BTreeMap<(Nanos, u64), u64>,
-    /// The due time of each alarm, by number.
-    dues: HashMap<u64, Nanos>,
-    /// How many alarms were ever set.
-    count: u64,
+    /// When each alarm that was ever set is or was due, by number.
+    dues: Vec<Nanos>,
 }
 
 impl Model for Alarms {
@@ -42,34 +40,22 @@ impl Alarms {
     {
         Alarms {
             tasks: BTreeMap::new(alloc),
-            dues: HashMap::new(alloc),
-            count: 0,
+            dues: Vec::new(alloc),
         }
     }
 
-    /// Sets an alarm that is due at a moment and wakes a task, and answers its number. `NoMemory`
-    /// also where the numbers have run out.
+    /// Sets an alarm that is due at a moment and wakes a task, and answers its number.
     pub fn set(&mut self, due: Nanos, task: u64) -> Result<u64, NoMemory>
         ensures number { IfOk result (λ alarm. alarm ≡ self.old.count) }
         ensures given { IfOk result (λ alarm. alarm < 2 ^ 64 - 1) }
         ensures added { OnOk result (self.new ≡ alarm_set self.old due (waker_of task)) }
         ensures refused { OnErr result (self.new ≡ self.old) }
     {
-        if self.count == u64::MAX {
-            return Err(NoMemory);
-        }
-        let number = self.count;
-        self.dues.insert(number, due)?;
-        match self.tasks.insert((due, number), task) {
-            Ok(_) => {
-                self.count += 1;
-                Ok(number)
-            }
-            Err(_) => {
-                self.dues.remove(&number);
-                Err(NoMemory)
-            }
-        }
+        let number = self.dues.len() as u64;
+        self.dues.reserve(1)?;
+        self.tasks.insert((due, number), task)?;
+        self.dues.push_reserved(due);
+        Ok(number)
     }
 
     /// Lets a live alarm wake another task. Nothing where no live alarm has the number.
@@ -114,7 +100,6 @@ impl Alarms {
             return None;
         }
         let ((_, number), task) = self.tasks.pop_first()?;
-        self.dues.remove(&number);
         Some((number, task))
     }
 
@@ -123,14 +108,13 @@ impl Alarms {
         ensures { self.new ≡ alarms_cleared self.old }
     {
         self.tasks.clear();
-        self.dues.clear();
     }
 
     /// How many alarms were ever set, which is the number of the next.
     pub fn count(&self) -> u64
         ensures { result ≡ self.now.count }
     {
-        self.count
+        self.dues.len() as u64
     }
 
     /// How many alarms are set.
@@ -153,6 +137,11 @@ impl Alarms {
         ensures due { result ≡ due_at self.now.alarms alarm }
         ensures set { AreSet self.now }
     {
-        self.dues.get(&alarm).copied()
+        let due = *self.dues.get(alarm as usize)?;
+        if self.tasks.contains_key(&(due, alarm)) {
+            Some(due)
+        } else {
+            None
+        }
     }
 }

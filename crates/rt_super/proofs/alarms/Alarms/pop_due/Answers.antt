@@ -1,6 +1,6 @@
-use Rattle.std.proofs.Common.{ap, ◌∙◌, cond, eqb, None}
+use Rattle.std.proofs.Common.{ap}
 use Rattle.rt_super.specs.AlarmsInside.{alarms_of}
-use Rattle.rt_super.proofs.AlarmLemmas.{tail_none, dues_tail}
+use Rattle.rt_super.proofs.AlarmLemmas.{tail_none, due_in_tail}
 use Rattle.rt_super.proofs.alarms.Alarms.pop_due.Goals as goal
 
 pub invariant_of-self-2 : goal.invariant_of-self-2
@@ -14,5 +14,6 @@ invariant_of-self-2 c =
         given = λ n past. tail_none _ _ n (rw all at (c.self.invariant.set.given n past));
         once = once.1;
       };
-      dues = λ n. c.remove.ensures.updates.0 n ∙ ap (λ o. cond (eqb c.in_ok-number.number n) None o) (rw all at (c.self.invariant.dues n)) ∙ dues_tail _ _ n once.0;
+      counted = c.self.invariant.counted;
+      dues = λ n due at. c.self.invariant.dues n due (rw all (due_in_tail _ _ n due once.0 at));
     }

@@ -35,7 +35,8 @@ invariant_of-self-2 c =
         given = λ n past. rw all (alarm_at-waking c.args.alarm (waker_of c.args.task) n _ ∙ ap (λ o. option_map (waking c.args.alarm (waker_of c.args.task)) o) (c.self.invariant.set.given n past));
         once = rw all (AreOnce-waking c.args.alarm (waker_of c.args.task) _ c.self.invariant.set.once);
       };
-      dues = λ n. rw (all, alarm_at-waking c.args.alarm (waker_of c.args.task) n (alarms_of c.self.inside.tasks.entries), dues-waking c.args.alarm (waker_of c.args.task) (alarm_at (alarms_of c.self.inside.tasks.entries) n)) (c.self.invariant.dues n);
+      counted = c.self.invariant.counted;
+      dues = λ n due at. c.self.invariant.dues n due (rw (all, alarm_at-waking c.args.alarm (waker_of c.args.task) n (alarms_of c.self.inside.tasks.entries), dues-waking c.args.alarm (waker_of c.args.task) (alarm_at (alarms_of c.self.inside.tasks.entries) n)) at at);
     }
 
 pub returns : goal.returns
