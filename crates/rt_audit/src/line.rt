@@ -1,6 +1,6 @@
 //! The shapes of a journal's lines, each added to a text.
 
-ghost use Rattle.std.specs.Prelude.{◌≡◌, ◌++◌, ◌≤◌, length, OnOk, string_bytes};
+ghost use Rattle.std.specs.Prelude.{◌≡◌, ◌++◌, ◌≤◌, length, OnOk, codes, string_bytes};
 ghost use Rattle.std.specs.Fmt.{decimal};
 ghost use Rattle.hex.specs.Hex.{encode_lower};
 ghost use Rattle.rt_audit.specs.Lines.{optional_number, numbers_text, hex_text, fields_text, choice_text, choices_text};
@@ -77,18 +77,19 @@ pub fn add_numbers(text: &mut String, numbers: &[u64]) -> Result<(), NoMemory>
     Ok(())
 }
 
-/// Bytes as lower-case hex, or `-` where there are none.
-pub fn add_hex(alloc: Global, text: &mut String, bytes: &[u8]) -> Result<(), NoMemory>
-    ensures { OnOk result (string_bytes text.new ≡ string_bytes text.old ++ hex_text bytes.now) }
+/// A space, and bytes as lower-case hex, or `-` where there are none.
+fn add_field(alloc: Global, text: &mut String, bytes: &[u8]) -> Result<(), NoMemory>
+    ensures { OnOk result (string_bytes text.new ≡ string_bytes text.old ++ (codes " " ++ hex_text bytes.now)) }
 {
-    match bytes {
-        [] => add_word(text, "-"),
-        [..] if bytes.len() <= SHORT_HEX => add_short_hex(text, bytes),
-        [..] => {
-            let encoded = hex::encode(alloc, bytes)?;
-            add_word(text, encoded.as_str())
-        }
+    if bytes.is_empty() {
+        return add_word(text, " -");
     }
+    add_word(text, " ")?;
+    if bytes.len() <= SHORT_HEX {
+        return add_short_hex(text, bytes);
+    }
+    let encoded = hex::encode(alloc, bytes)?;
+    add_word(text, encoded.as_str())
 }
 
 /// A few bytes as lower-case hex.
@@ -101,10 +102,9 @@ fn add_short_hex(text: &mut String, bytes: &[u8]) -> Result<(), NoMemory>
     let Ok(()) = hex::encode_to_slice(bytes, digits) else {
         unreachable!();
     };
-    match str::from_utf8(digits) {
-        Ok(word) => add_word(text, word),
-        Err(_) => unreachable!(),
-    }
+    // Hex digits are ASCII.
+    let word = unsafe { str::from_utf8_unchecked(digits) };
+    add_word(text, word)
 }
 
 /// Each field behind a space.
@@ -112,8 +112,7 @@ pub fn add_fields(alloc: Global, text: &mut String, fields: &[Items<u8>]) -> Res
     ensures { OnOk result (string_bytes text.new ≡ string_bytes text.old ++ fields_text fields.now) }
 {
     for field in fields {
-        add_word(text, " ")?;
-        add_hex(alloc, text, field.as_slice())?;
+        add_field(alloc, text, field.as_slice())?;
     }
     Ok(())
 }

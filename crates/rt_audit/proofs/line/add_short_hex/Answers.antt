@@ -19,7 +19,7 @@ ascii_by_test (b ∷ bs) h =
     let parts = and_parts (is_ascii b) (list_all is_ascii bs) h in
     IsAscii-cons b bs (is_small b parts.0) (ascii_by_test bs parts.1)
 
-pub unreachable-requires-in-Err : goal.unreachable-requires-in-Err
-unreachable-requires-in-Err c =
+pub from_utf8_unchecked-word-requires : goal.from_utf8_unchecked-word-requires
+from_utf8_unchecked-word-requires c =
     let digits = ascii_by_test lower_digits refl in
-    c.in-Err.ensures.cases.0 (IsUtf8-from_ascii _ (rw c.in-Ok.ensures.written (IsAscii-encode_with lower_digits c.args.bytes.now digits)))
+    IsUtf8-from_ascii _ (rw c.in-Ok.ensures.written (IsAscii-encode_with lower_digits c.args.bytes.now digits))
