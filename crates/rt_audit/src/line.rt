@@ -22,28 +22,26 @@ pub fn add_word(text: &mut String, word: &str) -> Result<(), NoMemory>
     Ok(())
 }
 
-/// A number.
-#[inline]
+/// A number. Most have one digit.
+#[inline(always)]
 pub fn add_number(text: &mut String, number: u128) -> Result<(), NoMemory>
-    ensures { OnOk result (string_bytes text.new ≡ string_bytes text.old ++ decimal number) }
-{
-    match u64::try_from(number) {
-        Ok(number) => add_short(text, number),
-        Err(_) => {
-            text.push_str(Buffer::new().format(number))?;
-            Ok(())
-        }
-    }
-}
-
-/// A number of 64 bits. Most have one digit.
-fn add_short(text: &mut String, number: u64) -> Result<(), NoMemory>
     ensures { OnOk result (string_bytes text.new ≡ string_bytes text.old ++ decimal number) }
 {
     if number < 10 {
         text.push(char::from(b'0' + number as u8))?;
-    } else {
-        text.push_str(Buffer::new().format(number))?;
+        return Ok(());
+    }
+    add_digits(text, number)
+}
+
+/// A number of any size. It stands apart, so that one digit is written in place.
+#[inline(never)]
+fn add_digits(text: &mut String, number: u128) -> Result<(), NoMemory>
+    ensures { OnOk result (string_bytes text.new ≡ string_bytes text.old ++ decimal number) }
+{
+    match u64::try_from(number) {
+        Ok(number) => text.push_str(Buffer::new().format(number))?,
+        Err(_) => text.push_str(Buffer::new().format(number))?,
     }
     Ok(())
 }
