@@ -1,0 +1,8 @@
+use Rattle.std.proofs.Common.{rules}
+use Rattle.rt_metrics.proofs.gauge_ext.GaugeGaugeExt.try_set.Goals as goal
+
+pub returns-in_err-value : goal.returns-in_err-value
+returns-in_err-value g c = (c.try_into.result, c.try_into.ensures, (search rules))
+
+pub returns : goal.returns
+returns g c = (c.try_into.result, c.try_into.ensures, (search rules))

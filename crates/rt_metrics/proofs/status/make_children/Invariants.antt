@@ -1,0 +1,6 @@
+use Rattle.std.proofs.Common.{◌≡◌, take}
+use Rattle.rt_metrics.specs.Labels.{with_statuses}
+use Rattle.rt_metrics.proofs.status.make_children.Given as goal
+
+abbrev pub invariant-loop-status : goal.invariant-loop-status
+invariant-loop-status l = l.registry ≡ with_statuses l.fn.registry l.fn.id (take l.status-index l.statuses)

@@ -1,0 +1,4 @@
+pub mod Registry
+pub mod MetricText
+pub mod Labels
+pub mod Batches

@@ -1,0 +1,15 @@
+// Labels of a family's children.
+ghost use Rattle.std.specs.Prelude.{◌≡◌, IfOk};
+ghost use Rattle.rt_metrics.specs.Registry.{Pairs};
+
+use rt_base::{NoMemory, Text};
+use std::alloc::Global;
+
+/// What tells the children of a family apart: by the text of these labels.
+pub trait LabelSet {
+    ghost pairs: { Self → Pairs };
+
+    /// The labels: keys and values.
+    fn labels(&self, alloc: Global) -> Result<Vec<(Text, Text)>, NoMemory>
+        ensures { IfOk result (λ labels. labels.items ≡ pairs self.now) };
+}
