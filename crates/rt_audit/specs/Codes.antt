@@ -1,7 +1,7 @@
 -- The numbers of errors.
 use Rattle.std.specs.Prelude.{ℕ}
 use Rattle.rt_base.specs.declared.error.Error.{Error}
-use Rattle.rt_base.specs.declared.error.Error.TheVariants.{Exited, Closed, Aborted, Timeout, BindFailed, ConnectionFailed, SendFailed, RecvFailed, ResolveFailed, PortsExhausted, ClockOverflow, UnknownToken, TooManyTasks, Metric, BlobInsufficientLength, OffsetOverflow, BlobAlreadyOpen, PartitionNameInvalid, PartitionMissing, BlobMissing}
+use Rattle.rt_base.specs.declared.error.Error.TheVariants.{Exited, Closed, Aborted, Timeout, BindFailed, ConnectionFailed, SendFailed, RecvFailed, ResolveFailed, PortsExhausted, ClockOverflow, UnknownToken, TooManyTasks, Metric, BlobInsufficientLength, OffsetOverflow, BlobAlreadyOpen, PartitionNameInvalid, PartitionMissing, BlobMissing, BlobVersionMismatch, Io}
 
 -- the number that a refused call shows
 abbrev pub code_of : Error → ℕ
@@ -25,4 +25,6 @@ code_of (BlobAlreadyOpen partition blob) = 17
 code_of (PartitionNameInvalid name) = 18
 code_of (PartitionMissing name) = 19
 code_of (BlobMissing partition blob) = 20
+code_of (BlobVersionMismatch expected found) = 21
+code_of (Io kind) = 22
 code_of other = 23

@@ -1,5 +1,5 @@
 -- The line of each entry.
-use Rattle.std.specs.Prelude.{ℕ, List, [], ◌∷◌, ◌++◌, Option, Some, None, codes}
+use Rattle.std.specs.Prelude.{ℕ, List, [], ◌∷◌, ◌++◌, Option, Some, None, Bool, true, false, codes}
 use Rattle.std.specs.Fmt.{decimal}
 use Rattle.hex.specs.Hex.{encode_lower}
 use Rattle.rt_base.specs.declared.choice.Choice.{Choice}
@@ -9,9 +9,9 @@ use Rattle.rt_audit.specs.declared.answer.AnswerKind.TheVariants.{Pending as IsP
 use Rattle.rt_audit.specs.declared.finish.FinishCause.{FinishCause}
 use Rattle.rt_audit.specs.declared.finish.FinishCause.TheVariants.{Completed, Timeout, Stalled, TaskPanicked, TimeOverflow, TooManyTasks, NoMemory}
 use Rattle.rt_audit.specs.declared.call.Call.{Call}
-use Rattle.rt_audit.specs.declared.call.Call.TheVariants.{CloseNode, Wake as WakeCall, SleepPoll}
+use Rattle.rt_audit.specs.declared.call.Call.TheVariants.{Child, CloseNode, Spawn, Abort, AbortTask, Wake as WakeCall, Join, GiveUp, SleepPoll}
 use Rattle.rt_audit.specs.declared.reply.CallReply.{CallReply}
-use Rattle.rt_audit.specs.declared.reply.CallReply.TheVariants.{Done, PendingAt, Ready, Refused}
+use Rattle.rt_audit.specs.declared.reply.CallReply.TheVariants.{Done, NodeAt, TaskAt, Closed, Pending, PendingAt, Ready, Refused}
 use Rattle.rt_audit.specs.declared.entry.Entry.{Entry}
 use Rattle.rt_audit.specs.declared.entry.Entry.TheVariants.{Start, Call as CallEntry, Event, Wake, Draw, Root, Round, Visit, Answer, NodeEnd, Advance, Skip, Fire, Cleanup, Crash, Finish}
 use Rattle.rt_audit.specs.Codes.{code_of}
@@ -67,12 +67,26 @@ cause_word TooManyTasks = codes "tasks"
 cause_word NoMemory = codes "nomemory"
 
 abbrev pub call_text : Call → List ℕ
+call_text (Child node label) = numbered_text (codes "child") node ++ codes " " ++ label
 call_text (CloseNode node) = numbered_text (codes "close-node") node
+call_text (Spawn node) = numbered_text (codes "spawn") node
+call_text (Abort task) = numbered_text (codes "abort") task
+call_text (AbortTask task) = numbered_text (codes "abort-task") task
 call_text (WakeCall task) = numbered_text (codes "wake") task
+call_text (Join task) = numbered_text (codes "join") task
+call_text (GiveUp task) = numbered_text (codes "give-up") task
 call_text (SleepPoll due) = numbered_text (codes "sleep-poll") due
+
+abbrev pub ended_word : Bool → List ℕ
+ended_word true = codes " ended"
+ended_word false = []
 
 abbrev pub reply_text : CallReply → List ℕ
 reply_text Done = codes "ok"
+reply_text (NodeAt node ended) = numbered_text (codes "node") node ++ ended_word ended
+reply_text (TaskAt task node) = numbered_text (codes "task") task ++ numbered_text (codes " node") node
+reply_text Closed = codes "closed"
+reply_text Pending = codes "pending"
 reply_text (PendingAt alarm) = numbered_text (codes "pending") alarm
 reply_text Ready = codes "ready"
 reply_text (Refused error) = numbered_text (codes "err") (code_of error)

@@ -3,29 +3,52 @@
 ghost use Rattle.std.specs.Prelude.{◌≡◌, ◌++◌, OnOk, string_bytes};
 ghost use Rattle.rt_audit.specs.Lines.{call_text};
 
-use crate::line::add_numbered;
+use crate::Label;
+use crate::line::{add_numbered, add_word};
 use rt_base::{Nanos, NoMemory};
 
 /// A call on the world, as its line shows it.
-#[derive(Clone, Copy, Debug)]
+#[derive(Debug, Drop)]
 pub enum Call {
+    /// Makes a child of a node.
+    Child { node: u64, label: Label },
     /// Closes the context that stands on a node.
     CloseNode { node: u64 },
+    /// Spawns a task on a node.
+    Spawn { node: u64 },
+    /// Aborts a task by its handle.
+    Abort { task: u64 },
+    /// Aborts a task by its number.
+    AbortTask { task: u64 },
     /// Queues a task.
     Wake { task: u64 },
+    /// Polls the result of a task.
+    Join { task: u64 },
+    /// Gives the result of a task up.
+    GiveUp { task: u64 },
     /// Polls a sleep that is over at `due`, in nanoseconds since the epoch.
     SleepPoll { due: Nanos },
 }
 
 impl Call {
     /// Adds the words of a journal's line.
-    pub fn add_to(self, text: &mut String) -> Result<(), NoMemory>
-        ensures { OnOk result (string_bytes text.new ≡ string_bytes text.old ++ call_text self) }
+    pub fn add_to(&self, text: &mut String) -> Result<(), NoMemory>
+        ensures { OnOk result (string_bytes text.new ≡ string_bytes text.old ++ call_text self.now) }
     {
         match self {
-            Call::CloseNode { node } => add_numbered(text, "close-node ", node as u128),
-            Call::Wake { task } => add_numbered(text, "wake ", task as u128),
-            Call::SleepPoll { due } => add_numbered(text, "sleep-poll ", due),
+            Call::Child { node, label } => {
+                add_numbered(text, "child ", *node as u128)?;
+                add_word(text, " ")?;
+                add_word(text, label.as_str())
+            }
+            Call::CloseNode { node } => add_numbered(text, "close-node ", *node as u128),
+            Call::Spawn { node } => add_numbered(text, "spawn ", *node as u128),
+            Call::Abort { task } => add_numbered(text, "abort ", *task as u128),
+            Call::AbortTask { task } => add_numbered(text, "abort-task ", *task as u128),
+            Call::Wake { task } => add_numbered(text, "wake ", *task as u128),
+            Call::Join { task } => add_numbered(text, "join ", *task as u128),
+            Call::GiveUp { task } => add_numbered(text, "give-up ", *task as u128),
+            Call::SleepPoll { due } => add_numbered(text, "sleep-poll ", *due),
         }
     }
 }

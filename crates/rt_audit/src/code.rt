@@ -30,6 +30,11 @@ pub fn error_code(error: &Error) -> u64
         Error::PartitionNameInvalid(_) => 18,
         Error::PartitionMissing(_) => 19,
         Error::BlobMissing(_, _) => 20,
+        Error::BlobVersionMismatch {
+            expected: _,
+            found: _,
+        } => 21,
+        Error::Io(_) => 22,
         _ => 23,
     }
 }

@@ -94,7 +94,7 @@ impl Entry {
                 deadline,
                 cycle,
             } => add_start(text, *now, *deadline, *cycle, *next),
-            Entry::Call { by, call, reply } => add_call(text, *by, *call, reply),
+            Entry::Call { by, call, reply } => add_call(text, *by, call, reply),
             Entry::Event { label, fields } => {
                 add_word(text, "event ")?;
                 add_word(text, label.as_str())?;
@@ -149,10 +149,10 @@ fn add_start(
 fn add_call(
     text: &mut String,
     by: Option<u64>,
-    call: Call,
+    call: &Call,
     reply: &CallReply,
 ) -> Result<(), NoMemory>
-    ensures { OnOk result (string_bytes text.new ≡ string_bytes text.old ++ called_text by call reply.now) }
+    ensures { OnOk result (string_bytes text.new ≡ string_bytes text.old ++ called_text by call.now reply.now) }
 {
     add_word(text, "call ")?;
     add_optional(text, by.map(|task| task as u128))?;

@@ -18,7 +18,7 @@ pub enum FinishCause {
     TimeOverflow,
     /// No task number was left for the root.
     TooManyTasks,
-    /// The run was cut off for want of memory.
+    /// The run was cut off because it was out of memory.
     NoMemory,
 }
 

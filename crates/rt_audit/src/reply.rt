@@ -13,6 +13,14 @@ use rt_base::NoMemory;
 pub enum CallReply {
     /// The call was carried out, and there is no more to say.
     Done,
+    /// This node was made. It may have been born ended.
+    NodeAt { node: u64, ended: bool },
+    /// This task was spawned. Its own context stands on this node.
+    TaskAt { task: u64, node: u64 },
+    /// The task was spawned on a node that has ended, and so it isn't run.
+    Closed,
+    /// What was waited for isn't there.
+    Pending,
     /// The sleep isn't over, and this alarm will wake its task.
     PendingAt { alarm: u64 },
     /// What was waited for is there. An output isn't kept.
@@ -28,6 +36,16 @@ impl CallReply {
     {
         match self {
             CallReply::Done => add_word(text, "ok"),
+            CallReply::NodeAt { node, ended } => {
+                add_numbered(text, "node ", *node as u128)?;
+                add_word(text, if *ended { " ended" } else { "" })
+            }
+            CallReply::TaskAt { task, node } => {
+                add_numbered(text, "task ", *task as u128)?;
+                add_numbered(text, " node ", *node as u128)
+            }
+            CallReply::Closed => add_word(text, "closed"),
+            CallReply::Pending => add_word(text, "pending"),
             CallReply::PendingAt { alarm } => add_numbered(text, "pending ", *alarm as u128),
             CallReply::Ready => add_word(text, "ready"),
             CallReply::Refused { error } => add_numbered(

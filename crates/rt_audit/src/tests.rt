@@ -1,6 +1,6 @@
 // The line of each entry, and each call once.
 
-use crate::{AnswerKind, Call, CallReply, Entry, FinishCause, Journal, Refusal, error_code};
+use crate::{AnswerKind, Call, CallReply, Entry, FinishCause, Journal, Label, Refusal, error_code};
 use rt_base::{Choice, Error, Items, NoMemory, Text};
 use std::alloc::Global;
 use std::test::Fail;
@@ -50,6 +50,28 @@ fn add_calls(alloc: Global, text: &mut String) -> Result<(), NoMemory> {
     )?;
     let reply = CallReply::PendingAt { alarm: 2 };
     add_call(alloc, text, Some(0), Call::SleepPoll { due: 7 }, reply)
+}
+
+fn add_spawns(alloc: Global, text: &mut String) -> Result<(), NoMemory> {
+    for (node, ended) in [(1, false), (2, true)] {
+        let label = Label::new(alloc, Text::of("p_c".to_owned(alloc)?))?;
+        let reply = CallReply::NodeAt { node, ended };
+        add_call(alloc, text, Some(4), Call::Child { node: 0, label }, reply)?;
+    }
+    for (call, reply) in [
+        (
+            Call::Spawn { node: 1 },
+            CallReply::TaskAt { task: 0, node: 3 },
+        ),
+        (Call::Spawn { node: 2 }, CallReply::Closed),
+        (Call::Join { task: 0 }, CallReply::Pending),
+        (Call::Abort { task: 0 }, CallReply::Done),
+        (Call::AbortTask { task: 5 }, CallReply::Done),
+        (Call::GiveUp { task: 0 }, CallReply::Done),
+    ] {
+        add_call(alloc, text, Some(4), call, reply)?;
+    }
+    Ok(())
 }
 
 fn add_call(
@@ -112,6 +134,7 @@ fn line_of_each_entry(rt: HostRuntime) -> Result<(), Fail> {
     let mut text = String::new(alloc);
     add_starts(alloc, &mut text)?;
     add_calls(alloc, &mut text)?;
+    add_spawns(alloc, &mut text)?;
     add_event(alloc, &mut text, 2)?;
     add_round(alloc, &mut text, 4, 3)?;
     add_round(alloc, &mut text, 4, 0)?;
@@ -127,6 +150,14 @@ call 3 sleep-poll 7 -> ready
 call - close-node 0 -> ok
 call 0 wake 9 -> err 12
 call 0 sleep-poll 7 -> pending 2
+call 4 child 0 p_c -> node 1
+call 4 child 0 p_c -> node 2 ended
+call 4 spawn 1 -> task 0 node 3
+call 4 spawn 2 -> closed
+call 4 join 0 -> pending
+call 4 abort 0 -> ok
+call 4 abort-task 5 -> ok
+call 4 give-up 0 -> ok
 event process_task abab -
 round 4 4 4
 round

@@ -110,7 +110,7 @@ module _ {A O G : Type 0} (p : Steps A O) (begin : Begin) (w : World A O G) (law
         keeps = rw (extends, at, ← one, ← two, ← fixed) refl;
       }
 
--- valid input fails for want of memory alone
+-- valid input fails only where it is out of memory
 valid : {A O : Type 0} (p : Steps A O) (begin : Begin) (x : List Entry) (cause : FinishCause) → IsValidInput p begin → (end : State) × (v : Value A O) × IsRun p begin x cause end v → cause ≡ Completed
 valid p begin x cause v r = v x cause r.0 r.1 r.2
 

@@ -1,10 +1,10 @@
 -- What a run has come to.
-use Rattle.std.specs.Prelude.{◌≡◌, ◌⊎◌, ◌++◌, List, Bool, true, Option, Some, None, Result, Ok, Err}
+use Rattle.std.specs.Prelude.{◌≡◌, ◌≤◌, ◌⊎◌, ◌++◌, List, [], Bool, true, Option, Some, None, Result, Ok, Err}
 use Rattle.rt_audit.specs.declared.entry.Entry.{Entry}
 use Rattle.rt_audit.specs.declared.finish.FinishCause.{FinishCause}
 use Rattle.rt_audit.specs.declared.finish.FinishCause.TheVariants.{Completed, NoMemory}
 use Rattle.rt_model.specs.declared.begin.Begin.{Begin}
-use Rattle.rt_model.specs.State.{State, begun}
+use Rattle.rt_model.specs.State.{State, Finished, begun}
 use Rattle.rt_model.specs.Rules.{AreDrawn}
 use Rattle.rt_model.specs.Tied.{Steps, Value}
 use Rattle.rt_model.specs.Run.{IsRun, FailedBy}
@@ -44,6 +44,21 @@ pub record DrawsNothing {G : Type 0} (s : Starting G) (journal : List Entry) : T
   pub entries : List Entry
   pub extends : journal ≡ s.given ++ entries
   pub drawn : AreDrawn (begun s.begin) entries
+
+-- a world that can go on: no task is out of it, no call has lacked memory, and a cycle takes time
+pub record IsReady {A O G : Type 0} (w : World A O G) : Type 0 where
+  pub none_out : w.out ≡ None
+  pub unmarked : w.lacked ≡ None
+  pub cycle : 1 ≤ w.told.state.clock.fixed.cycle
+
+-- the run under way is finished for this cause, as the one that began so. No task is left
+pub record Leaves {A O G : Type 0} (old new : World A O G) (cause : FinishCause) : Type 0 where
+  pub phase : new.told.state.phase ≡ Finished cause
+  pub given : new.told.given ≡ old.told.given
+  pub begin : new.told.begin ≡ old.told.begin
+  pub fixed : new.told.state.clock.fixed ≡ old.told.state.clock.fixed
+  pub rng : new.rng ≡ old.rng
+  pub tasks : new.held.tasks ≡ []
 
 -- a world at the end of its run
 pub record Ended {A O G : Type 0} (p : Steps A O) (w : World A O G) (cause : FinishCause) (output : Option O) : Type 0 where

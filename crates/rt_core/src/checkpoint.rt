@@ -60,7 +60,7 @@ pub struct Finished<O, G> {
     pub checkpoint: Checkpoint<G>,
 }
 
-/// Why a run failed, and the journal of all runs so far. Want of memory is the one cause that may come at any time.
+/// Why a run failed, and the journal of all runs so far. Out of memory is the one cause that may come at any time.
 #[derive(Debug, Drop)]
 pub struct Failure {
     pub cause: RunError,

@@ -19,7 +19,7 @@ pub trait RootMaker<T: Task>: Sized {
     // what it does next
     ghost first: { Self → First T T.Output };
 
-    /// Makes the root. Only want of memory is a refusal.
+    /// Makes the root. It refuses only where it is out of memory.
     fn make<G: Rng>(
         self,
         context: Context,

@@ -1,11 +1,11 @@
 //! A run from its maker to its end.
 
-ghost use Rattle.std.specs.Prelude.{◌≡◌, ◌≤◌, [], None, Some, true, false};
-ghost use Rattle.rt_model.specs.State.{Making, Between, Finished};
+ghost use Rattle.std.specs.Prelude.{◌≡◌, [], None, Some, true, false};
+ghost use Rattle.rt_model.specs.State.{Making, Between};
 ghost use Rattle.rt_model.specs.Tied.{First, with_first};
 ghost use Rattle.rt_world.specs.Follows.{Agrees, IsMade};
 ghost use Rattle.rt_world.specs.Ends.{Seals};
-ghost use Rattle.rt_core.specs.Outcome.{OutcomeEnds, cause_of_outcome};
+ghost use Rattle.rt_core.specs.Outcome.{IsReady, Leaves, OutcomeEnds, cause_of_outcome};
 
 use crate::{Context, RootMaker, RunError};
 use rand_core::Rng;
@@ -26,15 +26,8 @@ fn cause_of<O>(outcome: &Result<O, RunError>) -> FinishCause
 #[tactic(auto, using(crate::proofs::Outcomes::outcome_laws), unfolding(rt_model::specs::Effects::after))]
 fn run_root<T: Task, G: Rng>(world: &mut World<T, T::Output, G>) -> Result<T::Output, RunError>
     requires phase { world.old.told.state.phase ≡ Between }
-    requires none_out { world.old.out ≡ None }
-    requires unmarked { world.old.lacked ≡ None }
-    requires cycle { 1 ≤ world.old.told.state.clock.fixed.cycle }
-    ensures phase { world.new.told.state.phase ≡ Finished (cause_of_outcome result) }
-    ensures given { world.new.told.given ≡ world.old.told.given }
-    ensures begin { world.new.told.begin ≡ world.old.told.begin }
-    ensures fixed { world.new.told.state.clock.fixed ≡ world.old.told.state.clock.fixed }
-    ensures rng { world.new.rng ≡ world.old.rng }
-    ensures tasks { world.new.held.tasks ≡ [] }
+    requires ready { IsReady world.old }
+    ensures leaves { Leaves world.old world.new (cause_of_outcome result) }
     ensures agrees { (first : First T T.Output) → Agrees (with_first T.steps first) true world.old None → OutcomeEnds (with_first T.steps first) world.new result }
 {
     let outcome = world.run_rounds();
@@ -52,15 +45,8 @@ fn take_in<T: Task, G: Rng>(
 ) -> Result<T::Output, RunError>
     requires phase { world.old.told.state.phase ≡ Making }
     requires root { world.old.told.state.root ≡ None }
-    requires none_out { world.old.out ≡ None }
-    requires unmarked { world.old.lacked ≡ None }
-    requires cycle { 1 ≤ world.old.told.state.clock.fixed.cycle }
-    ensures phase { world.new.told.state.phase ≡ Finished (cause_of_outcome result) }
-    ensures given { world.new.told.given ≡ world.old.told.given }
-    ensures begin { world.new.told.begin ≡ world.old.told.begin }
-    ensures fixed { world.new.told.state.clock.fixed ≡ world.old.told.state.clock.fixed }
-    ensures rng { world.new.rng ≡ world.old.rng }
-    ensures tasks { world.new.held.tasks ≡ [] }
+    requires ready { IsReady world.old }
+    ensures leaves { Leaves world.old world.new (cause_of_outcome result) }
     ensures agrees { (first : First T T.Output) → IsMade (with_first T.steps first) world.old root → OutcomeEnds (with_first T.steps first) world.new result }
 {
     if !world.has_number_left() {
@@ -88,15 +74,8 @@ pub fn run_maker<T: Task, M: RootMaker<T>, G: Rng>(
     requires calls { world.old.told.calls ≡ [] }
     requires turns { world.old.told.state.turns ≡ [] }
     requires root { world.old.told.state.root ≡ None }
-    requires none_out { world.old.out ≡ None }
-    requires unmarked { world.old.lacked ≡ None }
-    requires cycle { 1 ≤ world.old.told.state.clock.fixed.cycle }
-    ensures phase { world.new.told.state.phase ≡ Finished (cause_of_outcome result) }
-    ensures given { world.new.told.given ≡ world.old.told.given }
-    ensures begin { world.new.told.begin ≡ world.old.told.begin }
-    ensures fixed { world.new.told.state.clock.fixed ≡ world.old.told.state.clock.fixed }
-    ensures rng { world.new.rng ≡ world.old.rng }
-    ensures tasks { world.new.held.tasks ≡ [] }
+    requires ready { IsReady world.old }
+    ensures leaves { Leaves world.old world.new (cause_of_outcome result) }
     ensures agrees { Agrees (with_first T.steps (M.first maker)) true world.old None → OutcomeEnds (with_first T.steps (M.first maker)) world.new result }
 {
     let Ok(root) = maker.make(Context::on(0), world) else {

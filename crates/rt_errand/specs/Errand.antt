@@ -3,16 +3,19 @@ use Rattle.std.specs.Prelude.{ℕ, Result, Ok, Err}
 use Rattle.rt_base.specs.declared.error.Error.{Error}
 use Rattle.rt_base.specs.declared.poll.Poll.{Poll}
 use Rattle.rt_base.specs.declared.poll.Poll.TheVariants.{Ready as IsReady, Pending as IsPending}
+use Rattle.rt_audit.specs.declared.call.Call.TheVariants.{Wake}
+use Rattle.rt_audit.specs.declared.reply.CallReply.TheVariants.{Refused}
 use Rattle.rt_model.specs.declared.answer.Answer.{Answer}
 use Rattle.rt_model.specs.declared.answer.Answer.TheVariants.{Pending, Ready}
 use Rattle.rt_model.specs.Tied.{TaskSteps}
-use Rattle.rt_model.specs.Walk.{Step, Last, Gives, then, followed_by}
+use Rattle.rt_model.specs.Turns.{Plainly, Heard, Plain}
+use Rattle.rt_model.specs.Walk.{Step, Last, Does, Gives, then, followed_by}
 use Rattle.rt_core.specs.Sleeper.{Sleeper}
 use Rattle.rt_core.specs.Pollers.{sleep_for, sleep_polls, sleep_spends, reschedule_polls, reschedule_spends, closes}
 use Rattle.rt_core.specs.declared.yields.Reschedule.{Reschedule}
 use Rattle.rt_errand.specs.declared.errand.Errand.{Errand}
 use Rattle.rt_errand.specs.declared.errand.Stage.{Stage}
-use Rattle.rt_errand.specs.declared.errand.Stage.TheVariants.{Yields, Naps, Sleeps, Waits, Done}
+use Rattle.rt_errand.specs.declared.errand.Stage.TheVariants.{Yields, Naps, Sleeps, Wakes, Waits, Done}
 use Rattle.rt_errand.specs.declared.maker.RootErrand.{RootErrand}
 
 abbrev pub Output : Type 0
@@ -51,11 +54,17 @@ yielded e nap time IsPending turn = Gives Pending (at e (Yields turn nap))
 yielded e nap time (IsReady (Ok over)) turn = naps (at e Done) nap time
 yielded e nap time (IsReady (Err error)) turn = Gives (Ready (Err error)) (at e Done)
 
+-- its wake of another task answered so
+abbrev pub woken : Errand → Heard Output → Next
+woken e (Plain (Refused error)) = Gives (Ready (Err error)) e
+woken e _ = Gives Pending (at e Waits)
+
 -- a poll, by the stage
 abbrev pub polled : Errand → Stage → ℕ → ℕ → Next
 polled e (Yields turn nap) time task = then (reschedule_polls turn task) (yielded e nap time)
 polled e (Naps nap) time task = naps (at e Done) nap time
 polled e (Sleeps sleep) time task = sleeps e sleep
+polled e (Wakes other) time task = Does (Plainly (Wake other)) (woken (at e Done))
 polled e Waits time task = Gives Pending (at e Waits)
 polled e Done time task = Gives (Ready (Ok e.number)) (at e Done)
 

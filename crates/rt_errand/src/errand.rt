@@ -18,13 +18,16 @@ pub enum Stage {
     Naps { nap: Nanos },
     /// It sleeps.
     Sleeps(Sleep),
+    /// It is to wake the task of this number, and then waits itself.
+    Wakes { task: u64 },
     /// It waits for others to wake it.
     Waits,
     /// It is over.
     Done,
 }
 
-/// A task that yields, naps, waits, or gives its number. A nap past the last moment gives `ClockOverflow` instead.
+/// A task that yields, naps, wakes another, waits, or gives its number. A nap past the last moment gives
+/// `ClockOverflow` instead, and a wake of a number that no task was given `UnknownToken`.
 ///
 /// It keeps its context to its end, and closes it there.
 pub struct Errand {
@@ -102,6 +105,14 @@ impl Task for Errand {
             },
             Stage::Naps { nap } => self.nap(world, cx, nap),
             Stage::Sleeps(sleep) => self.sleep(world, cx, sleep),
+            Stage::Wakes { task } => match world.wake(task) {
+                Ok(()) => {
+                    self.stage = Stage::Waits;
+                    Answer::Pending
+                }
+                Err(Error::NoMemory) => Answer::NoMemory,
+                Err(error) => Answer::Ready(Err(error)),
+            },
             Stage::Waits => {
                 self.stage = Stage::Waits;
                 Answer::Pending
@@ -119,7 +130,7 @@ impl Task for Errand {
         match stage {
             Stage::Yields { turn, nap: _ } => turn.give_up(world),
             Stage::Sleeps(sleep) => sleep.give_up(world),
-            Stage::Naps { .. } | Stage::Waits | Stage::Done => {}
+            Stage::Naps { .. } | Stage::Wakes { .. } | Stage::Waits | Stage::Done => {}
         }
         context.close(world);
     }

@@ -292,6 +292,67 @@ finish stalled
     Ok(())
 }
 
+/// A wake of itself, behind which it is visited once more, and one of a number that no task was given.
+#[test]
+fn wakes_by_number(rt: HostRuntime) -> Result<(), Fail> {
+    let itself = Case {
+        config: Config::new(),
+        root: root(Stage::Wakes { task: 0 }, 0),
+        expected: Expected {
+            ending: Err(RunError::Stalled),
+            time: 2_000_000,
+            lines: "\
+start 0 - 1000000 0
+root 0
+round 0
+visit 0
+event process_task 00000000000000000000000000000000 -
+call 0 wake 0 -> ok
+wake 0
+answer 0 pending
+advance 1000000
+round 0
+visit 0
+event process_task 00000000000000000000000000000000 -
+answer 0 pending
+advance 2000000
+cleanup
+nodeend 0
+call 0 close-node 0 -> ok
+answer 0 ended
+crash
+finish stalled
+",
+        },
+    };
+    let nobody = Case {
+        config: Config::new(),
+        root: root(Stage::Wakes { task: 5 }, 0),
+        expected: Expected {
+            ending: Ok(Err(Error::UnknownToken)),
+            time: 0,
+            lines: "\
+start 0 - 1000000 0
+root 0
+round 0
+visit 0
+event process_task 00000000000000000000000000000000 -
+call 0 wake 5 -> err 12
+answer 0 ready
+cleanup
+nodeend 0
+call 0 close-node 0 -> ok
+answer 0 ended
+crash
+finish ok
+",
+        },
+    };
+    assert!(rt; plays(rt.alloc(), itself)?);
+    assert!(rt; plays(rt.alloc(), nobody)?);
+    Ok(())
+}
+
 #[test]
 fn clock_overflow(rt: HostRuntime) -> Result<(), Fail> {
     let case = Case {

@@ -18,7 +18,7 @@ use Rattle.rt_laws.proofs.Clock.{lawful-front, lawful-tail}
 use Rattle.rt_laws.proofs.Endings.{run_cause}
 use Rattle.rt_laws.proofs.Rounds.{contains-from_has}
 
--- tasks are visited before the deadline, and what ends a round is the root's answer or want of memory
+-- tasks are visited before the deadline, and what ends a round is the root's answer, or that memory was lacking
 abbrev pub IsSoundAt : Phase → Clock → Type 0
 IsSoundAt (Visiting left) c = is_late c ≡ false
 IsSoundAt (Entered task left) c = is_late c ≡ false

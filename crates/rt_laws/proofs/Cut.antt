@@ -1,22 +1,23 @@
 -- What is no run that was cut off.
-use Rattle.std.proofs.Common.{◌≡◌, ℕ, inl, inr, true, false, List, [], ◌∷◌, ◌++◌, Some, None, refl, rules}
+use Rattle.std.proofs.Common.{◌≡◌, ℕ, inl, inr, true, false, List, [], ◌∷◌, ◌++◌, Some, None, refl, rules, take, drop}
+use Rattle.std.proofs.lemmas.List.Sorted.{IsPermutation-refl}
 use Rattle.rt_audit.specs.declared.answer.AnswerKind.TheVariants.{Ready as AnswersReady, NoMemory as LacksMemory, Ended}
 use Rattle.rt_audit.specs.declared.finish.FinishCause.TheVariants.{NoMemory}
 use Rattle.rt_audit.specs.declared.entry.Entry.{Entry}
 use Rattle.rt_audit.specs.declared.entry.Entry.TheVariants.{Call, Answer as Answered, NodeEnd, Cleanup}
+use Rattle.rt_audit.specs.declared.call.Call.{Call as CallOf}
 use Rattle.rt_audit.specs.declared.call.Call.TheVariants.{CloseNode, SleepPoll, Wake as WakeCall}
+use Rattle.rt_audit.specs.declared.reply.CallReply.{CallReply}
 use Rattle.rt_audit.specs.declared.reply.CallReply.TheVariants.{Done, PendingAt}
 use Rattle.rt_model.specs.State.{State, Turn, Stood, stood_in, begun}
 use Rattle.rt_model.specs.Effects.{after, after_all}
-use Rattle.rt_model.specs.Turns.{Held}
+use Rattle.rt_model.specs.Turns.{Held, has_place}
+use Rattle.rt_model.specs.Rules.{IsLawful}
 use Rattle.rt_model.specs.Walk.{Step, Spends, Gives, Breaks, Fronts, Stops, stood_before}
 use Rattle.rt_model.specs.Tied.{Steps, Value, nothing, taken, put, IsTied}
 use Rattle.rt_model.specs.Run.{IsCutOff}
-use Rattle.rt_laws.specs.Examples.{small_begin, ready_root, closes_node, opening, visiting_root, finishing, silent_end, invented_calls}
-
-tied-tail : {A O : Type 0} → (p : Steps A O) (s : State) (v w : Value A O) (x y : List Entry) → IsTied p s v (x ++ y) w → (u : Value A O) × IsTied p (after_all s x) u y w
-tied-tail p s v w [] y t = (v, t)
-tied-tail p s v w (e ∷ x) y t = tied-tail p (after s e) t.0 w x y t.2
+use Rattle.rt_laws.specs.Examples.{small_begin, ready_root, busy_root, closes_node, opening, visiting_root, root_ends, finishing, silent_end, lacking_journal, invented_in_poll, invented_in_end}
+use Rattle.rt_laws.proofs.Misses.{tied-tail}
 
 -- an end that only spends lacks no memory before it has made its call
 no-lack : {A : Type 0} (held : Held A ℕ) (front rest : List Turn) (stood : Stood) → [] ≡ front ++ rest → Stops (closes_node {A = A}) held front (stood_before rest stood) → ⊥
@@ -39,14 +40,83 @@ not_silent number r =
       | inr k ↦ no-lack _ k.0.front k.0.rest _ k.0.are k.0.walks
     ]
 
-pub not_invented : (number : ℕ) → IsCutOff (ready_root number) small_begin invented_calls → ⊥
+-- and lacks none where another call was made
+no-other-lack : {A : Type 0} (held : Held A ℕ) (t : Turn) (front rest : List Turn) (stood : Stood) → t ∷ [] ≡ front ++ rest → t.call ≡ WakeCall 0 → has_place t.stood (CloseNode 0) ≡ true → Stops (closes_node {A = A}) held front (stood_before rest stood) → ⊥
+no-other-lack held t [] rest stood e other there w = w.1
+no-other-lack held t (u ∷ front) rest stood e other there w =
+    let same : t ≡ u = cc in
+    let called = (w.0 (rw (← same) there)).0 in
+    absurd (cc)
+
+pub none_in_a_poll : (number : ℕ) (call : CallOf) (reply : CallReply) → IsCutOff (ready_root number) small_begin (invented_in_poll call reply) → ⊥
 unfolding begun after
-not_invented number r =
+none_in_a_poll number call reply r =
     let p = ready_root number in
-    let front = opening ++ visiting_root ++ (Call (Some 0) (SleepPoll 5) (PendingAt 0) ∷ Call (Some 0) (CloseNode 0) Done ∷ []) in
-    let rest = Answered 0 LacksMemory ∷ (Cleanup ∷ NodeEnd 0 ∷ Call (Some 0) (WakeCall 0) Done ∷ Answered 0 Ended ∷ []) ++ finishing NoMemory in
+    let front = opening ++ visiting_root ++ (Call (Some 0) call reply ∷ []) in
+    let rest = Answered 0 LacksMemory ∷ root_ends ++ finishing NoMemory in
     let t = tied-tail p (begun small_begin) nothing r.value front rest r.tied in
     elim t.1.1.breaks [
       | inl k ↦ no-gives _ _ _ k.front _ k.walks
       | inr k ↦ k
     ]
+
+pub none_in_an_end : (number : ℕ) → IsCutOff (ready_root number) small_begin invented_in_end → ⊥
+unfolding begun after
+none_in_an_end number r =
+    let p = ready_root number in
+    let front = opening ++ visiting_root ++ (Answered 0 AnswersReady ∷ Cleanup ∷ NodeEnd 0 ∷ Call (Some 0) (WakeCall 0) Done ∷ []) in
+    let t = tied-tail p (begun small_begin) nothing r.value front (Answered 0 Ended ∷ finishing NoMemory) r.tied in
+    elim t.1.1.2 [
+      | inl k ↦ (let called = (k.0.0 refl).0 in absurd (cc))
+      | inr k ↦ no-other-lack _ _ k.0.front k.0.rest _ k.0.are refl refl k.0.walks
+    ]
+
+-- the busy root lacks memory behind its first sleep, and in its end
+pub lacks_within : (call : CallOf) (reply : CallReply) → IsLawful (begun small_begin) (lacking_journal call reply) → IsCutOff busy_root small_begin (lacking_journal call reply)
+unfolding begun after
+lacks_within call reply lawful =
+    let v : Value (Unit {0}) ℕ = record nothing { held = put 0 tt nothing.held } in
+    let w : Value (Unit {0}) ℕ = record v { whole = false } in
+    let asked = after_all (begun small_begin) (opening ++ visiting_root ++ (Call (Some 0) (SleepPoll 5) (PendingAt 0) ∷ Call (Some 0) call reply ∷ [])) in
+    record {
+      value = record w { held = nothing.held };
+      lawful = lawful;
+      ends = refl;
+      tied = (
+        nothing,
+        refl,
+        (
+          v,
+          (tt, nothing.held, (refl, refl, refl), refl),
+          (
+            v,
+            refl,
+            (
+              v,
+              refl,
+              (
+                v,
+                refl,
+                (
+                  v,
+                  refl,
+                  (
+                    v,
+                    refl,
+                    (
+                      w,
+                      record { before = tt; left = tt; there = refl; breaks = inl (record { front = take 1 asked.turns; rest = drop 1 asked.turns; are = refl; walks = ((refl, refl), tt) }); is = refl },
+                      (w, refl, (w, refl, (record w { held = nothing.held }, (tt, refl, inr (record { front = []; rest = []; are = refl; walks = tt }, refl)), (record w { held = nothing.held }, (refl, refl), (record w { held = nothing.held }, refl, refl))))),
+                    ),
+                  ),
+                ),
+              ),
+            ),
+          ),
+        ),
+      );
+    }
+
+pub lacks_lawfully : IsLawful (begun small_begin) (lacking_journal (CloseNode 0) Done)
+unfolding begun after
+lacks_lawfully = search (rules, IsPermutation-refl)

@@ -20,3 +20,4 @@ pub mod Stays
 pub mod Timely
 pub mod Valid
 pub mod Values
+pub mod Several

@@ -74,7 +74,7 @@ no_late_due due late l =
     absurd (omega arith)
 
 -- behind a front that is tied, this is tied from some value
-tied-tail : {A O : Type 0} → (p : Steps A O) (s : State) (v w : Value A O) (x y : List Entry) → IsTied p s v (x ++ y) w → (u : Value A O) × IsTied p (after_all s x) u y w
+pub tied-tail : {A O : Type 0} → (p : Steps A O) (s : State) (v w : Value A O) (x y : List Entry) → IsTied p s v (x ++ y) w → (u : Value A O) × IsTied p (after_all s x) u y w
 tied-tail p s v w [] y t = (v, t)
 tied-tail p s v w (e ∷ x) y t = tied-tail p (after s e) t.0 w x y t.2
 

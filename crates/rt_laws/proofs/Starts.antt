@@ -7,7 +7,7 @@ use Rattle.rt_model.specs.State.{Blank, begun}
 use Rattle.rt_model.specs.Rules.{May, IsLawful}
 use Rattle.rt_laws.proofs.Stands.{stands, may_stand}
 
-start-first : (b : Begin) (e : Entry) → May (begun b) e → e ≡ Start b.first b.start b.deadline b.cycle
+pub start-first : (b : Begin) (e : Entry) → May (begun b) e → e ≡ Start b.first b.start b.deadline b.cycle
 unfolding begun
 start-first b (Start next now deadline cycle) m = rw (m.1.1, m.1.2, m.1.3, m.1.4) refl
 start-first b (Wake task) m = absurd (cc)

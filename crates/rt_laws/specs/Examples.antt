@@ -59,6 +59,16 @@ sleeping_root nanos =
     })
     (λ now. Gives tt (record { due = now + nanos; alarm = None }))
 
+-- a root that polls two sleeps, waits, and wakes itself in its end
+abbrev pub busy_root : Steps (Unit {0}) ℕ
+busy_root =
+    with_first
+    (record {
+      next = λ state now task. Does (Sleeping 5 None) (λ first. Does (Sleeping 7 None) (λ second. Gives Pending state));
+      last = λ state now task. Does (Plainly (WakeCall 0)) (λ heard. closes_node);
+    })
+    (λ now. Gives tt tt)
+
 -- the values behind a run that gave this output
 abbrev pub gave : {A : Type 0} → ℕ → Value A ℕ
 gave number = record nothing { output = Some number }
@@ -108,6 +118,12 @@ short_journal due =
 -- a poll of the root that lacked memory, and the run that was cut off there
 abbrev pub cut_journal : List Entry
 cut_journal = opening ++ visiting_root ++ (Answered 0 LacksMemory ∷ []) ++ root_ends ++ finishing NoMemory
+
+-- a poll of the busy root that lacked memory at its second sleep, and an end that lacked it at once. What comes between the lack
+-- and the answer is free
+abbrev pub lacking_journal : CallOf → CallReply → List Entry
+lacking_journal call reply =
+    opening ++ visiting_root ++ (Call (Some 0) (SleepPoll 5) (PendingAt 0) ∷ Call (Some 0) call reply ∷ Answered 0 LacksMemory ∷ []) ++ (Cleanup ∷ NodeEnd 0 ∷ Answered 0 Ended ∷ []) ++ finishing NoMemory
 
 -- what the run of a root writes that is never ready, by the cause for which it ends
 
@@ -185,7 +201,11 @@ early_sleep due = opening ++ visiting_root ++ awake due ++ root_ends ++ finishin
 abbrev pub silent_end : List Entry
 silent_end = opening ++ visiting_root ++ (Answered 0 AnswersReady ∷ Cleanup ∷ NodeEnd 0 ∷ Answered 0 Ended ∷ []) ++ finishing NoMemory
 
--- calls that no step of the root names, in its poll and in its end
-abbrev pub invented_calls : List Entry
-invented_calls =
-    opening ++ visiting_root ++ (Call (Some 0) (SleepPoll 5) (PendingAt 0) ∷ Call (Some 0) (CloseNode 0) Done ∷ Answered 0 LacksMemory ∷ []) ++ (Cleanup ∷ NodeEnd 0 ∷ Call (Some 0) (WakeCall 0) Done ∷ Answered 0 Ended ∷ []) ++ finishing NoMemory
+-- a call that no step of the root names, in a poll that lacked memory
+abbrev pub invented_in_poll : CallOf → CallReply → List Entry
+invented_in_poll call reply = opening ++ visiting_root ++ (Call (Some 0) call reply ∷ Answered 0 LacksMemory ∷ []) ++ root_ends ++ finishing NoMemory
+
+-- and in an end
+abbrev pub invented_in_end : List Entry
+invented_in_end =
+    opening ++ visiting_root ++ (Answered 0 AnswersReady ∷ []) ++ (Cleanup ∷ NodeEnd 0 ∷ Call (Some 0) (WakeCall 0) Done ∷ Answered 0 Ended ∷ []) ++ finishing NoMemory

@@ -1,3 +1,4 @@
 pub mod Cleanup
 pub mod Earliest
 pub mod Examples
+pub mod Several

@@ -4,7 +4,9 @@
 ghost use Rattle.std.specs.Prelude.{◌≡◌, ◌≢◌, ◌≤◌, ◌<◌, ◌+◌, ◌-◌, ◌^◌, [], ◌∷◌, ℕ, List, Some, None};
 ghost use Rattle.rt_base.specs.declared.time.TheConstants.{MAX_TIME};
 ghost use Rattle.rt_audit.specs.declared.call.Call.{Call};
+ghost use Rattle.rt_audit.specs.declared.call.Call.TheVariants.{CloseNode};
 ghost use Rattle.rt_audit.specs.declared.reply.CallReply.{CallReply};
+ghost use Rattle.rt_audit.specs.declared.reply.CallReply.TheVariants.{Done};
 ghost use Rattle.rt_audit.specs.declared.finish.FinishCause.{FinishCause};
 ghost use Rattle.rt_audit.specs.declared.finish.FinishCause.TheVariants.{Completed, Timeout, Stalled, TimeOverflow, TooManyTasks, NoMemory};
 ghost use Rattle.rt_model.specs.State.{State, begun};
@@ -12,7 +14,7 @@ ghost use Rattle.rt_model.specs.Effects.{after_all};
 ghost use Rattle.rt_model.specs.Rules.{IsLawful, AreDrawn};
 ghost use Rattle.rt_model.specs.Tied.{Value, nothing};
 ghost use Rattle.rt_model.specs.Run.{IsRun, IsCutOff, IsValidInput};
-ghost use Rattle.rt_laws.specs.Examples.{small_begin, begin_by, ready_root, pending_root, sleeping_root, gave, ready_journal, skipped_journal, short_journal, cut_journal, stalled_journal, late_journal, at_once_late_journal, overflow_journal, no_number_journal, drawn, stray_call, open_node, unanswered_poll, second_task, ordered, finished_for, called, missing_wake, early_fire, early_sleep, silent_end, invented_calls};
+ghost use Rattle.rt_laws.specs.Examples.{small_begin, begin_by, ready_root, pending_root, sleeping_root, gave, ready_journal, skipped_journal, short_journal, cut_journal, stalled_journal, late_journal, at_once_late_journal, overflow_journal, no_number_journal, drawn, stray_call, open_node, unanswered_poll, second_task, ordered, finished_for, called, missing_wake, early_fire, early_sleep, silent_end, busy_root, lacking_journal, invented_in_poll, invented_in_end};
 
 /// A root that is ready with a number at its first poll gives it, at time 0.
 #[tactic(auto, using(crate::proofs::Runs::ready_time))]
@@ -31,10 +33,12 @@ pub fn a_sleeping_root_has_its_run()
     ensures short_time { (due : ℕ) → (after_all (begun small_begin) (short_journal due)).clock.time ≡ 1000000 }
 {}
 
-/// A run whose root lacked memory in its first poll, before it made a call, is cut off.
-#[tactic(auto, using(crate::proofs::Runs::cut_off))]
+/// A run whose root lacked memory in its first poll is cut off, whether a call was made before or not. What is called
+/// behind the lack is free while it may come where it stands, and an end may lack memory as well.
 pub fn a_run_that_lacked_memory_is_cut_off()
-    ensures { (due : ℕ) → IsCutOff (sleeping_root due) small_begin cut_journal }
+    ensures at_once { (due : ℕ) → IsCutOff (sleeping_root due) small_begin cut_journal }
+    ensures within { (call : Call) (reply : CallReply) → IsLawful (begun small_begin) (lacking_journal call reply) → IsCutOff busy_root small_begin (lacking_journal call reply) }
+    ensures lawful { IsLawful (begun small_begin) (lacking_journal (CloseNode 0) Done) }
 {}
 
 /// A root that is never ready stalls. With a deadline its run is late behind the first cycle, or at once. Where a cycle
@@ -84,9 +88,10 @@ pub fn near_misses_are_no_runs()
     ensures lacking_run { (number : ℕ) (cause : FinishCause) (end : State) (value : Value (Unit {0}) ℕ) → IsRun (ready_root number) small_begin (finished_for NoMemory) cause end value → ⊥ }
 {}
 
-/// A journal whose root was ready and whose end makes no call is no run that was cut off, and neither is one whose root makes
-/// calls that its steps don't name.
+/// What may come near to a run that was cut off, of a root that is ready at once, and is none: its end makes no call and
+/// lacks no memory, or a call is made that its steps don't name, in a poll that lacked memory or in an end.
 pub fn near_misses_are_not_cut_off()
     ensures silent_end { (number : ℕ) → IsCutOff (ready_root number) small_begin silent_end → ⊥ }
-    ensures invented { (number : ℕ) → IsCutOff (ready_root number) small_begin invented_calls → ⊥ }
+    ensures in_a_poll { (number : ℕ) (call : Call) (reply : CallReply) → IsCutOff (ready_root number) small_begin (invented_in_poll call reply) → ⊥ }
+    ensures in_an_end { (number : ℕ) → IsCutOff (ready_root number) small_begin invented_in_end → ⊥ }
 {}

@@ -22,8 +22,10 @@ ghost use Rattle.rt_model.specs.Effects.{after_all};
 ghost use Rattle.rt_model.specs.Rules.{IsLawful};
 ghost use Rattle.rt_model.specs.Tied.{Steps, Value, Moves, find};
 ghost use Rattle.rt_model.specs.Run.{IsRun};
+ghost use Rattle.rt_model.specs.Runs.{AreLawful, runs_from};
 ghost use Rattle.rt_laws.specs.Cleanup.{IsOfCleanup};
 ghost use Rattle.rt_laws.specs.Earliest.{IsEarliest};
+ghost use Rattle.rt_laws.specs.Several.{GoesOn};
 
 pub use examples::{
     a_ready_root_has_its_run, a_run_that_lacked_memory_is_cut_off, a_sleeping_root_has_its_run,
@@ -161,4 +163,12 @@ pub fn nobody_calls_behind_the_last_end()
 pub fn lacking_memory_keeps_the_other_tasks<A, O>()
     ensures polls { (p : Steps A O) (s : State) (v w : Value A O) (task other : ℕ) → Moves p s v (Answer task NoMemory) w → other ≢ task → find other w.held.tasks ≡ find other v.held.tasks }
     ensures ends { (p : Steps A O) (s : State) (v w : Value A O) (task other : ℕ) → Moves p s v (Answer task Ended) w → other ≢ task → find other w.held.tasks ≡ find other v.held.tasks }
+{}
+
+/// Several runs in one journal are walked one after another: runs that are lawful each from its own beginning are lawful
+/// together, where each but the last is finished, and no other journals are.
+pub fn runs_stand_one_after_another()
+    ensures joined { (b next : Begin) (others : List Begin) (cause : FinishCause) (x y : List Entry) → IsLawful (begun b) x → (after_all (begun b) x).phase ≡ Finished cause → AreLawful (runs_from next others) y → AreLawful (runs_from b (next ∷ others)) (x ++ y) }
+    ensures alone { (b : Begin) (others : List Begin) (x : List Entry) → IsLawful (begun b) x → AreLawful (runs_from b others) x }
+    ensures apart { (b : Begin) (others : List Begin) (z : List Entry) → AreLawful (runs_from b others) z → IsLawful (begun b) z ⊎ GoesOn (begun b) others z }
 {}

@@ -4,6 +4,7 @@ use Rattle.rt_audit.specs.declared.entry.Entry.{Entry}
 use Rattle.rt_model.specs.State.{State}
 use Rattle.rt_model.specs.Effects.{after, after_all}
 use Rattle.rt_model.specs.Rules.{IsLawful, AreDrawn}
+use Rattle.rt_model.specs.Runs.{Runs, run_after, runs_after, AreLawful}
 use Rattle.rt_model.specs.Tied.{Steps, Value, IsTied}
 
 pub after_all-append : (s : State) (xs ys : List Entry) → after_all s (xs ++ ys) ≡ after_all (after_all s xs) ys
@@ -13,6 +14,14 @@ after_all-append s (x ∷ xs) ys = after_all-append (after s x) xs ys
 pub IsLawful-append : (s : State) (xs ys : List Entry) → IsLawful s xs → IsLawful (after_all s xs) ys → IsLawful s (xs ++ ys)
 IsLawful-append s [] ys p q = q
 IsLawful-append s (x ∷ xs) ys p q = (p.0, IsLawful-append (after s x) xs ys p.1 q)
+
+pub runs_after-append : (r : Runs) (xs ys : List Entry) → runs_after r (xs ++ ys) ≡ runs_after (runs_after r xs) ys
+runs_after-append r [] ys = refl
+runs_after-append r (x ∷ xs) ys = runs_after-append (run_after r x) xs ys
+
+pub AreLawful-append : (r : Runs) (xs ys : List Entry) → AreLawful r xs → AreLawful (runs_after r xs) ys → AreLawful r (xs ++ ys)
+AreLawful-append r [] ys p q = q
+AreLawful-append r (x ∷ xs) ys p q = (p.0, AreLawful-append (run_after r x) xs ys p.1 q)
 
 pub AreDrawn-append : (s : State) (xs ys : List Entry) → AreDrawn s xs → AreDrawn (after_all s xs) ys → AreDrawn s (xs ++ ys)
 AreDrawn-append s [] ys p q = q

@@ -10,3 +10,4 @@ pub mod Turns
 pub mod Walk
 pub mod Tied
 pub mod Run
+pub mod Runs

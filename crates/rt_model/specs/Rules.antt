@@ -71,7 +71,7 @@ MayRound Between s = is_late s.clock ≡ false
 MayRound Turning s = (s.ready ≢ []) × (is_late s.clock ≡ false) × (fires s.alarms.alarms s.clock.time ≡ None)
 MayRound _ s = ⊥
 
--- the cleanup may begin here. Want of memory can cut a run off between its parts
+-- the cleanup may begin here. A run that is out of memory is cut off between its parts
 abbrev pub MayClose : Phase → Type 0
 MayClose Blank = ⊥
 MayClose (Entered task left) = ⊥

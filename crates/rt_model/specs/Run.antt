@@ -22,7 +22,7 @@ pub record IsRun {A O : Type 0} (p : Steps A O) (begin : Begin) (x : List Entry)
   pub tied : IsTied p (begun begin) nothing x value
   pub whole : value.whole ≡ true
 
--- a run that was cut off for want of memory. Of a part that lacked it a front is tied; the values of the others are as they were
+-- a run that was cut off since it was out of memory. Of a part that lacked it a front is tied; the values of the others are as they were
 pub record IsCutOff {A O : Type 0} (p : Steps A O) (begin : Begin) (x : List Entry) : Type 0 where
   pub value : Value A O
   pub lawful : IsLawful (begun begin) x
@@ -38,7 +38,7 @@ abbrev pub FailedBy : {A O : Type 0} → Steps A O → Begin → List Entry → 
 FailedBy p begin x NoMemory = IsInterrupted p begin x
 FailedBy {A = A} {O = O} p begin x cause = (end : State) × (value : Value A O) × IsRun p begin x cause end value
 
--- each run from this beginning completes. Want of memory, which may come at any time, is no run
+-- each run from this beginning completes. One that is out of memory, which may come at any time, is no run
 abbrev pub IsValidInput : {A O : Type 0} → Steps A O → Begin → Type 0
 IsValidInput {A = A} {O = O} p begin =
     (entries : List Entry) (cause : FinishCause) (end : State) (value : Value A O) → IsRun p begin entries cause end value → cause ≡ Rattle.rt_audit.specs.declared.finish.FinishCause.TheVariants.Completed

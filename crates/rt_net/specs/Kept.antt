@@ -2,7 +2,7 @@
 use Rattle.std.specs.Prelude.{ℕ, [], Result}
 use Rattle.rt_base.specs.declared.error.Error.{Error}
 use Rattle.rt_net.specs.Network.{NetworkState}
-use Rattle.rt_net.specs.Refusals.{counted}
+use Rattle.rt_base.specs.Counted.{counted}
 
 -- the network, and how many calls were refused
 pub record Kept : Type 0 where

@@ -1,24 +1,10 @@
--- The count of refusals, and which halves wait after a call.
-use Rattle.std.specs.Prelude.{◌≡◌, ℕ, ◌+◌, ◌-◌, ◌^◌, ◌≤◌, min, Bool, true, false, Option, List, Result, Ok, Err}
+-- Which halves wait after a call.
+use Rattle.std.specs.Prelude.{◌≡◌, Bool, true, false, Result, Ok, Err}
 use Rattle.rt_base.specs.declared.error.Error.{Error}
 use Rattle.rt_base.specs.declared.error.Error.TheVariants.{NoMemory, UnknownToken}
 use Rattle.rt_base.specs.declared.poll.Poll.{Poll}
 use Rattle.rt_base.specs.declared.poll.Poll.TheVariants.{Ready, Pending}
-use Rattle.rt_base.specs.Noted.{Noted, Adds}
-use Rattle.rt_base.specs.Outside.{HasRisen}
 use Rattle.rt_net.specs.declared.reply.Reply.{Reply}
-
--- the count never falls, and an error other than want of memory comes only where it rose
-abbrev pub Counts : {A : Type 0} → ℕ → ℕ → Result A Error → Type 0
-Counts old new (Ok _) = old ≤ new
-Counts old new (Err NoMemory) = old ≤ new
-Counts old new (Err _) = (old ≤ new) × HasRisen old new
-
--- one more for an error other than want of memory, up to the type's end
-abbrev pub counted : {A : Type 0} → ℕ → Result A Error → ℕ
-counted n (Ok _) = n
-counted n (Err NoMemory) = n
-counted n (Err _) = min (n + 1) (2 ^ 64 - 1)
 
 -- the call waits
 abbrev pub is_pending : {A : Type 0} → Result (Poll A) Error → Bool
@@ -54,7 +40,3 @@ abbrev pub TakesIdle : {A K M : Type 0} → (K → Bool) → (M → Bool) → Re
 TakesIdle sending receiving (Ok (Ready r)) = (sending r.1 ≡ false) × (receiving r.2 ≡ false)
 TakesIdle sending receiving (Ok Pending) = Unit {0}
 TakesIdle sending receiving (Err _) = Unit {0}
-
--- the record of an environment grows by what a call notes, of which this holds
-abbrev pub Notes : Option (List Noted) → (List Noted → Type 0) → Option (List Noted) → Type 0
-Notes old P new = (x : List Noted) × Adds old x new × P x

@@ -4,7 +4,7 @@ ghost use Rattle.rt_net.specs.Channel.{fresh, ChannelState, IsQuiet};
 ghost use Rattle.rt_net.specs.Network.{ListenerState, IsQuietListener, waiting_halves, waiting_task};
 ghost use Rattle.rt_net.specs.Calls.{IsDialerAddress, NetBinds, NetDials, NetAccepts, net_after_bind, net_after_dial, net_after_accept, opened, idle_sink, idle_stream};
 ghost use Rattle.rt_net.specs.Kept.{empty_net, moved_to};
-ghost use Rattle.rt_net.specs.Refusals.{counted, Counts};
+ghost use Rattle.rt_base.specs.Counted.{counted, Counts};
 
 use crate::answers::{is_pending, still_waits, waits};
 use crate::channels::Channels;

@@ -10,7 +10,8 @@ ghost use Rattle.rt_base.specs.declared.poll.Poll.{Poll};
 ghost use Rattle.rt_base.specs.Noted.{Noted};
 ghost use Rattle.rt_bufs.specs.Chunked.{Chunked};
 ghost use Rattle.rt_net.specs.declared.reply.Reply.{Reply};
-ghost use Rattle.rt_net.specs.Refusals.{Counts, Notes, is_pending, still_waits, waits, AreIdle, TakesIdle};
+ghost use Rattle.rt_base.specs.Counted.{Counts, Notes};
+ghost use Rattle.rt_net.specs.Refusals.{is_pending, still_waits, waits, AreIdle, TakesIdle};
 
 use crate::halves::{Receiving, Sending};
 use crate::reply::Reply;
@@ -38,7 +39,7 @@ pub trait Network {
 
     type Stream: Receiving;
 
-    // How many calls were refused for another cause than want of memory.
+    // How many calls were refused for another cause than being out of memory.
     ghost refusals: { Self → ℕ };
 
     // How many entries of its environment a call uses at most.

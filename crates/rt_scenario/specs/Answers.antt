@@ -1,4 +1,4 @@
--- What calls of the reader answer, want of memory apart.
+-- What calls of the reader answer, out of memory apart.
 use Rattle.std.specs.Prelude.{◌≡◌, ℕ, Option, Some, None, Result, Ok, Err}
 use Rattle.rt_scenario.specs.Scenario.{Draft, Reading, Whole, BrokenAt, ending}
 use Rattle.rt_scenario.specs.declared.kind.Kind.{Kind}

@@ -17,7 +17,7 @@ pub use simulate::simulate_alone;
 use std::process::ExitCode;
 use std::rt::HostRuntime;
 
-/// The status where the words of the command can't be had.
+/// The status where the words of the command could not be read.
 const NO_WORDS: u8 = 8;
 
 fn main(rt: HostRuntime) -> ExitCode {

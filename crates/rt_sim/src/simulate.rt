@@ -25,7 +25,7 @@ const USAGE: &str = "usage: rt_sim run | gen N | load N | workers N\n";
 /// report to the sink.
 ///
 /// The status is 0 where the run gave an output, 2 where the words are no command, 3 where the input is no scenario,
-/// 4 where a read failed, 5 where a write failed, 6 where the run failed, and 7 for want of memory. After a failed write
+/// 4 where a read failed, 5 where a write failed, 6 where the run failed, and 7 where it was out of memory. After a failed write
 /// the outcome is as without it but for the status, and the first bytes of the text were written.
 pub fn simulate_alone<S: Source, K: Sink8>(
     alloc: Global,

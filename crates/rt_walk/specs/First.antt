@@ -2,18 +2,16 @@
 use Rattle.std.specs.Prelude.{◌≡◌, ℕ, List, Option, Some, None, take}
 use Rattle.std.specs.List.{slice_get}
 use Rattle.rt_audit.specs.declared.entry.Entry.{Entry}
-use Rattle.rt_model.specs.declared.begin.Begin.{Begin}
-use Rattle.rt_model.specs.State.{begun}
-use Rattle.rt_model.specs.Effects.{after_all}
-use Rattle.rt_model.specs.Rules.{May, IsLawful}
+use Rattle.rt_model.specs.Rules.{May}
+use Rattle.rt_model.specs.Runs.{Runs, renewed, runs_after, AreLawful}
 
--- from this beginning, the entries before this place may come where they stand, and the one at it may not
-pub record BreaksAt (begin : Begin) (entries : List Entry) (place : ℕ) : Type 0 where
+-- from here on the entries before this place may come where they stand, and the one at it may not
+pub record BreaksAt (runs : Runs) (entries : List Entry) (place : ℕ) : Type 0 where
   pub entry : Entry
   pub there : slice_get entries place ≡ Some entry
-  pub before : IsLawful (begun begin) (take place entries)
-  pub breaks : May (after_all (begun begin) (take place entries)) entry → ⊥
+  pub before : AreLawful runs (take place entries)
+  pub breaks : May (renewed (runs_after runs (take place entries)) entry).state entry → ⊥
 
-abbrev pub IsFirstUnlawful : Begin → List Entry → Option ℕ → Type 0
-IsFirstUnlawful begin entries None = IsLawful (begun begin) entries
-IsFirstUnlawful begin entries (Some place) = BreaksAt begin entries place
+abbrev pub IsFirstUnlawful : Runs → List Entry → Option ℕ → Type 0
+IsFirstUnlawful runs entries None = AreLawful runs entries
+IsFirstUnlawful runs entries (Some place) = BreaksAt runs entries place

@@ -1,9 +1,9 @@
 //! The first entry that may not come where it stands.
 
-ghost use Rattle.std.specs.Prelude.{IfOk, ◌↔◌, ◌≡◌, None};
-ghost use Rattle.rt_model.specs.State.{begun};
-ghost use Rattle.rt_model.specs.Rules.{IsLawful};
+ghost use Rattle.std.specs.Prelude.{IfOk, OnOk, ◌↔◌, ◌≡◌, None, drop};
+ghost use Rattle.rt_model.specs.Runs.{Runs, renewed, runs_from, AreLawful};
 ghost use Rattle.rt_walk.specs.First.{IsFirstUnlawful};
+ghost use Rattle.rt_walk.specs.Quiet.{quiet};
 
 use crate::Walker;
 use rt_audit::Entry;
@@ -11,23 +11,47 @@ use rt_base::NoMemory;
 use rt_model::Begin;
 use std::alloc::Global;
 
-/// The place of the first entry of a run that may not come where it stands, if there is one. `begin` holds what the
-/// start of the run fixes, its first moment, cycle, deadline and task number, and the `Start` entry must say the same.
+/// The place of the first entry of a journal that may not come where it stands, if there is one. Its first run begins as
+/// `begin` says, and each further one, whose `Start` stands right behind a finished run, as the next of `later`. A
+/// beginning holds what the start of a run fixes, its first moment, cycle, deadline and task number, and its `Start`
+/// must say the same.
 pub fn first_unlawful(
     alloc: Global,
     begin: Begin,
+    later: &[Begin],
     entries: &[Entry],
 ) -> Result<Option<usize>, NoMemory>
-    ensures first { IfOk result (λ place. IsFirstUnlawful begin entries.now place) }
-    ensures lawful { IfOk result (λ place. (place ≡ None) ↔ IsLawful (begun begin) entries.now) }
+    ensures first { IfOk result (λ place. IsFirstUnlawful (runs_from begin later.now) entries.now place) }
+    ensures lawful { IfOk result (λ place. (place ≡ None) ↔ AreLawful (runs_from begin later.now) entries.now) }
 {
     let mut walker = Walker::new(alloc, begin)?;
+    let mut begun = 0;
     for place in 0..entries.len() {
         let entry = &entries[place];
+        begin_next(alloc, &mut walker, later, &mut begun, entry)?;
         if !walker.may(entry)? {
             return Ok(Some(place));
         }
         walker.step(entry)?;
     }
     Ok(None)
+}
+
+/// Begins the next of the later runs, of which so many have begun, where the entry starts it.
+fn begin_next(
+    alloc: Global,
+    walker: &mut Walker,
+    later: &[Begin],
+    begun: &mut usize,
+    entry: &Entry,
+) -> Result<(), NoMemory>
+    ensures { OnOk result ((r : Runs) → quiet r.state ≡ walker.old → r.later ≡ drop begun.old later.now → quiet (renewed r entry.now).state ≡ walker.new × (renewed r entry.now).later ≡ drop begun.new later.now) }
+{
+    if walker.renews(entry)
+        && let Some(begin) = later.get(*begun)
+    {
+        *walker = Walker::new(alloc, *begin)?;
+        *begun += 1;
+    }
+    Ok(())
 }

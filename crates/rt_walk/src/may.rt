@@ -42,7 +42,7 @@ impl Walker {
                 deadline,
                 cycle,
             } => self.may_start(*next, *now, *deadline, *cycle),
-            Entry::Call { by, call, reply } => self.may_call(*by) && self.answers(*call, reply),
+            Entry::Call { by, call, reply } => self.may_call(*by) && self.answers(call, reply),
             Entry::Event { label, fields } => self.may_event(label, fields),
             Entry::Wake { .. } => false,
             Entry::Draw { .. } => self.may_round(),
@@ -104,18 +104,18 @@ impl Walker {
     }
 
     /// Whether the call may have this reply.
-    fn answers(&self, call: Call, reply: &CallReply) -> bool
-        ensures { IsTrue result ↔ Answers self.now call reply.now }
+    fn answers(&self, call: &Call, reply: &CallReply) -> bool
+        ensures { IsTrue result ↔ Answers self.now call.now reply.now }
     {
         match (call, reply) {
-            (Call::CloseNode { node }, CallReply::Done) => self.nodes.lives(node),
-            (Call::Wake { task }, CallReply::Done) => self.was_given(task),
+            (Call::CloseNode { node }, CallReply::Done) => self.nodes.lives(*node),
+            (Call::Wake { task }, CallReply::Done) => self.was_given(*task),
             (Call::Wake { task }, CallReply::Refused { error }) => {
-                matches!(error.error(), Error::UnknownToken) && !self.was_given(task)
+                matches!(error.error(), Error::UnknownToken) && !self.was_given(*task)
             }
-            (Call::SleepPoll { due }, CallReply::Ready) => due <= self.time,
+            (Call::SleepPoll { due }, CallReply::Ready) => *due <= self.time,
             (Call::SleepPoll { due }, CallReply::PendingAt { alarm }) => {
-                self.time < due && due <= MAX_TIME && self.alarms.may_tell(due, *alarm)
+                self.time < *due && *due <= MAX_TIME && self.alarms.may_tell(*due, *alarm)
             }
             _ => false,
         }

@@ -26,7 +26,7 @@ impl Walker {
     {
         match entry {
             Entry::Start { .. } => self.start(),
-            Entry::Call { by, call, reply } => self.call(*by, *call, reply)?,
+            Entry::Call { by, call, reply } => self.call(*by, call, reply)?,
             Entry::Event { .. } => self.enter(),
             Entry::Wake { task } => self.wake(*task)?,
             Entry::Draw { value } => self.draw(*value)?,
@@ -52,17 +52,17 @@ impl Walker {
         self.owed = None;
     }
 
-    fn call(&mut self, by: Option<u64>, call: Call, reply: &CallReply) -> Result<(), NoMemory>
-        ensures { OnOk result (self.new ≡ quiet (after self.old (CallEntry by call reply.now))) }
+    fn call(&mut self, by: Option<u64>, call: &Call, reply: &CallReply) -> Result<(), NoMemory>
+        ensures { OnOk result (self.new ≡ quiet (after self.old (CallEntry by call.now reply.now))) }
     {
         self.owed = match (call, reply) {
-            (Call::Wake { task }, CallReply::Done) if !self.stage.is_closing() => Some(task),
+            (Call::Wake { task }, CallReply::Done) if !self.stage.is_closing() => Some(*task),
             _ => None,
         };
         match (call, reply) {
-            (Call::CloseNode { node }, CallReply::Done) => self.nodes.release(node),
+            (Call::CloseNode { node }, CallReply::Done) => self.nodes.release(*node),
             (Call::SleepPoll { due }, CallReply::PendingAt { alarm }) => {
-                self.alarms.sleep(by, due, *alarm)?;
+                self.alarms.sleep(by, *due, *alarm)?;
             }
             _ => {}
         }

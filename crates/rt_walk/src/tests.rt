@@ -122,11 +122,21 @@ fn crash(choices: Vec<Choice>) -> Entry {
 
 /// The place of the first line that may not come where it stands.
 fn first_of(alloc: Global, begin: Begin, lines: &[Line]) -> Result<Option<usize>, NoMemory> {
+    first_of_runs(alloc, begin, &[], lines)
+}
+
+/// The same in a journal of several runs.
+fn first_of_runs(
+    alloc: Global,
+    begin: Begin,
+    later: &[Begin],
+    lines: &[Line],
+) -> Result<Option<usize>, NoMemory> {
     let mut entries = Vec::new(alloc);
     for line in lines {
         entries.push(entry(alloc, *line)?)?;
     }
-    first_unlawful(alloc, begin, entries.as_slice())
+    first_unlawful(alloc, begin, later, entries.as_slice())
 }
 
 /// Whether each front of the journal is lawful, and the whole.
@@ -271,7 +281,7 @@ const LATE: [Line; 15] = [
     Line::Finish(FinishCause::Timeout),
 ];
 
-/// A root that wakes itself twice and then waits, and ends for want of anything to do. A draw shuffles its second round.
+/// A root that wakes itself twice and then waits, and ends because there is nothing to do. A draw shuffles its second round.
 const STALL: [Line; 26] = [
     Line::Start(BEGIN),
     Line::Root(0),
@@ -799,6 +809,45 @@ fn goes_on_with_the_round_after_an_end(rt: HostRuntime) -> Result<(), Fail> {
     Ok(())
 }
 
+/// A run behind another goes by the next beginning, from its own state: its root has its own number, and no alarm of the
+/// run before is set.
+#[test]
+fn several_runs(rt: HostRuntime) -> Result<(), Fail> {
+    let alloc = rt.alloc();
+    let mut lines = LATE.to_vec(alloc)?;
+    for line in READY {
+        lines.push(line)?;
+    }
+    for line in STALL {
+        lines.push(line)?;
+    }
+    let all = LATE.len() + READY.len() + STALL.len();
+    for (later, missing, first) in [
+        ([BEGIN, BEGIN], all, None),
+        ([TIMED, BEGIN], all, Some(15)),
+        ([BEGIN, TIMED], all, Some(27)),
+        // the end of the first run, its finish and that of the second, the second start and the third
+        ([BEGIN, BEGIN], 13, Some(13)),
+        ([BEGIN, BEGIN], 14, Some(14)),
+        ([BEGIN, BEGIN], 26, Some(26)),
+        ([BEGIN, BEGIN], 15, Some(15)),
+        ([BEGIN, BEGIN], 27, Some(27)),
+    ] {
+        let lines = damaged(alloc, lines.as_slice(), missing, Damage::Missing)?;
+        assert_eq!(rt;
+            first_of_runs(alloc, TIMED, &later, lines.as_slice())?,
+            first
+        );
+    }
+    // a third run that nothing begins, and a beginning that no run has
+    assert_eq!(rt;
+        first_of_runs(alloc, TIMED, &[BEGIN], lines.as_slice())?,
+        Some(27)
+    );
+    assert_eq!(rt; first_of_runs(alloc, BEGIN, &[TIMED], &READY)?, None);
+    Ok(())
+}
+
 #[test]
 fn surface(rt: HostRuntime) -> Result<(), Fail> {
     let alloc = rt.alloc();
@@ -807,6 +856,6 @@ fn surface(rt: HostRuntime) -> Result<(), Fail> {
     assert!(rt; walker.may(&start)?);
     walker.step(&start)?;
     assert!(rt; !walker.may(&start)?);
-    assert_eq!(rt; first_unlawful(alloc, BEGIN, &[])?, None);
+    assert_eq!(rt; first_unlawful(alloc, BEGIN, &[], &[])?, None);
     Ok(())
 }

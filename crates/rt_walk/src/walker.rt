@@ -7,6 +7,7 @@ ghost use Rattle.rt_model.specs.Lists.{is_nil};
 ghost use Rattle.rt_model.specs.Causes.{from_running, is_late, overflows, reached, turning_cause, where_true};
 ghost use Rattle.rt_model.specs.Rules.{May, WasGiven};
 ghost use Rattle.rt_model.specs.Effects.{after};
+ghost use Rattle.rt_model.specs.Runs.{renews};
 ghost use Rattle.rt_walk.specs.Quiet.{quiet};
 
 use crate::numbers::first_running;
@@ -72,6 +73,16 @@ impl Walker {
     /// The allocator that the lists keep.
     pub(crate) fn allocator(&self) -> Global {
         *self.ready.allocator()
+    }
+
+    /// Whether the entry starts a further run, behind a finished one.
+    pub(crate) fn renews(&self, entry: &Entry) -> bool
+        ensures { result ≡ renews entry.now self.now.phase }
+    {
+        matches!(
+            (entry, &self.stage),
+            (Entry::Start { .. }, Stage::Finished { .. })
+        )
     }
 
     /// Whether the deadline is there.

@@ -1,11 +1,13 @@
 -- Steps are walked call by call, and poller by poller.
 use Rattle.std.proofs.Common.{◌≡◌, ◌⊎◌, inl, inr, ℕ, Bool, List, [], ◌∷◌, ◌++◌, refl, sym, ap, ◌∙◌, Option, Some, None, Result, Ok, Err, true, false, append_assoc, arith, is_some}
 use Rattle.std.proofs.lemmas.List.{append-nil}
+use Rattle.rt_base.specs.declared.error.Error.{Error}
+use Rattle.rt_base.specs.declared.error.Error.TheVariants.{NoMemory as OutOf, UnknownToken}
 use Rattle.rt_base.specs.declared.no_memory.NoMemory.{NoMemory as OutOfMemory}
 use Rattle.rt_audit.specs.declared.call.Call.{Call}
-use Rattle.rt_audit.specs.declared.call.Call.TheVariants.{CloseNode, SleepPoll}
+use Rattle.rt_audit.specs.declared.call.Call.TheVariants.{CloseNode, SleepPoll, Wake}
 use Rattle.rt_audit.specs.declared.reply.CallReply.{CallReply}
-use Rattle.rt_audit.specs.declared.reply.CallReply.TheVariants.{Done}
+use Rattle.rt_audit.specs.declared.reply.CallReply.TheVariants.{Done, Refused}
 use Rattle.rt_super.specs.Alarms.{AlarmList}
 use Rattle.rt_super.specs.Ancestry.{is_live}
 use Rattle.rt_model.specs.declared.answer.Answer.{Answer}
@@ -17,7 +19,7 @@ use Rattle.rt_model.specs.Walk.{Step, Last, Does, Spends, Gives, Walks, Fronts, 
 use Rattle.rt_model.proofs.Walks.{walks-then, fronts-then, stops-then, stops-first}
 use Rattle.rt_machine.specs.Calls.{turn_in, marked, sleep_reply, slept_number}
 use Rattle.rt_world.specs.World.{World}
-use Rattle.rt_world.specs.Calls.{Stays, Kept, Made, Closed, lacking}
+use Rattle.rt_world.specs.Calls.{Stays, Kept, Made, Closed, WakeRefused, lacking}
 use Rattle.rt_world.specs.Walked.{Broke, EndsWith, Turned, Walked, Spent, Polled, answered_by, Rooted, root_by, Goes, Spends as MaySpend, Closes, Leads}
 
 stood-more : (ts us : List Turn) (n0 n1 n2 : Stood) → stood_before us n2 ≡ n1 → stood_before ts n1 ≡ n0 → stood_before (ts ++ us) n2 ≡ n0
@@ -279,6 +281,19 @@ module _ {A O G : Type 0} (old mid new : World A O G) (answer : Answer O) (left 
   unfolding Polled
   polled-call call reply on made two = (turned-call old mid new (answered_by answer left) call reply on made two)
 
+  -- a wake that was carried out, as the last call
+  pub polled-woken : (task : ℕ) (on : Heard O → Step A A O (Answer O)) → Made old new (Wake task) Done → Polled (on (Plain Done)) new new answer left → Polled (Does (Plainly (Wake task)) on) old new answer left
+  unfolding Polled
+  polled-woken task on made two = turned-call old new new (answered_by answer left) (Wake task) Done on made two
+
+  -- a wake that was refused, or lacked memory
+  pub polled-refused : (task : ℕ) (on : Heard O → Step A A O (Answer O)) (error : Error) → WakeRefused old new task error → Polled (on (Plain (Refused error))) new new answer left → Polled (Does (Plainly (Wake task)) on) old new answer left
+  unfolding Polled
+  polled-refused task on OutOf h two = rw h (turned-lacking old (answered_by answer left) (Does (Plainly (Wake task)) on) tt)
+  polled-refused task on UnknownToken h two =
+      turned-call old new new (answered_by answer left) (Wake task) (Refused UnknownToken) on h.1 two
+  polled-refused task on _ h two = absurd h
+
   pub polled-sleep : (due : ℕ) (alarm told : Option ℕ) (on : Heard O → Step A A O (Answer O)) → told ≡ slept_number old.told.state.clock.time old.told.state.alarms due alarm → Made old mid (SleepPoll due) (sleep_reply told) → Polled (on (Plain (sleep_reply told))) mid new answer left → Polled (Does (Sleeping due alarm) on) old new answer left
   unfolding Polled
   polled-sleep due alarm told on is made two = (turned-sleep old mid new (answered_by answer left) due alarm told on is made two)
@@ -466,7 +481,7 @@ pub ruleset poller_laws = (walked-then, walked-followed, walked-call, walked-sle
 
 pub ruleset close_laws = (closes-on, spent-nothing, kept-same, kept-kept)
 
-pub ruleset task_laws = (polled-call, polled-sleep, polled-gives, polled-lacks, polled-lacking, spent-nothing, kept-same, kept-kept)
+pub ruleset task_laws = (polled-call, polled-woken, polled-refused, polled-sleep, polled-gives, polled-lacks, polled-lacking, spent-nothing, kept-same, kept-kept)
 
 pub ruleset maker_laws = (rooted-call, rooted-close, rooted-gives, rooted-lacks, rooted-lacking, kept-same, kept-kept)
 

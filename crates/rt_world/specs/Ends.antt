@@ -45,7 +45,7 @@ abbrev pub Makes : {A : Type 0} → Option A → FinishCause → Type 0
 Makes None cause = cause ≡ NoMemory
 Makes (Some root) cause = Unit {0}
 
--- the run is finished with the cause that it reached, or for want of memory
+-- the run is finished with the cause that it reached, or as one that lacked memory
 abbrev pub IsFinal : FinishCause → FinishCause → Type 0
 IsFinal cause final = (final ≡ cause) ⊎ (final ≡ NoMemory)
 

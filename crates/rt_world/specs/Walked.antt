@@ -44,7 +44,7 @@ Walked step old new answer left = Turned step old new (Some (answer, left))
 unfoldable pub Spent : {A O G : Type 0} → Last A O → World A O G → World A O G → Type 0
 Spent step old new = Turned step old new (Some (tt, tt))
 
--- an answer of want of memory breaks off
+-- an answer that memory was lacking breaks off
 abbrev pub answered_by : {A O : Type 0} → Answer O → A → Option (Answer O × A)
 answered_by NoMemory left = None
 answered_by answer left = Some (answer, left)

@@ -124,8 +124,8 @@ impl<T: Task, G: Rng> World<T, T::Output, G> {
         lacked
     }
 
-    /// Ends a run whose root was taken in, for the cause that it has reached, or for want of memory. Answers the cause
-    /// that the run's last entry has.
+    /// Ends a run whose root was taken in, for the cause that it has reached, or as one that lacked memory. Answers the
+    /// cause that the run's last entry has.
     #[tactic(auto, unfolding(rt_model::specs::Effects::after))]
     pub fn cleanup(&mut self, cause: FinishCause) -> FinishCause
         requires stands { Reaches self.old.told.state cause }
@@ -166,8 +166,8 @@ impl<T: Task, G: Rng> World<T, T::Output, G> {
         false
     }
 
-    /// Ends a run whose root was not taken in, for the cause that it has reached, or for want of memory. The maker may
-    /// have made a root. Answers the cause that the run's last entry has.
+    /// Ends a run whose root was not taken in, for the cause that it has reached, or as one that lacked memory. The maker
+    /// may have made a root. Answers the cause that the run's last entry has.
     #[tactic(auto, unfolding(rt_model::specs::Effects::after))]
     pub fn cleanup_unmade(&mut self, unmade: Option<T>, cause: FinishCause) -> FinishCause
         requires stands { Reaches self.old.told.state cause }

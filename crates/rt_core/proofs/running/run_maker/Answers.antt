@@ -10,7 +10,7 @@ returns-in_default-clause-agrees g c f =
     let first = g.M.RootMaker.first c.args.maker in
     let p : Steps g.row.T.Denot g.row.T-Output.Denot = with_first g.T.Task.steps first in
     let kept = c.make.ensures.kept in
-    let breaks = rooted-broken c.args.world.now c.make.new.world _ c.requires.turns _ c.requires.unmarked (rw c.in_default.is at c.make.ensures.steps) in
+    let breaks = rooted-broken c.args.world.now c.make.new.world _ c.requires.turns _ c.requires.ready.unmarked (rw c.in_default.is at c.make.ensures.steps) in
     ended-cut p _ _ None None false
     (c.cleanup_unmade.ensures.agrees first false
     (unmade p c.args.world.now c.make.new.world kept (c.facts.ensures.follows p c.args.world.now.told _ f c.requires.calls kept.begin kept.past) breaks))
@@ -20,7 +20,7 @@ returns-then-is_short-clause-agrees g c f =
     let first = g.M.RootMaker.first c.args.maker in
     let p : Steps g.row.T.Denot g.row.T-Output.Denot = with_first g.T.Task.steps first in
     let kept = c.make.ensures.kept in
-    let breaks = rooted-short c.args.world.now c.make.new.world _ c.requires.turns _ c.requires.unmarked (sym c.if-is_short.ensures) c.make.ensures.steps in
+    let breaks = rooted-short c.args.world.now c.make.new.world _ c.requires.turns _ c.requires.ready.unmarked (sym c.if-is_short.ensures) c.make.ensures.steps in
     ended-cut p _ _ None None false
     (c.cleanup_unmade-then-is_short.ensures.agrees first false
     (unmade p c.args.world.now c.make.new.world kept (c.facts-2.ensures.follows p c.args.world.now.told _ f c.requires.calls kept.begin kept.past) (inl breaks)))

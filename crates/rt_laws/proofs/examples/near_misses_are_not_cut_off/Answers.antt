@@ -1,8 +1,11 @@
-use Rattle.rt_laws.proofs.Cut.{not_silent, not_invented}
+use Rattle.rt_laws.proofs.Cut.{not_silent, none_in_a_poll, none_in_an_end}
 use Rattle.rt_laws.proofs.examples.near_misses_are_not_cut_off.Goals as goal
 
 pub returns-clause-silent_end : goal.returns-clause-silent_end
 returns-clause-silent_end c = not_silent
 
-pub returns-clause-invented : goal.returns-clause-invented
-returns-clause-invented c = not_invented
+pub returns-clause-in_a_poll : goal.returns-clause-in_a_poll
+returns-clause-in_a_poll c = none_in_a_poll
+
+pub returns-clause-in_an_end : goal.returns-clause-in_an_end
+returns-clause-in_an_end c = none_in_an_end

@@ -17,25 +17,25 @@ unfolding after begun
 returns-in-Ok-outcome-clause-run g c =
     let p : Steps g.row.T.Denot g.row.T-Output.Denot = with_first g.T.Task.steps (g.M.RootMaker.first c.args.maker) in
     let w : World g.row.T.Denot g.row.T-Output.Denot g.row.G.Denot = c.run_maker-outcome.new.world in
-    let begin : w.told.begin ≡ c.self.inside.begin = c.run_maker-outcome.ensures.begin ∙ ap (λ (u : World g.row.T.Denot g.row.T-Output.Denot g.row.G.Denot). u.told.begin) c.in-Ok.ensures.ok in
-    let fixed : w.told.state.clock.fixed ≡ c.self.inside.begin = c.run_maker-outcome.ensures.fixed ∙ ap (λ (u : World g.row.T.Denot g.row.T-Output.Denot g.row.G.Denot). u.told.state.clock.fixed) c.in-Ok.ensures.ok in
-    let given = c.run_maker-outcome.ensures.given ∙ ap (λ (u : World g.row.T.Denot g.row.T-Output.Denot g.row.G.Denot). u.told.given) c.in-Ok.ensures.ok ∙ c.given_journal-given.ensures in
-    let rng = c.into_parts-journal.ensures.rng ∙ c.run_maker-outcome.ensures.rng ∙ ap (λ (u : World g.row.T.Denot g.row.T-Output.Denot g.row.G.Denot). u.rng) c.in-Ok.ensures.ok in
+    let begin : w.told.begin ≡ c.self.inside.begin = c.run_maker-outcome.ensures.leaves.begin ∙ ap (λ (u : World g.row.T.Denot g.row.T-Output.Denot g.row.G.Denot). u.told.begin) c.in-Ok.ensures.ok in
+    let fixed : w.told.state.clock.fixed ≡ c.self.inside.begin = c.run_maker-outcome.ensures.leaves.fixed ∙ ap (λ (u : World g.row.T.Denot g.row.T-Output.Denot g.row.G.Denot). u.told.state.clock.fixed) c.in-Ok.ensures.ok in
+    let given = c.run_maker-outcome.ensures.leaves.given ∙ ap (λ (u : World g.row.T.Denot g.row.T-Output.Denot g.row.G.Denot). u.told.given) c.in-Ok.ensures.ok ∙ c.given_journal-given.ensures in
+    let rng = c.into_parts-journal.ensures.rng ∙ c.run_maker-outcome.ensures.leaves.rng ∙ ap (λ (u : World g.row.T.Denot g.row.T-Output.Denot g.row.G.Denot). u.rng) c.in-Ok.ensures.ok in
     let extends = c.into_parts-journal.ensures.entries ∙ ap (λ (ys : List Entry). ys ++ own w.told) given in
     rw (← c.self.view_is, rng)
-    (completes p c.self.inside.begin w (rw begin at c.facts.ensures.lawful) (rw begin at c.facts.ensures.state) begin _ _ _ c.in-Ok-outcome.output _ _ _ c.in-Ok-outcome.ensures.phase (c.in-Ok-outcome.ensures.agrees (c.in-Ok.ensures.agrees p)) extends c.now-time.ensures.time fixed refl refl)
+    (completes p c.self.inside.begin w (rw begin at c.facts.ensures.lawful) (rw begin at c.facts.ensures.state) begin _ _ _ c.in-Ok-outcome.output _ _ _ c.in-Ok-outcome.ensures.leaves.phase (c.in-Ok-outcome.ensures.agrees (c.in-Ok.ensures.agrees p)) extends c.now-time.ensures.time fixed refl refl)
 
 pub returns-in-Err-outcome-clause-failure : goal.returns-in-Err-outcome-clause-failure
 unfolding after begun
 returns-in-Err-outcome-clause-failure g c =
     let p : Steps g.row.T.Denot g.row.T-Output.Denot = with_first g.T.Task.steps (g.M.RootMaker.first c.args.maker) in
     let w : World g.row.T.Denot g.row.T-Output.Denot g.row.G.Denot = c.run_maker-outcome.new.world in
-    let begin : w.told.begin ≡ c.self.inside.begin = c.run_maker-outcome.ensures.begin ∙ ap (λ (u : World g.row.T.Denot g.row.T-Output.Denot g.row.G.Denot). u.told.begin) c.in-Ok.ensures.ok in
-    let given = c.run_maker-outcome.ensures.given ∙ ap (λ (u : World g.row.T.Denot g.row.T-Output.Denot g.row.G.Denot). u.told.given) c.in-Ok.ensures.ok ∙ c.given_journal-given.ensures in
+    let begin : w.told.begin ≡ c.self.inside.begin = c.run_maker-outcome.ensures.leaves.begin ∙ ap (λ (u : World g.row.T.Denot g.row.T-Output.Denot g.row.G.Denot). u.told.begin) c.in-Ok.ensures.ok in
+    let given = c.run_maker-outcome.ensures.leaves.given ∙ ap (λ (u : World g.row.T.Denot g.row.T-Output.Denot g.row.G.Denot). u.told.given) c.in-Ok.ensures.ok ∙ c.given_journal-given.ensures in
     rw (← c.self.view_is) (record {
       entries = own w.told;
       extends = c.into_parts-journal.ensures.entries ∙ ap (λ (ys : List Entry). ys ++ own w.told) given;
-      failed = failed_by p c.self.inside.begin w (rw begin at c.facts.ensures.lawful) (rw begin at c.facts.ensures.state) begin c.in-Err-outcome.cause c.in-Err-outcome.ensures.phase (c.in-Err-outcome.ensures.agrees (c.in-Ok.ensures.agrees p));
+      failed = failed_by p c.self.inside.begin w (rw begin at c.facts.ensures.lawful) (rw begin at c.facts.ensures.state) begin c.in-Err-outcome.cause c.in-Err-outcome.ensures.leaves.phase (c.in-Err-outcome.ensures.agrees (c.in-Ok.ensures.agrees p));
     })
 
 pub returns-in-Err-outcome-clause-complete : goal.returns-in-Err-outcome-clause-complete
@@ -48,8 +48,8 @@ pub returns-in-Ok-outcome-clause-orders : goal.returns-in-Ok-outcome-clause-orde
 unfolding after begun
 returns-in-Ok-outcome-clause-orders g c =
     let w : World g.row.T.Denot g.row.T-Output.Denot g.row.G.Denot = c.run_maker-outcome.new.world in
-    let begin : w.told.begin ≡ c.self.inside.begin = c.run_maker-outcome.ensures.begin ∙ ap (λ (u : World g.row.T.Denot g.row.T-Output.Denot g.row.G.Denot). u.told.begin) c.in-Ok.ensures.ok in
-    let given = c.run_maker-outcome.ensures.given ∙ ap (λ (u : World g.row.T.Denot g.row.T-Output.Denot g.row.G.Denot). u.told.given) c.in-Ok.ensures.ok ∙ c.given_journal-given.ensures in
+    let begin : w.told.begin ≡ c.self.inside.begin = c.run_maker-outcome.ensures.leaves.begin ∙ ap (λ (u : World g.row.T.Denot g.row.T-Output.Denot g.row.G.Denot). u.told.begin) c.in-Ok.ensures.ok in
+    let given = c.run_maker-outcome.ensures.leaves.given ∙ ap (λ (u : World g.row.T.Denot g.row.T-Output.Denot g.row.G.Denot). u.told.given) c.in-Ok.ensures.ok ∙ c.given_journal-given.ensures in
     rw (← c.self.view_is) (record {
       entries = own w.told;
       extends = c.into_parts-journal.ensures.entries ∙ ap (λ (ys : List Entry). ys ++ own w.told) given;
@@ -60,8 +60,8 @@ pub returns-in-Err-outcome-clause-orders : goal.returns-in-Err-outcome-clause-or
 unfolding after begun
 returns-in-Err-outcome-clause-orders g c =
     let w : World g.row.T.Denot g.row.T-Output.Denot g.row.G.Denot = c.run_maker-outcome.new.world in
-    let begin : w.told.begin ≡ c.self.inside.begin = c.run_maker-outcome.ensures.begin ∙ ap (λ (u : World g.row.T.Denot g.row.T-Output.Denot g.row.G.Denot). u.told.begin) c.in-Ok.ensures.ok in
-    let given = c.run_maker-outcome.ensures.given ∙ ap (λ (u : World g.row.T.Denot g.row.T-Output.Denot g.row.G.Denot). u.told.given) c.in-Ok.ensures.ok ∙ c.given_journal-given.ensures in
+    let begin : w.told.begin ≡ c.self.inside.begin = c.run_maker-outcome.ensures.leaves.begin ∙ ap (λ (u : World g.row.T.Denot g.row.T-Output.Denot g.row.G.Denot). u.told.begin) c.in-Ok.ensures.ok in
+    let given = c.run_maker-outcome.ensures.leaves.given ∙ ap (λ (u : World g.row.T.Denot g.row.T-Output.Denot g.row.G.Denot). u.told.given) c.in-Ok.ensures.ok ∙ c.given_journal-given.ensures in
     rw (← c.self.view_is) (record {
       entries = own w.told;
       extends = c.into_parts-journal.ensures.entries ∙ ap (λ (ys : List Entry). ys ++ own w.told) given;

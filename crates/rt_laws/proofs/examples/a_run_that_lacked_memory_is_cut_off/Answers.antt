@@ -1,0 +1,12 @@
+use Rattle.rt_laws.proofs.Runs.{cut_off}
+use Rattle.rt_laws.proofs.Cut.{lacks_within, lacks_lawfully}
+use Rattle.rt_laws.proofs.examples.a_run_that_lacked_memory_is_cut_off.Goals as goal
+
+pub returns-clause-at_once : goal.returns-clause-at_once
+returns-clause-at_once c = cut_off
+
+pub returns-clause-within : goal.returns-clause-within
+returns-clause-within c = lacks_within
+
+pub returns-clause-lawful : goal.returns-clause-lawful
+returns-clause-lawful c = lacks_lawfully
