@@ -30,3 +30,14 @@ pub mod sink;
 pub mod stream;
 #[cfg(test)]
 mod tests;
+
+pub use channel::Channel;
+pub use connection::Connection;
+pub use half::{Half, Parked};
+pub use halves::{Receiving, Sending};
+pub use listener::Listener;
+pub use net::{DEFAULT_BUFFER_SIZE, Net};
+pub use network::{ListenerOf, Network, SinkOf, StreamOf};
+pub use reply::Reply;
+pub use sink::Sink;
+pub use stream::Stream;

@@ -30,8 +30,8 @@ pub type ListenerOf<N> = <N as Network>::Listener;
 /// Listeners, and channels whose halves are tokens that must be spent. `task` is the number of the task that calls,
 /// which waits where the answer is pending.
 ///
-/// Errors are said as the network in memory (`Net`) gives them. Beside these, `UnknownToken` answers the token of another
-/// network, and `NoMemory` a call that is out of memory; neither changes a channel or a listener.
+/// Errors are said as the network in memory (`Net`) gives them. Beside these, `UnknownToken` answers a token whose number
+/// is that of no live object here, and `NoMemory` a call that is out of memory; neither changes a channel or a listener.
 pub trait Network {
     type Listener;
 

@@ -309,7 +309,7 @@ fn passes<N: Network>(
 #[test]
 fn a_mebibyte_through_one_channel(rt: HostRuntime) -> Result<(), Fail> {
     let mut net = Net::new(rt.alloc())?;
-    let bufs = pieces(rt.alloc(), 16, 65536)?;
+    let bufs = pieces(rt.alloc(), 4096, 256)?;
     let (sink, stream) = Channel::init(&mut net).expect(&rt, "room");
     let seen = passes(&mut net, sink, stream, bufs);
     assert_eq!(rt; seen, (Ending::Waits, 1048576, Ending::Done));
@@ -680,7 +680,7 @@ fn passes_behind<N: Network>(
     Ok(passed)
 }
 
-// A queue that moves all its bytes at each call would show by the time.
+// All that is held can be peeked at.
 #[test]
 fn small_sends_behind_a_mebibyte(rt: HostRuntime) -> Result<(), Fail> {
     let alloc = rt.alloc();
@@ -691,13 +691,17 @@ fn small_sends_behind_a_mebibyte(rt: HostRuntime) -> Result<(), Fail> {
     );
     let first = put(&mut net, &mut NoEnv, &mut sink, backlog, 1);
     let passed = passes_behind(alloc, &mut net, &mut sink, &mut stream, 65536);
+    let peeked = match net.peek(&mut NoEnv, &stream, 1048576) {
+        Ok(held) => held.len(),
+        Err(_) => 0,
+    };
     let last = get(&mut net, &mut NoEnv, &mut stream, 1048576, 2);
     let woken = close(&mut net, sink, stream);
     assert_eq!(rt;
         (first, last, woken),
         (Ending::Done, Ending::Got(1048576), (None, None))
     );
-    assert_eq!(rt; passed.expect(&rt, "room"), 65536);
+    assert_eq!(rt; (passed.expect(&rt, "room"), peeked), (65536, 1048560));
     Ok(())
 }
 

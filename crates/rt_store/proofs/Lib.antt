@@ -1,0 +1,5 @@
+mod Counting
+mod Drawn
+mod Named
+mod Redone
+mod Undone

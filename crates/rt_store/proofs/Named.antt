@@ -1,0 +1,40 @@
+-- A map from owned names is one from the bytes of the names.
+use Rattle.std.proofs.Common.{◌≡◌, ℕ, Bool, true, false, cond, List, [], ◌∷◌, map, Option, Some, None, refl, ap, ◌∙◌, rules, Vec, Global}
+use Rattle.std.specs.Cmp.Lexicographic.{slice_cmp}
+use Rattle.std.specs.Ordering.{nat_cmp, match_ordering}
+use Rattle.std.specs.declared.cmp.Ordering.{Ordering}
+use Rattle.std.specs.declared.cmp.Ordering.TheVariants.{Less, Equal, Greater}
+use Rattle.std.specs.Map.{lookup, remove_entry}
+use Rattle.std.specs.BTreeMap.{insert_entry}
+use Rattle.rt_store.specs.Directory.{is_name, at_name, put_name}
+
+abbrev pub Owned : Type 0
+Owned = List (Vec ℕ Global × ℕ)
+
+abbrev pub shown : Owned → List (List ℕ × ℕ)
+shown es = map (λ e. (e.0.items, e.1)) es
+
+pub lookup_shown : (es : Owned) (q : List ℕ) → lookup (λ k. is_name q k.items) es ≡ at_name q (shown es)
+lookup_shown [] q = refl
+lookup_shown (e ∷ es) q = ap (λ (o : Option ℕ). cond (is_name q e.0.items) (Some e.1) o) (lookup_shown es q)
+
+match-map : {A B : Type 0} (f : A → B) (o : Ordering) (x y z : A) → f (match_ordering o x y z) ≡ match_ordering o (f x) (f y) (f z)
+match-map f Less x y z = refl
+match-map f Equal x y z = refl
+match-map f Greater x y z = refl
+
+pub put_shown : (es : Owned) (k : Vec ℕ Global) (w : ℕ) → shown (insert_entry (λ a b. slice_cmp nat_cmp a.items b.items) es k w) ≡ put_name k.items w (shown es)
+put_shown [] k w = refl
+put_shown (e ∷ es) k w =
+    let o = slice_cmp nat_cmp k.items e.0.items in
+    match-map shown o ((k, w) ∷ e ∷ es) ((e.0, w) ∷ es) (e ∷ insert_entry (λ a b. slice_cmp nat_cmp a.items b.items) es k w)
+    ∙ ap (λ (rest : List (List ℕ × ℕ)). match_ordering o ((k.items, w) ∷ shown (e ∷ es)) ((e.0.items, w) ∷ shown es) ((e.0.items, e.1) ∷ rest)) (put_shown es k w)
+
+absent-cond : (b : Bool) (x : ℕ) (o : Option ℕ) (e : Vec ℕ Global × ℕ) (es rest : Owned) → cond b (Some x) o ≡ None → (o ≡ None → rest ≡ es) → cond b es (e ∷ rest) ≡ e ∷ es
+absent-cond true x o e es rest h k = search rules
+absent-cond false x o e es rest h k = ap (λ (r : Owned). e ∷ r) (k h)
+
+-- nothing is removed where no name is the same
+pub remove_absent : (test : Vec ℕ Global → Bool) (es : Owned) → lookup test es ≡ None → remove_entry test es ≡ es
+remove_absent test [] h = refl
+remove_absent test (e ∷ es) h = absent-cond (test e.0) e.1 (lookup test es) e es (remove_entry test es) h (remove_absent test es)

@@ -1,0 +1,10 @@
+use Rattle.std.proofs.Common.{rules}
+use Rattle.rt_store.proofs.mem_store.MemStoreStorage.start_sync.Goals as goal
+
+pub returns-clause-gives : goal.returns-clause-gives
+returns-clause-gives g c =
+    let gives = c.save-answer.ensures.gives in
+    (gives.0, gives.1, (c.save-answer.result, gives.2, c.started.ensures.ticket, (search rules)))
+
+pub returns-clause-counts : goal.returns-clause-counts
+returns-clause-counts g c = c.started.ensures.counts c.args.self.now.refusals c.count.new.self.refusals (search rules)

@@ -1,0 +1,63 @@
+-- Names in the order of their bytes: what a name finds, and what changes.
+use Rattle.std.specs.Prelude.{ℕ, Bool, List, [], ◌∷◌, ◌++◌, length, Option, None, Some, slice_get, slice_set}
+use Rattle.std.specs.Cmp.Lexicographic.{slice_cmp}
+use Rattle.std.specs.Ordering.{is_eq, nat_cmp}
+use Rattle.std.specs.Map.{lookup, set_value, remove_entry}
+use Rattle.std.specs.BTreeMap.{insert_entry}
+
+-- the names are the same
+abbrev pub is_name : List ℕ → List ℕ → Bool
+is_name q n = is_eq (slice_cmp nat_cmp q n)
+
+-- what stands at a name
+abbrev pub at_name : {X : Type 0} → List ℕ → List (List ℕ × X) → Option X
+at_name q es = lookup (is_name q) es
+
+-- something else at a name that is there
+abbrev pub with_name : {X : Type 0} → List ℕ → X → List (List ℕ × X) → List (List ℕ × X)
+with_name q x es = set_value (is_name q) es x
+
+-- something at a name, in its place in the order
+abbrev pub put_name : {X : Type 0} → List ℕ → X → List (List ℕ × X) → List (List ℕ × X)
+put_name q x es = insert_entry (slice_cmp nat_cmp) es q x
+
+-- nothing at a name
+abbrev pub without_name : {X : Type 0} → List ℕ → List (List ℕ × X) → List (List ℕ × X)
+without_name q es = remove_entry (is_name q) es
+
+-- Names with their numbers.
+abbrev pub Names : Type 0
+Names = List (List ℕ × ℕ)
+
+-- `shelf` has the partitions that are there, each with the number of its shelf, and a shelf the blobs by name
+pub record Partitions : Type 0 where
+  pub shelf : Names
+  pub shelves : List Names
+
+abbrev pub no_partitions : Partitions
+no_partitions = record { shelf = []; shelves = [] }
+
+-- the names of a partition, where it is there
+abbrev pub at_shelf : List Names → Option ℕ → Option Names
+at_shelf shelves None = None
+at_shelf shelves (Some n) = slice_get shelves n
+
+abbrev pub names_in : List ℕ → Partitions → Option Names
+names_in partition d = at_shelf d.shelves (at_name partition d.shelf)
+
+-- the number of the blob of a name
+abbrev pub in_names : List ℕ → Option Names → Option ℕ
+in_names name None = None
+in_names name (Some names) = at_name name names
+
+abbrev pub number_of : List ℕ → List ℕ → Partitions → Option ℕ
+number_of partition name d = in_names name (names_in partition d)
+
+-- a name gets a number; its partition is made where it isn't there
+abbrev pub named_in : List ℕ → List ℕ → ℕ → Partitions → Option ℕ → Option Names → Partitions
+named_in partition name n d (Some shelf) (Some names) = record d { shelves = slice_set d.shelves shelf (put_name name n names) }
+named_in partition name n d shelf names =
+    record { shelf = put_name partition (length d.shelves) d.shelf; shelves = d.shelves ++ put_name name n [] ∷ [] }
+
+abbrev pub named : List ℕ → List ℕ → ℕ → Partitions → Partitions
+named partition name n d = named_in partition name n d (at_name partition d.shelf) (names_in partition d)

@@ -1,0 +1,10 @@
+pub mod Answered
+pub mod Calls
+pub mod Changes
+pub mod Content
+pub mod Crash
+pub mod Directory
+pub mod Draws
+pub mod File
+pub mod Kept
+pub mod Store

@@ -1,0 +1,82 @@
+// The names of blobs, by partition.
+ghost use Rattle.std.specs.Prelude.{◌≡◌, ◌+◌, ◌<◌, ◌≤◌, [], None, ⊤, is_some};
+ghost use Rattle.rt_base.specs.Counted.{Notes};
+ghost use Rattle.rt_store.specs.Directory.{at_name, number_of, named, no_partitions};
+ghost use Rattle.rt_store.specs.Draws.{Answers, if_ok};
+
+use crate::names::{Names, copy};
+use rt_base::{Env, Error, NoEnv};
+use std::alloc::Global;
+use std::marker::Model;
+
+/// The partitions that are there, each with its shelf of names.
+#[derive(Drop)]
+pub struct Directory {
+    partitions: Names,
+    shelves: Vec<Names>,
+    alloc: Global,
+}
+
+impl Model for Directory {
+    ghost use Rattle.rt_store.specs.Directory.{Partitions};
+
+    ghost Value = { Partitions };
+
+    ghost view = { λ d. record { shelf = d.partitions; shelves = d.shelves.items } };
+}
+
+impl Directory {
+    /// No partitions.
+    pub fn new(alloc: Global) -> Directory
+        ensures { result ≡ no_partitions }
+    {
+        Directory {
+            partitions: Names::new(alloc),
+            shelves: Vec::new(alloc),
+            alloc,
+        }
+    }
+
+    /// The number of the blob of this name.
+    pub fn number_of(&self, partition: &[u8], name: &[u8]) -> Option<u64>
+        ensures { result ≡ number_of partition.now name.now self.now }
+    {
+        match self.partitions.get(partition) {
+            Some(shelf) => match self.shelves.get(shelf as usize) {
+                Some(names) => names.get(name),
+                None => None,
+            },
+            None => None,
+        }
+    }
+    /// Gives a name a number, save where a fault is drawn.
+    pub fn name<E: Env>(
+        &mut self,
+        env: &mut E,
+        rate: u32,
+        partition: &[u8],
+        name: &[u8],
+        number: u64,
+    ) -> Result<(), Error>
+        requires { 0 < rate → 0 < E.spare env.old }
+        ensures gives { Notes (E.noted env.old) (Answers None rate (λ _. ⊤) result) (E.noted env.new) }
+        ensures after { self.new ≡ if_ok result (named partition.now name.now number self.old) self.old }
+        ensures spent { E.spare env.old ≤ E.spare env.new + 1 }
+    {
+        let key = copy(self.alloc, name)?;
+        if let Some(shelf) = self.partitions.get(partition) {
+            if (shelf as usize) < self.shelves.len() {
+                self.shelves[shelf as usize].put(env, rate, key, number)?;
+                return Ok(());
+            }
+        }
+        let mut names = Names::new(self.alloc);
+        names.put(&mut NoEnv, 0, key, number)?;
+        self.shelves.reserve(1)?;
+        let shelf = self.shelves.len() as u64;
+        let partition = copy(self.alloc, partition)?;
+        self.partitions.put(env, rate, partition, shelf)?;
+        self.shelves.push_reserved(names);
+        Ok(())
+    }
+}

@@ -1,0 +1,148 @@
+// The blobs of a store, by number.
+ghost use Rattle.std.specs.Prelude.{◌≡◌, ◌+◌, ◌*◌, ◌^◌, ◌<◌, ◌≤◌, [], ◌∷◌, ◌++◌, ◌-◌, length, take, Option, None, ⊤, OnOk, OnErr, slice_get, is_some, true};
+ghost use Rattle.std.specs.Option.{option_copied};
+ghost use Rattle.rt_base.specs.Counted.{Notes};
+ghost use Rattle.rt_store.specs.Changes.{end_of};
+ghost use Rattle.rt_store.specs.Draws.{Answers, if_ok};
+ghost use Rattle.rt_store.specs.File.{FileState, fresh_file, mutated, synced, closed, with_token};
+ghost use Rattle.rt_store.specs.Store.{live, at_blob, end_refusal, refusal_at};
+
+use crate::blob::Blob;
+use crate::file::File;
+use crate::mutation::Mutation;
+use rt_base::{BlobVersion, Env, Error, NoMemory};
+use std::alloc::Global;
+use std::marker::Model;
+
+/// The blobs ever made.
+#[derive(Drop)]
+pub struct Files {
+    files: Vec<File>,
+}
+
+impl Model for Files {
+    ghost use Rattle.std.specs.Prelude.{List};
+    ghost use Rattle.rt_store.specs.File.{FileState};
+
+    ghost Value = { List FileState };
+
+    ghost view = { λ f. f.files.items };
+}
+
+impl Files {
+    /// No blobs.
+    pub fn new(alloc: Global) -> Files
+        ensures { result ≡ [] }
+    {
+        Files {
+            files: Vec::new(alloc),
+        }
+    }
+
+    /// How many were made.
+    pub fn len(&self) -> usize
+        ensures value { result ≡ length self.now }
+        ensures bound { result < 2 ^ 63 }
+    {
+        self.files.len()
+    }
+
+    /// The blob of a token that is live.
+    pub fn at(&self, blob: &Blob) -> Option<&File>
+        ensures { option_copied result ≡ live self.now blob.now }
+    {
+        match self.files.get(blob.place as usize) {
+            Some(file) => {
+                if file.token() == Some(blob.number) {
+                    Some(file)
+                } else {
+                    None
+                }
+            }
+            None => None,
+        }
+    }
+
+    /// The blob of a number.
+    pub fn get(&self, place: u64) -> Option<&File>
+        ensures { option_copied result ≡ slice_get self.now place }
+    {
+        self.files.get(place as usize)
+    }
+
+    /// Gives a blob that is there a live token.
+    pub fn set_token(&mut self, place: u64, token: u64)
+        requires { is_some (slice_get self.old place) ≡ true }
+        ensures { self.new ≡ at_blob self.old place (with_token token) (slice_get self.old place) }
+    {
+        self.files[place as usize].set_token(Some(token));
+    }
+
+    /// Takes the last blob away.
+    pub fn take_back(&mut self)
+        ensures { self.new ≡ take (length self.old - 1) self.old }
+    {
+        let _ = self.files.pop();
+    }
+
+    // Whether the token is live.
+    fn is_live(&self, blob: &Blob) -> bool
+        ensures { result ≡ is_some (live self.now blob.now) }
+    {
+        self.at(blob).is_some()
+    }
+
+    /// Adds a blob without bytes whose live token is this. Where memory is refused nothing changes.
+    pub fn add(&mut self, version: BlobVersion, token: u64) -> Result<(), NoMemory>
+        ensures added { OnOk result (self.new ≡ self.old ++ fresh_file version token ∷ []) }
+        ensures refused { OnErr result (self.new ≡ self.old) }
+    {
+        let alloc = *self.files.allocator();
+        self.files.push(File::new(alloc, version, token))?;
+        Ok(())
+    }
+
+    /// Changes the blob of a token.
+    pub fn mutate<E: Env>(
+        &mut self,
+        env: &mut E,
+        blob: &Blob,
+        rate: u32,
+        mutation: Mutation,
+    ) -> Result<(), Error>
+        requires { 0 < rate → 0 < E.spare env.old }
+        ensures gives { Notes (E.noted env.old) (Answers (refusal_at (live self.old blob.now) (end_refusal (end_of mutation))) rate (λ _. ⊤) result) (E.noted env.new) }
+        ensures after { self.new ≡ if_ok result (at_blob self.old blob.now.place (mutated mutation) (live self.old blob.now)) self.old }
+        ensures spent { E.spare env.old ≤ E.spare env.new + 1 }
+    {
+        if !self.is_live(blob) {
+            return Err(Error::UnknownToken);
+        }
+        if mutation.overflows() {
+            return Err(Error::OffsetOverflow);
+        }
+        let file = &mut self.files[blob.place as usize];
+        file.mutate(env, rate, mutation)?;
+        Ok(())
+    }
+
+    /// The base of the blob of a token becomes its content.
+    pub fn sync(&mut self, blob: &Blob)
+        ensures { self.new ≡ at_blob self.old blob.now.place synced (live self.old blob.now) }
+    {
+        if !self.is_live(blob) {
+            return;
+        }
+        self.files[blob.place as usize].sync();
+    }
+
+    /// A live token no longer is.
+    pub fn close(&mut self, blob: &Blob)
+        ensures { self.new ≡ at_blob self.old blob.now.place closed (live self.old blob.now) }
+    {
+        if !self.is_live(blob) {
+            return;
+        }
+        self.files[blob.place as usize].set_token(None);
+    }
+}

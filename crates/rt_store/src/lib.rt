@@ -1,0 +1,28 @@
+//! Blobs in partitions, by what each call may answer and leave; and a store in memory that knows what a crash would
+//! leave.
+#![tactic(auto)]
+
+pub mod blob;
+mod change;
+mod content;
+mod crash;
+mod directory;
+mod draws;
+pub mod faults;
+pub mod file;
+mod files;
+pub mod mem_store;
+pub mod mutation;
+mod names;
+mod opening;
+pub mod storage;
+mod store;
+#[cfg(test)]
+mod tests;
+pub mod ticket;
+
+pub use blob::Blob;
+pub use faults::{FaultConfig, PartialWriteMode, ResizeConfig, WriteConfig};
+pub use mem_store::MemStore;
+pub use storage::{BlobOf, Storage};
+pub use ticket::{Done, Ticket};

@@ -1,0 +1,434 @@
+// The store in memory.
+ghost use Rattle.std.specs.Prelude.{◌≡◌, ◌+◌, ◌≤◌, ℕ, IfOk, IfSome};
+ghost use Rattle.rt_base.specs.Counted.{counted, Counts, Notes};
+ghost use Rattle.rt_store.specs.Answered.{CountsPoll, CountsStart};
+ghost use Rattle.rt_store.specs.Calls.{Reads, Writes, Resizes, Syncs, Saves, Opens, PollsSync, IsOpened, started, default_range, after_write, after_resize, after_sync, after_open, open_refusal};
+ghost use Rattle.rt_store.specs.Draws.{Answers, if_ok};
+ghost use Rattle.rt_store.specs.Kept.{empty_store, injected_by, moved_to};
+
+use crate::blob::Blob;
+use crate::directory::Directory;
+use crate::faults::FaultConfig;
+use crate::files::Files;
+use crate::mutation::Mutation;
+use crate::opening::{is_partition_name, reopen, text_of};
+use crate::storage::Storage;
+use crate::store::{draw, range_of, take_draw};
+use crate::ticket::{Done, Ticket};
+use rt_base::{
+    BlobVersion, DEFAULT_BLOB_VERSION, Env, Error, NoMemory, Poll, ReadOptions, WriteOptions,
+};
+use rt_bufs::{IoBufMut, IoBufs, IoBufsMut};
+use std::alloc::Global;
+use std::marker::Model;
+
+/// Blobs in memory, with what a crash would leave of each.
+///
+/// Contracts see the whole store, the fault settings, and the counts of faults and of refusals.
+#[derive(Drop)]
+pub struct MemStore {
+    directory: Directory,
+    files: Files,
+    opened: u64,
+    faults: FaultConfig,
+    injected: u64,
+    refusals: u64,
+    alloc: Global,
+}
+
+impl Model for MemStore {
+    ghost use Rattle.rt_store.specs.Kept.{Kept};
+
+    ghost Value = { Kept };
+
+    ghost view = { λ m. record { state = record { directory = m.directory; files = m.files; opened = m.opened }; faults = m.faults; injected = m.injected; refusals = m.refusals } };
+}
+
+impl MemStore {
+    /// An empty store.
+    pub fn new(alloc: Global, faults: FaultConfig) -> Result<MemStore, NoMemory>
+        ensures { IfOk result (λ store. store ≡ empty_store faults) }
+    {
+        Ok(MemStore {
+            directory: Directory::new(alloc),
+            files: Files::new(alloc),
+            opened: 0,
+            faults,
+            injected: 0,
+            refusals: 0,
+            alloc,
+        })
+    }
+
+    /// The fault settings.
+    pub fn config(&self) -> &FaultConfig
+        ensures { result.now ≡ self.now.faults }
+    {
+        &self.faults
+    }
+
+    /// How many faults were injected.
+    pub fn injected(&self) -> u64
+        ensures { result ≡ self.now.injected }
+    {
+        self.injected
+    }
+
+    // Counts an answer.
+    fn count<V>(&mut self, answer: &Result<V, Error>)
+        ensures value { self.new ≡ record self.old { injected = injected_by self.old.injected answer.now; refusals = counted self.old.refusals answer.now } }
+        ensures counts { Counts self.old.refusals self.new.refusals answer.now }
+    {
+        match answer {
+            Ok(_) | Err(Error::NoMemory) => {}
+            Err(Error::Io(_)) => {
+                self.injected = self.injected.saturating_add(1);
+                self.refusals = self.refusals.saturating_add(1);
+            }
+            Err(_) => self.refusals = self.refusals.saturating_add(1),
+        }
+    }
+
+    // Reads bytes into a buffer that has room for them.
+    fn read_into<E: Env>(
+        &self,
+        env: &mut E,
+        blob: &Blob,
+        offset: u64,
+        len: usize,
+        bufs: Option<IoBufsMut>,
+    ) -> Result<IoBufsMut, Error>
+        requires { IfSome bufs (λ b. len ≤ b.capacity) }
+        ensures gives { Notes (E.noted env.old) (Reads self.now blob.now offset len result) (E.noted env.new) }
+        ensures spent { E.spare env.old ≤ E.spare env.new + 1 }
+    {
+        let rate = self.faults.read_rate;
+        take_draw(env, rate)?;
+        let Some(file) = self.files.at(blob) else {
+            return Err(Error::UnknownToken);
+        };
+        let bytes = range_of(file.content(), offset, len)?;
+        let mut buf = match bufs {
+            Some(bufs) => bufs.coalesce()?,
+            None => IoBufMut::with_capacity(self.alloc, len)?,
+        };
+        buf.clear();
+        buf.put_slice(bytes);
+        let bufs = IoBufsMut::from_mut(self.alloc, buf)?;
+        draw(env, rate)?;
+        Ok(bufs)
+    }
+
+    // Writes bytes.
+    fn write<E: Env>(
+        &mut self,
+        env: &mut E,
+        blob: &Blob,
+        offset: u64,
+        bufs: IoBufs,
+        options: WriteOptions,
+    ) -> Result<Done, Error>
+        ensures gives { Notes (E.noted env.old) (Writes self.old blob.now offset bufs.bytes result) (E.noted env.new) }
+        ensures after { self.new ≡ moved_to self.old (if_ok result (after_write self.old blob.now offset bufs.bytes options) self.old.state) }
+        ensures spent { E.spare env.old ≤ E.spare env.new + 1 }
+    {
+        let rate = self.faults.write.rate;
+        take_draw(env, rate)?;
+        let mutation = Mutation::Write {
+            at: offset as usize,
+            bytes: bufs.coalesce()?,
+            durable: options.contains(WriteOptions::SYNC),
+        };
+        self.files.mutate(env, blob, rate, mutation)?;
+        Ok(Done::Now)
+    }
+
+    // Changes the length.
+    fn set_len<E: Env>(&mut self, env: &mut E, blob: &Blob, len: u64) -> Result<(), Error>
+        ensures gives { Notes (E.noted env.old) (Resizes self.old blob.now len result) (E.noted env.new) }
+        ensures after { self.new ≡ moved_to self.old (if_ok result (after_resize self.old blob.now len) self.old.state) }
+        ensures spent { E.spare env.old ≤ E.spare env.new + 1 }
+    {
+        let rate = self.faults.resize.rate;
+        take_draw(env, rate)?;
+        let mutation = Mutation::Resize { len: len as usize };
+        self.files.mutate(env, blob, rate, mutation)?;
+        Ok(())
+    }
+
+    // The base becomes the content.
+    fn save<E: Env>(&mut self, env: &mut E, blob: &Blob) -> Result<(), Error>
+        ensures gives { Notes (E.noted env.old) (Saves self.old blob.now result) (E.noted env.new) }
+        ensures after { self.new ≡ moved_to self.old (if_ok result (after_sync self.old blob.now) self.old.state) }
+        ensures spent { E.spare env.old ≤ E.spare env.new + 1 }
+    {
+        let rate = self.faults.sync_rate;
+        take_draw(env, rate)?;
+        if self.files.at(blob).is_none() {
+            return Err(Error::UnknownToken);
+        }
+        draw(env, rate)?;
+        self.files.sync(blob);
+        Ok(())
+    }
+
+    // The same, with the answer of a call that may wait.
+    fn save_now<E: Env>(&mut self, env: &mut E, blob: &Blob) -> Result<Done, Error>
+        ensures gives { Notes (E.noted env.old) (Syncs self.old blob.now result) (E.noted env.new) }
+        ensures after { self.new ≡ moved_to self.old (if_ok result (after_sync self.old blob.now) self.old.state) }
+        ensures spent { E.spare env.old ≤ E.spare env.new + 1 }
+    {
+        self.save(env, blob)?;
+        Ok(Done::Now)
+    }
+
+    // Opens a blob of the default version, or makes it.
+    fn open_default<E: Env>(
+        &mut self,
+        env: &mut E,
+        partition: &str,
+        name: &[u8],
+    ) -> Result<(Blob, u64), Error>
+        ensures gives { Notes (E.noted env.old) (Opens self.old partition.now name.now result) (E.noted env.new) }
+        ensures after { self.new ≡ moved_to self.old (if_ok result (after_open self.old.state partition.now name.now default_range) self.old.state) }
+        ensures spent { E.spare env.old ≤ E.spare env.new + 1 }
+    {
+        let versions = (DEFAULT_BLOB_VERSION, DEFAULT_BLOB_VERSION);
+        let (blob, len, _) = self.open_blob(env, partition, name, versions)?;
+        Ok((blob, len))
+    }
+
+    // Opens a blob that is there, or makes it.
+    fn open_blob<E: Env>(
+        &mut self,
+        env: &mut E,
+        partition: &str,
+        name: &[u8],
+        versions: (BlobVersion, BlobVersion),
+    ) -> Result<(Blob, u64, BlobVersion), Error>
+        ensures gives { Notes (E.noted env.old) (Answers (open_refusal self.old.state partition.now name.now versions) self.old.faults.open_rate (IsOpened self.old.state partition.now name.now versions) result) (E.noted env.new) }
+        ensures after { self.new ≡ moved_to self.old (if_ok result (after_open self.old.state partition.now name.now versions) self.old.state) }
+        ensures spent { E.spare env.old ≤ E.spare env.new + 1 }
+    {
+        let rate = self.faults.open_rate;
+        take_draw(env, rate)?;
+        let number = self.opened;
+        let Some(next) = number.checked_add(1) else {
+            return Err(Error::NoMemory);
+        };
+        if !is_partition_name(partition.as_bytes()) {
+            return Err(Error::PartitionNameInvalid(text_of(self.alloc, partition)?));
+        }
+        if let Some(place) = self.directory.number_of(partition.as_bytes(), name) {
+            if let Some(file) = self.files.get(place) {
+                let (len, version) = reopen(
+                    self.alloc, env, rate, file, partition, name, versions,
+                )?;
+                self.files.set_token(place, number);
+                self.opened = next;
+                return Ok((Blob { number, place }, len, version));
+            }
+        }
+        let place = self.files.len() as u64;
+        self.files.add(versions.1, number)?;
+        match self
+            .directory
+            .name(env, rate, partition.as_bytes(), name, place)
+        {
+            Ok(()) => {
+                self.opened = next;
+                Ok((Blob { number, place }, 0, versions.1))
+            }
+            Err(error) => {
+                self.files.take_back();
+                Err(error)
+            }
+        }
+    }
+}
+
+// What a ready ticket answers: a copy, where there is memory for it.
+fn answer_of(held: &Result<(), Error>) -> Poll<Result<(), Error>>
+    ensures polls { PollsSync (Ticket.Ready held.now) result }
+    ensures counts { (n : ℕ) → CountsPoll n n (Ticket.Ready held.now) result }
+{
+    match held {
+        Ok(()) => Poll::Ready(Ok(())),
+        Err(error) => match error.clone_value() {
+            Ok(copy) => Poll::Ready(Err(copy)),
+            Err(_) => Poll::Ready(Err(Error::NoMemory)),
+        },
+    }
+}
+
+// The ticket of a sync that was answered.
+fn started(answer: Result<(), Error>) -> Result<Ticket, Error>
+    ensures ticket { result ≡ started answer }
+    ensures counts { (old new : ℕ) → Counts old new answer → CountsStart old new result }
+{
+    match answer {
+        Ok(()) => Ok(Ticket::Ready(Ok(()))),
+        Err(Error::NoMemory) => Err(Error::NoMemory),
+        Err(Error::UnknownToken) => Err(Error::UnknownToken),
+        Err(error) => Ok(Ticket::Ready(Err(error))),
+    }
+}
+
+impl Storage for MemStore {
+    type Blob = Blob;
+
+    ghost use Rattle.std.specs.Prelude.{◌≡◌, [], Result};
+    ghost use Rattle.rt_base.specs.declared.error.Error.{Error};
+    ghost use Rattle.rt_store.specs.Calls.{Reads, Writes, Resizes, Syncs, Saves, Opens, OpensVersioned, PollsSync, started, after_write, after_resize, after_sync, after_open, after_poll, default_range, with_blob};
+    ghost use Rattle.rt_store.specs.File.{closed};
+    ghost use Rattle.rt_store.specs.Kept.{answered, moved_to};
+
+    ghost refusals = { λ v. v.refusals };
+
+    ghost most = { 1 };
+
+    ghost opens_versioned = { λ v p n versions r w x. OpensVersioned v p n versions r x × (w ≡ answered v (after_open v.state p n versions) r) };
+
+    ghost opens = { λ v p n r w x. Opens v p n r x × (w ≡ answered v (after_open v.state p n default_range) r) };
+
+    ghost reads = { λ v k offset len options r w x. Reads v k offset len r x × (w ≡ answered v v.state r) };
+
+    ghost reads_into = { λ v k offset len bufs options r w x. Reads v k offset len r x × (w ≡ answered v v.state r) };
+
+    ghost writes = { λ v k offset b options r w x. Writes v k offset b.bytes r x × (w ≡ answered v (after_write v k offset b.bytes options) r) };
+
+    ghost resizes = { λ v k len r w x. Resizes v k len r x × (w ≡ answered v (after_resize v k len) r) };
+
+    ghost syncs = { λ v k r w x. Syncs v k r x × (w ≡ answered v (after_sync v k) r) };
+
+    ghost starts_sync = { λ v k r w x. (s : Result Unit Error) × Saves v k s x × (r ≡ started s) × (w ≡ answered v (after_sync v k) s) };
+
+    ghost polls_sync = { λ v t task p w u x. PollsSync t p × (w ≡ after_poll v t) × (u ≡ t) × (x ≡ []) };
+
+    ghost gives_sync_up = { λ v t w. w ≡ v };
+
+    ghost closes = { λ v k w. w ≡ moved_to v (with_blob v k closed) };
+
+    fn take_room<E: Env>(env: &mut E, more: usize) -> Result<(), NoMemory> {
+        let Some(entries) = more.checked_add(1) else {
+            return Err(NoMemory);
+        };
+        env.reserve(entries)
+    }
+
+    fn open_versioned<E: Env>(
+        &mut self,
+        env: &mut E,
+        partition: &str,
+        name: &[u8],
+        versions: (BlobVersion, BlobVersion),
+    ) -> Result<(Blob, u64, BlobVersion), Error> {
+        let answer = self.open_blob(env, partition, name, versions);
+        self.count(&answer);
+        answer
+    }
+
+    fn open<E: Env>(
+        &mut self,
+        env: &mut E,
+        partition: &str,
+        name: &[u8],
+    ) -> Result<(Blob, u64), Error> {
+        let answer = self.open_default(env, partition, name);
+        self.count(&answer);
+        answer
+    }
+
+    fn read_at<E: Env>(
+        &mut self,
+        env: &mut E,
+        blob: &Blob,
+        offset: u64,
+        len: usize,
+        options: ReadOptions,
+    ) -> Result<IoBufsMut, Error> {
+        let _ = options;
+        let answer = self.read_into(env, blob, offset, len, None);
+        self.count(&answer);
+        answer
+    }
+
+    fn read_at_buf<E: Env>(
+        &mut self,
+        env: &mut E,
+        blob: &Blob,
+        offset: u64,
+        len: usize,
+        bufs: IoBufsMut,
+        options: ReadOptions,
+    ) -> Result<IoBufsMut, Error> {
+        let _ = options;
+        let answer = self.read_into(env, blob, offset, len, Some(bufs));
+        self.count(&answer);
+        answer
+    }
+
+    fn write_at<E: Env>(
+        &mut self,
+        env: &mut E,
+        blob: &Blob,
+        offset: u64,
+        bufs: IoBufs,
+        options: WriteOptions,
+    ) -> Result<Done, Error> {
+        let answer = self.write(env, blob, offset, bufs, options);
+        self.count(&answer);
+        answer
+    }
+
+    fn resize<E: Env>(&mut self, env: &mut E, blob: &Blob, len: u64) -> Result<(), Error> {
+        let answer = self.set_len(env, blob, len);
+        self.count(&answer);
+        answer
+    }
+
+    fn sync<E: Env>(&mut self, env: &mut E, blob: &Blob) -> Result<Done, Error> {
+        let answer = self.save_now(env, blob);
+        self.count(&answer);
+        answer
+    }
+
+    fn start_sync<E: Env>(&mut self, env: &mut E, blob: &Blob) -> Result<Ticket, Error> {
+        let answer = self.save(env, blob);
+        self.count(&answer);
+        started(answer)
+    }
+
+    fn poll_sync<E: Env>(
+        &mut self,
+        env: &mut E,
+        ticket: &mut Ticket,
+        task: u64,
+    ) -> Poll<Result<(), Error>> {
+        let _ = env;
+        let _ = task;
+        match ticket {
+            Ticket::Ready(held) => answer_of(held),
+            Ticket::Numbered(_) => {
+                let answer = Err(Error::UnknownToken);
+                self.count(&answer);
+                Poll::Ready(answer)
+            }
+        }
+    }
+
+    fn give_up_sync(&mut self, ticket: Ticket) {
+        let _ = &self.faults;
+        match ticket {
+            Ticket::Ready(_) | Ticket::Numbered(_) => {}
+        }
+    }
+
+    fn close(&mut self, blob: Blob) {
+        self.files.close(&blob);
+        let Blob {
+            number: _,
+            place: _,
+        } = blob;
+    }
+}

@@ -1,0 +1,170 @@
+// A store of blobs, by what each call may answer, leave and note.
+//
+// Code over any `S: Storage` is proved from this trait alone. There is one relation for each call, over the store
+// before it, the arguments, the answer, the store after it, and what the call noted in the environment. So a wrapper
+// states its own relations by those of what it wraps.
+ghost use Rattle.std.specs.Prelude.{◌≡◌, ◌≤◌, ◌+◌, ℕ, List, Option, Result, OnOk, length};
+ghost use Rattle.rt_base.specs.Counted.{Counts, Notes};
+ghost use Rattle.rt_base.specs.declared.error.Error.{Error};
+ghost use Rattle.rt_base.specs.declared.options.ReadOptions.{ReadOptions};
+ghost use Rattle.rt_base.specs.declared.options.WriteOptions.{WriteOptions};
+ghost use Rattle.rt_base.specs.declared.poll.Poll.{Poll};
+ghost use Rattle.rt_base.specs.declared.version.BlobVersion.{BlobVersion};
+ghost use Rattle.rt_base.specs.Noted.{Noted};
+ghost use Rattle.rt_bufs.specs.Chunked.{Chunked};
+ghost use Rattle.rt_bufs.specs.WritableChunks.{WritableChunks};
+ghost use Rattle.rt_store.specs.Answered.{CountsPoll, CountsStart};
+ghost use Rattle.rt_store.specs.declared.ticket.Done.{Done};
+ghost use Rattle.rt_store.specs.declared.ticket.Ticket.{Ticket};
+
+use crate::ticket::{Done, Ticket};
+use rt_base::{BlobVersion, Env, Error, NoMemory, Poll, ReadOptions, WriteOptions};
+use rt_bufs::{IoBufs, IoBufsMut};
+
+/// The blob of a store.
+pub type BlobOf<S> = <S as Storage>::Blob;
+
+/// Blobs in partitions, whose tokens must be spent. `task` is the number of the task that calls, which waits where the
+/// answer is pending. A range of versions is its least and its greatest.
+pub trait Storage {
+    type Blob;
+
+    // How many calls were refused for another cause than being out of memory.
+    ghost refusals: { Self → ℕ };
+
+    // How many entries of its environment a call uses at most.
+    ghost most: { ℕ };
+
+    ghost opens_versioned: { Self → List ℕ → List ℕ → BlobVersion × BlobVersion → Result (Self.Blob × ℕ × BlobVersion) Error → Self → List Noted → Type 0 };
+
+    ghost opens: { Self → List ℕ → List ℕ → Result (Self.Blob × ℕ) Error → Self → List Noted → Type 0 };
+
+    ghost reads: { Self → Self.Blob → ℕ → ℕ → ReadOptions → Result WritableChunks Error → Self → List Noted → Type 0 };
+
+    ghost reads_into: { Self → Self.Blob → ℕ → ℕ → WritableChunks → ReadOptions → Result WritableChunks Error → Self → List Noted → Type 0 };
+
+    ghost writes: { Self → Self.Blob → ℕ → Chunked → WriteOptions → Result Done Error → Self → List Noted → Type 0 };
+
+    ghost resizes: { Self → Self.Blob → ℕ → Result Unit Error → Self → List Noted → Type 0 };
+
+    ghost syncs: { Self → Self.Blob → Result Done Error → Self → List Noted → Type 0 };
+
+    ghost starts_sync: { Self → Self.Blob → Result Ticket Error → Self → List Noted → Type 0 };
+
+    ghost polls_sync: { Self → Ticket → ℕ → Poll (Result Unit Error) → Self → Ticket → List Noted → Type 0 };
+
+    ghost gives_sync_up: { Self → Ticket → Self → Type 0 };
+
+    ghost closes: { Self → Self.Blob → Self → Type 0 };
+
+    /// Takes the room in an environment of one call, and of `more` entries beside it.
+    fn take_room<E: Env>(env: &mut E, more: usize) -> Result<(), NoMemory>
+        ensures room { OnOk result (most + more ≤ E.spare env.new) }
+        ensures kept { E.spare env.old ≤ E.spare env.new }
+        ensures noted { E.noted env.new ≡ E.noted env.old };
+
+    /// Opens a blob, or makes it with the greatest version of the range. It answers the token, the length and the
+    /// version.
+    fn open_versioned<E: Env>(
+        &mut self,
+        env: &mut E,
+        partition: &str,
+        name: &[u8],
+        versions: (BlobVersion, BlobVersion),
+    ) -> Result<(Self::Blob, u64, BlobVersion), Error>
+        requires { versions.0.version ≤ versions.1.version }
+        ensures gives { Notes (E.noted env.old) (λ x. opens_versioned self.old partition.now name.now versions result self.new x) (E.noted env.new) }
+        ensures spent { E.spare env.old ≤ E.spare env.new + most }
+        ensures counts { Counts (refusals self.old) (refusals self.new) result };
+
+    /// Opens a blob of the default version, or makes it. It answers the token and the length.
+    fn open<E: Env>(
+        &mut self,
+        env: &mut E,
+        partition: &str,
+        name: &[u8],
+    ) -> Result<(Self::Blob, u64), Error>
+        ensures gives { Notes (E.noted env.old) (λ x. opens self.old partition.now name.now result self.new x) (E.noted env.new) }
+        ensures spent { E.spare env.old ≤ E.spare env.new + most }
+        ensures counts { Counts (refusals self.old) (refusals self.new) result };
+
+    /// The `len` bytes from `offset` on.
+    fn read_at<E: Env>(
+        &mut self,
+        env: &mut E,
+        blob: &Self::Blob,
+        offset: u64,
+        len: usize,
+        options: ReadOptions,
+    ) -> Result<IoBufsMut, Error>
+        ensures gives { Notes (E.noted env.old) (λ x. reads self.old blob.now offset len options result self.new x) (E.noted env.new) }
+        ensures spent { E.spare env.old ≤ E.spare env.new + most }
+        ensures counts { Counts (refusals self.old) (refusals self.new) result };
+
+    /// The `len` bytes from `offset` on, in the given buffers. A refusal gives them up.
+    fn read_at_buf<E: Env>(
+        &mut self,
+        env: &mut E,
+        blob: &Self::Blob,
+        offset: u64,
+        len: usize,
+        bufs: IoBufsMut,
+        options: ReadOptions,
+    ) -> Result<IoBufsMut, Error>
+        requires { len ≤ bufs.capacity }
+        ensures gives { Notes (E.noted env.old) (λ x. reads_into self.old blob.now offset len bufs options result self.new x) (E.noted env.new) }
+        ensures spent { E.spare env.old ≤ E.spare env.new + most }
+        ensures counts { Counts (refusals self.old) (refusals self.new) result };
+
+    /// Writes the bytes from `offset` on. With `SYNC` they are durable once this is done.
+    fn write_at<E: Env>(
+        &mut self,
+        env: &mut E,
+        blob: &Self::Blob,
+        offset: u64,
+        bufs: IoBufs,
+        options: WriteOptions,
+    ) -> Result<Done, Error>
+        ensures gives { Notes (E.noted env.old) (λ x. writes self.old blob.now offset bufs options result self.new x) (E.noted env.new) }
+        ensures spent { E.spare env.old ≤ E.spare env.new + most }
+        ensures counts { Counts (refusals self.old) (refusals self.new) result };
+
+    /// Cuts the blob to `len` bytes, or extends it with zeros.
+    fn resize<E: Env>(&mut self, env: &mut E, blob: &Self::Blob, len: u64) -> Result<(), Error>
+        ensures gives { Notes (E.noted env.old) (λ x. resizes self.old blob.now len result self.new x) (E.noted env.new) }
+        ensures spent { E.spare env.old ≤ E.spare env.new + most }
+        ensures counts { Counts (refusals self.old) (refusals self.new) result };
+
+    /// Makes all changes durable.
+    fn sync<E: Env>(&mut self, env: &mut E, blob: &Self::Blob) -> Result<Done, Error>
+        ensures gives { Notes (E.noted env.old) (λ x. syncs self.old blob.now result self.new x) (E.noted env.new) }
+        ensures spent { E.spare env.old ≤ E.spare env.new + most }
+        ensures counts { Counts (refusals self.old) (refusals self.new) result };
+
+    /// Starts a sync. An answer that is there at once stands in the ticket.
+    fn start_sync<E: Env>(&mut self, env: &mut E, blob: &Self::Blob) -> Result<Ticket, Error>
+        ensures gives { Notes (E.noted env.old) (λ x. starts_sync self.old blob.now result self.new x) (E.noted env.new) }
+        ensures spent { E.spare env.old ≤ E.spare env.new + most }
+        ensures counts { CountsStart (refusals self.old) (refusals self.new) result };
+
+    /// Polls a started sync. A `Ready` ticket answers a copy of what it holds.
+    fn poll_sync<E: Env>(
+        &mut self,
+        env: &mut E,
+        ticket: &mut Ticket,
+        task: u64,
+    ) -> Poll<Result<(), Error>>
+        ensures gives { Notes (E.noted env.old) (λ x. polls_sync self.old ticket.old task result self.new ticket.new x) (E.noted env.new) }
+        ensures spent { E.spare env.old ≤ E.spare env.new + most }
+        ensures counts { CountsPoll (refusals self.old) (refusals self.new) ticket.old result };
+
+    /// Gives a started sync up. It takes no memory.
+    fn give_up_sync(&mut self, ticket: Ticket)
+        ensures gives { gives_sync_up self.old ticket self.new }
+        ensures counts { refusals self.old ≤ refusals self.new };
+
+    /// Closes the blob. It takes no memory.
+    fn close(&mut self, blob: Self::Blob)
+        ensures gives { closes self.old blob self.new }
+        ensures counts { refusals self.old ≤ refusals self.new };
+}

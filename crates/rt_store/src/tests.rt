@@ -1,0 +1,143 @@
+// What no clause says: that calls succeed where there is memory.
+
+use crate::{Done, FaultConfig, MemStore, Storage, Ticket};
+use rt_base::{BlobVersion, Error, IoKind, NoEnv, Poll, ReadOptions, WriteOptions};
+use rt_bufs::{IoBuf, IoBufMut, IoBufs, IoBufsMut};
+use std::alloc::Global;
+use std::process::Abort;
+use std::test::Fail;
+
+fn bufs(alloc: Global, bytes: &[u8]) -> Result<IoBufs, Error> {
+    let mut copy = Vec::new(alloc);
+    copy.extend_from_slice(bytes)?;
+    Ok(IoBufs::from_buf(alloc, IoBuf::from_vec(copy)?)?)
+}
+
+// The answer of a call that is done at once.
+fn done(answer: Result<Done, Error>) -> Result<(), Error> {
+    match answer {
+        Ok(Done::Now) => Ok(()),
+        Ok(Done::Gated(Ticket::Ready(held))) => held,
+        Ok(Done::Gated(Ticket::Numbered(_))) => Err(Error::Aborted),
+        Err(error) => Err(error),
+    }
+}
+
+// Whether these bytes were read.
+fn are(answer: Result<IoBufsMut, Error>, bytes: &[u8]) -> bool {
+    match answer {
+        Ok(bufs) => match bufs.coalesce() {
+            Ok(buf) => buf.as_slice() == bytes,
+            Err(_) => false,
+        },
+        Err(_) => false,
+    }
+}
+
+// Writes three bytes from an offset on.
+fn write<S: Storage>(
+    alloc: Global,
+    store: &mut S,
+    blob: &S::Blob,
+    offset: u64,
+) -> Result<(), Error> {
+    let bytes = bufs(alloc, b"abc")?;
+    done(store.write_at(&mut NoEnv, blob, offset, bytes, WriteOptions::SYNC))
+}
+
+// Starts a sync, polls it and gives it up.
+fn sync_later<S: Storage>(store: &mut S, blob: &S::Blob) -> Result<(), Error> {
+    match store.start_sync(&mut NoEnv, blob) {
+        Ok(mut ticket) => {
+            let answer = store.poll_sync(&mut NoEnv, &mut ticket, 0);
+            store.give_up_sync(ticket);
+            match answer {
+                Poll::Ready(answer) => answer,
+                Poll::Pending => Err(Error::Timeout),
+            }
+        }
+        Err(error) => Err(error),
+    }
+}
+
+fn on_a_blob<S: Storage>(
+    rt: &impl Abort,
+    alloc: Global,
+    store: &mut S,
+    blob: &S::Blob,
+) -> Result<(), Error> {
+    let none = ReadOptions::default();
+    write(alloc, store, blob, 2)?;
+    assert!(rt; are(store.read_at(&mut NoEnv, blob, 0, 5, none), b"\0\0abc"));
+    store.resize(&mut NoEnv, blob, 4)?;
+    done(store.sync(&mut NoEnv, blob))?;
+    sync_later(store, blob)?;
+    let room = IoBufsMut::from_mut(alloc, IoBufMut::with_capacity(alloc, 2)?)?;
+    if room.capacity() >= 2 {
+        assert!(rt; are(store.read_at_buf(&mut NoEnv, blob, 2, 2, room, none), b"ab"));
+    }
+    assert_eq!(rt;
+        write(alloc, store, blob, u64::MAX),
+        Err(Error::OffsetOverflow)
+    );
+    assert_eq!(rt;
+        write(alloc, store, blob, u64::MAX - 3),
+        Err(Error::NoMemory)
+    );
+    assert_eq!(rt;
+        store.resize(&mut NoEnv, blob, u64::MAX),
+        Err(Error::NoMemory)
+    );
+    assert!(rt;
+        store
+            .read_at(&mut NoEnv, blob, 0, usize::MAX, none)
+            .is_err()
+    );
+    Ok(())
+}
+
+#[test]
+fn surface(rt: HostRuntime) -> Result<(), Fail> {
+    let alloc = rt.alloc();
+    let mut store = MemStore::new(alloc, FaultConfig::default())?;
+    match store.open(&mut NoEnv, "p", b"a") {
+        Ok((blob, len)) => {
+            assert_eq!(rt; (blob.number(), len), (0, 0));
+            let seen = on_a_blob(&rt, alloc, &mut store, &blob);
+            store.close(blob);
+            assert_eq!(rt; seen, Ok(()));
+        }
+        Err(error) => panic!(rt; "{error}"),
+    }
+    let versions = (BlobVersion::new(0), BlobVersion::new(7));
+    match store.open_versioned(&mut NoEnv, "p", b"a", versions) {
+        Ok((blob, len, version)) => {
+            assert_eq!(rt; (blob.number(), len, version.get()), (1, 4, 0));
+            store.close(blob);
+        }
+        Err(error) => panic!(rt; "{error}"),
+    }
+    assert_eq!(rt;
+        (*store.config(), store.injected()),
+        (FaultConfig::default(), 0)
+    );
+    Ok(())
+}
+
+#[test]
+fn write_fault_by_rate(rt: HostRuntime) -> Result<(), Fail> {
+    let alloc = rt.alloc();
+    let mut faults = FaultConfig::default();
+    faults.write.rate = 1_000_000;
+    let mut store = MemStore::new(alloc, faults)?;
+    match store.open(&mut NoEnv, "p", b"a") {
+        Ok((blob, _)) => {
+            let seen = write(alloc, &mut store, &blob, 0);
+            store.close(blob);
+            assert_eq!(rt; seen, Err(Error::Io(IoKind::InjectedStorageFault)));
+        }
+        Err(error) => panic!(rt; "{error}"),
+    }
+    assert_eq!(rt; store.injected(), 1);
+    Ok(())
+}
