@@ -56,12 +56,12 @@ text_of (Reads (Whole s)) o = reports_text o.runs o.journal.entries
 abbrev pub IsDone : (Outcome → Type 0) → List ℕ → Outcome → Option (List ℕ) → Option (List ℕ) → Type 0
 IsDone is text o before after = is o × Appends before text after
 
--- a write failed, or memory was wanting for the rest of the text: all but the status is as where nothing fails
+-- a write failed, or the rest of the text was out of memory: all but the status is as where nothing fails
 abbrev pub IsCut : (Outcome → Type 0) → List ℕ → Outcome → Option (List ℕ) → Option (List ℕ) → Type 0
 IsCut is text o before after =
     ((o.status ≡ 5) ⊎ (o.status ≡ 7)) × ((status : ℕ) × is (record o { status = status })) × IsPart before text after
 
--- a read failed, or memory was wanting: nothing was run and nothing written
+-- a read failed, or it was out of memory: nothing was run and nothing written
 abbrev pub IsBare : Outcome → Option (List ℕ) → Option (List ℕ) → Type 0
 IsBare o before after = ((o.status ≡ 4) ⊎ (o.status ≡ 7)) × (o.runs ≡ []) × (o.journal.entries ≡ []) × (after ≡ before)
 

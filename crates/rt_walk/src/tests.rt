@@ -358,7 +358,7 @@ fn wakes_itself_and_stalls(rt: HostRuntime) -> Result<(), Fail> {
 }
 
 #[test]
-fn cut_off_for_want_of_memory(rt: HostRuntime) -> Result<(), Fail> {
+fn cut_off_where_memory_lacked(rt: HostRuntime) -> Result<(), Fail> {
     assert!(rt; is_accepted(rt.alloc(), BEGIN, &CUT)?);
     Ok(())
 }
@@ -845,6 +845,54 @@ fn several_runs(rt: HostRuntime) -> Result<(), Fail> {
         Some(27)
     );
     assert_eq!(rt; first_of_runs(alloc, BEGIN, &[TIMED], &READY)?, None);
+    Ok(())
+}
+
+/// A run whose root sets so many alarms in its first poll, is woken by each, visited as often, and then stalls.
+fn many_alarms(alloc: Global, count: u64) -> Result<Vec<Entry>, NoMemory> {
+    let mut entries = Vec::new(alloc);
+    for line in [Line::Start(BEGIN), Line::Root(0), Line::Round(&[0]), Line::Visit(0), Line::Event(0)] {
+        entries.push(entry(alloc, line)?)?;
+    }
+    for alarm in 0..count {
+        entries.push(entry(alloc, Line::Sleeps(0, alarm))?)?;
+    }
+    for line in [
+        Line::Answer(0, AnswerKind::Pending),
+        Line::Advance(1_000_000),
+        Line::Skip(10_000_000),
+    ] {
+        entries.push(entry(alloc, line)?)?;
+    }
+    for alarm in 0..count {
+        entries.push(entry(alloc, Line::Fire(alarm))?)?;
+        entries.push(entry(alloc, Line::Wake(0))?)?;
+    }
+    let order = Items::of(vec![in alloc; 0; count as usize]?);
+    entries.push(Entry::Round { order })?;
+    for _ in 0..count {
+        for line in [Line::Visit(0), Line::Event(0), Line::Answer(0, AnswerKind::Pending)] {
+            entries.push(entry(alloc, line)?)?;
+        }
+    }
+    for line in [
+        Line::Advance(11_000_000),
+        Line::Cleanup,
+        Line::NodeEnd(0),
+        Line::Answer(0, AnswerKind::Ended),
+        Line::Crash,
+        Line::Finish(FinishCause::Stalled),
+    ] {
+        entries.push(entry(alloc, line)?)?;
+    }
+    Ok(entries)
+}
+
+#[test]
+fn a_thousand_alarms(rt: HostRuntime) -> Result<(), Fail> {
+    let entries = many_alarms(rt.alloc(), 1000)?;
+    assert_eq!(rt; entries.len(), 6015);
+    assert_eq!(rt; first_unlawful(rt.alloc(), BEGIN, &[], entries.as_slice())?, None);
     Ok(())
 }
 
