@@ -55,16 +55,16 @@ yielded e nap time (IsReady (Ok over)) turn = naps (at e Done) nap time
 yielded e nap time (IsReady (Err error)) turn = Gives (Ready (Err error)) (at e Done)
 
 -- its wake of another task answered so
-abbrev pub woken : Errand → Heard Output → Next
-woken e (Plain (Refused error)) = Gives (Ready (Err error)) e
-woken e _ = Gives Pending (at e Waits)
+abbrev pub woken : Errand → ℕ → ℕ → Heard Output → Next
+woken e nap time (Plain (Refused error)) = Gives (Ready (Err error)) e
+woken e nap time _ = naps e nap time
 
 -- a poll, by the stage
 abbrev pub polled : Errand → Stage → ℕ → ℕ → Next
 polled e (Yields turn nap) time task = then (reschedule_polls turn task) (yielded e nap time)
 polled e (Naps nap) time task = naps (at e Done) nap time
 polled e (Sleeps sleep) time task = sleeps e sleep
-polled e (Wakes other) time task = Does (Plainly (Wake other)) (woken (at e Done))
+polled e (Wakes other nap) time task = Does (Plainly (Wake other)) (woken (at e Done) nap time)
 polled e Waits time task = Gives Pending (at e Waits)
 polled e Done time task = Gives (Ready (Ok e.number)) (at e Done)
 

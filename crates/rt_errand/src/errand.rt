@@ -18,8 +18,8 @@ pub enum Stage {
     Naps { nap: Nanos },
     /// It sleeps.
     Sleeps(Sleep),
-    /// It is to wake the task of this number, and then waits itself.
-    Wakes { task: u64 },
+    /// It is to wake the task of this number, and then naps for so many nanoseconds.
+    Wakes { task: u64, nap: Nanos },
     /// It waits for others to wake it.
     Waits,
     /// It is over.
@@ -105,11 +105,8 @@ impl Task for Errand {
             },
             Stage::Naps { nap } => self.nap(world, cx, nap),
             Stage::Sleeps(sleep) => self.sleep(world, cx, sleep),
-            Stage::Wakes { task } => match world.wake(task) {
-                Ok(()) => {
-                    self.stage = Stage::Waits;
-                    Answer::Pending
-                }
+            Stage::Wakes { task, nap } => match world.wake(task) {
+                Ok(()) => self.nap(world, cx, nap),
                 Err(Error::NoMemory) => Answer::NoMemory,
                 Err(error) => Answer::Ready(Err(error)),
             },

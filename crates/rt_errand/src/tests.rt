@@ -297,10 +297,16 @@ finish stalled
 fn wakes_by_number(rt: HostRuntime) -> Result<(), Fail> {
     let itself = Case {
         config: Config::new(),
-        root: root(Stage::Wakes { task: 0 }, 0),
+        root: root(
+            Stage::Wakes {
+                task: 0,
+                nap: 5_000_000,
+            },
+            3,
+        ),
         expected: Expected {
-            ending: Err(RunError::Stalled),
-            time: 2_000_000,
+            ending: Ok(Ok(3)),
+            time: 5_000_000,
             lines: "\
 start 0 - 1000000 0
 root 0
@@ -309,25 +315,41 @@ visit 0
 event process_task 00000000000000000000000000000000 -
 call 0 wake 0 -> ok
 wake 0
+call 0 sleep-poll 5000000 -> pending 0
 answer 0 pending
 advance 1000000
 round 0
 visit 0
 event process_task 00000000000000000000000000000000 -
+call 0 sleep-poll 5000000 -> pending 0
 answer 0 pending
 advance 2000000
+skip 5000000
+fire 0
+wake 0
+round 0
+visit 0
+event process_task 00000000000000000000000000000000 -
+call 0 sleep-poll 5000000 -> ready
+answer 0 ready
 cleanup
 nodeend 0
 call 0 close-node 0 -> ok
 answer 0 ended
 crash
-finish stalled
+finish ok
 ",
         },
     };
     let nobody = Case {
         config: Config::new(),
-        root: root(Stage::Wakes { task: 5 }, 0),
+        root: root(
+            Stage::Wakes {
+                task: 5,
+                nap: 5_000_000,
+            },
+            3,
+        ),
         expected: Expected {
             ending: Ok(Err(Error::UnknownToken)),
             time: 0,

@@ -1,5 +1,5 @@
 -- Steps are walked call by call, and poller by poller.
-use Rattle.std.proofs.Common.{◌≡◌, ◌⊎◌, inl, inr, ℕ, Bool, List, [], ◌∷◌, ◌++◌, refl, sym, ap, ◌∙◌, Option, Some, None, Result, Ok, Err, true, false, append_assoc, arith, is_some}
+use Rattle.std.proofs.Common.{◌≡◌, ◌⊎◌, inl, inr, ℕ, Bool, List, [], ◌∷◌, ◌++◌, refl, sym, ap, ◌∙◌, Option, Some, None, Result, Ok, Err, true, false, append_assoc, arith, is_some, OnOk, OnErr, IfOk, IfErr}
 use Rattle.std.proofs.lemmas.List.{append-nil}
 use Rattle.rt_base.specs.declared.error.Error.{Error}
 use Rattle.rt_base.specs.declared.error.Error.TheVariants.{NoMemory as OutOf, UnknownToken}
@@ -20,7 +20,7 @@ use Rattle.rt_model.proofs.Walks.{walks-then, fronts-then, stops-then, stops-fir
 use Rattle.rt_machine.specs.Calls.{turn_in, marked, sleep_reply, slept_number}
 use Rattle.rt_world.specs.World.{World}
 use Rattle.rt_world.specs.Calls.{Stays, Kept, Made, Closed, WakeRefused, lacking}
-use Rattle.rt_world.specs.Walked.{Broke, EndsWith, Turned, Walked, Spent, Polled, answered_by, Rooted, root_by, Goes, Spends as MaySpend, Closes, Leads}
+use Rattle.rt_world.specs.Walked.{Broke, EndsWith, Turned, Walked, Spent, Polled, answered_by, Rooted, root_by, Goes, Called, wake_reply, sleep_told, Spends as MaySpend, Closes, Leads}
 
 stood-more : (ts us : List Turn) (n0 n1 n2 : Stood) → stood_before us n2 ≡ n1 → stood_before ts n1 ≡ n0 → stood_before (ts ++ us) n2 ≡ n0
 stood-more [] us n0 n1 n2 h k = h ∙ k
@@ -206,6 +206,42 @@ turned-lacking w given step lacks = by w.lacked refl
       broke = λ made o n. absurd (cc);
     }
 
+-- behind a call that lacked memory all is free
+turned-behind : {A L M O R Q G : Type 0} (old mid new : World A O G) (given : Option (R × L)) (later : Option (Q × M)) (step : Step A L O R) (next : Step A M O Q) → mid ≡ lacking old → Lacks (stood_in old.told.state) step → Turned next mid new later → Turned step old new given
+turned-behind {A = A} {L = L} {O = O} {R = R} {G = G} old mid new given later step next is lacks two = by old.lacked refl
+  where
+    by : (there : Option (List Turn)) → old.lacked ≡ there → Turned step old new given
+    by None e =
+        let m : mid.lacked ≡ Some old.told.state.turns = rw (is, e) refl in
+        let told : mid.told ≡ old.told = ap (λ (w : World A O G). w.told) is in
+        let after : new.lacked ≡ Some old.told.state.turns = two.marked old.told.state.turns m in
+        record {
+          more = two.more;
+          turns = rw (← told) two.turns;
+          stood = rw (← told) two.stood;
+          marked = λ made o. absurd (cc);
+          ends = λ n. absurd (cc);
+          broke = λ made o n. record {
+            front = [];
+            rest = two.more;
+            are = refl;
+            before = let s : made ≡ old.told.state.turns = cc in s ∙ sym (append-nil old.told.state.turns);
+            walks = rw (two.stood, told) lacks;
+          };
+        }
+    by (Some before) e =
+        let m : mid.lacked ≡ Some before = rw (is, e) refl in
+        let told : mid.told ≡ old.told = ap (λ (w : World A O G). w.told) is in
+        let after : new.lacked ≡ Some before = two.marked before m in
+        record {
+          more = two.more;
+          turns = rw (← told) two.turns;
+          stood = rw (← told) two.stood;
+          marked = λ made o. let s : before ≡ made = cc in rw (← s) after;
+          ends = λ n. absurd (cc);
+          broke = λ made o n. absurd (cc);
+        }
+
 -- a context that is closed, and then what comes next
 turned-closed : {A L O R G : Type 0} (old mid new : World A O G) (given : Option (R × L)) (node : ℕ) (next : Step A L O R) → Closed old mid node → Turned next mid new given → (place : Bool) → is_live old.told.state.nodes node ≡ place → Turned (Spends (Plainly (CloseNode node)) next) old new given
 turned-closed old mid new given node next closed two true e = turned-spent old mid new given node next (closed.live e) e two
@@ -281,19 +317,6 @@ module _ {A O G : Type 0} (old mid new : World A O G) (answer : Answer O) (left 
   unfolding Polled
   polled-call call reply on made two = (turned-call old mid new (answered_by answer left) call reply on made two)
 
-  -- a wake that was carried out, as the last call
-  pub polled-woken : (task : ℕ) (on : Heard O → Step A A O (Answer O)) → Made old new (Wake task) Done → Polled (on (Plain Done)) new new answer left → Polled (Does (Plainly (Wake task)) on) old new answer left
-  unfolding Polled
-  polled-woken task on made two = turned-call old new new (answered_by answer left) (Wake task) Done on made two
-
-  -- a wake that was refused, or lacked memory
-  pub polled-refused : (task : ℕ) (on : Heard O → Step A A O (Answer O)) (error : Error) → WakeRefused old new task error → Polled (on (Plain (Refused error))) new new answer left → Polled (Does (Plainly (Wake task)) on) old new answer left
-  unfolding Polled
-  polled-refused task on OutOf h two = rw h (turned-lacking old (answered_by answer left) (Does (Plainly (Wake task)) on) tt)
-  polled-refused task on UnknownToken h two =
-      turned-call old new new (answered_by answer left) (Wake task) (Refused UnknownToken) on h.1 two
-  polled-refused task on _ h two = absurd h
-
   pub polled-sleep : (due : ℕ) (alarm told : Option ℕ) (on : Heard O → Step A A O (Answer O)) → told ≡ slept_number old.told.state.clock.time old.told.state.alarms due alarm → Made old mid (SleepPoll due) (sleep_reply told) → Polled (on (Plain (sleep_reply told))) mid new answer left → Polled (Does (Sleeping due alarm) on) old new answer left
   unfolding Polled
   polled-sleep due alarm told on is made two = (turned-sleep old mid new (answered_by answer left) due alarm told on is made two)
@@ -340,6 +363,33 @@ module _ {A O G : Type 0} (w : World A O G) where
 pub rooted-lacking : {A O G : Type 0} (old new : World A O G) (step : Step A A O (Unit {0})) (result : Result A OutOfMemory) → new ≡ lacking old → Lacks (stood_in old.told.state) step → Rooted step old new result
 unfolding Rooted
 rooted-lacking old new step result e l = rw e ((turned-lacking old (root_by result) step l))
+
+-- what the calls of the world leave
+module _ {A O G : Type 0} (old new : World A O G) where
+  called-made : (ask : Ask A O) (reply : CallReply) → ((L R : Type 0) (end : World A O G) (given : Option (R × L)) (on : Heard O → Step A L O R) → Turned (on (Plain reply)) new end given → Turned (Does ask on) old end given) → Called ask old new reply
+  unfolding Polled Spent Rooted
+  called-made ask reply turned = record {
+    onward = λ on end given state two. turned A (Answer O) end (answered_by given state) on two;
+    ends = λ on end two. turned (Unit {0}) (Unit {0}) end (Some (tt, tt)) on two;
+    makes = λ on end root two. turned A (Unit {0}) end (root_by root) on two;
+  }
+
+  pub wake-called : (task : ℕ) (result : Result (Unit {0}) Error) → OnOk result (Made old new (Wake task) Done) → IfErr result (λ e. WakeRefused old new task e) → Called (Plainly (Wake task)) old new (wake_reply result)
+  wake-called task (Ok done) made refused =
+      called-made (Plainly (Wake task)) Done (λ L R end given on two. turned-call old new end given (Wake task) Done on made two)
+  wake-called task (Err OutOf) made refused =
+      called-made (Plainly (Wake task)) (Refused OutOf) (λ L R end given on two. turned-behind old new end given given (Does (Plainly (Wake task)) on) (on (Plain (Refused OutOf))) refused tt two)
+  wake-called task (Err UnknownToken) made refused =
+      called-made (Plainly (Wake task)) (Refused UnknownToken) (λ L R end given on two. turned-call old new end given (Wake task) (Refused UnknownToken) on refused.1 two)
+  wake-called task (Err _) made refused = absurd refused
+
+  pub sleep-called : (due : ℕ) (alarm : Option ℕ) (result : Result (Option ℕ) OutOfMemory) → IfOk result (λ told. told ≡ slept_number old.told.state.clock.time old.told.state.alarms due alarm) → IfOk result (λ told. Made old new (SleepPoll due) (sleep_reply told)) → OnErr result (new ≡ lacking old) → Called (Sleeping due alarm) old new (sleep_told result)
+  sleep-called due alarm (Ok told) is made lacked =
+      called-made (Sleeping due alarm) (sleep_reply told) (λ L R end given on two. turned-sleep old new end given due alarm told on is made two)
+  sleep-called due alarm (Err lack) is made lacked =
+      called-made (Sleeping due alarm) (Refused OutOf) (λ L R end given on two. turned-behind old new end given given (Does (Sleeping due alarm) on) (on (Plain (Refused OutOf))) lacked tt two)
+
+pub ruleset call_laws = (wake-called, sleep-called)
 
 -- a part from its first call on
 module _ {A L O R G : Type 0} (step : Step A L O R) (old new : World A O G) (given : Option (R × L)) (fresh : old.told.state.turns ≡ []) (two : Turned step old new given) where
@@ -481,7 +531,7 @@ pub ruleset poller_laws = (walked-then, walked-followed, walked-call, walked-sle
 
 pub ruleset close_laws = (closes-on, spent-nothing, kept-same, kept-kept)
 
-pub ruleset task_laws = (polled-call, polled-woken, polled-refused, polled-sleep, polled-gives, polled-lacks, polled-lacking, spent-nothing, kept-same, kept-kept)
+pub ruleset task_laws = (polled-call, polled-sleep, polled-gives, polled-lacks, polled-lacking, spent-nothing, kept-same, kept-kept)
 
 pub ruleset maker_laws = (rooted-call, rooted-close, rooted-gives, rooted-lacks, rooted-lacking, kept-same, kept-kept)
 

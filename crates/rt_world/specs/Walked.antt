@@ -6,11 +6,14 @@ use Rattle.rt_base.specs.declared.no_memory.NoMemory.{NoMemory as OutOfMemory}
 use Rattle.rt_base.specs.declared.poll.Poll.{Poll}
 use Rattle.rt_base.specs.declared.poll.Poll.TheVariants.{Ready as IsReady}
 use Rattle.rt_audit.specs.declared.call.Call.TheVariants.{CloseNode}
+use Rattle.rt_audit.specs.declared.reply.CallReply.{CallReply}
+use Rattle.rt_audit.specs.declared.reply.CallReply.TheVariants.{Done, Refused}
 use Rattle.rt_model.specs.declared.answer.Answer.{Answer}
 use Rattle.rt_model.specs.declared.answer.Answer.TheVariants.{NoMemory}
 use Rattle.rt_model.specs.State.{Turn, Stood, stood_in}
-use Rattle.rt_model.specs.Turns.{Plainly, Held}
-use Rattle.rt_model.specs.Walk.{Step, Last, Spends as IsSpent, Walks, Fronts, Stops, then, followed_by, stood_before}
+use Rattle.rt_model.specs.Turns.{Ask, Heard, Plain, Plainly, Held}
+use Rattle.rt_model.specs.Walk.{Step, Last, Does, Spends as IsSpent, Walks, Fronts, Stops, then, followed_by, stood_before}
+use Rattle.rt_machine.specs.Calls.{sleep_reply}
 use Rattle.rt_world.specs.World.{World}
 use Rattle.rt_world.specs.Calls.{Closed}
 
@@ -66,6 +69,22 @@ Rooted step old new result = Turned step old new (root_by result)
 pub record Goes {A L O R G : Type 0} (step : Step A L O R) (old new : World A O G) (answer : R) (left : L) : Type 0 where
   pub walked : Walked step old new answer left
   pub onward : (more : R → L → Step A A O (Answer O)) (end : World A O G) (given : Answer O) (state : A) → Polled (more answer left) new end given state → Polled (then step more) old end given state
+
+-- what a call leaves: whoever goes on from its reply has made it and walked the rest, in a poll, an end or a maker. Where it lacked
+-- memory, what follows is free
+pub record Called {A O G : Type 0} (ask : Ask A O) (old new : World A O G) (reply : CallReply) : Type 0 where
+  pub onward : (on : Heard O → Step A A O (Answer O)) (end : World A O G) (given : Answer O) (state : A) → Polled (on (Plain reply)) new end given state → Polled (Does ask on) old end given state
+  pub ends : (on : Heard O → Last A O) (end : World A O G) → Spent (on (Plain reply)) new end → Spent (Does ask on) old end
+  pub makes : (on : Heard O → Step A A O (Unit {0})) (end : World A O G) (root : Result A OutOfMemory) → Rooted (on (Plain reply)) new end root → Rooted (Does ask on) old end root
+
+-- what is told of a wake, and of a poll of a sleep
+abbrev pub wake_reply : Result (Unit {0}) Error → CallReply
+wake_reply (Ok done) = Done
+wake_reply (Err error) = Refused error
+
+abbrev pub sleep_told : Result (Option ℕ) OutOfMemory → CallReply
+sleep_told (Ok told) = sleep_reply told
+sleep_told (Err lack) = Refused LacksMemory
 
 -- a poller that lacked memory itself answers so
 abbrev pub SaysLack : {A O G V : Type 0} → World A O G → World A O G → Poll (Result V Error) → Type 0

@@ -10,10 +10,12 @@ ghost use Rattle.rt_model.specs.Effects.{after_all, left_of, cause_of};
 ghost use Rattle.rt_model.specs.Events.{process_task, task_fields};
 ghost use Rattle.rt_model.specs.Rules.{IsLawful, AreDrawn, MayAnswer, MayCall, MayRound, WasGiven};
 ghost use Rattle.rt_model.specs.Tied.{Steps, Value, find, taken, put};
+ghost use Rattle.rt_model.specs.Turns.{Plainly, Sleeping};
 ghost use Rattle.rt_machine.specs.Told.{Told, AreCalls, fresh, pushed, own};
 ghost use Rattle.rt_machine.specs.Calls.{sleep_reply, slept_number};
 ghost use Rattle.rt_world.specs.Calls.{Kept, Made, Closed, WakeRefused, lacking};
 ghost use Rattle.rt_world.specs.Follows.{Follows, Agrees, IsMade};
+ghost use Rattle.rt_world.specs.Walked.{Called, wake_reply, sleep_told};
 
 use crate::Outcome;
 use crate::tasks::Tasks;
@@ -73,12 +75,14 @@ impl<T, O, G> World<T, O, G> {
 
     /// Queues a task without another test. `UnknownToken` exactly where the number was never given in this run. It
     /// takes memory.
+    #[tactic(auto, using(crate::proofs::Walked::call_laws, crate::proofs::Seats::seat_laws, crate::proofs::Walked::stay_laws, rt_machine::proofs::Counts::count_laws), unfolding(rt_model::specs::Effects::after))]
     pub fn wake(&mut self, task: u64) -> Result<(), Error>
         requires { MayCall self.old.told.state self.old.out }
         ensures kept { Kept self.old self.new }
         ensures given { OnOk result (WasGiven self.old.told.state.numbers task) }
         ensures ok { OnOk result (Made self.old self.new (WakeCall task) Done) }
         ensures err { IfErr result (λ e. WakeRefused self.old self.new task e) }
+        ensures called { Called (Plainly (WakeCall task)) self.old self.new (wake_reply result) }
     {
         self.machine.wake(self.out, task)
     }
@@ -86,6 +90,7 @@ impl<T, O, G> World<T, O, G> {
     /// Polls a sleep that is over at `due`, in nanoseconds since the epoch. `alarm` is the number of this sleep's
     /// alarm, and counts only where that alarm is still set for `due`. Answers the number of the alarm that will wake
     /// the task, or none where the sleep is over. It takes memory.
+    #[tactic(auto, using(crate::proofs::Walked::call_laws, crate::proofs::Seats::seat_laws, crate::proofs::Walked::stay_laws, rt_machine::proofs::Counts::count_laws), unfolding(rt_model::specs::Effects::after))]
     pub fn sleep_poll(&mut self, due: Nanos, alarm: Option<u64>) -> Result<Option<u64>, NoMemory>
         requires calling { MayCall self.old.told.state self.old.out }
         requires due { due ≤ MAX_TIME }
@@ -93,6 +98,7 @@ impl<T, O, G> World<T, O, G> {
         ensures told { IfOk result (λ told. told ≡ slept_number self.old.told.state.clock.time self.old.told.state.alarms due alarm) }
         ensures ok { IfOk result (λ told. Made self.old self.new (SleepPoll due) (sleep_reply told)) }
         ensures err { OnErr result (self.new ≡ lacking self.old) }
+        ensures called { Called (Sleeping due alarm) self.old self.new (sleep_told result) }
     {
         self.machine.sleep_poll(self.out, due, alarm)
     }
