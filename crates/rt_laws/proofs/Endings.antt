@@ -3,7 +3,7 @@ use Rattle.std.proofs.Common.{◌≡◌, ◌≢◌, ◌⊎◌, inl, inr, ℕ, Li
 use Rattle.std.specs.List.{AllByRecursion}
 use Rattle.std.proofs.lemmas.List.Elements.{All-from_recursion}
 use Rattle.rt_audit.specs.declared.call.Call.{Call}
-use Rattle.rt_audit.specs.declared.call.Call.TheVariants.{CloseNode, Wake as WakeCall, SleepPoll}
+use Rattle.rt_audit.specs.declared.call.Call.TheVariants.{Wake as WakeCall}
 use Rattle.rt_audit.specs.declared.reply.CallReply.{CallReply}
 use Rattle.rt_audit.specs.declared.answer.AnswerKind.{AnswerKind}
 use Rattle.rt_audit.specs.declared.answer.AnswerKind.TheVariants.{Pending, Ready, NoMemory, Ended}
@@ -73,8 +73,7 @@ module _ (cause : Option FinishCause) where
 
   owes-none : (call : Call) (reply : CallReply) → due_called true call reply ≡ []
   owes-none (WakeCall task) reply = refl
-  owes-none (SleepPoll due) reply = refl
-  owes-none (CloseNode node) reply = refl
+  owes-none _ reply = refl
 
   owes-called : (closing : Bool) (call : Call) (reply : CallReply) → closing ≡ true → due_called closing call reply ≡ []
   owes-called true call reply h = owes-none call reply

@@ -851,7 +851,13 @@ fn several_runs(rt: HostRuntime) -> Result<(), Fail> {
 /// A run whose root sets so many alarms in its first poll, is woken by each, visited as often, and then stalls.
 fn many_alarms(alloc: Global, count: u64) -> Result<Vec<Entry>, NoMemory> {
     let mut entries = Vec::new(alloc);
-    for line in [Line::Start(BEGIN), Line::Root(0), Line::Round(&[0]), Line::Visit(0), Line::Event(0)] {
+    for line in [
+        Line::Start(BEGIN),
+        Line::Root(0),
+        Line::Round(&[0]),
+        Line::Visit(0),
+        Line::Event(0),
+    ] {
         entries.push(entry(alloc, line)?)?;
     }
     for alarm in 0..count {
@@ -871,7 +877,11 @@ fn many_alarms(alloc: Global, count: u64) -> Result<Vec<Entry>, NoMemory> {
     let order = Items::of(vec![in alloc; 0; count as usize]?);
     entries.push(Entry::Round { order })?;
     for _ in 0..count {
-        for line in [Line::Visit(0), Line::Event(0), Line::Answer(0, AnswerKind::Pending)] {
+        for line in [
+            Line::Visit(0),
+            Line::Event(0),
+            Line::Answer(0, AnswerKind::Pending),
+        ] {
             entries.push(entry(alloc, line)?)?;
         }
     }
@@ -892,7 +902,10 @@ fn many_alarms(alloc: Global, count: u64) -> Result<Vec<Entry>, NoMemory> {
 fn a_thousand_alarms(rt: HostRuntime) -> Result<(), Fail> {
     let entries = many_alarms(rt.alloc(), 1000)?;
     assert_eq!(rt; entries.len(), 6015);
-    assert_eq!(rt; first_unlawful(rt.alloc(), BEGIN, &[], entries.as_slice())?, None);
+    assert_eq!(rt;
+        first_unlawful(rt.alloc(), BEGIN, &[], entries.as_slice())?,
+        None
+    );
     Ok(())
 }
 
