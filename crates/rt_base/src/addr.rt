@@ -5,14 +5,14 @@ ghost use Rattle.rt_base.specs.Address.{address_text, groups_text, ip_text};
 use std::fmt;
 
 /// An internet address: four bytes, or eight groups of 16 bits.
-#[derive(Clone, Copy, Debug, PartialEq, Eq)]
+#[derive(Clone, Copy, Debug, PartialEq, Eq, Hash)]
 pub enum Ip {
     V4([u8; 4]),
     V6([u16; 8]),
 }
 
 /// An internet address and a port.
-#[derive(Clone, Copy, Debug, PartialEq, Eq)]
+#[derive(Clone, Copy, Debug, PartialEq, Eq, Hash)]
 pub struct Addr {
     pub ip: Ip,
     pub port: u16,
