@@ -1,4 +1,4 @@
+pub mod Indexed
 pub mod ListenerLemmas
 pub mod NotingLemmas
-pub mod Places
 pub mod Quiet

@@ -7,8 +7,7 @@ use Rattle.std.proofs.lemmas.Option.{slice_get-map, get_or_from_slice_get}
 use Rattle.rt_base.specs.declared.addr.Addr.{Addr}
 use Rattle.rt_base.specs.declared.poll.Poll.{Poll}
 use Rattle.rt_base.specs.declared.poll.Poll.TheVariants.{Ready, Pending}
-use Rattle.rt_net.specs.declared.place.Place.{Place}
-use Rattle.rt_net.specs.Place.{IsIndexed}
+use Rattle.rt_net.specs.Table.{IsIndexed}
 use Rattle.rt_net.specs.Network.{ListenerState, addresses, addr_eq, if_listener_lives, live_listener, at_listener, listener_at, after_accept}
 
 lives-at : (x l : ListenerState) (b : Bool) → x.alive ≡ b → if_listener_lives (Some x) ≡ Some l → (let o : Option ListenerState = Some x in o) ≡ Some l
@@ -36,10 +35,10 @@ addresses-set (x ∷ ls) zero l m e a =
     ap (λ y. y ∷ addresses ls) (a ∙ ap (λ (y : ListenerState). y.address) (sym s))
 addresses-set (x ∷ ls) (suc n) l m e a = ap (λ ys. x.address ∷ ys) (addresses-set ls n l m e a)
 
-same-address : (a b : Addr) → addr_eq a b ≡ true → a ≡ b
+pub same-address : (a b : Addr) → addr_eq a b ≡ true → a ≡ b
 same-address a b e = search rules
 
-same-test : (a : Addr) → addr_eq a a ≡ true
+pub same-test : (a : Addr) → addr_eq a a ≡ true
 same-test a = search rules
 
 and-both : (x y : Bool) → x && y ≡ true → (x ≡ true) × (y ≡ true)
@@ -129,7 +128,7 @@ pub set-here : (ls now : List ListenerState) (n : ℕ) (f : ListenerState → Li
 set-here ls now n f x m is live e = ap (slice_set ls n) e ∙ ap (λ ks. slice_set ks n (f x)) is ∙ sym (ap (at_listener now n f) live)
 
 -- the map finds the addresses still
-pub indexed-here : (find : Place → Option ℕ) (ls now : List ListenerState) (n : ℕ) (x m : ListenerState) → ls ≡ now → live_listener now n ≡ Some x → m.address ≡ x.address → IsIndexed find (addresses ls) → IsIndexed find (addresses (slice_set ls n m))
+pub indexed-here : (find : Addr → Option ℕ) (ls now : List ListenerState) (n : ℕ) (x m : ListenerState) → ls ≡ now → live_listener now n ≡ Some x → m.address ≡ x.address → IsIndexed find (addresses ls) → IsIndexed find (addresses (slice_set ls n m))
 indexed-here find ls now n x m is live same old =
     let here : live_listener ls n ≡ Some x = ap (λ ks. live_listener ks n) is ∙ live in
     subst (λ (xs : List Addr). IsIndexed find xs) (sym (addresses-set ls n x m (live-get ls n x here) same)) old

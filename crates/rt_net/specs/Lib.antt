@@ -5,6 +5,5 @@ pub mod Kept
 pub mod Network
 pub mod Noting
 pub mod Pipe
-pub mod Place
 pub mod Refusals
 pub mod Table

@@ -24,7 +24,6 @@ mod notebook;
 #[cfg(test)]
 mod noting;
 mod pipe;
-mod place;
 pub mod reply;
 pub mod sink;
 pub mod stream;

@@ -6,7 +6,6 @@ ghost use Rattle.rt_net.specs.Network.{addresses, listener_at, live_listener, fr
 use crate::acceptor::Acceptor;
 use crate::channels::Channels;
 use crate::connection::Connection;
-use crate::place::{Place, key_of};
 use rt_base::{Addr, Error, NoMemory, Poll};
 use std::alloc::Global;
 use std::collections::{HashMap, VecDeque};
@@ -16,20 +15,20 @@ use std::marker::Model;
 #[derive(Drop)]
 pub struct Listeners {
     list: Vec<Acceptor>,
-    numbers: HashMap<Place, u64>,
+    numbers: HashMap<Addr, u64>,
 }
 
 impl Model for Listeners {
     ghost use Rattle.std.specs.Prelude.{List};
     ghost use Rattle.std.specs.HashMap.{get};
-    ghost use Rattle.rt_net.specs.Network.{ListenerState, addresses};
-    ghost use Rattle.rt_net.specs.Place.{IsIndexed};
+    ghost use Rattle.rt_net.specs.Network.{ListenerState, addresses, addr_eq};
+    ghost use Rattle.rt_net.specs.Table.{IsIndexed};
 
     ghost Value = { List ListenerState };
 
     ghost view = { λ l. l.list.items };
 
-    ghost invariant = { λ l. IsIndexed (get ⟦<Place as PartialEq>⟧.eq l.numbers) (addresses l.list.items) };
+    ghost invariant = { λ l. IsIndexed (get addr_eq l.numbers) (addresses l.list.items) };
 }
 
 impl Listeners {
@@ -49,7 +48,7 @@ impl Listeners {
         ensures only { IfSome result (λ n. (m : ℕ) → slice_get (addresses self.now) m ≡ Some address → m ≡ n) }
         ensures none { IfNone result ((n : ℕ) → slice_get (addresses self.now) n ≢ Some address) }
     {
-        self.numbers.get(&key_of(address)).copied()
+        self.numbers.get(&address).copied()
     }
 
     /// The number of the live listener at this address, where there is one.
@@ -72,7 +71,7 @@ impl Listeners {
     {
         let number = self.list.len() as u64;
         self.list.reserve(1)?;
-        self.numbers.insert(key_of(address), number)?;
+        self.numbers.insert(address, number)?;
         let alloc = *self.list.allocator();
         self.list.push_reserved(Acceptor::new(alloc, address));
         Ok(number)

@@ -5,8 +5,7 @@ use Rattle.rt_base.specs.declared.error.Error.{Error}
 use Rattle.rt_base.specs.declared.error.Error.TheVariants.{UnknownToken}
 use Rattle.rt_base.specs.declared.poll.Poll.{Poll}
 use Rattle.rt_net.specs.declared.connection.Connection.{Connection}
-use Rattle.rt_net.specs.contracts.place.PlacePartialEq.TheImpl as block
-use Rattle.rt_net.specs.Network.{ListenerState, live_listener, after_accept, Accepts}
+use Rattle.rt_net.specs.Network.{ListenerState, addr_eq, live_listener, after_accept, Accepts}
 use Rattle.rt_net.proofs.ListenerLemmas.{live-here, set-here, indexed-here, address-accept}
 use Rattle.rt_net.proofs.listeners.Listeners.accept.Goals as goal
 
@@ -16,7 +15,7 @@ live c = live-here c.self.inside.list.items c.args.self.now c.args.number c.inde
 pub invariant_of-self : goal.invariant_of-self
 invariant_of-self c =
     let same = ap (λ (x : ListenerState). x.address) c.accept.ensures.after ∙ address-accept c.index_mut-listener.result.now c.args.task c.accept.result in
-    indexed-here (get block.ghosts.eq c.self.inside.numbers) c.self.inside.list.items c.args.self.now c.args.number c.index_mut-listener.result.now c.accept.new.self c.self.view_is (live c) same c.self.invariant
+    indexed-here (get addr_eq c.self.inside.numbers) c.self.inside.list.items c.args.self.now c.args.number c.index_mut-listener.result.now c.accept.new.self c.self.view_is (live c) same c.self.invariant
 
 pub returns-clause-first : goal.returns-clause-first
 returns-clause-first c =
