@@ -1,3 +1,4 @@
+pub mod Asked
 pub mod Indexed
 pub mod ListenerLemmas
 pub mod NotingLemmas

@@ -1,5 +1,5 @@
 -- What a wrapper of the tests notes round the calls that it passes on.
-use Rattle.std.specs.Prelude.{◌≡◌, ℕ, ◌+◌, ◌%◌, ◌^◌, Bool, true, false, List, [], ◌∷◌, ◌++◌, length, Option, Some, None, Result, Ok, Err}
+use Rattle.std.specs.Prelude.{◌≡◌, ℕ, ◌+◌, ◌%◌, ◌^◌, Bool, true, false, List, [], ◌∷◌, ◌++◌, length, codes, Option, Some, None, Result, Ok, Err}
 use Rattle.rt_base.specs.declared.addr.Addr.{Addr}
 use Rattle.rt_base.specs.declared.error.Error.{Error}
 use Rattle.rt_base.specs.declared.error.Error.TheVariants.{NoMemory}
@@ -24,10 +24,6 @@ abbrev pub ending : {A : Type 0} → Result (Poll A) Error → Option Bool
 ending (Ok (Ready _)) = Some true
 ending (Ok Pending) = None
 ending (Err e) = refusal e
-
-abbrev pub ending_of_reply : {A : Type 0} → Result (Reply (Poll A)) Error → Option Bool
-ending_of_reply {A = A} (Ok r) = let a : Result (Poll A) Error = Ok r.value in ending a
-ending_of_reply (Err e) = refusal e
 
 abbrev pub outcome : {A : Type 0} → Result A Error → Option Bool
 outcome (Ok _) = Some true
@@ -55,15 +51,32 @@ abbrev pub count_if_ok : {A : Type 0} → Result A Error → ℕ → ℕ
 count_if_ok (Ok _) count = count
 count_if_ok (Err _) count = 0
 
--- how many bytes an answer has
-abbrev pub bytes_got : Result (Poll Chunked) Error → ℕ
-bytes_got (Ok (Ready b)) = length b.bytes
-bytes_got (Ok Pending) = 0
-bytes_got (Err _) = 0
+-- how many bytes came
+abbrev pub bytes_in : Poll Chunked → ℕ
+bytes_in (Ready b) = length b.bytes
+bytes_in Pending = 0
 
-abbrev pub bytes_got_in_reply : Result (Reply (Poll Chunked)) Error → ℕ
-bytes_got_in_reply (Ok r) = bytes_got (Ok r.value)
-bytes_got_in_reply (Err _) = 0
+-- the count with the bytes of an answer
+abbrev pub count_with : ℕ → Result (Poll Chunked) Error → ℕ
+count_with n (Ok p) = counted_bytes n (bytes_in p)
+count_with n (Err _) = n
+
+abbrev pub count_with_reply : ℕ → Result (Reply (Poll Chunked)) Error → ℕ
+count_with_reply n (Ok r) = counted_bytes n (bytes_in r.value)
+count_with_reply n (Err _) = n
+
+-- the bytes that came are a field of the event
+abbrev pub receipt : Event → Poll Chunked → List Noted
+receipt success (Ready b) = Happened (record success { fields = b.bytes ∷ [] }) ∷ []
+receipt success Pending = []
+
+abbrev pub receipt_of : Result (Poll Chunked) Error → List Noted
+receipt_of (Ok p) = receipt (named (codes "recv_success")) p
+receipt_of (Err e) = closing_event (named (codes "recv_success")) (named (codes "recv_failure")) (refusal e)
+
+abbrev pub receipt_of_reply : Result (Reply (Poll Chunked)) Error → List Noted
+receipt_of_reply (Ok r) = receipt_of (Ok r.value)
+receipt_of_reply (Err e) = receipt_of (Err e)
 
 -- An answer with other tokens in it.
 

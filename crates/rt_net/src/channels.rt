@@ -1,6 +1,7 @@
 // All channels, by number.
 ghost use Rattle.std.specs.Prelude.{◌≡◌, ◌+◌, ◌^◌, ◌<◌, ◌≤◌, [], ◌∷◌, ◌++◌, length, OnOk, is_some, Err, MatchOption, Some, slice_get};
 ghost use Rattle.rt_base.specs.declared.error.Error.TheVariants.{UnknownToken};
+ghost use Rattle.rt_net.specs.Asked.{asked_of};
 ghost use Rattle.rt_net.specs.Channel.{fresh, Sends, PollsSend, Receives, PollsReceive, Peeks, after_send, after_poll_send, after_recv, after_poll_recv, ChannelState, IsQuiet};
 ghost use Rattle.rt_net.specs.Network.{live_sink, live_stream, AtSink, AtStream, at_sink, at_stream, with_given_up_send, with_given_up_recv, with_closed_sink, with_closed_stream, sink_wakes, stream_wakes, waiting_halves};
 
@@ -145,6 +146,16 @@ impl Channels {
         }
         let pipe = &mut self.pipes[number as usize];
         pipe.poll_recv(task)
+    }
+
+    /// How many bytes the `recv` of the stream of this number asked for, where one waits.
+    pub fn asked_len(&self, number: u64) -> usize
+        ensures { result ≡ asked_of (slice_get self.now.list number) }
+    {
+        match self.pipes.get(number as usize) {
+            Some(pipe) => pipe.asked_len(),
+            None => 0,
+        }
     }
 
     /// A copy of the first bytes that the stream of this number holds.

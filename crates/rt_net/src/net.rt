@@ -203,8 +203,9 @@ impl Network for Net {
 
     type Stream = Stream;
 
-    ghost use Rattle.std.specs.Prelude.{◌≡◌, []};
+    ghost use Rattle.std.specs.Prelude.{◌≡◌, [], slice_get};
     ghost use Rattle.rt_net.specs.Kept.{Kept, answered, moved_to};
+    ghost use Rattle.rt_net.specs.Asked.{asked_of};
     ghost use Rattle.rt_net.specs.Refusals.{is_pending, still_waits, waits};
     ghost use Rattle.rt_net.specs.Network.{sink_wakes, stream_wakes, with_given_up_send, with_given_up_recv, with_closed_sink, with_closed_stream, without_task};
     ghost use Rattle.rt_net.specs.Calls.{NetSends, NetPollsSend, NetReceives, NetPollsReceive, NetPeeks, NetBinds, NetDials, NetAccepts, net_after_send, net_after_poll_send, net_after_recv, net_after_poll_recv, net_after_bind, net_after_dial, net_after_accept, net_after_close, with_channels, with_listeners, told, next_told};
@@ -212,6 +213,8 @@ impl Network for Net {
     ghost refusals = { λ v. v.refusals };
 
     ghost most = { 0 };
+
+    ghost asked = { λ v k. asked_of (slice_get v.state.channels k.number) };
 
     ghost sends = { λ v k b t r w l x. NetSends v.state k.number b.bytes r × (w ≡ answered v (net_after_send v.state k.number b.bytes t r.value) r.value) × (l ≡ record k { sending = is_pending r.value }) × (x ≡ []) };
 
@@ -303,6 +306,10 @@ impl Network for Net {
         stream.receiving = still_waits(&answer);
         self.count(&answer);
         answer
+    }
+
+    fn asked_len(&self, stream: &Stream) -> usize {
+        self.channels.asked_len(stream.number)
     }
 
     fn peek<E: Env>(

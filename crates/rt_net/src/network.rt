@@ -3,13 +3,14 @@
 // Code over any `N: Network` is proved from this trait alone. There is one relation for each call, over the network
 // and the token before it, the arguments, the answer, the network and the token after it, and what the call noted in
 // the environment. So a wrapper states its own relations by those of what it wraps.
-ghost use Rattle.std.specs.Prelude.{◌≡◌, ◌≤◌, ◌+◌, ℕ, Bool, true, false, List, Option, Result, OnOk};
+ghost use Rattle.std.specs.Prelude.{◌≡◌, ◌≤◌, ◌+◌, ℕ, Bool, true, false, List, Option, Result, OnOk, IfOk};
 ghost use Rattle.rt_base.specs.declared.addr.Addr.{Addr};
 ghost use Rattle.rt_base.specs.declared.error.Error.{Error};
 ghost use Rattle.rt_base.specs.declared.poll.Poll.{Poll};
 ghost use Rattle.rt_base.specs.Noted.{Noted};
 ghost use Rattle.rt_bufs.specs.Chunked.{Chunked};
 ghost use Rattle.rt_net.specs.declared.reply.Reply.{Reply};
+ghost use Rattle.rt_net.specs.Asked.{HasLength};
 ghost use Rattle.rt_base.specs.Counted.{Counts, Notes};
 ghost use Rattle.rt_net.specs.Refusals.{is_pending, still_waits, waits, AreIdle, TakesIdle};
 
@@ -44,6 +45,9 @@ pub trait Network {
 
     // How many entries of its environment a call uses at most.
     ghost most: { ℕ };
+
+    // How many bytes the `recv` that waits at a stream asked for.
+    ghost asked: { Self → Self.Stream → ℕ };
 
     ghost sends: { Self → Self.Sink → Chunked → ℕ → Reply (Result (Poll Unit) Error) → Self → Self.Sink → List Noted → Type 0 };
 
@@ -117,7 +121,7 @@ pub trait Network {
         ensures half { Self.Sink.sending sink.new ≡ still_waits result }
         ensures counts { Counts (refusals self.old) (refusals self.new) result };
 
-    /// Receives `len` bytes, and is pending where they aren't there.
+    /// Receives `len` bytes, neither more nor fewer, and is pending where they aren't there.
     ///
     /// Errors: `Closed` where the stream has failed or a `recv` of it was given up, and `RecvFailed` where bytes are
     /// missing and the sink has failed or was closed. After `RecvFailed` the stream has failed.
@@ -132,9 +136,12 @@ pub trait Network {
         ensures gives { Notes (E.noted env.old) (λ x. receives self.old stream.old len task result self.new stream.new x) (E.noted env.new) }
         ensures spent { E.spare env.old ≤ E.spare env.new + most }
         ensures half { Self.Stream.receiving stream.new ≡ waits result }
+        ensures length { IfOk result (λ r. HasLength len r.value) }
+        ensures asked { waits result ≡ true → asked self.new stream.new ≡ len }
         ensures counts { Counts (refusals self.old) (refusals self.new) result };
 
-    /// Polls a `recv` that was pending. Where the poll is refused and nothing changes, the `recv` still waits.
+    /// Polls a `recv` that was pending, which is answered by as many bytes as it asked for. Where the poll is refused and
+    /// nothing changes, the `recv` still waits.
     ///
     /// Errors: `RecvFailed` where bytes are missing and the sink has failed or was closed. The stream has failed then.
     fn poll_recv<E: Env>(
@@ -147,7 +154,13 @@ pub trait Network {
         ensures gives { Notes (E.noted env.old) (λ x. polls_recv self.old stream.old task result self.new stream.new x) (E.noted env.new) }
         ensures spent { E.spare env.old ≤ E.spare env.new + most }
         ensures half { Self.Stream.receiving stream.new ≡ still_waits result }
+        ensures length { IfOk result (HasLength (asked self.old stream.old)) }
+        ensures asked { still_waits result ≡ true → asked self.new stream.new ≡ asked self.old stream.old }
         ensures counts { Counts (refusals self.old) (refusals self.new) result };
+
+    /// How many bytes the `recv` that waits at the stream asked for. It takes no memory.
+    fn asked_len(&self, stream: &Self::Stream) -> usize
+        ensures { result ≡ asked self.now stream.now };
 
     /// A copy of the first bytes that the stream holds, at most `max_len`.
     fn peek<E: Env>(

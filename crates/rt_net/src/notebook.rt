@@ -2,6 +2,7 @@
 
 use rt_base::{Env, Event, NoMemory};
 use std::alloc::Global;
+use std::fmt::Write;
 
 #[derive(Drop)]
 pub struct Notebook {
@@ -15,15 +16,25 @@ impl Notebook {
         }
     }
 
-    // The labels in order, each with a space after it.
+    // The labels and the lengths of the fields in order, each with a space after it.
     pub fn text(&self, alloc: Global) -> Result<String, NoMemory> {
         let mut text = String::new(alloc);
         for event in self.events.as_slice() {
-            text.push_str(event.label.as_str())?;
-            text.push(' ')?;
+            add_event(&mut text, event)?;
         }
         Ok(text)
     }
+}
+
+// The label and the lengths of the fields.
+fn add_event(text: &mut String, event: &Event) -> Result<(), NoMemory> {
+    text.push_str(event.label.as_str())?;
+    for field in event.fields.as_slice() {
+        let length = field.as_slice().len();
+        write!(text, " {length}")?;
+    }
+    text.push(' ')?;
+    Ok(())
 }
 
 impl Env for Notebook {

@@ -1,9 +1,10 @@
 // A network over any other. It notes an event before and after each call that can fail, though none after one that was
-// out of memory, counts bytes, and has tokens
-// of its own, which know the other end's address. It is proved from the trait alone.
-ghost use Rattle.std.specs.Prelude.{◌≡◌, ◌+◌, ◌≤◌, ◌<◌, IfOk, OnOk, OnErr, Ok, ◌∷◌, []};
+// out of memory, counts bytes, and has tokens of its own, which know the other end's address. The event of a receive has
+// the bytes that came. All room is taken before the inner call. It is proved from the trait alone.
+ghost use Rattle.std.specs.Prelude.{◌≡◌, ◌+◌, ◌≤◌, ◌<◌, IfOk, OnOk, OnErr, Ok, ◌∷◌, ◌++◌, [], length, vec_capacity};
 ghost use Rattle.rt_base.specs.Noted.{Adds, Happened};
-ghost use Rattle.rt_net.specs.Noting.{named, refusal, ending, ending_of_reply, closing_event, count_if_ok, bytes_got, bytes_got_in_reply, with_taken, KnowDialer};
+ghost use Rattle.rt_net.specs.Asked.{HasLength};
+ghost use Rattle.rt_net.specs.Noting.{named, refusal, ending, closing_event, receipt, count_if_ok, bytes_in, with_taken, KnowDialer};
 
 use crate::halves::{Receiving, Sending};
 use crate::network::Network;
@@ -57,6 +58,13 @@ struct Endings {
     failure: Event,
 }
 
+// The room for the bytes that an event will have.
+#[derive(Drop)]
+struct Room {
+    bytes: Vec<u8>,
+    fields: Vec<Items<u8>>,
+}
+
 // An event without fields.
 fn event_of(alloc: Global, label: &str) -> Result<Event, NoMemory>
     ensures { IfOk result (λ e. e ≡ named label.now) }
@@ -90,6 +98,52 @@ fn note_end<E: Env>(env: &mut E, endings: Endings, ended: Option<bool>)
     }
 }
 
+// Room for so many bytes.
+fn room_for(alloc: Global, len: usize) -> Result<Room, NoMemory>
+    ensures empty { IfOk result (λ r. (r.bytes.items ≡ []) × (r.fields.items ≡ [])) }
+    ensures room { IfOk result (λ r. (vec_capacity r.bytes ≡ len) × (vec_capacity r.fields ≡ 1)) }
+{
+    Ok(Room {
+        bytes: Vec::with_capacity(alloc, len)?,
+        fields: Vec::with_capacity(alloc, 1)?,
+    })
+}
+
+// Adds the bytes of all chunks, in the room that was taken.
+fn fill(bytes: &mut Vec<u8>, bufs: &IoBufs)
+    requires { length bytes.old.items + length bufs.now.bytes ≤ vec_capacity bytes.old }
+    ensures { bytes.new.items ≡ bytes.old.items ++ bufs.now.bytes }
+{
+    for index in 0..bufs.chunk_count() {
+        match bytes.extend_from_slice(bufs.chunk_at(index)) {
+            Ok(()) => {}
+            Err(_) => unreachable!(),
+        }
+    }
+}
+
+// Notes the bytes that came, where they did, in the room that was taken.
+fn note_bytes<E: Env>(env: &mut E, success: Event, room: Room, answer: &Poll<IoBufs>)
+    requires spare { 0 < E.spare env.old }
+    requires empty { (room.bytes.items ≡ []) × (room.fields.items ≡ []) }
+    requires room { HasLength (vec_capacity room.bytes) answer.now × (vec_capacity room.fields ≡ 1) }
+    ensures noted { Adds (E.noted env.old) (receipt success answer.now) (E.noted env.new) }
+    ensures spent { E.spare env.old ≤ E.spare env.new + 1 }
+{
+    if let Poll::Ready(bufs) = answer {
+        let Room {
+            mut bytes,
+            mut fields,
+        } = room;
+        fill(&mut bytes, bufs);
+        fields.push_reserved(Items::of(bytes));
+        env.event(Event {
+            label: success.label,
+            fields: Items::of(fields),
+        });
+    }
+}
+
 // A call that was refused has failed, save where it was out of memory.
 fn refusal(error: &Error) -> Option<bool>
     ensures { result ≡ refusal error.now }
@@ -111,18 +165,6 @@ fn ending<V>(answer: &Result<Poll<V>, Error>) -> Option<bool>
     }
 }
 
-fn ending_of_reply<V>(answer: &Result<Reply<Poll<V>>, Error>) -> Option<bool>
-    ensures { result ≡ ending_of_reply answer.now }
-{
-    match answer {
-        Ok(reply) => match reply.value {
-            Poll::Ready(_) => Some(true),
-            Poll::Pending => None,
-        },
-        Err(error) => refusal(error),
-    }
-}
-
 // The count of a call that was not refused.
 fn count_if_ok<V>(answer: &Result<V, Error>, count: u64) -> u64
     ensures { result ≡ count_if_ok answer.now count }
@@ -134,24 +176,12 @@ fn count_if_ok<V>(answer: &Result<V, Error>, count: u64) -> u64
 }
 
 // How many bytes an answer has.
-fn count_of(answer: &Result<Poll<IoBufs>, Error>) -> u64
-    ensures { result ≡ bytes_got answer.now }
+fn count_of(answer: &Poll<IoBufs>) -> u64
+    ensures { result ≡ bytes_in answer.now }
 {
     match answer {
-        Ok(Poll::Ready(bufs)) => bufs.len() as u64,
-        Ok(Poll::Pending) | Err(_) => 0,
-    }
-}
-
-fn count_of_reply(answer: &Result<Reply<Poll<IoBufs>>, Error>) -> u64
-    ensures { result ≡ bytes_got_in_reply answer.now }
-{
-    match answer {
-        Ok(reply) => match &reply.value {
-            Poll::Ready(bufs) => bufs.len() as u64,
-            Poll::Pending => 0,
-        },
-        Err(_) => 0,
+        Poll::Ready(bufs) => bufs.len() as u64,
+        Poll::Pending => 0,
     }
 }
 
@@ -218,14 +248,16 @@ impl<N: Network> Network for Noting<N> {
 
     type Stream = NotingStream<N::Stream>;
 
-    ghost use Rattle.std.specs.Prelude.{◌≡◌, ◌+◌, ◌⊎◌, codes, List, [], Err, None, IfOk, length};
+    ghost use Rattle.std.specs.Prelude.{◌≡◌, ◌+◌, ◌⊎◌, codes, List, [], ◌∷◌, ◌++◌, Err, None, IfOk, length};
     ghost use Rattle.rt_base.specs.declared.error.Error.TheVariants.{NoMemory};
-    ghost use Rattle.rt_base.specs.Noted.{Noted};
-    ghost use Rattle.rt_net.specs.Noting.{around, followed, ending, ending_of_reply, outcome, counted_bytes, count_if_ok, bytes_got, bytes_got_in_reply, with_listener, with_halves, with_taken, KnowDialer};
+    ghost use Rattle.rt_base.specs.Noted.{Noted, Happened};
+    ghost use Rattle.rt_net.specs.Noting.{around, followed, ending, outcome, counted_bytes, count_if_ok, receipt_of, receipt_of_reply, count_with, count_with_reply, with_listener, with_halves, with_taken, KnowDialer};
 
     ghost refusals = { λ s. N.refusals s.inner };
 
     ghost most = { N.most + 2 };
+
+    ghost asked = { λ s k. N.asked s.inner k.inner };
 
     ghost sends = { λ s k b t r u l x.
         ((y : List Noted) × N.sends s.inner k.inner b t r u.inner l.inner y × (x ≡ around (codes "send_attempt") (codes "send_success") (codes "send_failure") (ending r.value) y) × (l.remote ≡ k.remote) × (u ≡ record s { inner = u.inner; sent = counted_bytes s.sent (count_if_ok r.value (length b.bytes)) }))
@@ -236,11 +268,11 @@ impl<N: Network> Network for Noting<N> {
         ⊎ ((r ≡ Err NoMemory) × (u ≡ s) × (l ≡ k) × (x ≡ [])) };
 
     ghost receives = { λ s k n t r u l x.
-        ((y : List Noted) × N.receives s.inner k.inner n t r u.inner l.inner y × (x ≡ around (codes "recv_attempt") (codes "recv_success") (codes "recv_failure") (ending_of_reply r) y) × (l.remote ≡ k.remote) × (u ≡ record s { inner = u.inner; received = counted_bytes s.received (bytes_got_in_reply r) }))
+        ((y : List Noted) × N.receives s.inner k.inner n t r u.inner l.inner y × (x ≡ Happened (named (codes "recv_attempt")) ∷ (y ++ receipt_of_reply r)) × (l.remote ≡ k.remote) × (u ≡ record s { inner = u.inner; received = count_with_reply s.received r }))
         ⊎ ((r ≡ Err NoMemory) × (u ≡ s) × (l ≡ k) × (x ≡ [])) };
 
     ghost polls_recv = { λ s k t r u l x.
-        ((y : List Noted) × N.polls_recv s.inner k.inner t r u.inner l.inner y × (x ≡ followed (codes "recv_success") (codes "recv_failure") (ending r) y) × (l.remote ≡ k.remote) × (u ≡ record s { inner = u.inner; received = counted_bytes s.received (bytes_got r) }))
+        ((y : List Noted) × N.polls_recv s.inner k.inner t r u.inner l.inner y × (x ≡ y ++ receipt_of r) × (l.remote ≡ k.remote) × (u ≡ record s { inner = u.inner; received = count_with s.received r }))
         ⊎ ((r ≡ Err NoMemory) × (u ≡ s) × (l ≡ k) × (x ≡ [])) };
 
     ghost peeks = { λ s k n r u x. N.peeks s.inner k.inner n r u.inner x × (u ≡ record s { inner = u.inner }) };
@@ -324,11 +356,19 @@ impl<N: Network> Network for Noting<N> {
         len: usize,
         task: u64,
     ) -> Result<Reply<Poll<IoBufs>>, Error> {
+        let room = room_for(self.alloc, len)?;
         let endings = self.begin(env, "recv_attempt", "recv_success", "recv_failure")?;
-        let answer = self.inner.recv(env, &mut stream.inner, len, task);
-        self.received = self.received.wrapping_add(count_of_reply(&answer));
-        note_end(env, endings, ending_of_reply(&answer));
-        answer
+        match self.inner.recv(env, &mut stream.inner, len, task) {
+            Ok(reply) => {
+                self.received = self.received.wrapping_add(count_of(&reply.value));
+                note_bytes(env, endings.success, room, &reply.value);
+                Ok(reply)
+            }
+            Err(error) => {
+                note_end(env, endings, refusal(&error));
+                Err(error)
+            }
+        }
     }
 
     fn poll_recv<E: Env>(
@@ -337,11 +377,23 @@ impl<N: Network> Network for Noting<N> {
         stream: &mut NotingStream<N::Stream>,
         task: u64,
     ) -> Result<Poll<IoBufs>, Error> {
+        let room = room_for(self.alloc, self.inner.asked_len(&stream.inner))?;
         let endings = self.go_on(env, "recv_success", "recv_failure")?;
-        let answer = self.inner.poll_recv(env, &mut stream.inner, task);
-        self.received = self.received.wrapping_add(count_of(&answer));
-        note_end(env, endings, ending(&answer));
-        answer
+        match self.inner.poll_recv(env, &mut stream.inner, task) {
+            Ok(answer) => {
+                self.received = self.received.wrapping_add(count_of(&answer));
+                note_bytes(env, endings.success, room, &answer);
+                Ok(answer)
+            }
+            Err(error) => {
+                note_end(env, endings, refusal(&error));
+                Err(error)
+            }
+        }
+    }
+
+    fn asked_len(&self, stream: &NotingStream<N::Stream>) -> usize {
+        self.inner.asked_len(&stream.inner)
     }
 
     fn peek<E: Env>(

@@ -1,6 +1,6 @@
 // One channel: the bytes that were not answered yet, and who waits at its two ends.
 ghost use Rattle.std.specs.Prelude.{◌≡◌, ℕ, ◌+◌, ◌-◌, ◌<◌, ◌≤◌, min, [], ◌++◌, length, take, drop, OnOk, OnErr, IfOk, Ok, Err, Some, None, true, false};
-ghost use Rattle.rt_net.specs.Channel.{fresh, is_open, receiver_task, failed_send, Sends, PollsSend, after_send, after_poll_send, closed_sink, closed_stream, given_up_send, given_up_recv, sent, appended, handed_task, is_drained, Settles, settled, answered, pulled, drained_task, moved, failed_recv, parked, Receives, PollsReceive, after_recv, after_poll_recv, Peeks, held, left, with_ended_sink, IsQuiet};
+ghost use Rattle.rt_net.specs.Channel.{fresh, is_open, receiver_task, failed_send, Sends, PollsSend, after_send, after_poll_send, closed_sink, closed_stream, given_up_send, given_up_recv, sent, appended, handed_task, is_drained, Settles, settled, answered, pulled, drained_task, moved, failed_recv, parked, Receives, PollsReceive, after_recv, after_poll_recv, started_length, Peeks, held, left, with_ended_sink, IsQuiet};
 
 use crate::byte_queue::ByteQueue;
 use crate::forgotten::Forgotten;
@@ -164,6 +164,13 @@ impl Pipe {
         self.receiving = None;
         self.answer(len);
         Ok(Poll::Ready(bytes))
+    }
+
+    /// How many bytes the started `recv` asked for, where one is.
+    pub fn asked_len(&self) -> usize
+        ensures { result ≡ started_length self.now }
+    {
+        self.receiving.unwrap_or(0)
     }
 
     /// A copy of the first bytes held, at most `max_len`.

@@ -779,7 +779,7 @@ fn notes_of_each_ending(rt: HostRuntime) -> Result<(), Fail> {
         env.text(alloc)?.as_str(),
         "bind_attempt bind_success bind_attempt bind_failure \
         dial_attempt dial_failure accept_attempt dial_attempt dial_success accept_success \
-        recv_attempt send_attempt send_success recv_success send_attempt recv_attempt recv_success \
+        recv_attempt send_attempt send_success recv_success 2 send_attempt recv_attempt recv_success 2 \
         send_success recv_attempt recv_failure send_attempt send_failure "
     );
     Ok(())

@@ -1,0 +1,82 @@
+-- A `recv` that waits keeps its length, and is answered by so many bytes.
+use Rattle.std.proofs.Common.{◌≡◌, ℕ, zero, suc, Bool, true, false, cond, List, [], ◌∷◌, Option, Some, None, Result, Ok, Err, refl, sym, ap, ◌∙◌, subst}
+use Rattle.std.specs.Prelude.{MatchOption, IfOk, slice_get, slice_set}
+use Rattle.rt_base.specs.declared.error.Error.{Error}
+use Rattle.rt_base.specs.declared.error.Error.TheVariants.{RecvFailed, UnknownToken}
+use Rattle.rt_base.specs.declared.poll.Poll.{Poll}
+use Rattle.rt_base.specs.declared.poll.Poll.TheVariants.{Ready, Pending}
+use Rattle.rt_bufs.specs.Chunked.{Chunked}
+use Rattle.rt_net.specs.declared.reply.Reply.{Reply}
+use Rattle.rt_net.specs.Asked.{HasLength, asked_of}
+use Rattle.rt_net.specs.Channel.{ChannelState, Answers, Receives, PollsReceive, pulled, after_answer, after_recv, after_poll_recv, started_length}
+use Rattle.rt_net.specs.Network.{live_stream, if_lives, has_stream, at, at_stream}
+use Rattle.rt_net.specs.Refusals.{is_not_ready, waits, still_waits}
+
+-- a live stream's channel stands in the list
+
+lives-at : (c d : ChannelState) (b : Bool) → cond b (Some c) None ≡ Some d → (let o : Option ChannelState = Some c in o) ≡ Some d
+lives-at c d true e = e
+lives-at c d false e = absurd (cc)
+
+lives-if : (o : Option ChannelState) (c : ChannelState) → if_lives has_stream o ≡ Some c → o ≡ Some c
+lives-if None c e = absurd (cc)
+lives-if (Some d) c e = lives-at d c (has_stream d) e
+
+stream-get : (cs : List ChannelState) (n : ℕ) (c : ChannelState) → live_stream cs n ≡ Some c → slice_get cs n ≡ Some c
+stream-get cs n c e = lives-if (slice_get cs n) c e
+
+get-set : {X : Type 0} (xs : List X) (n : ℕ) (x y : X) → slice_get xs n ≡ Some x → slice_get (slice_set xs n y) n ≡ Some y
+get-set [] n x y e = absurd (cc)
+get-set (z ∷ zs) zero x y e = refl
+get-set (z ∷ zs) (suc n) x y e = get-set zs n x y e
+
+-- a call on a live stream leaves in its place what it makes of the channel
+asked-set : (cs : List ChannelState) (n : ℕ) (c : ChannelState) (f : ChannelState → ChannelState) → live_stream cs n ≡ Some c → asked_of (slice_get (at_stream cs n f) n) ≡ started_length (f c)
+asked-set cs n c f live = ap (λ o. asked_of (slice_get (at cs n f o) n)) live ∙ ap asked_of (get-set cs n c (f c) (stream-get cs n c live))
+
+answers-length : (c : ChannelState) (len : ℕ) (p : Poll Chunked) → Answers c len p → HasLength len p
+answers-length c len (Ready b) h = h.1
+answers-length c len Pending h = tt
+
+pub receives-length : (o : Option ChannelState) (len : ℕ) (r : Result (Reply (Poll Chunked)) Error) → MatchOption o (r ≡ Err UnknownToken) (λ c. Receives c len r) → IfOk r (λ x. HasLength len x.value)
+receives-length None len (Ok x) h = absurd (cc)
+receives-length (Some c) len (Ok x) h = answers-length (pulled c len) len x.value h.3
+receives-length o len (Err e) h = tt
+
+-- Contracts name the list before a call itself, which is what the code keeps.
+
+pub polls-length : (cs now : List ChannelState) (n : ℕ) (o : Option ChannelState) (r : Result (Poll Chunked) Error) → cs ≡ now → live_stream cs n ≡ o → MatchOption o (r ≡ Err UnknownToken) (λ c. PollsReceive c r) → IfOk r (HasLength (asked_of (slice_get now n)))
+polls-length cs now n None (Ok p) is live h = absurd (cc)
+polls-length cs now n (Some c) (Ok p) is live h =
+    let there : started_length c ≡ asked_of (slice_get now n) = sym (ap asked_of (stream-get cs n c live)) ∙ ap (λ ks. asked_of (slice_get ks n)) is in
+    subst (λ m. HasLength m p) there (answers-length c (started_length c) p h)
+polls-length cs now n o (Err e) is live h = tt
+
+-- what waits has the length that was asked for
+
+pending-asks : (c : ChannelState) (len task : ℕ) (p : Poll Chunked) → is_not_ready p ≡ true → started_length (after_answer c len task p) ≡ len
+pending-asks c len task Pending w = refl
+pending-asks c len task (Ready b) w = absurd (cc)
+
+recv-asks : (c : ChannelState) (len task : ℕ) (r : Result (Reply (Poll Chunked)) Error) → waits r ≡ true → started_length (after_recv c len task r) ≡ len
+recv-asks c len task (Ok x) w = pending-asks (pulled c len) len task x.value w
+recv-asks c len task (Err e) w = absurd (cc)
+
+poll-asks : (c : ChannelState) (task : ℕ) (r : Result (Poll Chunked) Error) → PollsReceive c r → still_waits r ≡ true → started_length (after_poll_recv c task r) ≡ started_length c
+poll-asks c task (Ok Pending) h w = refl
+poll-asks c task (Ok (Ready b)) h w = absurd (cc)
+poll-asks c task (Err RecvFailed) h w = absurd (cc)
+poll-asks c task (Err e) h w = absurd h
+
+pub receives-asks : (cs new : List ChannelState) (n len task : ℕ) (o : Option ChannelState) (r : Result (Reply (Poll Chunked)) Error) → new ≡ at_stream cs n (λ c. after_recv c len task r) → live_stream cs n ≡ o → MatchOption o (r ≡ Err UnknownToken) (λ c. Receives c len r) → waits r ≡ true → asked_of (slice_get new n) ≡ len
+receives-asks cs new n len task None r after live h w =
+    let no : false ≡ true = subst (λ (x : Result (Reply (Poll Chunked)) Error). waits x ≡ true) h w in
+    absurd (cc)
+receives-asks cs new n len task (Some c) r after live h w = ap (λ ks. asked_of (slice_get ks n)) after ∙ asked-set cs n c (λ d. after_recv d len task r) live ∙ recv-asks c len task r w
+
+poll-keeps : (cs : List ChannelState) (n task : ℕ) (o : Option ChannelState) (r : Result (Poll Chunked) Error) → live_stream cs n ≡ o → MatchOption o (r ≡ Err UnknownToken) (λ c. PollsReceive c r) → still_waits r ≡ true → asked_of (slice_get (at_stream cs n (λ c. after_poll_recv c task r)) n) ≡ asked_of (slice_get cs n)
+poll-keeps cs n task None r live h w = ap (λ o. asked_of (slice_get (at cs n (λ c. after_poll_recv c task r) o) n)) live
+poll-keeps cs n task (Some c) r live h w = asked-set cs n c (λ d. after_poll_recv d task r) live ∙ poll-asks c task r h w ∙ sym (ap asked_of (stream-get cs n c live))
+
+pub polls-ask : (cs now new : List ChannelState) (n task : ℕ) (r : Result (Poll Chunked) Error) → cs ≡ now → new ≡ at_stream cs n (λ c. after_poll_recv c task r) → MatchOption (live_stream cs n) (r ≡ Err UnknownToken) (λ c. PollsReceive c r) → still_waits r ≡ true → asked_of (slice_get new n) ≡ asked_of (slice_get now n)
+polls-ask cs now new n task r is after h w = ap (λ ks. asked_of (slice_get ks n)) after ∙ poll-keeps cs n task (live_stream cs n) r refl h w ∙ ap (λ ks. asked_of (slice_get ks n)) is
