@@ -13,8 +13,10 @@ use std::process::Abort;
 pub enum Step {
     Send(usize),
     PollSend,
+    GiveUpSend,
     Recv(usize),
     PollRecv,
+    GiveUpRecv,
     Peek(usize),
 }
 
@@ -94,8 +96,16 @@ fn take_step<N: Network, E: Env>(
     match step {
         Step::Send(count) => sends(net, env, line, count),
         Step::PollSend => (poll_put(net, env, &mut line.sink, 1), None),
+        Step::GiveUpSend => {
+            net.give_up_send(&mut line.sink);
+            (Ending::Done, None)
+        }
         Step::Recv(len) => receives(net, env, line, len),
         Step::PollRecv => (polls(net, env, line), None),
+        Step::GiveUpRecv => {
+            net.give_up_recv(&mut line.stream);
+            (Ending::Done, None)
+        }
         Step::Peek(most) => (peeks(net, env, line, most), None),
     }
 }

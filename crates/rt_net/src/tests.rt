@@ -10,6 +10,8 @@ use crate::network::Network;
 use crate::notebook::Notebook;
 use crate::noting::{Noting, NotingSink, NotingStream};
 use crate::reply::Reply;
+use crate::sink::Sink;
+use crate::stream::Stream;
 use rt_base::{Addr, Env, Error, Ip, NoEnv, Poll};
 use rt_bufs::{IoBuf, IoBufs};
 use std::alloc::Global;
@@ -82,88 +84,173 @@ fn close<N: Network>(net: &mut N, sink: N::Sink, stream: N::Stream) -> (Option<u
     (net.close_sink(sink), net.close_stream(stream))
 }
 
-fn blocks<N: Network>(
+// A channel with this buffer size.
+fn line_of(
+    rt: &impl Abort,
+    alloc: Global,
+    net: &mut Net,
+    buffer_size: usize,
+) -> Line<Sink, Stream> {
+    let (sink, stream) = Channel::init_with_buffer_size(net, buffer_size).expect(rt, "room");
+    Line::new(alloc, sink, stream)
+}
+
+// Closes both halves, which wakes these tasks.
+fn hangs_up<N: Network>(
+    rt: &impl Abort,
     net: &mut N,
-    mut sink: N::Sink,
-    mut stream: N::Stream,
-    bufs: IoBufs,
-) -> (Ending, Ending, Option<u64>, Option<u64>) {
-    let got = get(net, &mut NoEnv, &mut stream, 100, 1);
-    let put = put(net, &mut NoEnv, &mut sink, bufs, 2);
-    let (receiver, sender) = close(net, sink, stream);
-    (got, put, receiver, sender)
+    line: Line<N::Sink, N::Stream>,
+    woken: (Option<u64>, Option<u64>),
+) {
+    let Line {
+        alloc: _,
+        sink,
+        stream,
+        sent: _,
+        received: _,
+    } = line;
+    assert_eq!(rt; close(net, sink, stream), woken);
+}
+
+// Takes the steps on one more channel, which has this buffer size and is closed then, which wakes these tasks.
+fn takes_on_new(
+    rt: &impl Abort,
+    alloc: Global,
+    net: &mut Net,
+    buffer_size: usize,
+    steps: &[(Step, Ending, Option<u64>)],
+    woken: (Option<u64>, Option<u64>),
+) {
+    let mut line = line_of(rt, alloc, net, buffer_size);
+    takes(rt, net, &mut NoEnv, &mut line, steps);
+    hangs_up(rt, net, line, woken);
 }
 
 #[test]
 fn long_halves_block(rt: HostRuntime) -> Result<(), Fail> {
     let mut net = Net::new(rt.alloc())?;
-    let sent = bytes(rt.alloc(), 50)?;
-    let (sink, stream) = Channel::init_with_buffer_size(&mut net, 10).expect(&rt, "room");
-    let seen = blocks(&mut net, sink, stream, sent);
-    assert_eq!(rt; seen, (Ending::Waits, Ending::Waits, Some(1), None));
+    let steps = [
+        (Step::Recv(100), Ending::Waits, None),
+        (Step::Send(50), Ending::Waits, None),
+    ];
+    takes_on_new(&rt, rt.alloc(), &mut net, 10, &steps, (Some(2), None));
     Ok(())
-}
-
-fn receives_nothing<N: Network>(net: &mut N, sink: N::Sink, mut stream: N::Stream) -> Ending {
-    let got = get(net, &mut NoEnv, &mut stream, 0, 1);
-    let _ = close(net, sink, stream);
-    got
 }
 
 #[test]
 fn empty_receive(rt: HostRuntime) -> Result<(), Fail> {
-    let mut net = Net::new(rt.alloc())?;
+    let alloc = rt.alloc();
+    let mut net = Net::new(alloc)?;
     let (sink, stream) = Channel::init(&mut net).expect(&rt, "room");
-    assert_eq!(rt; receives_nothing(&mut net, sink, stream), Ending::Got(0));
+    let mut line = Line::new(alloc, sink, stream);
+    let steps = [(Step::Recv(0), Ending::Got(0), None)];
+    takes(&rt, &mut net, &mut NoEnv, &mut line, &steps);
+    hangs_up(&rt, &mut net, line, (None, None));
     Ok(())
-}
-
-fn gives_up<N: Network>(
-    net: &mut N,
-    mut sink: N::Sink,
-    stream: N::Stream,
-    long: IoBufs,
-    short: IoBufs,
-    last: IoBufs,
-) -> (Ending, Ending, Ending) {
-    let first = put(net, &mut NoEnv, &mut sink, long, 1);
-    net.give_up_send(&mut sink);
-    let second = put(net, &mut NoEnv, &mut sink, short, 1);
-    let third = put(net, &mut NoEnv, &mut sink, last, 1);
-    let _ = close(net, sink, stream);
-    (first, second, third)
 }
 
 #[test]
 fn send_after_a_given_up_send(rt: HostRuntime) -> Result<(), Fail> {
     let mut net = Net::new(rt.alloc())?;
-    let long = bytes(rt.alloc(), 20)?;
-    let short = bytes(rt.alloc(), 1)?;
-    let last = bytes(rt.alloc(), 1)?;
-    let (sink, stream) = Channel::init_with_buffer_size(&mut net, 10).expect(&rt, "room");
-    let seen = gives_up(&mut net, sink, stream, long, short, last);
-    assert_eq!(rt; seen, (Ending::Waits, Ending::Closed, Ending::Closed));
+    let steps = [
+        (Step::Send(20), Ending::Waits, None),
+        (Step::GiveUpSend, Ending::Done, None),
+        (Step::Send(1), Ending::Closed, None),
+        (Step::Send(1), Ending::Closed, None),
+    ];
+    takes_on_new(&rt, rt.alloc(), &mut net, 10, &steps, (None, None));
     Ok(())
 }
 
-fn receives_twice<N: Network>(
+// The bytes of a `send` that is given up stay.
+#[test]
+fn receive_after_a_given_up_send(rt: HostRuntime) -> Result<(), Fail> {
+    let mut net = Net::new(rt.alloc())?;
+    let steps = [
+        (Step::Send(20), Ending::Waits, None),
+        (Step::GiveUpSend, Ending::Done, None),
+        (Step::Recv(20), Ending::Got(20), None),
+    ];
+    takes_on_new(&rt, rt.alloc(), &mut net, 10, &steps, (None, None));
+    Ok(())
+}
+
+// The sink goes on, and the stream is spent.
+#[test]
+fn calls_after_a_given_up_receive(rt: HostRuntime) -> Result<(), Fail> {
+    let mut net = Net::new(rt.alloc())?;
+    let steps = [
+        (Step::Recv(1), Ending::Waits, None),
+        (Step::GiveUpRecv, Ending::Done, None),
+        (Step::Send(5), Ending::Done, None),
+        (Step::Recv(1), Ending::Closed, None),
+    ];
+    takes_on_new(&rt, rt.alloc(), &mut net, 10, &steps, (None, None));
+    Ok(())
+}
+
+#[test]
+fn bytes_left_over(rt: HostRuntime) -> Result<(), Fail> {
+    let mut net = Net::new(rt.alloc())?;
+    let steps = [
+        (Step::Send(2), Ending::Done, None),
+        (Step::Recv(9), Ending::Waits, None),
+        (Step::Peek(9), Ending::Got(2), None),
+        (Step::Send(3), Ending::Done, None),
+        (Step::Send(10), Ending::Done, Some(2)),
+        (Step::Send(1), Ending::Done, None),
+        (Step::PollRecv, Ending::Got(9), None),
+        (Step::Peek(9), Ending::Got(6), None),
+    ];
+    takes_on_new(&rt, rt.alloc(), &mut net, 100, &steps, (None, None));
+    Ok(())
+}
+
+// The sink closes first, which wakes this task, and then the stream gives this.
+fn outlives<N: Network, E: Env>(
+    rt: &impl Abort,
     net: &mut N,
-    sink: N::Sink,
-    mut stream: N::Stream,
-) -> (Ending, Ending) {
-    let _ = net.close_sink(sink);
-    let first = get(net, &mut NoEnv, &mut stream, 1, 1);
-    let second = get(net, &mut NoEnv, &mut stream, 1, 1);
+    env: &mut E,
+    line: Line<N::Sink, N::Stream>,
+    woken: Option<u64>,
+    receives: &[(usize, Ending)],
+) {
+    let Line {
+        alloc: _,
+        sink,
+        mut stream,
+        sent: _,
+        received: _,
+    } = line;
+    assert_eq!(rt; net.close_sink(sink), woken);
+    for (len, ending) in receives {
+        assert_eq!(rt; get(net, env, &mut stream, *len, 2), *ending);
+    }
     let _ = net.close_stream(stream);
-    (first, second)
 }
 
 #[test]
 fn receive_after_the_sink_closed(rt: HostRuntime) -> Result<(), Fail> {
     let mut net = Net::new(rt.alloc())?;
-    let (sink, stream) = Channel::init(&mut net).expect(&rt, "room");
-    let seen = receives_twice(&mut net, sink, stream);
-    assert_eq!(rt; seen, (Ending::RecvFailed, Ending::Closed));
+    let line = line_of(&rt, rt.alloc(), &mut net, 65536);
+    let receives = [(1, Ending::RecvFailed), (1, Ending::Closed)];
+    outlives(&rt, &mut net, &mut NoEnv, line, None, &receives);
+    Ok(())
+}
+
+// All bytes, then too few, then nothing more.
+#[test]
+fn receives_after_the_sink_closed(rt: HostRuntime) -> Result<(), Fail> {
+    let mut net = Net::new(rt.alloc())?;
+    let mut line = line_of(&rt, rt.alloc(), &mut net, 10);
+    let steps = [(Step::Send(5), Ending::Done, None)];
+    let receives = [
+        (3, Ending::Got(3)),
+        (3, Ending::RecvFailed),
+        (1, Ending::Closed),
+    ];
+    takes(&rt, &mut net, &mut NoEnv, &mut line, &steps);
+    outlives(&rt, &mut net, &mut NoEnv, line, None, &receives);
     Ok(())
 }
 
@@ -317,25 +404,19 @@ fn a_mebibyte_through_one_channel(rt: HostRuntime) -> Result<(), Fail> {
 }
 
 // Sends, receives, peeks, waits and gives up on one channel, which is closed then.
-fn exercise<N: Network>(
-    net: &mut N,
-    mut sink: N::Sink,
-    mut stream: N::Stream,
-    bufs: IoBufs,
-) -> (Ending, Ending, bool, Ending) {
-    let _ = put(net, &mut NoEnv, &mut sink, bufs, 1);
-    let got = get(net, &mut NoEnv, &mut stream, 5, 2);
-    let put = poll_put(net, &mut NoEnv, &mut sink, 1);
-    let peeked = match net.peek(&mut NoEnv, &stream, 1) {
-        Ok(first) => first.len() == 1,
-        Err(_) => false,
-    };
-    let _ = get(net, &mut NoEnv, &mut stream, 90, 2);
-    let late = get(net, &mut NoEnv, &mut stream, 90, 2);
-    net.give_up_send(&mut sink);
-    net.give_up_recv(&mut stream);
-    let _ = close(net, sink, stream);
-    (put, got, peeked, late)
+fn exercise<N: Network>(rt: &impl Abort, net: &mut N, mut line: Line<N::Sink, N::Stream>) {
+    let steps = [
+        (Step::Send(9), Ending::Waits, None),
+        (Step::Recv(5), Ending::Got(5), Some(1)),
+        (Step::PollSend, Ending::Done, None),
+        (Step::Peek(1), Ending::Got(1), None),
+        (Step::Recv(90), Ending::Waits, None),
+        (Step::PollRecv, Ending::Waits, None),
+        (Step::GiveUpSend, Ending::Done, None),
+        (Step::GiveUpRecv, Ending::Done, None),
+    ];
+    takes(rt, net, &mut NoEnv, &mut line, &steps);
+    hangs_up(rt, net, line, (None, None));
 }
 
 // Accepts a connection, closes it, and answers its dialer's port, or 0 where none waits.
@@ -379,10 +460,8 @@ fn listens<N: Network>(net: &mut N, socket: Addr) -> (u16, Option<u16>, Ending, 
 #[test]
 fn surface(rt: HostRuntime) -> Result<(), Fail> {
     let mut net = Net::new(rt.alloc())?;
-    let bufs = bytes(rt.alloc(), 9)?;
-    let (sink, stream) = Channel::init_with_buffer_size(&mut net, 7).expect(&rt, "room");
-    let seen = exercise(&mut net, sink, stream, bufs);
-    assert_eq!(rt; seen, (Ending::Done, Ending::Got(5), true, Ending::Waits));
+    let line = line_of(&rt, rt.alloc(), &mut net, 7);
+    exercise(&rt, &mut net, line);
     let seen = listens(&mut net, here(4000));
     assert_eq!(rt; seen, (4000, Some(0), Ending::Done, Some(32768)));
     assert_eq!(rt; net.waiting_halves(0), (None, None));
@@ -390,18 +469,15 @@ fn surface(rt: HostRuntime) -> Result<(), Fail> {
     Ok(())
 }
 
-#[test]
-fn surface_of_what_passes_on(rt: HostRuntime) -> Result<(), Fail> {
-    let mut inner = Net::new(rt.alloc())?;
-    let bufs = bytes(rt.alloc(), 9)?;
-    let (sink, stream) = Channel::init_with_buffer_size(&mut inner, 7).expect(&rt, "room");
-    let remote = here(4000);
-    let mut net = Noting {
-        inner,
-        alloc: rt.alloc(),
-        sent: 0,
-        received: 0,
-    };
+// The halves of a channel of what the wrapper passes calls on to.
+fn noted(line: Line<Sink, Stream>, remote: Addr) -> Line<NotingSink<Sink>, NotingStream<Stream>> {
+    let Line {
+        alloc,
+        sink,
+        stream,
+        sent: _,
+        received: _,
+    } = line;
     let sink = NotingSink {
         inner: sink,
         remote,
@@ -410,16 +486,18 @@ fn surface_of_what_passes_on(rt: HostRuntime) -> Result<(), Fail> {
         inner: stream,
         remote,
     };
-    let seen = exercise(&mut net, sink, stream, bufs);
-    let heard = listens(&mut net, remote);
-    let Noting {
-        inner: _,
-        alloc: _,
-        sent,
-        received,
-    } = net;
-    assert_eq!(rt; seen, (Ending::Done, Ending::Got(5), true, Ending::Waits));
+    Line::new(alloc, sink, stream)
+}
+
+#[test]
+fn surface_of_what_passes_on(rt: HostRuntime) -> Result<(), Fail> {
+    let mut inner = Net::new(rt.alloc())?;
+    let line = noted(line_of(&rt, rt.alloc(), &mut inner, 7), here(4000));
+    let mut net = Noting::new(rt.alloc(), inner);
+    exercise(&rt, &mut net, line);
+    let heard = listens(&mut net, here(4000));
     assert_eq!(rt; heard, (4000, Some(0), Ending::Done, Some(32768)));
+    let (_, sent, received) = net.into_parts();
     assert_eq!(rt; (sent, received), (9, 5));
     Ok(())
 }
@@ -453,18 +531,6 @@ fn closed_listener_wakes_a_dialer(rt: HostRuntime) -> Result<(), Fail> {
     Ok(())
 }
 
-// Closes both halves, of which none waits.
-fn hangs_up<N: Network>(rt: &impl Abort, net: &mut N, line: Line<N::Sink, N::Stream>) {
-    let Line {
-        alloc: _,
-        sink,
-        stream,
-        sent: _,
-        received: _,
-    } = line;
-    assert_eq!(rt; close(net, sink, stream), (None, None));
-}
-
 // A dial wakes the task that waits at the listener, which takes the connection: the channel that leads to the
 // listener, the one that leads to the dialer, and the dialer's port.
 fn connects<N: Network, E: Env>(
@@ -496,6 +562,52 @@ fn connects<N: Network, E: Env>(
     }
 }
 
+// What the dialer says to the listener.
+fn speaks_there<N: Network, E: Env>(
+    rt: &impl Abort,
+    net: &mut N,
+    env: &mut E,
+    mut line: Line<N::Sink, N::Stream>,
+) {
+    let steps = [
+        (Step::Peek(9), Ending::Got(0), None),
+        (Step::Recv(5), Ending::Waits, None),
+        (Step::Send(0), Ending::Done, None),
+        (Step::Send(3), Ending::Done, None),
+        (Step::Send(4), Ending::Done, Some(2)),
+        (Step::PollRecv, Ending::Got(5), None),
+        (Step::Peek(0), Ending::Got(0), None),
+        (Step::Peek(9), Ending::Got(2), None),
+        (Step::Send(1), Ending::Done, None),
+        (Step::Send(0), Ending::Done, None),
+        (Step::Recv(0), Ending::Got(0), None),
+        (Step::Recv(2), Ending::Got(2), None),
+        (Step::Recv(1), Ending::Got(1), None),
+        (Step::Recv(0), Ending::Got(0), None),
+    ];
+    takes(rt, net, env, &mut line, &steps);
+    hangs_up(rt, net, line, (None, None));
+}
+
+// What the listener says to the dialer.
+fn speaks_back<N: Network, E: Env>(
+    rt: &impl Abort,
+    net: &mut N,
+    env: &mut E,
+    mut line: Line<N::Sink, N::Stream>,
+) {
+    let steps = [
+        (Step::Send(2), Ending::Done, None),
+        (Step::Peek(1), Ending::Got(0), None),
+        (Step::Recv(1), Ending::Got(1), None),
+        (Step::Recv(2), Ending::Waits, None),
+        (Step::Send(1), Ending::Done, Some(2)),
+        (Step::PollRecv, Ending::Got(2), None),
+    ];
+    takes(rt, net, env, &mut line, &steps);
+    hangs_up(rt, net, line, (None, None));
+}
+
 // One listener and one dialer after the other, and what they say to each other.
 fn serves<N: Network, E: Env>(
     rt: &impl Abort,
@@ -505,46 +617,26 @@ fn serves<N: Network, E: Env>(
     listener: &mut N::Listener,
     socket: Addr,
 ) -> u16 {
-    let (mut there, mut back, port) = connects(rt, alloc, net, env, listener, socket);
-    takes(
-        rt,
-        net,
-        env,
-        &mut there,
-        &[
-            (Step::Peek(9), Ending::Got(0), None),
-            (Step::Recv(5), Ending::Waits, None),
-            (Step::Send(0), Ending::Done, None),
-            (Step::Send(3), Ending::Done, None),
-            (Step::Send(4), Ending::Done, Some(2)),
-            (Step::PollRecv, Ending::Got(5), None),
-            (Step::Peek(0), Ending::Got(0), None),
-            (Step::Peek(9), Ending::Got(2), None),
-            (Step::Send(1), Ending::Done, None),
-            (Step::Send(0), Ending::Done, None),
-            (Step::Recv(0), Ending::Got(0), None),
-            (Step::Recv(2), Ending::Got(2), None),
-            (Step::Recv(1), Ending::Got(1), None),
-            (Step::Recv(0), Ending::Got(0), None),
-        ],
-    );
-    takes(
-        rt,
-        net,
-        env,
-        &mut back,
-        &[
-            (Step::Send(2), Ending::Done, None),
-            (Step::Peek(1), Ending::Got(0), None),
-            (Step::Recv(1), Ending::Got(1), None),
-            (Step::Recv(2), Ending::Waits, None),
-            (Step::Send(1), Ending::Done, Some(2)),
-            (Step::PollRecv, Ending::Got(2), None),
-        ],
-    );
-    hangs_up(rt, net, there);
-    hangs_up(rt, net, back);
+    let (there, back, port) = connects(rt, alloc, net, env, listener, socket);
+    speaks_there(rt, net, env, there);
+    speaks_back(rt, net, env, back);
     port
+}
+
+// Two dialers wait at the listener, and are taken in the order of their dials.
+fn takes_two<N: Network, E: Env>(
+    rt: &impl Abort,
+    net: &mut N,
+    env: &mut E,
+    listener: &mut N::Listener,
+    socket: Addr,
+    port: u16,
+) {
+    assert_eq!(rt; dials(net, env, socket, 2, Ending::Done), 2);
+    let next = accept(net, env, listener, true);
+    assert_eq!(rt; next, Some(port.wrapping_add(1)));
+    let last = accept(net, env, listener, true);
+    assert_eq!(rt; last, Some(port.wrapping_add(2)));
 }
 
 // Two listeners, of which the second serves two dialers, keeps two waiting, and serves one more.
@@ -561,15 +653,7 @@ fn server_and_client<N: Network, E: Env>(
     let _ = serves(rt, alloc, net, env, &mut server, near);
     let _ = serves(rt, alloc, net, env, &mut other, far);
     let port = serves(rt, alloc, net, env, &mut other, far);
-    assert_eq!(rt; dials(net, env, far, 2, Ending::Done), 2);
-    assert_eq!(rt;
-        accept(net, env, &mut other, true),
-        Some(port.wrapping_add(1))
-    );
-    assert_eq!(rt;
-        accept(net, env, &mut other, true),
-        Some(port.wrapping_add(2))
-    );
+    takes_two(rt, net, env, &mut other, far, port);
     let _ = serves(rt, alloc, net, env, &mut other, far);
     net.close_listener(server);
     net.close_listener(other);
@@ -577,50 +661,61 @@ fn server_and_client<N: Network, E: Env>(
 }
 
 #[test]
-fn server_and_client_over_each_network(rt: HostRuntime) -> Result<(), Fail> {
+fn server_and_client_over_memory(rt: HostRuntime) -> Result<(), Fail> {
     let alloc = rt.alloc();
     let mut net = Net::new(alloc)?;
     server_and_client(&rt, alloc, &mut net, &mut NoEnv, here(4000), v6(4000));
     server_and_client(&rt, alloc, &mut net, &mut NoEnv, v6(5000), here(5000));
-    let mut noting = Noting::new(alloc, net);
-    server_and_client(&rt, alloc, &mut noting, &mut NoEnv, here(6000), v6(6000));
-    let mut twice = Noting::new(alloc, noting);
-    server_and_client(&rt, alloc, &mut twice, &mut NoEnv, here(7000), v6(7000));
-    let (noting, sent, received) = twice.into_parts();
-    assert_eq!(rt; (sent, received), (44, 44));
-    let (_, sent, received) = noting.into_parts();
-    assert_eq!(rt; (sent, received), (88, 88));
     Ok(())
 }
 
-// Takes the steps on one more channel, which has this buffer size.
-fn takes_on_new(
-    rt: &impl Abort,
-    alloc: Global,
-    net: &mut Net,
-    buffer_size: usize,
-    steps: &[(Step, Ending, Option<u64>)],
-) {
-    let (sink, stream) = Channel::init_with_buffer_size(net, buffer_size).expect(rt, "room");
-    let mut line = Line::new(alloc, sink, stream);
-    takes(rt, net, &mut NoEnv, &mut line, steps);
-    hangs_up(rt, net, line);
+#[test]
+fn server_and_client_over_a_wrapper(rt: HostRuntime) -> Result<(), Fail> {
+    let alloc = rt.alloc();
+    let mut net = Noting::new(alloc, Net::new(alloc)?);
+    server_and_client(&rt, alloc, &mut net, &mut NoEnv, here(6000), v6(6000));
+    let (_, sent, received) = net.into_parts();
+    assert_eq!(rt; (sent, received), (44, 44));
+    Ok(())
 }
 
 #[test]
-fn channels_of_one_network(rt: HostRuntime) -> Result<(), Fail> {
+fn server_and_client_over_two_wrappers(rt: HostRuntime) -> Result<(), Fail> {
+    let alloc = rt.alloc();
+    let mut net = Noting::new(alloc, Noting::new(alloc, Net::new(alloc)?));
+    server_and_client(&rt, alloc, &mut net, &mut NoEnv, here(7000), v6(7000));
+    let (inner, sent, received) = net.into_parts();
+    assert_eq!(rt; (sent, received), (44, 44));
+    let (_, sent, received) = inner.into_parts();
+    assert_eq!(rt; (sent, received), (44, 44));
+    Ok(())
+}
+
+const WAITS: [(Step, Ending, Option<u64>); 4] = [
+    (Step::Send(2), Ending::Done, None),
+    (Step::Recv(3), Ending::Waits, None),
+    (Step::Send(1), Ending::Done, Some(2)),
+    (Step::PollRecv, Ending::Got(3), None),
+];
+
+#[test]
+fn channels_side_by_side(rt: HostRuntime) -> Result<(), Fail> {
     let alloc = rt.alloc();
     let mut net = Net::new(alloc)?;
-    let (sink, stream) = Channel::init(&mut net).expect(&rt, "room");
-    let mut first = Line::new(alloc, sink, stream);
-    let (sink, stream) = Channel::init(&mut net).expect(&rt, "room");
-    let mut second = Line::new(alloc, sink, stream);
-    let waits = [
-        (Step::Send(2), Ending::Done, None),
-        (Step::Recv(3), Ending::Waits, None),
-        (Step::Send(1), Ending::Done, Some(2)),
-        (Step::PollRecv, Ending::Got(3), None),
-    ];
+    let mut first = line_of(&rt, alloc, &mut net, 65536);
+    let mut second = line_of(&rt, alloc, &mut net, 65536);
+    takes(&rt, &mut net, &mut NoEnv, &mut first, &WAITS);
+    takes(&rt, &mut net, &mut NoEnv, &mut second, &WAITS);
+    takes_on_new(&rt, alloc, &mut net, usize::MAX, &WAITS, (None, None));
+    hangs_up(&rt, &mut net, first, (None, None));
+    hangs_up(&rt, &mut net, second, (None, None));
+    Ok(())
+}
+
+#[test]
+fn small_buffers(rt: HostRuntime) -> Result<(), Fail> {
+    let alloc = rt.alloc();
+    let mut net = Net::new(alloc)?;
     let drains = [
         (Step::Send(4), Ending::Waits, None),
         (Step::PollSend, Ending::Waits, None),
@@ -630,13 +725,9 @@ fn channels_of_one_network(rt: HostRuntime) -> Result<(), Fail> {
         (Step::Send(2), Ending::Done, Some(2)),
         (Step::PollRecv, Ending::Got(2), None),
     ];
-    takes(&rt, &mut net, &mut NoEnv, &mut first, &waits);
-    takes(&rt, &mut net, &mut NoEnv, &mut second, &waits);
-    takes_on_new(&rt, alloc, &mut net, usize::MAX, &waits);
-    takes_on_new(&rt, alloc, &mut net, 3, &drains);
-    takes_on_new(&rt, alloc, &mut net, 0, &drains);
-    hangs_up(&rt, &mut net, first);
-    hangs_up(&rt, &mut net, second);
+    for buffer_size in [3, 0] {
+        takes_on_new(&rt, alloc, &mut net, buffer_size, &drains, (None, None));
+    }
     Ok(())
 }
 
@@ -644,8 +735,7 @@ fn channels_of_one_network(rt: HostRuntime) -> Result<(), Fail> {
 fn a_mebibyte_in_one_receive(rt: HostRuntime) -> Result<(), Fail> {
     let alloc = rt.alloc();
     let mut net = Net::new(alloc)?;
-    let (sink, stream) = Channel::init_with_buffer_size(&mut net, 1048576).expect(&rt, "room");
-    let mut line = Line::new(alloc, sink, stream);
+    let mut line = line_of(&rt, alloc, &mut net, 1048576);
     let first = [(Step::Recv(1048576), Ending::Waits, None)];
     let piece = [(Step::Send(65536), Ending::Done, None)];
     let last = [
@@ -657,27 +747,8 @@ fn a_mebibyte_in_one_receive(rt: HostRuntime) -> Result<(), Fail> {
         takes(&rt, &mut net, &mut NoEnv, &mut line, &piece);
     }
     takes(&rt, &mut net, &mut NoEnv, &mut line, &last);
-    hangs_up(&rt, &mut net, line);
+    hangs_up(&rt, &mut net, line, (None, None));
     Ok(())
-}
-
-// How many of so many small receives and sends come through while a MiB is left in the channel.
-fn passes_behind<N: Network>(
-    alloc: Global,
-    net: &mut N,
-    sink: &mut N::Sink,
-    stream: &mut N::Stream,
-    rounds: usize,
-) -> Result<usize, Error> {
-    let mut passed = 0usize;
-    for _ in 0..rounds {
-        let received = get(net, &mut NoEnv, stream, 16, 2);
-        let sent = put(net, &mut NoEnv, sink, bytes(alloc, 16)?, 1);
-        if (received, sent) == (Ending::Got(16), Ending::Done) {
-            passed = passed.wrapping_add(1);
-        }
-    }
-    Ok(passed)
 }
 
 // All that is held can be peeked at.
@@ -685,55 +756,43 @@ fn passes_behind<N: Network>(
 fn small_sends_behind_a_mebibyte(rt: HostRuntime) -> Result<(), Fail> {
     let alloc = rt.alloc();
     let mut net = Net::new(alloc)?;
-    let backlog = bytes(alloc, 1048576)?;
-    let (mut sink, mut stream) = Channel::init_with_buffer_size(&mut net, 2097152).expect(
-        &rt, "room",
-    );
-    let first = put(&mut net, &mut NoEnv, &mut sink, backlog, 1);
-    let passed = passes_behind(alloc, &mut net, &mut sink, &mut stream, 65536);
-    let peeked = match net.peek(&mut NoEnv, &stream, 1048576) {
-        Ok(held) => held.len(),
-        Err(_) => 0,
-    };
-    let last = get(&mut net, &mut NoEnv, &mut stream, 1048576, 2);
-    let woken = close(&mut net, sink, stream);
-    assert_eq!(rt;
-        (first, last, woken),
-        (Ending::Done, Ending::Got(1048576), (None, None))
-    );
-    assert_eq!(rt; (passed.expect(&rt, "room"), peeked), (65536, 1048560));
+    let mut line = line_of(&rt, alloc, &mut net, 2097152);
+    let first = [(Step::Send(1048576), Ending::Done, None)];
+    let small = [
+        (Step::Recv(16), Ending::Got(16), None),
+        (Step::Send(16), Ending::Done, None),
+    ];
+    let last = [
+        (Step::Peek(1048576), Ending::Got(1048560), None),
+        (Step::Recv(1048576), Ending::Got(1048576), None),
+    ];
+    takes(&rt, &mut net, &mut NoEnv, &mut line, &first);
+    for _ in 0..65536 {
+        takes(&rt, &mut net, &mut NoEnv, &mut line, &small);
+    }
+    takes(&rt, &mut net, &mut NoEnv, &mut line, &last);
+    hangs_up(&rt, &mut net, line, (None, None));
     Ok(())
 }
 
-// The sink closes before its stream, which then waits in vain, and the stream of the other channel before its sink.
-fn hangs_up_in_turn<N: Network, E: Env>(
-    alloc: Global,
+// The stream closes first, and then a `send` fails.
+fn fails_to_send<N: Network, E: Env>(
+    rt: &impl Abort,
     net: &mut N,
     env: &mut E,
-    there: Line<N::Sink, N::Stream>,
-    back: Line<N::Sink, N::Stream>,
-) -> (Option<u64>, Ending, Ending) {
+    line: Line<N::Sink, N::Stream>,
+) {
     let Line {
-        alloc: _,
-        sink,
-        mut stream,
-        sent: _,
-        received: _,
-    } = there;
-    let woken = net.close_sink(sink);
-    let lost = get(net, env, &mut stream, 1, 2);
-    let _ = net.close_stream(stream);
-    let Line {
-        alloc: _,
+        alloc,
         mut sink,
         stream,
         sent: _,
         received: _,
-    } = back;
+    } = line;
     let _ = net.close_stream(stream);
     let refused = put(net, env, &mut sink, IoBufs::new(alloc), 1);
+    assert_eq!(rt; refused, Ending::SendFailed);
     let _ = net.close_sink(sink);
-    (woken, lost, refused)
 }
 
 // Calls that succeed, wait and fail.
@@ -763,9 +822,10 @@ fn ends_each_way<N: Network, E: Env>(
             (Step::Recv(70000), Ending::Waits, None),
         ],
     );
-    let ends = hangs_up_in_turn(alloc, net, env, there, back);
+    let lost = [(1, Ending::RecvFailed)];
+    outlives(rt, net, env, there, Some(2), &lost);
+    fails_to_send(rt, net, env, back);
     net.close_listener(listener);
-    assert_eq!(rt; ends, (Some(2), Ending::RecvFailed, Ending::SendFailed));
 }
 
 #[test]
@@ -785,51 +845,6 @@ fn notes_of_each_ending(rt: HostRuntime) -> Result<(), Fail> {
     Ok(())
 }
 
-// What a stream gives once its sink has closed: all bytes, then too few, then nothing more.
-fn outlives<N: Network>(
-    net: &mut N,
-    mut sink: N::Sink,
-    mut stream: N::Stream,
-    bufs: IoBufs,
-) -> (Ending, Ending, Ending, Ending) {
-    let first = put(net, &mut NoEnv, &mut sink, bufs, 1);
-    let _ = net.close_sink(sink);
-    let second = get(net, &mut NoEnv, &mut stream, 3, 2);
-    let third = get(net, &mut NoEnv, &mut stream, 3, 2);
-    let last = get(net, &mut NoEnv, &mut stream, 1, 2);
-    let _ = net.close_stream(stream);
-    (first, second, third, last)
-}
-
-// A `recv` is given up: the sink goes on, and the stream is spent.
-fn poisons<N: Network>(
-    net: &mut N,
-    mut sink: N::Sink,
-    mut stream: N::Stream,
-    bufs: IoBufs,
-) -> (Ending, Ending, Ending) {
-    let first = get(net, &mut NoEnv, &mut stream, 1, 2);
-    net.give_up_recv(&mut stream);
-    let second = put(net, &mut NoEnv, &mut sink, bufs, 1);
-    let third = get(net, &mut NoEnv, &mut stream, 1, 2);
-    let _ = close(net, sink, stream);
-    (first, second, third)
-}
-
-// A `send` is given up, and its bytes stay.
-fn stays<N: Network>(
-    net: &mut N,
-    mut sink: N::Sink,
-    mut stream: N::Stream,
-    bufs: IoBufs,
-) -> (Ending, Ending) {
-    let first = put(net, &mut NoEnv, &mut sink, bufs, 1);
-    net.give_up_send(&mut sink);
-    let second = get(net, &mut NoEnv, &mut stream, 20, 2);
-    let _ = close(net, sink, stream);
-    (first, second)
-}
-
 // Many pieces complete a `recv` that waits.
 fn completes<N: Network>(
     net: &mut N,
@@ -845,49 +860,13 @@ fn completes<N: Network>(
 }
 
 #[test]
-fn halves_that_outlive_each_other(rt: HostRuntime) -> Result<(), Fail> {
+fn many_pieces_in_one_receive(rt: HostRuntime) -> Result<(), Fail> {
     let alloc = rt.alloc();
     let mut net = Net::new(alloc)?;
-    let bufs = bytes(alloc, 5)?;
-    let (sink, stream) = Channel::init_with_buffer_size(&mut net, 10).expect(&rt, "room");
-    let seen = outlives(&mut net, sink, stream, bufs);
-    assert_eq!(rt;
-        seen,
-        (
-            Ending::Done,
-            Ending::Got(3),
-            Ending::RecvFailed,
-            Ending::Closed
-        )
-    );
-    let bufs = bytes(alloc, 5)?;
-    let (sink, stream) = Channel::init_with_buffer_size(&mut net, 10).expect(&rt, "room");
-    let seen = poisons(&mut net, sink, stream, bufs);
-    assert_eq!(rt; seen, (Ending::Waits, Ending::Done, Ending::Closed));
-    let bufs = bytes(alloc, 20)?;
-    let (sink, stream) = Channel::init_with_buffer_size(&mut net, 10).expect(&rt, "room");
-    let seen = stays(&mut net, sink, stream, bufs);
-    assert_eq!(rt; seen, (Ending::Waits, Ending::Got(20)));
     let bufs = pieces(alloc, 3, 30000)?;
     let (sink, stream) = Channel::init(&mut net).expect(&rt, "room");
     let seen = completes(&mut net, sink, stream, bufs);
     assert_eq!(rt; seen, (Ending::Waits, Ending::Done, Ending::Got(90000)));
-    takes_on_new(
-        &rt,
-        alloc,
-        &mut net,
-        100,
-        &[
-            (Step::Send(2), Ending::Done, None),
-            (Step::Recv(9), Ending::Waits, None),
-            (Step::Peek(9), Ending::Got(2), None),
-            (Step::Send(3), Ending::Done, None),
-            (Step::Send(10), Ending::Done, Some(2)),
-            (Step::Send(1), Ending::Done, None),
-            (Step::PollRecv, Ending::Got(9), None),
-            (Step::Peek(9), Ending::Got(6), None),
-        ],
-    );
     Ok(())
 }
 
@@ -920,14 +899,9 @@ fn many_live_at_once(rt: HostRuntime) -> Result<(), Fail> {
     let alloc = rt.alloc();
     let mut net = Net::new(alloc)?;
     assert_eq!(rt; binds_many(&mut net, 200), Ending::Done);
+    let steps = [(Step::Send(2), Ending::Done, None)];
     for _ in 0..1000 {
-        takes_on_new(
-            &rt,
-            alloc,
-            &mut net,
-            3,
-            &[(Step::Send(2), Ending::Done, None)],
-        );
+        takes_on_new(&rt, alloc, &mut net, 3, &steps, (None, None));
     }
     Ok(())
 }
