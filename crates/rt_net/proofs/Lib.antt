@@ -3,3 +3,4 @@ pub mod Indexed
 pub mod ListenerLemmas
 pub mod NotingLemmas
 pub mod Quiet
+pub mod Walked

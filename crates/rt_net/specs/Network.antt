@@ -1,7 +1,7 @@
 -- The network as a record: its port counter, the listeners ever bound, and the channels ever made. A sink, a stream
 -- and a listener have the number of their place in these lists. The rules are those of the source crate's
 -- deterministic network.
-use Rattle.std.specs.Prelude.{◌≡◌, ℕ, Bool, true, false, List, [], ◌∷◌, ◌++◌, map, Option, Some, None, Result, Ok, Err, if◌then◌else◌, slice_get, slice_set, option_to_list, MatchOption, drop, ◌&&◌}
+use Rattle.std.specs.Prelude.{◌≡◌, ℕ, Bool, true, false, List, [], ◌∷◌, ◌++◌, map, Option, Some, None, Result, Ok, Err, if◌then◌else◌, slice_get, slice_set, option_to_list, MatchOption, drop, ◌&&◌, ◌||◌, is_some}
 use Rattle.std.specs.List.{position_from}
 use Rattle.rt_base.specs.contracts.addr.AddrPartialEq.TheImpl as by_address
 use Rattle.rt_base.specs.declared.addr.Addr.{Addr}
@@ -112,6 +112,13 @@ stream_wakes cs n = sender_of (live_stream cs n)
 abbrev pub waiting_halves : Option ChannelState → Option ℕ × Option ℕ
 waiting_halves None = (None, None)
 waiting_halves (Some c) = (receiver_task c.receiver, c.sender)
+
+-- a task waits to receive or to send, and one waits for a connection
+abbrev pub is_waited_at : ChannelState → Bool
+is_waited_at c = is_some (receiver_task c.receiver) || is_some c.sender
+
+abbrev pub has_acceptor : ListenerState → Bool
+has_acceptor l = is_some l.task
 
 -- The closing of connections, one after the other; and the tasks that this wakes, a receiver before a sender.
 

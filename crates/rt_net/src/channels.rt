@@ -1,9 +1,10 @@
 // All channels, by number.
-ghost use Rattle.std.specs.Prelude.{◌≡◌, ◌+◌, ◌^◌, ◌<◌, ◌≤◌, [], ◌∷◌, ◌++◌, length, OnOk, is_some, Err, MatchOption, Some, slice_get};
+ghost use Rattle.std.specs.Prelude.{◌≡◌, ◌+◌, ◌^◌, ◌<◌, ◌≤◌, [], ◌∷◌, ◌++◌, length, OnOk, is_some, Err, MatchOption, Some, slice_get, All};
+ghost use Rattle.std.specs.List.{list_any};
 ghost use Rattle.rt_base.specs.declared.error.Error.TheVariants.{UnknownToken};
 ghost use Rattle.rt_net.specs.Asked.{asked_of};
 ghost use Rattle.rt_net.specs.Channel.{fresh, Sends, PollsSend, Receives, PollsReceive, Peeks, after_send, after_poll_send, after_recv, after_poll_recv, ChannelState, IsQuiet};
-ghost use Rattle.rt_net.specs.Network.{live_sink, live_stream, AtSink, AtStream, at_sink, at_stream, with_given_up_send, with_given_up_recv, with_closed_sink, with_closed_stream, sink_wakes, stream_wakes, waiting_halves};
+ghost use Rattle.rt_net.specs.Network.{live_sink, live_stream, AtSink, AtStream, at_sink, at_stream, with_given_up_send, with_given_up_recv, with_closed_sink, with_closed_stream, sink_wakes, stream_wakes, waiting_halves, is_waited_at};
 
 use crate::pipe::Pipe;
 use crate::reply::Reply;
@@ -73,6 +74,18 @@ impl Channels {
             Some(pipe) => pipe.waiting(),
             None => (None, None),
         }
+    }
+
+    /// Whether a task waits at any of them. None waits for what is there.
+    pub fn anyone_waits(&self) -> bool
+        ensures answer { result ≡ list_any is_waited_at self.now.list }
+        ensures quiet { All IsQuiet self.now.list }
+    {
+        let mut found = false;
+        for index in 0..self.pipes.len() {
+            found |= self.pipes[index].anyone_waits();
+        }
+        found
     }
 
     // Whether a live sink has the number.

@@ -1,7 +1,8 @@
 // All listeners, by number and by address.
-ghost use Rattle.std.specs.Prelude.{◌≡◌, ◌≢◌, ◌<◌, ◌+◌, ℕ, [], ◌∷◌, ◌++◌, length, is_some, Some, Ok, Err, OnOk, OnErr, IfOk, IfSome, IfNone, IsOkAnd, MatchOption, option_map, slice_get, true};
+ghost use Rattle.std.specs.Prelude.{◌≡◌, ◌≢◌, ◌<◌, ◌+◌, ℕ, [], ◌∷◌, ◌++◌, length, is_some, Some, Ok, Err, OnOk, OnErr, IfOk, IfSome, IfNone, IsOkAnd, MatchOption, option_map, slice_get, true, All};
+ghost use Rattle.std.specs.List.{list_any};
 ghost use Rattle.rt_base.specs.declared.error.Error.TheVariants.{UnknownToken};
-ghost use Rattle.rt_net.specs.Network.{addresses, listener_at, live_listener, fresh_listener, waiting_task, with_connection, with_accepted, Accepts, without_task, without_listener, without_waiting, ListenerState, IsQuietListener, woken_by_closing};
+ghost use Rattle.rt_net.specs.Network.{addresses, listener_at, live_listener, fresh_listener, waiting_task, with_connection, with_accepted, Accepts, without_task, without_listener, without_waiting, ListenerState, IsQuietListener, has_acceptor, woken_by_closing};
 
 use crate::acceptor::Acceptor;
 use crate::channels::Channels;
@@ -86,6 +87,18 @@ impl Listeners {
             Some(listener) => listener.waiting(),
             None => None,
         }
+    }
+
+    /// Whether a task waits for a connection at any of them. None waits at one where a connection is.
+    pub fn anyone_waits(&self) -> bool
+        ensures answer { result ≡ list_any has_acceptor self.now }
+        ensures quiet { All IsQuietListener self.now }
+    {
+        let mut found = false;
+        for index in 0..self.list.len() {
+            found |= self.list[index].waiting().is_some();
+        }
+        found
     }
 
     /// Whether a live listener has the number.

@@ -1,7 +1,8 @@
 // The network in memory.
-ghost use Rattle.std.specs.Prelude.{◌≡◌, ◌+◌, ◌<◌, ◌≤◌, ◌↔◌, [], ◌∷◌, ◌++◌, length, IsTrue, IfOk, OnErr, OnOk, Ok, Err, Some, None, false, slice_get};
+ghost use Rattle.std.specs.Prelude.{◌≡◌, ◌+◌, ◌<◌, ◌≤◌, ◌↔◌, [], ◌∷◌, ◌++◌, length, IsTrue, IfOk, OnErr, OnOk, Ok, Err, Some, None, false, slice_get, All, ◌||◌};
+ghost use Rattle.std.specs.List.{list_any};
 ghost use Rattle.rt_net.specs.Channel.{fresh, ChannelState, IsQuiet};
-ghost use Rattle.rt_net.specs.Network.{ListenerState, IsQuietListener, waiting_halves, waiting_task};
+ghost use Rattle.rt_net.specs.Network.{ListenerState, IsQuietListener, is_waited_at, has_acceptor, waiting_halves, waiting_task};
 ghost use Rattle.rt_net.specs.Calls.{IsDialerAddress, NetBinds, NetDials, NetAccepts, net_after_bind, net_after_dial, net_after_accept, opened, idle_sink, idle_stream};
 ghost use Rattle.rt_net.specs.Kept.{empty_net, moved_to};
 ghost use Rattle.rt_base.specs.Counted.{counted, Counts};
@@ -95,6 +96,17 @@ impl Net {
         ensures quiet { (l : ListenerState) → slice_get self.now.state.listeners number ≡ Some l → IsQuietListener l }
     {
         self.listeners.waiting(number)
+    }
+
+    /// Whether a task waits at any channel or listener. None waits for what is there, at no channel and no listener.
+    pub fn anyone_waits(&self) -> bool
+        ensures answer { result ≡ (list_any is_waited_at self.now.state.channels || list_any has_acceptor self.now.state.listeners) }
+        ensures channels { All IsQuiet self.now.state.channels }
+        ensures listeners { All IsQuietListener self.now.state.listeners }
+    {
+        let at_channel = self.channels.anyone_waits();
+        let at_listener = self.listeners.anyone_waits();
+        at_channel || at_listener
     }
 
     // Counts a refusal.

@@ -466,6 +466,7 @@ fn surface(rt: HostRuntime) -> Result<(), Fail> {
     assert_eq!(rt; seen, (4000, Some(0), Ending::Done, Some(32768)));
     assert_eq!(rt; net.waiting_halves(0), (None, None));
     assert_eq!(rt; net.waiting_acceptor(0), None);
+    assert_eq!(rt; net.anyone_waits(), false);
     Ok(())
 }
 
