@@ -6,7 +6,7 @@ use Rattle.std.specs.declared.cmp.Ordering.{Ordering}
 use Rattle.std.specs.declared.cmp.Ordering.TheVariants.{Less, Equal, Greater}
 use Rattle.std.specs.Map.{lookup, remove_entry}
 use Rattle.std.specs.BTreeMap.{insert_entry}
-use Rattle.rt_store.specs.Directory.{is_name, at_name, put_name}
+use Rattle.rt_store.specs.Directory.{is_name, at_name, put_name, without_name, numbers}
 
 abbrev pub Owned : Type 0
 Owned = List (Vec ℕ Global × ℕ)
@@ -38,3 +38,21 @@ absent-cond false x o e es rest h k = ap (λ (r : Owned). e ∷ r) (k h)
 pub remove_absent : (test : Vec ℕ Global → Bool) (es : Owned) → lookup test es ≡ None → remove_entry test es ≡ es
 remove_absent test [] h = refl
 remove_absent test (e ∷ es) h = absent-cond (test e.0) e.1 (lookup test es) e es (remove_entry test es) h (remove_absent test es)
+
+cond-map : (b : Bool) (x y : Owned) → shown (cond b x y) ≡ cond b (shown x) (shown y)
+cond-map true x y = refl
+cond-map false x y = refl
+
+pub remove_shown : (es : Owned) (q : List ℕ) → shown (remove_entry (λ k. is_name q k.items) es) ≡ without_name q (shown es)
+remove_shown [] q = refl
+remove_shown (e ∷ es) q =
+    cond-map (is_name q e.0.items) es (e ∷ remove_entry (λ k. is_name q k.items) es)
+    ∙ ap (λ (rest : List (List ℕ × ℕ)). cond (is_name q e.0.items) (shown es) ((e.0.items, e.1) ∷ rest)) (remove_shown es q)
+
+pub numbers_shown : (es : Owned) → numbers (shown es) ≡ map (λ (e : Vec ℕ Global × ℕ). e.1) es
+numbers_shown [] = refl
+numbers_shown (e ∷ es) = ap (λ (rest : List ℕ). e.1 ∷ rest) (numbers_shown es)
+
+pub names_shown : (es : Owned) → map (λ (e : List ℕ × ℕ). e.0) (shown es) ≡ map (λ (n : Vec ℕ Global). n.items) (map (λ (e : Vec ℕ Global × ℕ). e.0) es)
+names_shown [] = refl
+names_shown (e ∷ es) = ap (λ (rest : List (List ℕ)). e.0.items ∷ rest) (names_shown es)

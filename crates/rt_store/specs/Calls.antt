@@ -1,10 +1,11 @@
 -- The calls of a `MemStore`: for each what it may answer, and the store after an answer of Ok.
-use Rattle.std.specs.Prelude.{◌≡◌, ◌⊎◌, ℕ, ◌+◌, ⊤, Bool, ◌&&◌, ◌||◌, ◌==◌, if◌then◌else◌, List, [], ◌∷◌, ◌++◌, length, take, drop, Option, Some, None, Result, Ok, Err, slice_get, slice_set, is_some, nat_lt}
+use Rattle.std.specs.Prelude.{◌≡◌, ◌⊎◌, ℕ, ◌+◌, ⊤, Bool, ◌&&◌, ◌||◌, ◌==◌, if◌then◌else◌, List, [], ◌∷◌, ◌++◌, length, map, take, drop, Option, Some, None, Result, Ok, Err, Vec, slice_get, slice_set, is_some, nat_lt}
 use Rattle.std.specs.Char.{is_ascii_alphanumeric}
+use Rattle.std.specs.Global.{Global}
 use Rattle.std.specs.List.{list_all}
 use Rattle.hex.specs.Hex.{encode_lower}
 use Rattle.rt_base.specs.declared.error.Error.{Error}
-use Rattle.rt_base.specs.declared.error.Error.TheVariants.{NoMemory, UnknownToken, PartitionNameInvalid, BlobAlreadyOpen, BlobVersionMismatch}
+use Rattle.rt_base.specs.declared.error.Error.TheVariants.{NoMemory, UnknownToken, PartitionNameInvalid, PartitionMissing, BlobMissing, BlobAlreadyOpen, BlobVersionMismatch}
 use Rattle.rt_base.specs.declared.options.WriteOptions.{WriteOptions}
 use Rattle.rt_base.specs.declared.version.BlobVersion.{BlobVersion}
 use Rattle.rt_base.specs.declared.poll.Poll.{Poll}
@@ -18,11 +19,11 @@ use Rattle.rt_store.specs.declared.ticket.Done.{Done}
 use Rattle.rt_store.specs.declared.ticket.Done.TheVariants.{Now}
 use Rattle.rt_store.specs.declared.ticket.Ticket.{Ticket}
 use Rattle.rt_store.specs.declared.ticket.Ticket.TheVariants.{Ready, Numbered}
-use Rattle.rt_store.specs.Directory.{number_of, named}
+use Rattle.rt_store.specs.Directory.{Names, Partitions, names_in, number_of, named, unnamed, without_partition, names_of, numbers_of}
 use Rattle.rt_store.specs.Draws.{Answers}
-use Rattle.rt_store.specs.File.{FileState, fresh_file, with_token, mutated, synced}
+use Rattle.rt_store.specs.File.{FileState, fresh_file, with_token, mutated, synced, detached}
 use Rattle.rt_store.specs.Kept.{Kept}
-use Rattle.rt_store.specs.Store.{StoreState, live, at_blob, refusal_at, content_at, read_refusal, end_refusal, no_refusal}
+use Rattle.rt_store.specs.Store.{StoreState, live, at_blob, at_place, all_detached, refusal_at, content_at, read_refusal, end_refusal, no_refusal}
 
 -- Calls on a token.
 
@@ -158,3 +159,54 @@ OpensVersioned v partition name versions r x =
 abbrev pub Opens : Kept → List ℕ → List ℕ → Result (Blob × ℕ) Error → List Noted → Type 0
 Opens v partition name r x =
     OpensVersioned v partition name default_range (with_version (version_for default_range (file_named v.state partition name)) r) x
+
+-- a partition that isn't there, and a name that isn't in it
+abbrev pub missing_refusal : List ℕ → Option Names → Option Error
+missing_refusal partition None = Some (PartitionMissing partition)
+missing_refusal partition (Some names) = None
+
+abbrev pub shelf_refusal : List ℕ → Partitions → Option Error
+shelf_refusal partition d =
+    if is_partition_name partition then missing_refusal partition (names_in partition d)
+    else Some (PartitionNameInvalid partition)
+
+abbrev pub absent_refusal : List ℕ → List ℕ → Option ℕ → Option Error
+absent_refusal partition name None = Some (BlobMissing partition (encode_lower name))
+absent_refusal partition name (Some n) = None
+
+-- the first of two causes
+abbrev pub or_else : Option Error → Option Error → Option Error
+or_else (Some e) next = Some e
+or_else None next = next
+
+-- a partition isn't found, or in it the name that is given
+abbrev pub name_refusal : Partitions → List ℕ → Option (List ℕ) → Option Error
+name_refusal d partition None = shelf_refusal partition d
+name_refusal d partition (Some name) = or_else (shelf_refusal partition d) (absent_refusal partition name (number_of partition name d))
+
+abbrev pub Removes : Kept → List ℕ → Option (List ℕ) → Result Unit Error → List Noted → Type 0
+Removes v partition name r x = Answers (name_refusal v.state.directory partition name) v.faults.remove_rate (λ _. ⊤) r x
+
+-- a name goes, and its blob is removed
+abbrev pub without_blob_at : StoreState → List ℕ → List ℕ → Option ℕ → StoreState
+without_blob_at s partition name None = s
+without_blob_at s partition name (Some n) = record s { directory = unnamed partition name s.directory; files = at_place s.files n detached }
+
+abbrev pub without_blob : StoreState → List ℕ → List ℕ → StoreState
+without_blob s partition name = without_blob_at s partition name (number_of partition name s.directory)
+
+-- a partition goes with all its names, and their blobs are removed
+abbrev pub without_blobs : StoreState → List ℕ → StoreState
+without_blobs s partition =
+    record s { directory = without_partition partition s.directory; files = all_detached (numbers_of (names_in partition s.directory)) s.files }
+
+abbrev pub after_remove : StoreState → List ℕ → Option (List ℕ) → StoreState
+after_remove s partition (Some name) = without_blob s partition name
+after_remove s partition None = without_blobs s partition
+
+-- the names of a partition, in the order of their bytes
+abbrev pub AreNames : StoreState → List ℕ → Vec (Vec ℕ Global) Global → Type 0
+AreNames s partition a = map (λ (n : Vec ℕ Global). n.items) a.items ≡ names_of (names_in partition s.directory)
+
+abbrev pub Scans : Kept → List ℕ → Result (Vec (Vec ℕ Global) Global) Error → List Noted → Type 0
+Scans v partition r x = Answers (shelf_refusal partition v.state.directory) v.faults.scan_rate (AreNames v.state partition) r x

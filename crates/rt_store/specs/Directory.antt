@@ -1,5 +1,5 @@
 -- Names in the order of their bytes: what a name finds, and what changes.
-use Rattle.std.specs.Prelude.{ℕ, Bool, List, [], ◌∷◌, ◌++◌, length, Option, None, Some, slice_get, slice_set}
+use Rattle.std.specs.Prelude.{ℕ, Bool, List, [], ◌∷◌, ◌++◌, length, map, Option, None, Some, slice_get, slice_set}
 use Rattle.std.specs.Cmp.Lexicographic.{slice_cmp}
 use Rattle.std.specs.Ordering.{is_eq, nat_cmp}
 use Rattle.std.specs.Map.{lookup, set_value, remove_entry}
@@ -34,6 +34,10 @@ pub record Partitions : Type 0 where
   pub shelf : Names
   pub shelves : List Names
 
+-- the numbers, in the order of the names
+abbrev pub numbers : Names → List ℕ
+numbers names = map (λ e. e.1) names
+
 abbrev pub no_partitions : Partitions
 no_partitions = record { shelf = []; shelves = [] }
 
@@ -61,3 +65,29 @@ named_in partition name n d shelf names =
 
 abbrev pub named : List ℕ → List ℕ → ℕ → Partitions → Partitions
 named partition name n d = named_in partition name n d (at_name partition d.shelf) (names_in partition d)
+
+-- a name goes
+abbrev pub unnamed_in : List ℕ → Partitions → Option ℕ → Option Names → Partitions
+unnamed_in name d (Some shelf) (Some names) = record d { shelves = slice_set d.shelves shelf (without_name name names) }
+unnamed_in name d shelf names = d
+
+abbrev pub unnamed : List ℕ → List ℕ → Partitions → Partitions
+unnamed partition name d = unnamed_in name d (at_name partition d.shelf) (names_in partition d)
+
+-- a partition goes, and with it its names
+abbrev pub emptied : List Names → Option ℕ → List Names
+emptied shelves None = shelves
+emptied shelves (Some shelf) = slice_set shelves shelf []
+
+abbrev pub without_partition : List ℕ → Partitions → Partitions
+without_partition partition d =
+    record { shelf = without_name partition d.shelf; shelves = emptied d.shelves (at_name partition d.shelf) }
+
+-- the names of a partition in their order, and the numbers of its blobs in that order; none where it isn't there
+abbrev pub names_of : Option Names → List (List ℕ)
+names_of None = []
+names_of (Some names) = map (λ e. e.0) names
+
+abbrev pub numbers_of : Option Names → List ℕ
+numbers_of None = []
+numbers_of (Some names) = numbers names

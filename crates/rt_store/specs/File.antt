@@ -53,13 +53,17 @@ synced b = record b { base = b.content; later = [] }
 abbrev pub with_token : ℕ → FileState → FileState
 with_token token b = record b { token = Some token }
 
--- no token is live
+-- no token is live; the bytes of a removed blob are gone with it
 abbrev pub closed : FileState → FileState
-closed b = record b { token = None }
+closed b = if b.removed then record b { token = None; content = []; base = [] } else record b { token = None }
 
--- removed by name: the bytes live on by the token, and no crash changes them
+-- removed by name: the bytes live on by a live token, and no crash changes them
+abbrev pub detached_for : Option ℕ → FileState → FileState
+detached_for None b = record b { removed = true; content = []; base = []; later = [] }
+detached_for (Some token) b = record b { removed = true; base = b.content; later = [] }
+
 abbrev pub detached : FileState → FileState
-detached b = record b { removed = true; base = b.content; later = [] }
+detached b = detached_for b.token b
 
 -- the bytes after a crash decided over a change
 abbrev pub replayed : Choice → Mutation → List ℕ → List ℕ

@@ -5,7 +5,7 @@ use Rattle.rt_base.specs.declared.error.Error.{Error}
 use Rattle.rt_base.specs.declared.error.Error.TheVariants.{UnknownToken, OffsetOverflow, BlobInsufficientLength}
 use Rattle.rt_store.specs.declared.blob.Blob.{Blob}
 use Rattle.rt_store.specs.Directory.{Partitions, no_partitions}
-use Rattle.rt_store.specs.File.{FileState}
+use Rattle.rt_store.specs.File.{FileState, detached}
 
 -- `opened` is the number of the next token
 pub record StoreState : Type 0 where
@@ -40,6 +40,15 @@ content_at (Some b) = b.content
 abbrev pub at_blob : List FileState → ℕ → (FileState → FileState) → Option FileState → List FileState
 at_blob files place f None = files
 at_blob files place f (Some b) = slice_set files place (f b)
+
+-- a change of the blob at a place, where one is there
+abbrev pub at_place : List FileState → ℕ → (FileState → FileState) → List FileState
+at_place files place f = at_blob files place f (slice_get files place)
+
+-- the blobs at these places are removed
+abbrev pub all_detached : List ℕ → List FileState → List FileState
+all_detached [] files = files
+all_detached (i ∷ is) files = all_detached is (at_place files i detached)
 
 -- a read is past the end of numbers, or past the end of the bytes
 abbrev pub read_refusal_of : ℕ → ℕ → ℕ → Option Error

@@ -1,7 +1,8 @@
 // The names of blobs, by partition.
 ghost use Rattle.std.specs.Prelude.{◌≡◌, ◌+◌, ◌<◌, ◌≤◌, [], None, ⊤, is_some};
+ghost use Rattle.std.specs.Option.{option_copied};
 ghost use Rattle.rt_base.specs.Counted.{Notes};
-ghost use Rattle.rt_store.specs.Directory.{at_name, number_of, named, no_partitions};
+ghost use Rattle.rt_store.specs.Directory.{at_name, names_in, number_of, named, unnamed, without_partition, no_partitions};
 ghost use Rattle.rt_store.specs.Draws.{Answers, if_ok};
 
 use crate::names::{Names, copy};
@@ -41,14 +42,45 @@ impl Directory {
     pub fn number_of(&self, partition: &[u8], name: &[u8]) -> Option<u64>
         ensures { result ≡ number_of partition.now name.now self.now }
     {
-        match self.partitions.get(partition) {
-            Some(shelf) => match self.shelves.get(shelf as usize) {
-                Some(names) => names.get(name),
-                None => None,
-            },
+        match self.names_in(partition) {
+            Some(names) => names.get(name),
             None => None,
         }
     }
+
+    /// The names of a partition, where it is there.
+    pub fn names_in(&self, partition: &[u8]) -> Option<&Names>
+        ensures { option_copied result ≡ names_in partition.now self.now }
+    {
+        match self.partitions.get(partition) {
+            Some(shelf) => self.shelves.get(shelf as usize),
+            None => None,
+        }
+    }
+
+    /// Takes a name away.
+    pub fn unname(&mut self, partition: &[u8], name: &[u8])
+        ensures { self.new ≡ unnamed partition.now name.now self.old }
+    {
+        if let Some(shelf) = self.partitions.get(partition) {
+            if (shelf as usize) < self.shelves.len() {
+                self.shelves[shelf as usize].remove(name);
+            }
+        }
+    }
+
+    /// Takes a partition away, and with it its names.
+    pub fn remove(&mut self, partition: &[u8])
+        ensures { self.new ≡ without_partition partition.now self.old }
+    {
+        if let Some(shelf) = self.partitions.get(partition) {
+            if (shelf as usize) < self.shelves.len() {
+                self.shelves[shelf as usize].clear();
+            }
+        }
+        self.partitions.remove(partition);
+    }
+
     /// Gives a name a number, save where a fault is drawn.
     pub fn name<E: Env>(
         &mut self,

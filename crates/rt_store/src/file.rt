@@ -3,13 +3,13 @@
 // There is one block of bytes, the content. Each change that a crash may undo is kept with the bytes that it wrote
 // over, so the base is the content with these changes undone: a sync forgets them and copies nothing, and a crash
 // undoes them and does those again that it keeps, in the room that they had.
-ghost use Rattle.std.specs.Prelude.{◌≡◌, ◌+◌, ◌*◌, ◌<◌, ◌≤◌, ◌++◌, List, length, None, ⊤, vec_len, vec_capacity};
+ghost use Rattle.std.specs.Prelude.{◌≡◌, ◌+◌, ◌*◌, ◌<◌, ◌≤◌, ◌++◌, [], List, length, None, true, ⊤, vec_len, vec_capacity};
 ghost use Rattle.rt_base.specs.Counted.{Notes};
 ghost use Rattle.rt_base.specs.declared.choice.Choice.{Choice};
 ghost use Rattle.rt_store.specs.Changes.{all_undone, mutations};
 ghost use Rattle.rt_store.specs.Crash.{Chooses};
 ghost use Rattle.rt_store.specs.Draws.{Answers, if_ok};
-ghost use Rattle.rt_store.specs.File.{FileState, fresh_file, mutated, synced, crashed, detached, is_settled};
+ghost use Rattle.rt_store.specs.File.{FileState, fresh_file, mutated, synced, crashed, detached, closed, with_token, is_settled};
 
 use crate::change::Change;
 use crate::content::{apply, before_of, undo};
@@ -156,18 +156,42 @@ impl File {
         self.later.clear();
     }
 
-    /// The blob was removed: no crash decides over its changes any more. It copies nothing.
+    /// The blob was removed: no crash decides over its changes any more, and without a live token its bytes are gone.
+    /// It copies nothing.
     pub fn detach(&mut self)
         ensures { self.new ≡ detached self.old }
     {
         self.later.clear();
         self.removed = true;
+        if self.token.is_none() {
+            self.let_go();
+        }
     }
 
-    /// Gives the blob a live token, or none.
-    pub fn set_token(&mut self, token: Option<u64>)
-        ensures { self.new ≡ record self.old { token = token } }
+    /// Gives the blob a live token.
+    pub fn set_token(&mut self, token: u64)
+        ensures { self.new ≡ with_token token self.old }
     {
-        self.token = token;
+        self.token = Some(token);
+    }
+
+    /// The live token no longer is. The bytes of a removed blob are gone with it.
+    pub fn close(&mut self)
+        ensures { self.new ≡ closed self.old }
+    {
+        self.token = None;
+        if self.removed {
+            self.let_go();
+        }
+    }
+
+    // Gives the bytes of a removed blob back to memory.
+    fn let_go(&mut self)
+        requires { self.old.removed ≡ true }
+        ensures { self.new ≡ record self.old { content = []; base = []; later = [] } }
+    {
+        let alloc = *self.content.allocator();
+        self.later.clear();
+        self.content = Vec::new(alloc);
     }
 }

@@ -3,13 +3,15 @@ ghost use Rattle.std.specs.Prelude.{◌≡◌, ◌+◌, ◌*◌, ◌^◌, ◌<�
 ghost use Rattle.std.specs.Option.{option_copied};
 ghost use Rattle.rt_base.specs.Counted.{Notes};
 ghost use Rattle.rt_store.specs.Changes.{end_of};
+ghost use Rattle.rt_store.specs.Directory.{numbers};
 ghost use Rattle.rt_store.specs.Draws.{Answers, if_ok};
-ghost use Rattle.rt_store.specs.File.{FileState, fresh_file, mutated, synced, closed, with_token};
-ghost use Rattle.rt_store.specs.Store.{live, at_blob, end_refusal, refusal_at};
+ghost use Rattle.rt_store.specs.File.{FileState, fresh_file, mutated, synced, closed, detached, with_token};
+ghost use Rattle.rt_store.specs.Store.{live, at_blob, at_place, all_detached, end_refusal, refusal_at};
 
 use crate::blob::Blob;
 use crate::file::File;
 use crate::mutation::Mutation;
+use crate::names::Names;
 use rt_base::{BlobVersion, Env, Error, NoMemory};
 use std::alloc::Global;
 use std::marker::Model;
@@ -75,7 +77,7 @@ impl Files {
         requires { is_some (slice_get self.old place) ≡ true }
         ensures { self.new ≡ at_blob self.old place (with_token token) (slice_get self.old place) }
     {
-        self.files[place as usize].set_token(Some(token));
+        self.files[place as usize].set_token(token);
     }
 
     /// Takes the last blob away.
@@ -143,6 +145,24 @@ impl Files {
         if !self.is_live(blob) {
             return;
         }
-        self.files[blob.place as usize].set_token(None);
+        self.files[blob.place as usize].close();
+    }
+
+    /// The blob of a number is removed, where it is there.
+    pub fn detach(&mut self, place: u64)
+        ensures { self.new ≡ at_place self.old place detached }
+    {
+        if (place as usize) < self.files.len() {
+            self.files[place as usize].detach();
+        }
+    }
+
+    /// The blobs of these names are removed.
+    pub fn detach_all(&mut self, names: &Names)
+        ensures { self.new ≡ all_detached (numbers names.now) self.old }
+    {
+        for place in names.numbers() {
+            self.detach(*place);
+        }
     }
 }

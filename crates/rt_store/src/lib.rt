@@ -11,6 +11,7 @@ mod draws;
 pub mod faults;
 pub mod file;
 mod files;
+mod finding;
 pub mod mem_store;
 pub mod mutation;
 mod names;

@@ -1,8 +1,9 @@
 // The store in memory.
 ghost use Rattle.std.specs.Prelude.{◌≡◌, ◌+◌, ◌≤◌, ℕ, IfOk, IfSome};
+ghost use Rattle.std.specs.Option.{option_copied};
 ghost use Rattle.rt_base.specs.Counted.{counted, Counts, Notes};
 ghost use Rattle.rt_store.specs.Answered.{CountsPoll, CountsStart};
-ghost use Rattle.rt_store.specs.Calls.{Reads, Writes, Resizes, Syncs, Saves, Opens, PollsSync, IsOpened, started, default_range, after_write, after_resize, after_sync, after_open, open_refusal};
+ghost use Rattle.rt_store.specs.Calls.{Reads, Writes, Resizes, Syncs, Saves, Opens, Removes, Scans, PollsSync, IsOpened, started, default_range, after_write, after_resize, after_sync, after_open, after_remove, without_blob, without_blobs, open_refusal};
 ghost use Rattle.rt_store.specs.Draws.{Answers, if_ok};
 ghost use Rattle.rt_store.specs.Kept.{empty_store, injected_by, moved_to};
 
@@ -10,6 +11,7 @@ use crate::blob::Blob;
 use crate::directory::Directory;
 use crate::faults::FaultConfig;
 use crate::files::Files;
+use crate::finding::find;
 use crate::mutation::Mutation;
 use crate::opening::{is_partition_name, reopen, text_of};
 use crate::storage::Storage;
@@ -198,6 +200,63 @@ impl MemStore {
         Ok((blob, len))
     }
 
+    // Removes a blob, or a partition.
+    fn take_away<E: Env>(
+        &mut self,
+        env: &mut E,
+        partition: &str,
+        name: Option<&[u8]>,
+    ) -> Result<(), Error>
+        ensures gives { Notes (E.noted env.old) (Removes self.old partition.now (option_copied name.entry) result) (E.noted env.new) }
+        ensures after { self.new ≡ moved_to self.old (if_ok result (after_remove self.old.state partition.now (option_copied name.entry)) self.old.state) }
+        ensures spent { E.spare env.old ≤ E.spare env.new + 1 }
+    {
+        let rate = self.faults.remove_rate;
+        take_draw(env, rate)?;
+        find(self.alloc, env, rate, &self.directory, partition, name)?;
+        match name {
+            Some(name) => self.remove_blob(partition.as_bytes(), name),
+            None => self.remove_partition(partition.as_bytes()),
+        }
+        Ok(())
+    }
+
+    // Removes a blob by its name.
+    fn remove_blob(&mut self, partition: &[u8], name: &[u8])
+        ensures { self.new ≡ moved_to self.old (without_blob self.old.state partition.now name.now) }
+    {
+        if let Some(place) = self.directory.number_of(partition, name) {
+            self.directory.unname(partition, name);
+            self.files.detach(place);
+        }
+    }
+
+    // Removes a partition with all its blobs.
+    fn remove_partition(&mut self, partition: &[u8])
+        ensures { self.new ≡ moved_to self.old (without_blobs self.old.state partition.now) }
+    {
+        if let Some(names) = self.directory.names_in(partition) {
+            self.files.detach_all(names);
+        }
+        self.directory.remove(partition);
+    }
+
+    // The names of a partition.
+    fn list<E: Env>(&self, env: &mut E, partition: &str) -> Result<Vec<Vec<u8>>, Error>
+        ensures gives { Notes (E.noted env.old) (Scans self.now partition.now result) (E.noted env.new) }
+        ensures spent { E.spare env.old ≤ E.spare env.new + 1 }
+    {
+        let rate = self.faults.scan_rate;
+        take_draw(env, rate)?;
+        // The copies come first: a call that is out of memory draws nothing.
+        let names = match self.directory.names_in(partition.as_bytes()) {
+            Some(names) => names.list(self.alloc)?,
+            None => Vec::new(self.alloc),
+        };
+        find(self.alloc, env, rate, &self.directory, partition, None)?;
+        Ok(names)
+    }
+
     // Opens a blob that is there, or makes it.
     fn open_blob<E: Env>(
         &mut self,
@@ -279,7 +338,7 @@ impl Storage for MemStore {
 
     ghost use Rattle.std.specs.Prelude.{◌≡◌, [], Result};
     ghost use Rattle.rt_base.specs.declared.error.Error.{Error};
-    ghost use Rattle.rt_store.specs.Calls.{Reads, Writes, Resizes, Syncs, Saves, Opens, OpensVersioned, PollsSync, started, after_write, after_resize, after_sync, after_open, after_poll, default_range, with_blob};
+    ghost use Rattle.rt_store.specs.Calls.{Reads, Writes, Resizes, Syncs, Saves, Opens, OpensVersioned, Removes, Scans, PollsSync, started, after_write, after_resize, after_sync, after_open, after_remove, after_poll, default_range, with_blob};
     ghost use Rattle.rt_store.specs.File.{closed};
     ghost use Rattle.rt_store.specs.Kept.{answered, moved_to};
 
@@ -290,6 +349,10 @@ impl Storage for MemStore {
     ghost opens_versioned = { λ v p n versions r w x. OpensVersioned v p n versions r x × (w ≡ answered v (after_open v.state p n versions) r) };
 
     ghost opens = { λ v p n r w x. Opens v p n r x × (w ≡ answered v (after_open v.state p n default_range) r) };
+
+    ghost removes = { λ v p n r w x. Removes v p n r x × (w ≡ answered v (after_remove v.state p n) r) };
+
+    ghost scans = { λ v p r w x. Scans v p r x × (w ≡ answered v v.state r) };
 
     ghost reads = { λ v k offset len options r w x. Reads v k offset len r x × (w ≡ answered v v.state r) };
 
@@ -335,6 +398,23 @@ impl Storage for MemStore {
         name: &[u8],
     ) -> Result<(Blob, u64), Error> {
         let answer = self.open_default(env, partition, name);
+        self.count(&answer);
+        answer
+    }
+
+    fn remove<E: Env>(
+        &mut self,
+        env: &mut E,
+        partition: &str,
+        name: Option<&[u8]>,
+    ) -> Result<(), Error> {
+        let answer = self.take_away(env, partition, name);
+        self.count(&answer);
+        answer
+    }
+
+    fn scan<E: Env>(&mut self, env: &mut E, partition: &str) -> Result<Vec<Vec<u8>>, Error> {
+        let answer = self.list(env, partition);
         self.count(&answer);
         answer
     }

@@ -1,17 +1,18 @@
 // Names in the order of their bytes, each with a number.
-ghost use Rattle.std.specs.Prelude.{◌≡◌, ◌+◌, ◌<◌, ◌≤◌, [], IfOk, None, ⊤};
-ghost use Rattle.std.specs.BTreeMap.{insert_entry};
+ghost use Rattle.std.specs.Prelude.{◌≡◌, ◌+◌, ◌<◌, ◌≤◌, ℕ, [], List, map, IfOk, None, Vec, ⊤};
+ghost use Rattle.std.specs.Global.{Global};
+ghost use Rattle.std.specs.BTreeMap.{insert_entry, keys};
 ghost use Rattle.std.specs.Cmp.Lexicographic.{slice_cmp};
 ghost use Rattle.std.specs.Ordering.{nat_cmp};
 ghost use Rattle.rt_base.specs.Counted.{Notes};
-ghost use Rattle.rt_store.specs.Directory.{at_name, put_name};
+ghost use Rattle.rt_store.specs.Directory.{at_name, put_name, without_name, numbers};
 ghost use Rattle.rt_store.specs.Draws.{Answers, if_ok};
 
 use crate::draws::passes;
 use rt_base::{Env, Error, IoKind, NoMemory};
 use std::alloc::Global;
 use std::collections::BTreeMap;
-use std::collections::btree_map::Entry;
+use std::collections::btree_map::{Entry, Values};
 use std::marker::Model;
 
 /// The names that are there, each with its number.
@@ -46,8 +47,37 @@ impl Names {
         self.numbers.get(name).copied()
     }
 
-    #[tactic(auto, using(crate::proofs::Named::lookup_shown, crate::proofs::Named::put_shown))]
+    /// The numbers, in the order of the names.
+    pub fn numbers(&self) -> Values<'_, Vec<u8>, u64>
+        ensures { result ≡ numbers self.now }
+    {
+        self.numbers.values()
+    }
+
+    /// A copy of each name, in order.
+    #[tactic(auto, using(crate::proofs::Named::names_shown))]
+    pub fn list(&self, alloc: Global) -> Result<Vec<Vec<u8>>, NoMemory>
+        ensures { IfOk result (λ names. map (λ (n : Vec ℕ Global). n.items) names.items ≡ map (λ (e : List ℕ × ℕ). e.0) self.now) }
+    {
+        copies(alloc, &self.numbers)
+    }
+
+    /// Takes a name away.
+    pub fn remove(&mut self, name: &[u8])
+        ensures { self.new ≡ without_name name.now self.old }
+    {
+        let _ = self.numbers.remove(name);
+    }
+
+    /// Takes all names away.
+    pub fn clear(&mut self)
+        ensures { self.new ≡ [] }
+    {
+        self.numbers.clear();
+    }
+
     /// Gives a name a number, save where a fault is drawn.
+    #[tactic(auto, using(crate::proofs::Named::lookup_shown, crate::proofs::Named::put_shown))]
     pub fn put<E: Env>(
         &mut self,
         env: &mut E,
@@ -96,6 +126,17 @@ fn put_number<E: Env>(
         }
     }
     Ok(())
+}
+
+// A copy of each name, in order.
+fn copies(alloc: Global, numbers: &BTreeMap<Vec<u8>, u64>) -> Result<Vec<Vec<u8>>, NoMemory>
+    ensures { IfOk result (λ names. map (λ (n : Vec ℕ Global). n.items) names.items ≡ map (λ (n : Vec ℕ Global). n.items) (keys numbers.now)) }
+{
+    let mut names = Vec::with_capacity(alloc, numbers.len())?;
+    for name in numbers.keys() {
+        names.push(copy(alloc, name.as_slice())?)?;
+    }
+    Ok(names)
 }
 
 /// The same bytes.

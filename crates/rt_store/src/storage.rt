@@ -3,7 +3,9 @@
 // Code over any `S: Storage` is proved from this trait alone. There is one relation for each call, over the store
 // before it, the arguments, the answer, the store after it, and what the call noted in the environment. So a wrapper
 // states its own relations by those of what it wraps.
-ghost use Rattle.std.specs.Prelude.{◌≡◌, ◌≤◌, ◌+◌, ℕ, List, Option, Result, OnOk, length};
+ghost use Rattle.std.specs.Prelude.{◌≡◌, ◌≤◌, ◌+◌, ℕ, List, Option, Result, OnOk, Vec};
+ghost use Rattle.std.specs.Option.{option_copied};
+ghost use Rattle.std.specs.Global.{Global};
 ghost use Rattle.rt_base.specs.Counted.{Counts, Notes};
 ghost use Rattle.rt_base.specs.declared.error.Error.{Error};
 ghost use Rattle.rt_base.specs.declared.options.ReadOptions.{ReadOptions};
@@ -38,6 +40,10 @@ pub trait Storage {
     ghost opens_versioned: { Self → List ℕ → List ℕ → BlobVersion × BlobVersion → Result (Self.Blob × ℕ × BlobVersion) Error → Self → List Noted → Type 0 };
 
     ghost opens: { Self → List ℕ → List ℕ → Result (Self.Blob × ℕ) Error → Self → List Noted → Type 0 };
+
+    ghost removes: { Self → List ℕ → Option (List ℕ) → Result Unit Error → Self → List Noted → Type 0 };
+
+    ghost scans: { Self → List ℕ → Result (Vec (Vec ℕ Global) Global) Error → Self → List Noted → Type 0 };
 
     ghost reads: { Self → Self.Blob → ℕ → ℕ → ReadOptions → Result WritableChunks Error → Self → List Noted → Type 0 };
 
@@ -85,6 +91,24 @@ pub trait Storage {
         name: &[u8],
     ) -> Result<(Self::Blob, u64), Error>
         ensures gives { Notes (E.noted env.old) (λ x. opens self.old partition.now name.now result self.new x) (E.noted env.new) }
+        ensures spent { E.spare env.old ≤ E.spare env.new + most }
+        ensures counts { Counts (refusals self.old) (refusals self.new) result };
+
+    /// Removes a blob by its name, or a partition with all its blobs. A live token of a removed blob goes on reading
+    /// and writing its bytes.
+    fn remove<E: Env>(
+        &mut self,
+        env: &mut E,
+        partition: &str,
+        name: Option<&[u8]>,
+    ) -> Result<(), Error>
+        ensures gives { Notes (E.noted env.old) (λ x. removes self.old partition.now (option_copied name.entry) result self.new x) (E.noted env.new) }
+        ensures spent { E.spare env.old ≤ E.spare env.new + most }
+        ensures counts { Counts (refusals self.old) (refusals self.new) result };
+
+    /// The names of the blobs of a partition, in the order of their bytes.
+    fn scan<E: Env>(&mut self, env: &mut E, partition: &str) -> Result<Vec<Vec<u8>>, Error>
+        ensures gives { Notes (E.noted env.old) (λ x. scans self.old partition.now result self.new x) (E.noted env.new) }
         ensures spent { E.spare env.old ≤ E.spare env.new + most }
         ensures counts { Counts (refusals self.old) (refusals self.new) result };
 

@@ -141,3 +141,72 @@ fn write_fault_by_rate(rt: HostRuntime) -> Result<(), Fail> {
     assert_eq!(rt; store.injected(), 1);
     Ok(())
 }
+
+// Whether the partition has exactly these names.
+fn names_are<S: Storage>(store: &mut S, partition: &str, names: &[&[u8]]) -> bool {
+    match store.scan(&mut NoEnv, partition) {
+        Ok(found) => {
+            found.len() == names.len()
+                && found
+                    .iter()
+                    .zip(names.iter())
+                    .all(|(found, name)| found.as_slice() == *name)
+        }
+        Err(_) => false,
+    }
+}
+
+// Opens and closes a blob.
+fn make<S: Storage>(store: &mut S, partition: &str, name: &[u8]) -> Result<u64, Error> {
+    let (blob, len) = store.open(&mut NoEnv, partition, name)?;
+    store.close(blob);
+    Ok(len)
+}
+
+fn names_of_partitions<S: Storage>(rt: &impl Abort, store: &mut S) -> Result<(), Error> {
+    make(store, "q", b"b")?;
+    make(store, "q", b"a\0")?;
+    make(store, "q", b"a")?;
+    assert!(rt; names_are(store, "q", &[b"a", b"a\0", b"b"]));
+    store.remove(&mut NoEnv, "q", Some(b"a\0"))?;
+    assert!(rt; names_are(store, "q", &[b"a", b"b"]));
+    store.remove(&mut NoEnv, "q", Some(b"a"))?;
+    store.remove(&mut NoEnv, "q", Some(b"b"))?;
+    assert!(rt; names_are(store, "q", &[]));
+    store.remove(&mut NoEnv, "q", None)?;
+    assert!(rt; store.scan(&mut NoEnv, "q").is_err());
+    Ok(())
+}
+
+#[test]
+fn names_are_listed_and_removed(rt: HostRuntime) -> Result<(), Fail> {
+    let mut store = MemStore::new(rt.alloc(), FaultConfig::default())?;
+    assert_eq!(rt; names_of_partitions(&rt, &mut store), Ok(()));
+    Ok(())
+}
+
+fn detached<S: Storage>(
+    rt: &impl Abort,
+    alloc: Global,
+    store: &mut S,
+    blob: &S::Blob,
+) -> Result<(), Error> {
+    write(alloc, store, blob, 0)?;
+    store.remove(&mut NoEnv, "p", None)?;
+    write(alloc, store, blob, 3)?;
+    let none = ReadOptions::default();
+    assert!(rt; are(store.read_at(&mut NoEnv, blob, 1, 5, none), b"bcabc"));
+    assert_eq!(rt; make(store, "p", b"a"), Ok(0));
+    assert!(rt; are(store.read_at(&mut NoEnv, blob, 1, 5, none), b"bcabc"));
+    Ok(())
+}
+
+#[test]
+fn removed_blob_lives_on(rt: HostRuntime) -> Result<(), Fail> {
+    let mut store = MemStore::new(rt.alloc(), FaultConfig::default())?;
+    let (blob, _) = store.open(&mut NoEnv, "p", b"a").expect(&rt, "room");
+    let seen = detached(&rt, rt.alloc(), &mut store, &blob);
+    store.close(blob);
+    assert_eq!(rt; seen, Ok(()));
+    Ok(())
+}

@@ -1,0 +1,5 @@
+use Rattle.std.proofs.Common.{rules, arith}
+use Rattle.rt_store.proofs.mem_store.MemStore.take_away.Goals as goal
+
+pub returns-in_err-find-clause-gives : goal.returns-in_err-find-clause-gives
+returns-in_err-find-clause-gives g c = let h = c.in_err-find.ensures.gives in search (rules, h)
