@@ -23,7 +23,8 @@ use Rattle.rt_store.specs.Directory.{Names, Partitions, names_in, number_of, nam
 use Rattle.rt_store.specs.Draws.{Answers}
 use Rattle.rt_store.specs.File.{FileState, fresh_file, with_token, mutated, synced, detached}
 use Rattle.rt_store.specs.Kept.{Kept}
-use Rattle.rt_store.specs.Store.{StoreState, live, at_blob, at_place, all_detached, refusal_at, content_at, read_refusal, end_refusal, no_refusal}
+use Rattle.rt_store.specs.Reading.{bytes_of, placed, placed_bytes, ranges_of, ranges_refusal}
+use Rattle.rt_store.specs.Store.{StoreState, live, at_blob, at_place, or_else, all_detached, refusal_at, content_at, read_refusal, end_refusal, no_refusal}
 
 -- Calls on a token.
 
@@ -41,6 +42,18 @@ IsRange v k offset len b = b.bytes ≡ take len (drop offset (content_at (blob_o
 
 abbrev pub Reads : Kept → Blob → ℕ → ℕ → Result WritableChunks Error → List Noted → Type 0
 Reads v k offset len r x = Answers (refusal_at (blob_of v k) (read_refusal offset len)) v.faults.read_rate (IsRange v k offset len) r x
+
+-- the same for several ranges
+abbrev pub many_refusal : List (ℕ × ℕ) → FileState → Option Error
+many_refusal rs b = ranges_refusal rs (length b.content)
+
+abbrev pub ReadsMany : Kept → Blob → List (ℕ × ℕ) → Result (Vec (ℕ × WritableChunks) Global) Error → List Noted → Type 0
+ReadsMany v k rs r x =
+    Answers (refusal_at (blob_of v k) (many_refusal rs)) v.faults.read_rate (λ a. placed_bytes a.items ≡ placed 0 (ranges_of rs (content_at (blob_of v k)))) r x
+
+abbrev pub ReadsInOrder : Kept → Blob → List (ℕ × ℕ) → Result (Vec WritableChunks Global) Error → List Noted → Type 0
+ReadsInOrder v k rs r x =
+    Answers (refusal_at (blob_of v k) (many_refusal rs)) v.faults.read_rate (λ a. bytes_of a.items ≡ ranges_of rs (content_at (blob_of v k))) r x
 
 abbrev pub IsNow : Done → Type 0
 IsNow d = d ≡ Now
@@ -173,11 +186,6 @@ shelf_refusal partition d =
 abbrev pub absent_refusal : List ℕ → List ℕ → Option ℕ → Option Error
 absent_refusal partition name None = Some (BlobMissing partition (encode_lower name))
 absent_refusal partition name (Some n) = None
-
--- the first of two causes
-abbrev pub or_else : Option Error → Option Error → Option Error
-or_else (Some e) next = Some e
-or_else None next = next
 
 -- a partition isn't found, or in it the name that is given
 abbrev pub name_refusal : Partitions → List ℕ → Option (List ℕ) → Option Error

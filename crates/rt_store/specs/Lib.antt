@@ -7,4 +7,5 @@ pub mod Directory
 pub mod Draws
 pub mod File
 pub mod Kept
+pub mod Reading
 pub mod Store

@@ -26,6 +26,11 @@ if_open n (Some b) = if is_token n b.token then Some b else None
 abbrev pub live : List FileState → Blob → Option FileState
 live files k = if_open k.number (slice_get files k.place)
 
+-- the first of two causes
+abbrev pub or_else : Option Error → Option Error → Option Error
+or_else (Some e) next = Some e
+or_else None next = next
+
 -- why a call on a token is refused: by its blob where the token is live
 abbrev pub refusal_at : Option FileState → (FileState → Option Error) → Option Error
 refusal_at None f = Some UnknownToken

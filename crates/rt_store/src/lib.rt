@@ -4,6 +4,7 @@
 
 pub mod blob;
 mod change;
+pub mod collecting;
 mod content;
 mod crash;
 mod directory;
@@ -16,6 +17,7 @@ pub mod mem_store;
 pub mod mutation;
 mod names;
 mod opening;
+mod reading;
 pub mod storage;
 mod store;
 #[cfg(test)]
@@ -23,6 +25,7 @@ mod tests;
 pub mod ticket;
 
 pub use blob::Blob;
+pub use collecting::collect_reads;
 pub use faults::{FaultConfig, PartialWriteMode, ResizeConfig, WriteConfig};
 pub use mem_store::MemStore;
 pub use storage::{BlobOf, Storage};

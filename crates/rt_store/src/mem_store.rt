@@ -3,7 +3,7 @@ ghost use Rattle.std.specs.Prelude.{◌≡◌, ◌+◌, ◌≤◌, ℕ, IfOk, If
 ghost use Rattle.std.specs.Option.{option_copied};
 ghost use Rattle.rt_base.specs.Counted.{counted, Counts, Notes};
 ghost use Rattle.rt_store.specs.Answered.{CountsPoll, CountsStart};
-ghost use Rattle.rt_store.specs.Calls.{Reads, Writes, Resizes, Syncs, Saves, Opens, Removes, Scans, PollsSync, IsOpened, started, default_range, after_write, after_resize, after_sync, after_open, after_remove, without_blob, without_blobs, open_refusal};
+ghost use Rattle.rt_store.specs.Calls.{Reads, ReadsMany, ReadsInOrder, Writes, Resizes, Syncs, Saves, Opens, Removes, Scans, PollsSync, IsOpened, started, default_range, after_write, after_resize, after_sync, after_open, after_remove, without_blob, without_blobs, open_refusal};
 ghost use Rattle.rt_store.specs.Draws.{Answers, if_ok};
 ghost use Rattle.rt_store.specs.Kept.{empty_store, injected_by, moved_to};
 
@@ -14,6 +14,7 @@ use crate::files::Files;
 use crate::finding::find;
 use crate::mutation::Mutation;
 use crate::opening::{is_partition_name, reopen, text_of};
+use crate::reading::{read_ranges, with_places};
 use crate::storage::Storage;
 use crate::store::{draw, range_of, take_draw};
 use crate::ticket::{Done, Ticket};
@@ -119,6 +120,47 @@ impl MemStore {
         let bufs = IoBufsMut::from_mut(self.alloc, buf)?;
         draw(env, rate)?;
         Ok(bufs)
+    }
+
+    // Reads several ranges.
+    fn read_ranges<E: Env>(
+        &self,
+        env: &mut E,
+        blob: &Blob,
+        ranges: &[(u64, usize)],
+    ) -> Result<Vec<IoBufsMut>, Error>
+        ensures gives { Notes (E.noted env.old) (ReadsInOrder self.now blob.now ranges.now result) (E.noted env.new) }
+        ensures spent { E.spare env.old ≤ E.spare env.new + 1 }
+    {
+        let rate = self.faults.read_rate;
+        take_draw(env, rate)?;
+        let Some(file) = self.files.at(blob) else {
+            return Err(Error::UnknownToken);
+        };
+        let bufs = read_ranges(self.alloc, file.content(), ranges)?;
+        draw(env, rate)?;
+        Ok(bufs)
+    }
+
+    // The same, each with its place.
+    fn read_placed<E: Env>(
+        &self,
+        env: &mut E,
+        blob: &Blob,
+        ranges: &[(u64, usize)],
+    ) -> Result<Vec<(usize, IoBufsMut)>, Error>
+        ensures gives { Notes (E.noted env.old) (ReadsMany self.now blob.now ranges.now result) (E.noted env.new) }
+        ensures spent { E.spare env.old ≤ E.spare env.new + 1 }
+    {
+        let rate = self.faults.read_rate;
+        take_draw(env, rate)?;
+        let Some(file) = self.files.at(blob) else {
+            return Err(Error::UnknownToken);
+        };
+        let bufs = read_ranges(self.alloc, file.content(), ranges)?;
+        let reads = with_places(self.alloc, bufs)?;
+        draw(env, rate)?;
+        Ok(reads)
     }
 
     // Writes bytes.
@@ -338,7 +380,7 @@ impl Storage for MemStore {
 
     ghost use Rattle.std.specs.Prelude.{◌≡◌, [], Result};
     ghost use Rattle.rt_base.specs.declared.error.Error.{Error};
-    ghost use Rattle.rt_store.specs.Calls.{Reads, Writes, Resizes, Syncs, Saves, Opens, OpensVersioned, Removes, Scans, PollsSync, started, after_write, after_resize, after_sync, after_open, after_remove, after_poll, default_range, with_blob};
+    ghost use Rattle.rt_store.specs.Calls.{Reads, ReadsMany, ReadsInOrder, Writes, Resizes, Syncs, Saves, Opens, OpensVersioned, Removes, Scans, PollsSync, started, after_write, after_resize, after_sync, after_open, after_remove, after_poll, default_range, with_blob};
     ghost use Rattle.rt_store.specs.File.{closed};
     ghost use Rattle.rt_store.specs.Kept.{answered, moved_to};
 
@@ -357,6 +399,10 @@ impl Storage for MemStore {
     ghost reads = { λ v k offset len options r w x. Reads v k offset len r x × (w ≡ answered v v.state r) };
 
     ghost reads_into = { λ v k offset len bufs options r w x. Reads v k offset len r x × (w ≡ answered v v.state r) };
+
+    ghost reads_many = { λ v k rs options r w x. ReadsMany v k rs r x × (w ≡ answered v v.state r) };
+
+    ghost reads_in_order = { λ v k rs options r w x. ReadsInOrder v k rs r x × (w ≡ answered v v.state r) };
 
     ghost writes = { λ v k offset b options r w x. Writes v k offset b.bytes r x × (w ≡ answered v (after_write v k offset b.bytes options) r) };
 
@@ -444,6 +490,32 @@ impl Storage for MemStore {
     ) -> Result<IoBufsMut, Error> {
         let _ = options;
         let answer = self.read_into(env, blob, offset, len, Some(bufs));
+        self.count(&answer);
+        answer
+    }
+
+    fn read_many<E: Env>(
+        &mut self,
+        env: &mut E,
+        blob: &Blob,
+        ranges: &[(u64, usize)],
+        options: ReadOptions,
+    ) -> Result<Vec<(usize, IoBufsMut)>, Error> {
+        let _ = options;
+        let answer = self.read_placed(env, blob, ranges);
+        self.count(&answer);
+        answer
+    }
+
+    fn start_read_many<E: Env>(
+        &mut self,
+        env: &mut E,
+        blob: &Blob,
+        ranges: &[(u64, usize)],
+        options: ReadOptions,
+    ) -> Result<Vec<IoBufsMut>, Error> {
+        let _ = options;
+        let answer = self.read_ranges(env, blob, ranges);
         self.count(&answer);
         answer
     }

@@ -49,6 +49,10 @@ pub trait Storage {
 
     ghost reads_into: { Self → Self.Blob → ℕ → ℕ → WritableChunks → ReadOptions → Result WritableChunks Error → Self → List Noted → Type 0 };
 
+    ghost reads_many: { Self → Self.Blob → List (ℕ × ℕ) → ReadOptions → Result (Vec (ℕ × WritableChunks) Global) Error → Self → List Noted → Type 0 };
+
+    ghost reads_in_order: { Self → Self.Blob → List (ℕ × ℕ) → ReadOptions → Result (Vec WritableChunks Global) Error → Self → List Noted → Type 0 };
+
     ghost writes: { Self → Self.Blob → ℕ → Chunked → WriteOptions → Result Done Error → Self → List Noted → Type 0 };
 
     ghost resizes: { Self → Self.Blob → ℕ → Result Unit Error → Self → List Noted → Type 0 };
@@ -137,6 +141,31 @@ pub trait Storage {
     ) -> Result<IoBufsMut, Error>
         requires { len ≤ bufs.capacity }
         ensures gives { Notes (E.noted env.old) (λ x. reads_into self.old blob.now offset len bufs options result self.new x) (E.noted env.new) }
+        ensures spent { E.spare env.old ≤ E.spare env.new + most }
+        ensures counts { Counts (refusals self.old) (refusals self.new) result };
+
+    /// The bytes of each range, an offset and a length, with its place among the ranges. `collect_reads` puts them into
+    /// their order.
+    fn read_many<E: Env>(
+        &mut self,
+        env: &mut E,
+        blob: &Self::Blob,
+        ranges: &[(u64, usize)],
+        options: ReadOptions,
+    ) -> Result<Vec<(usize, IoBufsMut)>, Error>
+        ensures gives { Notes (E.noted env.old) (λ x. reads_many self.old blob.now ranges.now options result self.new x) (E.noted env.new) }
+        ensures spent { E.spare env.old ≤ E.spare env.new + most }
+        ensures counts { Counts (refusals self.old) (refusals self.new) result };
+
+    /// The bytes of each range, in the order of the ranges.
+    fn start_read_many<E: Env>(
+        &mut self,
+        env: &mut E,
+        blob: &Self::Blob,
+        ranges: &[(u64, usize)],
+        options: ReadOptions,
+    ) -> Result<Vec<IoBufsMut>, Error>
+        ensures gives { Notes (E.noted env.old) (λ x. reads_in_order self.old blob.now ranges.now options result self.new x) (E.noted env.new) }
         ensures spent { E.spare env.old ≤ E.spare env.new + most }
         ensures counts { Counts (refusals self.old) (refusals self.new) result };
 

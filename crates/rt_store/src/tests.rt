@@ -1,6 +1,6 @@
 // What no clause says: that calls succeed where there is memory.
 
-use crate::{Done, FaultConfig, MemStore, Storage, Ticket};
+use crate::{Done, FaultConfig, MemStore, Storage, Ticket, collect_reads};
 use rt_base::{BlobVersion, Error, IoKind, NoEnv, Poll, ReadOptions, WriteOptions};
 use rt_bufs::{IoBuf, IoBufMut, IoBufs, IoBufsMut};
 use std::alloc::Global;
@@ -208,5 +208,86 @@ fn removed_blob_lives_on(rt: HostRuntime) -> Result<(), Fail> {
     let seen = detached(&rt, rt.alloc(), &mut store, &blob);
     store.close(blob);
     assert_eq!(rt; seen, Ok(()));
+    Ok(())
+}
+
+// Whether these pieces were read, in this order.
+fn are_all(answer: Result<Vec<IoBufsMut>, Error>, pieces: &[&[u8]]) -> bool {
+    match answer {
+        Ok(all) => {
+            let mut at = 0;
+            for bufs in all {
+                if at >= pieces.len() || !are(Ok(bufs), pieces[at]) {
+                    return false;
+                }
+                at += 1;
+            }
+            at == pieces.len()
+        }
+        Err(_) => false,
+    }
+}
+
+fn several<S: Storage>(
+    rt: &impl Abort,
+    alloc: Global,
+    store: &mut S,
+    blob: &S::Blob,
+) -> Result<(), Error> {
+    let none = ReadOptions::default();
+    let ranges = [(2, 1), (0, 0), (0, 2)];
+    write(alloc, store, blob, 0)?;
+    let reads = store.read_many(&mut NoEnv, blob, &ranges, none)?;
+    assert!(rt; are_all(collect_reads(reads, 3), &[b"c", b"", b"ab"]));
+    assert!(rt;
+        are_all(
+            store.start_read_many(&mut NoEnv, blob, &ranges, none),
+            &[b"c", b"", b"ab"]
+        )
+    );
+    assert!(rt; are_all(store.start_read_many(&mut NoEnv, blob, &[], none), &[]));
+    let reads = store.read_many(&mut NoEnv, blob, &[(0, 3), (0, 4), (u64::MAX, 1)], none);
+    assert!(rt; matches!(reads, Err(Error::BlobInsufficientLength)));
+    Ok(())
+}
+
+#[test]
+fn several_ranges(rt: HostRuntime) -> Result<(), Fail> {
+    let mut store = MemStore::new(rt.alloc(), FaultConfig::default())?;
+    let (blob, _) = store.open(&mut NoEnv, "p", b"a").expect(&rt, "room");
+    let seen = several(&rt, rt.alloc(), &mut store, &blob);
+    store.close(blob);
+    assert_eq!(rt; seen, Ok(()));
+    Ok(())
+}
+
+// A buffer of one byte.
+fn byte(alloc: Global, byte: u8) -> Result<IoBufsMut, Error> {
+    let mut buf = IoBufMut::with_capacity(alloc, 1)?;
+    if buf.capacity() >= 1 {
+        buf.clear();
+        buf.put_slice(&[byte]);
+    }
+    Ok(IoBufsMut::from_mut(alloc, buf)?)
+}
+
+// Collects buffers of these places, each of which holds its number.
+fn collect(alloc: Global, places: &[usize], ranges: usize) -> Result<Vec<IoBufsMut>, Error> {
+    let mut reads = Vec::new(alloc);
+    let mut number = b'0';
+    for place in places {
+        reads.push((*place, byte(alloc, number)?))?;
+        number = number.wrapping_add(1);
+    }
+    collect_reads(reads, ranges)
+}
+
+#[test]
+fn collected_reads(rt: HostRuntime) -> Result<(), Fail> {
+    let alloc = rt.alloc();
+    assert!(rt; are_all(collect(alloc, &[1, 0, 1], 2), &[b"1", b"2"]));
+    assert!(rt; matches!(collect(alloc, &[1, 1], 2), Err(Error::ReadFailed)));
+    assert!(rt; matches!(collect(alloc, &[0, 2, 1], 2), Err(Error::ReadFailed)));
+    assert!(rt; matches!(collect(alloc, &[0], usize::MAX), Err(Error::ReadFailed)));
     Ok(())
 }
