@@ -1,5 +1,6 @@
 mod Collected
 mod Counting
+mod Crashing
 mod Drawn
 mod Named
 mod Redone

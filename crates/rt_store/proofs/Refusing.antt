@@ -1,5 +1,5 @@
 -- A refusal that was found without a draw is the answer of a call that may draw.
-use Rattle.std.proofs.Common.{◌≡◌, ℕ, Bool, true, false, cond, List, [], refl, sym, ap, ◌∙◌, rules}
+use Rattle.std.proofs.Common.{◌≡◌, ℕ, Bool, true, false, cond, List, [], sym, ap, ◌∙◌, rules}
 use Rattle.std.proofs.lemmas.List.{append-nil}
 use Rattle.std.specs.Prelude.{Option, None, Some}
 use Rattle.rt_base.specs.Counted.{Notes}
@@ -7,7 +7,6 @@ use Rattle.rt_base.specs.declared.error.Error.{Error}
 use Rattle.rt_base.specs.declared.error.Error.TheVariants.{Io, NoMemory, OffsetOverflow, BlobInsufficientLength}
 use Rattle.rt_base.specs.Noted.{Noted, Adds}
 use Rattle.rt_store.specs.Draws.{Refused}
-use Rattle.rt_store.specs.Store.{read_refusal_of}
 
 adds_none : (old new : Option (List Noted)) → new ≡ old → Adds old [] new
 adds_none None new h = tt

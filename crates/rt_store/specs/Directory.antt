@@ -91,3 +91,11 @@ names_of (Some names) = map (λ e. e.0) names
 abbrev pub numbers_of : Option Names → List ℕ
 numbers_of None = []
 numbers_of (Some names) = numbers names
+
+-- the numbers of all blobs that have a name: partitions in order, and names in order
+abbrev pub all_numbers : List Names → List ℕ → List ℕ
+all_numbers shelves [] = []
+all_numbers shelves (shelf ∷ rest) = numbers_of (slice_get shelves shelf) ++ all_numbers shelves rest
+
+abbrev pub named_numbers : Partitions → List ℕ
+named_numbers d = all_numbers d.shelves (numbers d.shelf)

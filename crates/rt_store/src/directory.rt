@@ -1,12 +1,17 @@
 // The names of blobs, by partition.
-ghost use Rattle.std.specs.Prelude.{◌≡◌, ◌+◌, ◌<◌, ◌≤◌, [], None, ⊤, is_some};
+ghost use Rattle.std.specs.Prelude.{◌≡◌, ◌+◌, ◌*◌, ◌<◌, ◌≤◌, ◌++◌, List, [], None, ⊤, is_some, slice_get, vec_len, vec_capacity};
 ghost use Rattle.std.specs.Option.{option_copied};
 ghost use Rattle.rt_base.specs.Counted.{Notes};
-ghost use Rattle.rt_store.specs.Directory.{at_name, names_in, number_of, named, unnamed, without_partition, no_partitions};
+ghost use Rattle.rt_base.specs.declared.choice.Choice.{Choice};
+ghost use Rattle.rt_store.specs.Crash.{ChoosesAll, all_crashed};
+ghost use Rattle.rt_store.specs.Store.{count_later};
+ghost use Rattle.rt_store.specs.Directory.{named_numbers, numbers_of, at_name, names_in, number_of, named, unnamed, without_partition, no_partitions};
 ghost use Rattle.rt_store.specs.Draws.{Answers, if_ok};
 
+use crate::faults::FaultConfig;
+use crate::files::Files;
 use crate::names::{Names, copy};
-use rt_base::{Env, Error, NoEnv};
+use rt_base::{Choice, Env, Error, NoEnv};
 use std::alloc::Global;
 use std::marker::Model;
 
@@ -53,8 +58,62 @@ impl Directory {
         ensures { option_copied result ≡ names_in partition.now self.now }
     {
         match self.partitions.get(partition) {
-            Some(shelf) => self.shelves.get(shelf as usize),
+            Some(shelf) => self.shelf(shelf),
             None => None,
+        }
+    }
+
+    // The names of a shelf, where it is there.
+    fn shelf(&self, shelf: u64) -> Option<&Names>
+        ensures { option_copied result ≡ slice_get self.now.shelves shelf }
+    {
+        self.shelves.get(shelf as usize)
+    }
+
+    /// What a crash leaves of the blobs of all names, in order. It takes no memory, and answers how many changes it
+    /// decided over.
+    pub fn crash<E: Env>(
+        &self,
+        files: &mut Files,
+        env: &mut E,
+        faults: &FaultConfig,
+        choices: &mut Vec<Choice>,
+    ) -> usize
+        requires draws { 2 * count_later files.old ≤ E.spare env.old }
+        requires places { vec_len choices.old + count_later files.old ≤ vec_capacity choices.old }
+        ensures gives { (cs : List Choice) × ChoosesAll faults.now (named_numbers self.now) files.old cs (E.noted env.old) (E.noted env.new) × (choices.new.items ≡ choices.old.items ++ cs) × (files.new ≡ all_crashed (named_numbers self.now) cs files.old) }
+        ensures later { count_later files.new + result ≡ count_later files.old }
+        ensures spent { E.spare env.old ≤ E.spare env.new + 2 * result }
+        ensures used { vec_len choices.new ≡ vec_len choices.old + result }
+        ensures places { vec_capacity choices.new ≡ vec_capacity choices.old }
+    {
+        let mut fewer: usize = 0;
+        for shelf in self.partitions.numbers() {
+            fewer += self.crash_shelf(*shelf, files, env, faults, choices);
+        }
+        fewer
+    }
+
+    // The same for the blobs of one shelf.
+    fn crash_shelf<E: Env>(
+        &self,
+        shelf: u64,
+        files: &mut Files,
+        env: &mut E,
+        faults: &FaultConfig,
+        choices: &mut Vec<Choice>,
+    ) -> usize
+        requires draws { 2 * count_later files.old ≤ E.spare env.old }
+        requires places { vec_len choices.old + count_later files.old ≤ vec_capacity choices.old }
+        ensures gives { (cs : List Choice) × ChoosesAll faults.now (numbers_of (slice_get self.now.shelves shelf)) files.old cs (E.noted env.old) (E.noted env.new) × (choices.new.items ≡ choices.old.items ++ cs) × (files.new ≡ all_crashed (numbers_of (slice_get self.now.shelves shelf)) cs files.old) }
+        ensures later { count_later files.new + result ≡ count_later files.old }
+        ensures spent { E.spare env.old ≤ E.spare env.new + 2 * result }
+        ensures used { vec_len choices.new ≡ vec_len choices.old + result }
+        ensures places { vec_capacity choices.new ≡ vec_capacity choices.old }
+    {
+        match self.shelf(shelf) {
+            Some(names) => files.crash(names, env, faults, choices),
+            None => 0,
         }
     }
 

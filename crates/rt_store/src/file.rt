@@ -3,7 +3,7 @@
 // There is one block of bytes, the content. Each change that a crash may undo is kept with the bytes that it wrote
 // over, so the base is the content with these changes undone: a sync forgets them and copies nothing, and a crash
 // undoes them and does those again that it keeps, in the room that they had.
-ghost use Rattle.std.specs.Prelude.{◌≡◌, ◌+◌, ◌*◌, ◌<◌, ◌≤◌, ◌++◌, [], List, length, None, true, ⊤, vec_len, vec_capacity};
+ghost use Rattle.std.specs.Prelude.{◌≡◌, ◌+◌, ◌*◌, ◌<◌, ◌≤◌, ◌++◌, [], List, length, None, true, ⊤, IfOk, vec_len, vec_capacity};
 ghost use Rattle.rt_base.specs.Counted.{Notes};
 ghost use Rattle.rt_base.specs.declared.choice.Choice.{Choice};
 ghost use Rattle.rt_store.specs.Changes.{all_undone, mutations};
@@ -88,16 +88,17 @@ impl File {
         self.later.len()
     }
 
-    /// Changes the bytes, save where a fault is drawn.
+    /// Changes the bytes, save where a fault is drawn. It answers how many changes more a crash decides over.
     #[tactic(auto, using(crate::proofs::Undone::undone_snoc, crate::proofs::Undone::mutations_snoc, crate::proofs::Undone::none_left))]
     pub fn mutate<E: Env>(
         &mut self,
         env: &mut E,
         rate: u32,
         mutation: Mutation,
-    ) -> Result<(), Error>
+    ) -> Result<usize, Error>
         requires { 0 < rate → 0 < E.spare env.old }
         ensures gives { Notes (E.noted env.old) (Answers None rate (λ _. ⊤) result) (E.noted env.new) }
+        ensures later { IfOk result (λ n. (n ≤ 1) × (length self.new.later ≡ length self.old.later + n)) }
         ensures after { self.new ≡ if_ok result (mutated mutation self.old) self.old }
         ensures spent { E.spare env.old ≤ E.spare env.new + 1 }
     {
@@ -115,11 +116,11 @@ impl File {
         }
         if self.is_settled(&mutation) {
             apply(&mut self.content, &mutation);
-            return Ok(());
+            return Ok(0);
         }
         apply(&mut self.content, &mutation);
         self.later.push_reserved(Change { mutation, before });
-        Ok(())
+        Ok(1)
     }
 
     // Whether no crash decides over this change.
@@ -129,20 +130,30 @@ impl File {
         self.removed || (mutation.is_durable() && self.later.is_empty())
     }
 
-    /// The base becomes the content. It copies nothing.
-    pub fn sync(&mut self)
-        ensures { self.new ≡ synced self.old }
+    /// The base becomes the content. It copies nothing, and answers how many changes a crash decides over no more.
+    pub fn sync(&mut self) -> usize
+        ensures synced { self.new ≡ synced self.old }
+        ensures later { result ≡ length self.old.later }
     {
+        let fewer = self.later.len();
         self.later.clear();
+        fewer
     }
 
-    /// What a crash leaves: the base, and on it the later changes as far as they are kept. It takes no memory.
-    pub fn crash<E: Env>(&mut self, env: &mut E, faults: &FaultConfig, choices: &mut Vec<Choice>)
+    /// What a crash leaves: the base, and on it the later changes as far as they are kept. It takes no memory, and
+    /// answers how many changes it decided over.
+    pub fn crash<E: Env>(
+        &mut self,
+        env: &mut E,
+        faults: &FaultConfig,
+        choices: &mut Vec<Choice>,
+    ) -> usize
         requires draws { 2 * length self.old.later ≤ E.spare env.old }
         requires places { vec_len choices.old + length self.old.later ≤ vec_capacity choices.old }
         ensures gives { (cs : List Choice) × Chooses faults.now self.old.later cs (E.noted env.old) (E.noted env.new) × (choices.new.items ≡ choices.old.items ++ cs) × (self.new ≡ crashed cs self.old) }
         ensures spent { E.spare env.old ≤ E.spare env.new + 2 * length self.old.later }
         ensures used { vec_len choices.new ≡ vec_len choices.old + length self.old.later }
+        ensures later { result ≡ length self.old.later }
         ensures places { vec_capacity choices.new ≡ vec_capacity choices.old }
     {
         restore(&mut self.content, self.later.as_slice());
@@ -153,19 +164,24 @@ impl File {
             self.later.as_slice(),
             choices,
         );
+        let decided = self.later.len();
         self.later.clear();
+        decided
     }
 
     /// The blob was removed: no crash decides over its changes any more, and without a live token its bytes are gone.
-    /// It copies nothing.
-    pub fn detach(&mut self)
-        ensures { self.new ≡ detached self.old }
+    /// It copies nothing, and answers how many changes those were.
+    pub fn detach(&mut self) -> usize
+        ensures detached { self.new ≡ detached self.old }
+        ensures later { result ≡ length self.old.later }
     {
+        let fewer = self.later.len();
         self.later.clear();
         self.removed = true;
         if self.token.is_none() {
             self.let_go();
         }
+        fewer
     }
 
     /// Gives the blob a live token.

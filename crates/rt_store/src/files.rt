@@ -1,22 +1,25 @@
 // The blobs of a store, by number.
-ghost use Rattle.std.specs.Prelude.{◌≡◌, ◌+◌, ◌*◌, ◌^◌, ◌<◌, ◌≤◌, [], ◌∷◌, ◌++◌, ◌-◌, length, take, Option, None, ⊤, OnOk, OnErr, slice_get, is_some, true};
+ghost use Rattle.std.specs.Prelude.{◌≡◌, ◌+◌, ◌*◌, ◌^◌, ◌<◌, ◌≤◌, List, [], ◌∷◌, ◌++◌, ◌-◌, length, map, take, Option, None, ⊤, IfOk, OnOk, OnErr, slice_get, is_some, true, vec_len, vec_capacity};
 ghost use Rattle.std.specs.Option.{option_copied};
 ghost use Rattle.rt_base.specs.Counted.{Notes};
+ghost use Rattle.rt_base.specs.declared.choice.Choice.{Choice};
 ghost use Rattle.rt_store.specs.Changes.{end_of};
+ghost use Rattle.rt_store.specs.Crash.{Chooses, ChoosesAll, all_crashed, later_at};
 ghost use Rattle.rt_store.specs.Directory.{numbers};
 ghost use Rattle.rt_store.specs.Draws.{Answers, if_ok};
-ghost use Rattle.rt_store.specs.File.{FileState, fresh_file, mutated, synced, closed, detached, with_token};
-ghost use Rattle.rt_store.specs.Store.{live, at_blob, at_place, all_detached, end_refusal, refusal_at};
+ghost use Rattle.rt_store.specs.File.{FileState, fresh_file, mutated, synced, closed, crashed, detached, with_token};
+ghost use Rattle.rt_store.specs.Store.{live, at_blob, at_place, all_detached, count_later, end_refusal, refusal_at};
 
 use crate::blob::Blob;
+use crate::faults::FaultConfig;
 use crate::file::File;
 use crate::mutation::Mutation;
 use crate::names::Names;
-use rt_base::{BlobVersion, Env, Error, NoMemory};
+use rt_base::{BlobVersion, Choice, Env, Error, NoMemory};
 use std::alloc::Global;
 use std::marker::Model;
 
-/// The blobs ever made.
+/// The blobs ever made. A call that may leave fewer changes to a crash answers how many fewer.
 #[derive(Drop)]
 pub struct Files {
     files: Vec<File>,
@@ -75,7 +78,8 @@ impl Files {
     /// Gives a blob that is there a live token.
     pub fn set_token(&mut self, place: u64, token: u64)
         requires { is_some (slice_get self.old place) ≡ true }
-        ensures { self.new ≡ at_blob self.old place (with_token token) (slice_get self.old place) }
+        ensures set { self.new ≡ at_blob self.old place (with_token token) (slice_get self.old place) }
+        ensures later { count_later self.new ≡ count_later self.old }
     {
         self.files[place as usize].set_token(token);
     }
@@ -95,8 +99,10 @@ impl Files {
     }
 
     /// Adds a blob without bytes whose live token is this. Where memory is refused nothing changes.
+    #[tactic(auto, using(crate::proofs::Counting::count_push))]
     pub fn add(&mut self, version: BlobVersion, token: u64) -> Result<(), NoMemory>
         ensures added { OnOk result (self.new ≡ self.old ++ fresh_file version token ∷ []) }
+        ensures later { count_later self.new ≡ count_later self.old }
         ensures refused { OnErr result (self.new ≡ self.old) }
     {
         let alloc = *self.files.allocator();
@@ -104,16 +110,17 @@ impl Files {
         Ok(())
     }
 
-    /// Changes the blob of a token.
+    /// Changes the blob of a token. It answers how many changes more a crash decides over.
     pub fn mutate<E: Env>(
         &mut self,
         env: &mut E,
         blob: &Blob,
         rate: u32,
         mutation: Mutation,
-    ) -> Result<(), Error>
+    ) -> Result<usize, Error>
         requires { 0 < rate → 0 < E.spare env.old }
         ensures gives { Notes (E.noted env.old) (Answers (refusal_at (live self.old blob.now) (end_refusal (end_of mutation))) rate (λ _. ⊤) result) (E.noted env.new) }
+        ensures later { IfOk result (λ n. (n ≤ 1) × (count_later self.new ≡ count_later self.old + n)) }
         ensures after { self.new ≡ if_ok result (at_blob self.old blob.now.place (mutated mutation) (live self.old blob.now)) self.old }
         ensures spent { E.spare env.old ≤ E.spare env.new + 1 }
     {
@@ -124,23 +131,36 @@ impl Files {
             return Err(Error::OffsetOverflow);
         }
         let file = &mut self.files[blob.place as usize];
-        file.mutate(env, rate, mutation)?;
-        Ok(())
+        let more = file.mutate(env, rate, mutation)?;
+        Ok(more)
     }
 
     /// The base of the blob of a token becomes its content.
-    pub fn sync(&mut self, blob: &Blob)
-        ensures { self.new ≡ at_blob self.old blob.now.place synced (live self.old blob.now) }
+    pub fn sync(&mut self, blob: &Blob) -> usize
+        ensures synced { self.new ≡ at_blob self.old blob.now.place synced (live self.old blob.now) }
+        ensures later { count_later self.new + result ≡ count_later self.old }
     {
         if !self.is_live(blob) {
-            return;
+            return 0;
         }
-        self.files[blob.place as usize].sync();
+        self.admit(blob.place)
+    }
+
+    /// The base of the blob of a number becomes its content, where it is there.
+    pub fn admit(&mut self, place: u64) -> usize
+        ensures synced { self.new ≡ at_place self.old place synced }
+        ensures later { count_later self.new + result ≡ count_later self.old }
+    {
+        if place as usize >= self.files.len() {
+            return 0;
+        }
+        self.files[place as usize].sync()
     }
 
     /// A live token no longer is.
     pub fn close(&mut self, blob: &Blob)
-        ensures { self.new ≡ at_blob self.old blob.now.place closed (live self.old blob.now) }
+        ensures later { count_later self.new ≡ count_later self.old }
+        ensures closed { self.new ≡ at_blob self.old blob.now.place closed (live self.old blob.now) }
     {
         if !self.is_live(blob) {
             return;
@@ -149,20 +169,87 @@ impl Files {
     }
 
     /// The blob of a number is removed, where it is there.
-    pub fn detach(&mut self, place: u64)
-        ensures { self.new ≡ at_place self.old place detached }
+    pub fn detach(&mut self, place: u64) -> usize
+        ensures detached { self.new ≡ at_place self.old place detached }
+        ensures later { count_later self.new + result ≡ count_later self.old }
     {
-        if (place as usize) < self.files.len() {
-            self.files[place as usize].detach();
+        if place as usize >= self.files.len() {
+            return 0;
         }
+        self.files[place as usize].detach()
+    }
+
+    /// Closes all blobs.
+    pub fn close_all(&mut self)
+        ensures { self.new ≡ map closed self.old }
+    {
+        close_each(self.files.as_mut_slice());
+    }
+
+    // What a crash leaves of the blob of a number, where it is there.
+    fn crash_at<E: Env>(
+        &mut self,
+        place: u64,
+        env: &mut E,
+        faults: &FaultConfig,
+        choices: &mut Vec<Choice>,
+    ) -> usize
+        requires draws { 2 * count_later self.old ≤ E.spare env.old }
+        requires places { vec_len choices.old + count_later self.old ≤ vec_capacity choices.old }
+        ensures gives { (cs : List Choice) × Chooses faults.now (later_at self.old place) cs (E.noted env.old) (E.noted env.new) × (choices.new.items ≡ choices.old.items ++ cs) × (self.new ≡ at_place self.old place (crashed cs)) }
+        ensures later { count_later self.new + result ≡ count_later self.old }
+        ensures spent { E.spare env.old ≤ E.spare env.new + 2 * result }
+        ensures used { vec_len choices.new ≡ vec_len choices.old + result }
+        ensures places { vec_capacity choices.new ≡ vec_capacity choices.old }
+    {
+        if place as usize >= self.files.len() {
+            return 0;
+        }
+        self.files[place as usize].crash(env, faults, choices)
+    }
+
+    /// What a crash leaves of the blobs of these names, in their order. It takes no memory.
+    pub fn crash<E: Env>(
+        &mut self,
+        names: &Names,
+        env: &mut E,
+        faults: &FaultConfig,
+        choices: &mut Vec<Choice>,
+    ) -> usize
+        requires draws { 2 * count_later self.old ≤ E.spare env.old }
+        requires places { vec_len choices.old + count_later self.old ≤ vec_capacity choices.old }
+        ensures gives { (cs : List Choice) × ChoosesAll faults.now (numbers names.now) self.old cs (E.noted env.old) (E.noted env.new) × (choices.new.items ≡ choices.old.items ++ cs) × (self.new ≡ all_crashed (numbers names.now) cs self.old) }
+        ensures later { count_later self.new + result ≡ count_later self.old }
+        ensures spent { E.spare env.old ≤ E.spare env.new + 2 * result }
+        ensures used { vec_len choices.new ≡ vec_len choices.old + result }
+        ensures places { vec_capacity choices.new ≡ vec_capacity choices.old }
+    {
+        let mut fewer: usize = 0;
+        for place in names.numbers() {
+            fewer += self.crash_at(*place, env, faults, choices);
+        }
+        fewer
     }
 
     /// The blobs of these names are removed.
-    pub fn detach_all(&mut self, names: &Names)
-        ensures { self.new ≡ all_detached (numbers names.now) self.old }
+    pub fn detach_all(&mut self, names: &Names) -> usize
+        requires { count_later self.old < 2 ^ 63 }
+        ensures detached { self.new ≡ all_detached (numbers names.now) self.old }
+        ensures later { count_later self.new + result ≡ count_later self.old }
     {
+        let mut fewer: usize = 0;
         for place in names.numbers() {
-            self.detach(*place);
+            fewer += self.detach(*place);
         }
+        fewer
+    }
+}
+
+// Closes these blobs.
+fn close_each(files: &mut [File])
+    ensures { files.new ≡ map closed files.old }
+{
+    for file in files.iter_mut() {
+        file.close();
     }
 }

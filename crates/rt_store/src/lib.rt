@@ -18,6 +18,7 @@ pub mod mutation;
 mod names;
 mod opening;
 mod reading;
+pub mod snapshot;
 pub mod storage;
 mod store;
 #[cfg(test)]
@@ -28,5 +29,6 @@ pub use blob::Blob;
 pub use collecting::collect_reads;
 pub use faults::{FaultConfig, PartialWriteMode, ResizeConfig, WriteConfig};
 pub use mem_store::MemStore;
+pub use snapshot::Snapshot;
 pub use storage::{BlobOf, Storage};
 pub use ticket::{Done, Ticket};

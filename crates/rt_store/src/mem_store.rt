@@ -1,11 +1,19 @@
 // The store in memory.
-ghost use Rattle.std.specs.Prelude.{◌≡◌, ◌+◌, ◌≤◌, ℕ, IfOk, IfSome};
+ghost use Rattle.std.specs.Prelude.{◌≡◌, ◌+◌, ◌*◌, ◌<◌, ◌≤◌, ◌++◌, ℕ, List, IfOk, IfSome, vec_len, vec_capacity, ⊤};
+ghost use Rattle.std.specs.Borrow.{sem};
 ghost use Rattle.std.specs.Option.{option_copied};
 ghost use Rattle.rt_base.specs.Counted.{counted, Counts, Notes};
 ghost use Rattle.rt_store.specs.Answered.{CountsPoll, CountsStart};
-ghost use Rattle.rt_store.specs.Calls.{Reads, ReadsMany, ReadsInOrder, Writes, Resizes, Syncs, Saves, Opens, Removes, Scans, PollsSync, IsOpened, started, default_range, after_write, after_resize, after_sync, after_open, after_remove, without_blob, without_blobs, open_refusal};
+ghost use Rattle.rt_store.specs.Calls.{Reads, ReadsMany, ReadsInOrder, Writes, Resizes, Syncs, Saves, Opens, Removes, Scans, PollsSync, IsOpened, started, default_range, blob_of, with_blob, after_write, after_resize, after_sync, after_open, after_remove, without_blob, without_blobs, open_refusal};
+ghost use Rattle.rt_base.specs.declared.choice.Choice.{Choice};
+ghost use Rattle.rt_store.specs.Changes.{end_of};
+ghost use Rattle.rt_store.specs.Crash.{ChoosesAll};
+ghost use Rattle.rt_store.specs.Directory.{named_numbers};
 ghost use Rattle.rt_store.specs.Draws.{Answers, if_ok};
+ghost use Rattle.rt_store.specs.File.{mutated};
 ghost use Rattle.rt_store.specs.Kept.{empty_store, injected_by, moved_to};
+ghost use Rattle.rt_store.specs.Store.{count_later, end_refusal, refusal_at};
+ghost use Rattle.rt_store.specs.Whole.{after_admit, after_crash, snapshot_of, store_of};
 
 use crate::blob::Blob;
 use crate::directory::Directory;
@@ -15,15 +23,20 @@ use crate::finding::find;
 use crate::mutation::Mutation;
 use crate::opening::{is_partition_name, reopen, text_of};
 use crate::reading::{read_ranges, with_places};
+use crate::snapshot::Snapshot;
 use crate::storage::Storage;
 use crate::store::{draw, range_of, take_draw};
 use crate::ticket::{Done, Ticket};
 use rt_base::{
-    BlobVersion, DEFAULT_BLOB_VERSION, Env, Error, NoMemory, Poll, ReadOptions, WriteOptions,
+    BlobVersion, Choice, DEFAULT_BLOB_VERSION, Env, Error, NoMemory, Poll, ReadOptions,
+    WriteOptions,
 };
 use rt_bufs::{IoBufMut, IoBufs, IoBufsMut};
 use std::alloc::Global;
 use std::marker::Model;
+
+/// The most changes that a crash may have to decide over; there is no memory for more.
+const MOST_CHANGES: usize = 4_611_686_018_427_387_904;
 
 /// Blobs in memory, with what a crash would leave of each.
 ///
@@ -33,6 +46,7 @@ pub struct MemStore {
     directory: Directory,
     files: Files,
     opened: u64,
+    later: usize,
     faults: FaultConfig,
     injected: u64,
     refusals: u64,
@@ -40,14 +54,20 @@ pub struct MemStore {
 }
 
 impl Model for MemStore {
+    ghost use Rattle.std.specs.Prelude.{◌≡◌, ◌≤◌, ◌^◌};
     ghost use Rattle.rt_store.specs.Kept.{Kept};
+    ghost use Rattle.rt_store.specs.Store.{count_later};
 
     ghost Value = { Kept };
 
     ghost view = { λ m. record { state = record { directory = m.directory; files = m.files; opened = m.opened }; faults = m.faults; injected = m.injected; refusals = m.refusals } };
+
+    ghost invariant = { λ m. (m.later ≡ count_later m.files) × (m.later ≤ 2 ^ 62) };
 }
 
 impl MemStore {
+    ghost use Rattle.rt_store.specs.Lent.{LendsFaults};
+
     /// An empty store.
     pub fn new(alloc: Global, faults: FaultConfig) -> Result<MemStore, NoMemory>
         ensures { IfOk result (λ store. store ≡ empty_store faults) }
@@ -56,6 +76,7 @@ impl MemStore {
             directory: Directory::new(alloc),
             files: Files::new(alloc),
             opened: 0,
+            later: 0,
             faults,
             injected: 0,
             refusals: 0,
@@ -63,11 +84,99 @@ impl MemStore {
         })
     }
 
+    /// A store with the blobs of a snapshot. No token is live in it.
+    pub fn from_snapshot(snapshot: Snapshot, faults: FaultConfig) -> MemStore
+        ensures { result ≡ store_of snapshot faults }
+    {
+        let Snapshot {
+            directory,
+            files,
+            opened,
+            later,
+            alloc,
+        } = snapshot;
+        MemStore {
+            directory,
+            files,
+            opened,
+            later,
+            faults,
+            injected: 0,
+            refusals: 0,
+            alloc,
+        }
+    }
+
+    /// The blobs alone: a snapshot knows no live tokens. It takes no memory.
+    #[tactic(auto, using(crate::proofs::Counting::count_closed))]
+    pub fn snapshot(self) -> Snapshot
+        ensures { result ≡ snapshot_of self.state }
+    {
+        let MemStore {
+            directory,
+            mut files,
+            opened,
+            later,
+            faults: _,
+            injected: _,
+            refusals: _,
+            alloc,
+        } = self;
+        files.close_all();
+        Snapshot {
+            directory,
+            files,
+            opened,
+            later,
+            alloc,
+        }
+    }
+
     /// The fault settings.
     pub fn config(&self) -> &FaultConfig
         ensures { result.now ≡ self.now.faults }
     {
         &self.faults
+    }
+
+    /// The fault settings, to change them.
+    pub fn config_mut(&mut self) -> &mut FaultConfig
+        ensures* writes_back { sem 𝓛 (LendsFaults self.entry result) }
+        ensures value { result.now ≡ self.old.faults }
+    {
+        &mut self.faults
+    }
+
+    /// How many numbers a crash draws at most: two for each change that it decides over.
+    pub fn crash_draws(&self) -> usize
+        ensures { result ≡ 2 * count_later self.now.state.files }
+    {
+        2 * self.later
+    }
+
+    /// What a crash leaves of the blobs that have a name: of each its base, and on it the later changes as far as they
+    /// are kept. It adds the choices, and takes no memory.
+    pub fn crash<E: Env>(&mut self, env: &mut E, choices: &mut Vec<Choice>)
+        requires draws { 2 * count_later self.old.state.files ≤ E.spare env.old }
+        requires places { vec_len choices.old + count_later self.old.state.files ≤ vec_capacity choices.old }
+        ensures gives { (cs : List Choice) × ChoosesAll self.old.faults (named_numbers self.old.state.directory) self.old.state.files cs (E.noted env.old) (E.noted env.new) × (choices.new.items ≡ choices.old.items ++ cs) × (self.new ≡ moved_to self.old (after_crash self.old.state cs)) }
+        ensures spent { E.spare env.old ≤ E.spare env.new + 2 * count_later self.old.state.files }
+        ensures places { vec_capacity choices.new ≡ vec_capacity choices.old }
+    {
+        let fewer = self
+            .directory
+            .crash(&mut self.files, env, &self.faults, choices);
+        self.later -= fewer;
+    }
+
+    /// Makes all changes of the blob of a name durable, where it is there. It takes no memory.
+    pub fn admit(&mut self, partition: &str, name: &[u8])
+        ensures { self.new ≡ moved_to self.old (after_admit self.old.state partition.now name.now) }
+    {
+        if let Some(place) = self.directory.number_of(partition.as_bytes(), name) {
+            let fewer = self.files.admit(place);
+            self.later -= fewer;
+        }
     }
 
     /// How many faults were injected.
@@ -183,7 +292,7 @@ impl MemStore {
             bytes: bufs.coalesce()?,
             durable: options.contains(WriteOptions::SYNC),
         };
-        self.files.mutate(env, blob, rate, mutation)?;
+        self.change(env, blob, rate, mutation)?;
         Ok(Done::Now)
     }
 
@@ -196,7 +305,27 @@ impl MemStore {
         let rate = self.faults.resize.rate;
         take_draw(env, rate)?;
         let mutation = Mutation::Resize { len: len as usize };
-        self.files.mutate(env, blob, rate, mutation)?;
+        self.change(env, blob, rate, mutation)
+    }
+
+    // Changes a blob.
+    fn change<E: Env>(
+        &mut self,
+        env: &mut E,
+        blob: &Blob,
+        rate: u32,
+        mutation: Mutation,
+    ) -> Result<(), Error>
+        requires { 0 < rate → 0 < E.spare env.old }
+        ensures gives { Notes (E.noted env.old) (Answers (refusal_at (blob_of self.old blob.now) (end_refusal (end_of mutation))) rate (λ _. ⊤) result) (E.noted env.new) }
+        ensures after { self.new ≡ moved_to self.old (if_ok result (with_blob self.old blob.now (mutated mutation)) self.old.state) }
+        ensures spent { E.spare env.old ≤ E.spare env.new + 1 }
+    {
+        if self.later >= MOST_CHANGES {
+            return Err(Error::NoMemory);
+        }
+        let more = self.files.mutate(env, blob, rate, mutation)?;
+        self.later += more;
         Ok(())
     }
 
@@ -212,7 +341,8 @@ impl MemStore {
             return Err(Error::UnknownToken);
         }
         draw(env, rate)?;
-        self.files.sync(blob);
+        let fewer = self.files.sync(blob);
+        self.later -= fewer;
         Ok(())
     }
 
@@ -269,7 +399,8 @@ impl MemStore {
     {
         if let Some(place) = self.directory.number_of(partition, name) {
             self.directory.unname(partition, name);
-            self.files.detach(place);
+            let fewer = self.files.detach(place);
+            self.later -= fewer;
         }
     }
 
@@ -278,7 +409,8 @@ impl MemStore {
         ensures { self.new ≡ moved_to self.old (without_blobs self.old.state partition.now) }
     {
         if let Some(names) = self.directory.names_in(partition) {
-            self.files.detach_all(names);
+            let fewer = self.files.detach_all(names);
+            self.later -= fewer;
         }
         self.directory.remove(partition);
     }

@@ -1,7 +1,12 @@
 // What no clause says: that calls succeed where there is memory.
 
-use crate::{Done, FaultConfig, MemStore, Storage, Ticket, collect_reads};
-use rt_base::{BlobVersion, Error, IoKind, NoEnv, Poll, ReadOptions, WriteOptions};
+use crate::{
+    Done, FaultConfig, MemStore, PartialWriteMode, Storage, Ticket, WriteConfig, collect_reads,
+};
+use rt_base::{
+    BlobVersion, Choice, Env, Error, Event, IoKind, NoEnv, NoMemory, Poll, ReadOptions,
+    WriteOptions,
+};
 use rt_bufs::{IoBuf, IoBufMut, IoBufs, IoBufsMut};
 use std::alloc::Global;
 use std::process::Abort;
@@ -289,5 +294,177 @@ fn collected_reads(rt: HostRuntime) -> Result<(), Fail> {
     assert!(rt; matches!(collect(alloc, &[1, 1], 2), Err(Error::ReadFailed)));
     assert!(rt; matches!(collect(alloc, &[0, 2, 1], 2), Err(Error::ReadFailed)));
     assert!(rt; matches!(collect(alloc, &[0], usize::MAX), Err(Error::ReadFailed)));
+    Ok(())
+}
+
+// Draws this number, then the next ones.
+#[derive(Drop)]
+struct Numbers {
+    next: u64,
+}
+
+impl Env for Numbers {
+    ghost use Rattle.std.specs.Prelude.{None};
+
+    ghost noted = { λ _. None };
+
+    ghost spare = { λ _. 18446744073709551616 };
+
+    fn reserve(&mut self, entries: usize) -> Result<(), NoMemory> {
+        let _ = entries;
+        Ok(())
+    }
+
+    fn event(&mut self, event: Event) {
+        let _ = event;
+    }
+
+    fn draw(&mut self) -> u64 {
+        let drawn = self.next;
+        self.next = drawn.wrapping_add(1);
+        drawn
+    }
+}
+
+// Crashes, and answers the choices.
+fn crash<E: Env>(alloc: Global, store: &mut MemStore, env: &mut E) -> Result<Vec<Choice>, Error> {
+    let draws = store.crash_draws();
+    env.reserve(draws)?;
+    let mut choices = Vec::new(alloc);
+    choices.reserve(draws)?;
+    store.crash(env, &mut choices);
+    Ok(choices)
+}
+
+// Writes three bytes to a blob of a partition, and syncs them or not.
+fn keep<S: Storage>(
+    alloc: Global,
+    store: &mut S,
+    partition: &str,
+    synced: bool,
+) -> Result<(), Error> {
+    let (blob, _) = store.open(&mut NoEnv, partition, b"n")?;
+    let answer = match bufs(alloc, b"abc") {
+        Ok(bytes) => done(store.write_at(&mut NoEnv, &blob, 0, bytes, WriteOptions::default())),
+        Err(error) => Err(error),
+    };
+    let last = if synced {
+        done(store.sync(&mut NoEnv, &blob))
+    } else {
+        Ok(())
+    };
+    store.close(blob);
+    answer?;
+    last
+}
+
+// What a crash leaves of three bytes: how many, how many numbers it drew from `first` on, and the choices.
+fn left(
+    alloc: Global,
+    write: WriteConfig,
+    synced: bool,
+    first: u64,
+) -> Result<(u64, u64, Vec<Choice>), Error> {
+    let mut faults = FaultConfig::default();
+    faults.write = write;
+    let mut store = MemStore::new(alloc, faults)?;
+    let mut numbers = Numbers { next: first };
+    keep(alloc, &mut store, "p", synced)?;
+    let choices = crash(alloc, &mut store, &mut numbers)?;
+    let len = make(&mut store, "p", b"n")?;
+    Ok((len, numbers.next.wrapping_sub(first), choices))
+}
+
+fn is_left(
+    alloc: Global,
+    write: WriteConfig,
+    first: u64,
+    len: u64,
+    draws: u64,
+    choice: Choice,
+) -> bool {
+    match left(alloc, write, false, first) {
+        Ok(seen) => seen.0 == len && seen.1 == draws && seen.2.as_slice() == [choice].as_slice(),
+        Err(_) => false,
+    }
+}
+
+fn keeps(keep: u32, partial: PartialWriteMode) -> WriteConfig {
+    WriteConfig {
+        rate: 0,
+        keep,
+        partial,
+    }
+}
+
+#[test]
+fn unsynced_bytes_are_lost(rt: HostRuntime) -> Result<(), Fail> {
+    let alloc = rt.alloc();
+    let off = PartialWriteMode::Off;
+    assert!(rt; is_left(alloc, keeps(0, off), 7, 0, 0, Choice::Dropped));
+    assert!(rt; is_left(alloc, keeps(1_000_000, off), 999_999, 3, 1, Choice::Kept));
+    assert!(rt; is_left(alloc, keeps(u32::MAX, off), 999_999, 3, 1, Choice::Kept));
+    assert!(rt; is_left(alloc, keeps(5, off), 1_000_004, 3, 1, Choice::Kept));
+    assert!(rt; is_left(alloc, keeps(5, off), 5, 0, 1, Choice::Dropped));
+    Ok(())
+}
+
+#[test]
+fn prefixes_stay(rt: HostRuntime) -> Result<(), Fail> {
+    let alloc = rt.alloc();
+    let prefix = PartialWriteMode::Prefix;
+    assert!(rt; is_left(alloc, keeps(0, prefix), 5, 2, 2, Choice::Prefix(2)));
+    assert!(rt; is_left(alloc, keeps(5, prefix), 6, 3, 2, Choice::Prefix(3)));
+    assert!(rt; is_left(alloc, keeps(5, prefix), 7, 0, 2, Choice::Prefix(0)));
+    assert!(rt; is_left(alloc, keeps(5, prefix), 4, 3, 1, Choice::Kept));
+    Ok(())
+}
+
+#[test]
+fn synced_bytes_stay(rt: HostRuntime) -> Result<(), Fail> {
+    match left(rt.alloc(), WriteConfig::default(), true, 7) {
+        Ok((len, draws, choices)) => assert_eq!(rt; (len, draws, choices.len()), (3, 0, 0)),
+        Err(error) => panic!(rt; "{error}"),
+    }
+    Ok(())
+}
+
+// Two blobs crash in the order of their partitions, and a snapshot of them makes a store.
+fn of_two(alloc: Global) -> Result<(usize, u64, u64), Error> {
+    let mut faults = FaultConfig::default();
+    faults.write.keep = 1;
+    let mut store = MemStore::new(alloc, FaultConfig::default())?;
+    *store.config_mut() = faults;
+    keep(alloc, &mut store, "q", false)?;
+    keep(alloc, &mut store, "p", false)?;
+    let draws = store.crash_draws();
+    let _ = crash(alloc, &mut store, &mut Numbers { next: 0 })?;
+    let mut again = MemStore::from_snapshot(store.snapshot(), faults);
+    Ok((
+        draws,
+        make(&mut again, "p", b"n")?,
+        make(&mut again, "q", b"n")?,
+    ))
+}
+
+#[test]
+fn partitions_crash_in_order(rt: HostRuntime) -> Result<(), Fail> {
+    assert_eq!(rt; of_two(rt.alloc()), Ok((4, 3, 0)));
+    Ok(())
+}
+
+fn admitted(alloc: Global) -> Result<(usize, u64), Error> {
+    let mut store = MemStore::new(alloc, FaultConfig::default())?;
+    keep(alloc, &mut store, "p", false)?;
+    store.admit("p", b"n");
+    store.admit("p", b"m");
+    store.admit("q", b"n");
+    let choices = crash(alloc, &mut store, &mut NoEnv)?;
+    Ok((choices.len(), make(&mut store, "p", b"n")?))
+}
+
+#[test]
+fn admitted_bytes_stay(rt: HostRuntime) -> Result<(), Fail> {
+    assert_eq!(rt; admitted(rt.alloc()), Ok((0, 3)));
     Ok(())
 }

@@ -1,0 +1,17 @@
+use Rattle.std.proofs.Common.{◌≡◌, ◌<◌, Some, length, ap, arith, rules}
+use Rattle.std.specs.Prelude.{slice_get}
+use Rattle.rt_store.proofs.Counting.{count_set, there}
+use Rattle.rt_store.specs.File.{FileState}
+use Rattle.rt_store.specs.Store.{count_later}
+use Rattle.rt_store.proofs.files.Files.admit.Goals as goal
+
+pub returns-clause-later : goal.returns-clause-later
+returns-clause-later c =
+    let files = c.self.inside.files.items in
+    let old = c.index_mut.result.now in
+    let within : c.args.place < length files = search rules in
+    let at : slice_get files c.args.place ≡ Some old = there files c.args.place old within c.index_mut.ensures.value in
+    let set = count_set files c.args.place old c.sync.new.self at in
+    let none = ap (λ (b : FileState). length b.later) c.sync.ensures.synced in
+    let view = ap count_later c.self.view_is in
+    omega (arith, c.sync.ensures.later)

@@ -1,0 +1,6 @@
+use Rattle.std.proofs.Common.{◌≡◌, ◌++◌, map, take, drop}
+use Rattle.rt_store.specs.File.{closed}
+use Rattle.rt_store.proofs.files.close_each.Given as goal
+
+abbrev pub invariant-loop-file : goal.invariant-loop-file
+invariant-loop-file l = l.files ≡ map closed (take l.file-index l.fn.files) ++ drop l.file-index l.fn.files
