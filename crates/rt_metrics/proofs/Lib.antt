@@ -1,3 +1,5 @@
+pub mod Coherence
 pub mod Escapes
 pub mod Headers
+pub mod Lookups
 pub mod Maps

@@ -2,3 +2,4 @@ pub mod Registry
 pub mod MetricText
 pub mod Labels
 pub mod Batches
+pub mod Coherence

@@ -67,8 +67,11 @@ abbrev pub claims_of : RegistryState → ℕ → ℕ
 claims_of r id = option_map_or (λ m. m.claims) (metric_of r id) 0
 
 -- the number of the metric with this name and these attributes
+abbrev pub member_in : List (List ℕ × FamilyState) → List ℕ → Pairs → Option ℕ
+member_in families name attributes = option_map_or (λ f. lookup (same_pairs attributes) f.members) (lookup (is_at (text_cmp name)) families) None
+
 abbrev pub member_of : RegistryState → List ℕ → Pairs → Option ℕ
-member_of r name attributes = option_map_or (λ f. lookup (same_pairs attributes) f.members) (family_of r name) None
+member_of r name attributes = member_in r.families name attributes
 
 -- values
 

@@ -1,8 +1,9 @@
 // The registry of metrics.
-ghost use Rattle.std.specs.Prelude.{◌≡◌, ◌⊎◌, ◌↔◌, ◌<◌, ◌≤◌, Some, None, Err, ℕ, nat_eq, IsTrue, IfOk, IfErr, OnErr, OnOk, false};
-ghost use Rattle.std.specs.Option.{option_copied};
+ghost use Rattle.std.specs.Prelude.{◌≡◌, ◌⊎◌, ◌↔◌, ◌<◌, ◌≤◌, Some, None, Err, ℕ, List, nat_eq, nat_lt, IsTrue, IfOk, IfErr, OnErr, OnOk, false};
+ghost use Rattle.std.specs.Option.{option_copied, option_map_or};
 ghost use Rattle.rt_base.specs.Label.{is_label};
-ghost use Rattle.rt_metrics.specs.Registry.{first_registry, is_held, claims_of, claimed, released, registered, family_of, member_of, value_of, metric_of, refusal, claim_number, with_claim, child_of, child_number, has_child, with_child, without_child, lowered, levelled_at, counted, levelled, with_member, without_member, without_value, family_refusal};
+ghost use Rattle.rt_metrics.specs.Coherence.{IsCoherent, ChangesOne};
+ghost use Rattle.rt_metrics.specs.Registry.{Pairs, first_registry, first_sample, is_held, claims_of, claimed, released, registered, family_of, member_of, value_of, metric_of, refusal, claim_number, with_claim, child_of, child_number, has_child, with_child, without_child, lowered, levelled_at, counted, levelled, with_member, without_member, without_value, family_refusal};
 ghost use Rattle.indexmap.specs.IndexMap.{insert_entry, spare};
 ghost use Rattle.std.specs.List.{fold};
 ghost use Rattle.std.specs.Map.{values_of};
@@ -36,10 +37,13 @@ pub struct Registry {
 
 impl Model for Registry {
     ghost use Rattle.rt_metrics.specs.Registry.{RegistryState};
+    ghost use Rattle.rt_metrics.specs.Coherence.{Agree};
 
     ghost Value = { RegistryState };
 
     ghost view = { λ r. record { families = r.families.entries; metrics = r.metrics.entries; values = r.values.entries; next = r.next } };
+
+    ghost invariant = { λ r. Agree r.families.entries r.metrics.entries r.next };
 }
 
 impl Registry {
@@ -56,16 +60,21 @@ impl Registry {
         }
     }
 
-    /// Whether a metric has this number.
+    /// Whether a metric has this number. It has one exactly while it is claimed.
     pub fn holds(&self, id: u64) -> bool
-        ensures { result ≡ is_held self.now id }
+        ensures held { result ≡ is_held self.now id }
+        ensures claimed { result ≡ nat_lt 0 (claims_of self.now id) }
     {
         self.metrics.contains_key(&id)
     }
 
     /// How many claims the metric of this number has. 0 where there is none.
+    ///
+    /// There are some exactly while a name with attributes is registered under this number.
     pub fn claims(&self, id: u64) -> u64
-        ensures { result ≡ claims_of self.now id }
+        ensures claims { result ≡ claims_of self.now id }
+        ensures registered { (0 < result) ↔ ((name : List ℕ) × (attributes : Pairs) × (member_of self.now name attributes ≡ Some id)) }
+        ensures coherent { IsCoherent self.now }
     {
         match self.metrics.get(&id) {
             Some(entry) => entry.claims,
@@ -166,6 +175,7 @@ impl Registry {
         attributes: Pairs,
         kind: Kind,
     ) -> Result<u64, NoMemory>
+        requires absent { member_of self.old name attributes ≡ None }
         ensures added { IfOk result (λ id. (id ≡ self.old.next) × (self.new ≡ registered self.old name help.now kind attributes)) }
         ensures refused { OnErr result (self.new ≡ self.old) }
     {
@@ -191,9 +201,7 @@ impl Registry {
             id,
         )?;
         put(&mut self.metrics, id, entry);
-        if let Some(sample) = kind.first_sample() {
-            put(&mut self.values, id, sample);
-        }
+        put_first(&mut self.values, id, kind);
         self.next = next;
         Ok(id)
     }
@@ -263,9 +271,7 @@ impl Registry {
         if let Some(entry) = self.metrics.get_mut(&id) {
             entry.children.insert(labels, child)?;
         }
-        if let Some(sample) = kind.first_sample() {
-            put(&mut self.values, child, sample);
-        }
+        put_first(&mut self.values, child, kind);
         self.next = next;
         Ok(child)
     }
@@ -332,6 +338,16 @@ fn put<V: Drop>(map: &mut IndexMap<u64, V>, id: u64, value: V)
     }
 }
 
+/// Puts the first value of a kind in, for which there is room. A family has none.
+fn put_first(values: &mut IndexMap<u64, Sample>, id: u64, kind: Kind)
+    requires { 0 < spare values.old }
+    ensures { values.new.entries ≡ option_map_or (insert_entry nat_eq values.old.entries id) (first_sample kind) values.old.entries }
+{
+    if let Some(sample) = kind.first_sample() {
+        put(values, id, sample);
+    }
+}
+
 /// Puts a metric into the family of its name, which is made where it is missing.
 fn join(
     alloc: Global,
@@ -377,7 +393,8 @@ fn forget(values: &mut IndexMap<u64, Sample>, children: &BTreeMap<Text, u64>)
 
 /// Takes the metric with these attributes out of the family of its name.
 fn leave(families: &mut BTreeMap<Text, Family>, name: &Text, attributes: &Pairs)
-    ensures { families.new.entries ≡ without_member families.old.entries name.now attributes.now }
+    ensures left { families.new.entries ≡ without_member families.old.entries name.now attributes.now }
+    ensures change { ChangesOne families.old.entries families.new.entries name.now attributes.now None }
 {
     let Some(family) = families.get_mut(name) else {
         return;
