@@ -148,16 +148,18 @@ impl LabelSet for NoLabels {
 fn text_of_a_counter(rt: HostRuntime) -> Result<(), Fail> {
     let mut registry = Registry::new(rt.alloc());
     let votes = counter(&mut registry, "votes", "Votes")?;
-    let before = raise(&rt, &mut registry, &votes, 3);
-    let text = reads(
-        &rt,
-        &registry,
-        "# HELP votes Votes.\n# TYPE votes counter\nvotes_total 3\n# EOF\n",
-    );
+    let text = raised_text(&rt, &mut registry, &votes);
     give_up(&mut registry, votes);
-    assert_eq!(rt; before, 0);
     text?;
     Ok(())
+}
+
+const RAISED: &str = "# HELP votes Votes.\n# TYPE votes counter\nvotes_total 3\n# EOF\n";
+
+fn raised_text(rt: &impl Abort, registry: &mut Registry, votes: &Counter) -> Result<(), NoMemory> {
+    let before = raise(rt, registry, votes, 3);
+    assert_eq!(rt; before, 0);
+    reads(rt, registry, RAISED)
 }
 
 #[test]
@@ -165,16 +167,34 @@ fn claims_of_a_counter(rt: HostRuntime) -> Result<(), Fail> {
     let mut registry = Registry::new(rt.alloc());
     let first = counter(&mut registry, "votes", "Votes")?;
     let id = first.metric();
-    let second = counter(&mut registry, "votes", "Votes");
-    assert_eq!(rt; registry.claims(id), 2);
-    give_back(&mut registry, second);
-    assert!(rt; registry.holds(id) && registry.claims(id) == 1);
+    claim_again(&rt, &mut registry, id);
     give_up(&mut registry, first);
-    assert!(rt; !registry.holds(id) && registry.claims(id) == 0);
+    claimed(&rt, &registry, id, 0);
     reads(&rt, &registry, "# EOF\n")?;
-    let again = counter(&mut registry, "votes", "Other")?;
-    assert!(rt; again.metric() != id);
-    give_up(&mut registry, again);
+    register_anew(&rt, &mut registry, id)?;
+    Ok(())
+}
+
+/// That the number has so many claims, and a metric exactly where it has some.
+fn claimed(rt: &impl Abort, registry: &Registry, id: u64, claims: u64) {
+    assert_eq!(rt; registry.claims(id), claims);
+    assert_eq!(rt; registry.holds(id), claims > 0);
+}
+
+/// A second claim, which is given back.
+fn claim_again(rt: &impl Abort, registry: &mut Registry, id: u64) {
+    let second = counter(registry, "votes", "Votes");
+    claimed(rt, registry, id, 2);
+    give_back(registry, second);
+    claimed(rt, registry, id, 1);
+}
+
+/// The name again, with another help and under another number.
+fn register_anew(rt: &impl Abort, registry: &mut Registry, id: u64) -> Result<(), Error> {
+    let again = counter(registry, "votes", "Other")?;
+    let new = again.metric();
+    give_up(registry, again);
+    assert!(rt; new != id);
     Ok(())
 }
 
@@ -183,16 +203,28 @@ fn batches_of_a_counter(rt: HostRuntime) -> Result<(), Fail> {
     let mut registry = Registry::new(rt.alloc());
     let votes = counter(&mut registry, "votes", "Votes")?;
     let mut batch: Batched<raw::Counter> = Batched::new(votes.metric(), 3);
-    for (shared, own) in [(0, 1), (0, 2), (3, 3), (3, 4), (3, 5), (6, 6)] {
+    for totals in [(0, 1), (0, 2), (3, 3), (3, 4), (3, 5), (6, 6)] {
         tick(&mut registry, &mut batch);
-        assert!(rt; count(&rt, &registry, &votes) == shared && batch.get() == own);
+        counts(&rt, &registry, &votes, &batch, totals);
     }
     batch.inc_by(&mut registry, 5);
-    assert!(rt; count(&rt, &registry, &votes) == 6 && batch.get() == 11);
+    counts(&rt, &registry, &votes, &batch, (6, 11));
     batch.release(&mut registry);
     assert_eq!(rt; count(&rt, &registry, &votes), 11);
     give_up(&mut registry, votes);
     Ok(())
+}
+
+/// What the counter and the batch know.
+fn counts(
+    rt: &impl Abort,
+    registry: &Registry,
+    votes: &Counter,
+    batch: &Batched<raw::Counter>,
+    totals: (u64, u64),
+) {
+    assert_eq!(rt; count(rt, registry, votes), totals.0);
+    assert_eq!(rt; batch.get(), totals.1);
 }
 
 #[test]
@@ -200,20 +232,34 @@ fn batches_of_a_gauge(rt: HostRuntime) -> Result<(), Fail> {
     let mut registry = Registry::new(rt.alloc());
     let load = gauge(&mut registry, "load")?;
     let mut batch: Batched<raw::Gauge> = Batched::new(load.metric(), 2);
-    batch.inc(&mut registry);
-    batch.dec(&mut registry);
-    assert_eq!(rt; level(&rt, &registry, &load), 0);
-    batch.dec_by(&mut registry, 3);
-    batch.inc(&mut registry);
-    assert_eq!(rt; level(&rt, &registry, &load), -2);
-    batch.set(&mut registry, 5);
-    batch.set(&mut registry, 5);
-    assert!(rt; level(&rt, &registry, &load) == 5 && batch.get() == 5);
+    move_both_ways(&rt, &mut registry, &load, &mut batch);
+    settle(&rt, &mut registry, &load, &mut batch);
     batch.inc_by(&mut registry, -9);
     give_up(&mut registry, load);
     batch.release(&mut registry);
     reads(&rt, &registry, "# EOF\n")?;
     Ok(())
+}
+
+fn move_both_ways(
+    rt: &impl Abort,
+    registry: &mut Registry,
+    load: &Gauge,
+    batch: &mut Batched<raw::Gauge>,
+) {
+    batch.inc(registry);
+    batch.dec(registry);
+    assert_eq!(rt; level(rt, registry, load), 0);
+    batch.dec_by(registry, 3);
+    batch.inc(registry);
+    assert_eq!(rt; level(rt, registry, load), -2);
+}
+
+fn settle(rt: &impl Abort, registry: &mut Registry, load: &Gauge, batch: &mut Batched<raw::Gauge>) {
+    batch.set(registry, 5);
+    batch.set(registry, 5);
+    assert_eq!(rt; level(rt, registry, load), 5);
+    assert_eq!(rt; batch.get(), 5);
 }
 
 const GUARDED: &str = "# HELP calls Calls.\n# TYPE calls counter\n\
@@ -309,17 +355,28 @@ fn text_with_all(rt: HostRuntime) -> Result<(), Fail> {
     let mut registry = Registry::new(rt.alloc());
     let load = grow(rt.alloc(), &mut registry, "a\"b\\c\nd\u{e9}")?;
     let _ = set(&rt, &mut registry, &load, -5);
-    let second = grow(rt.alloc(), &mut registry, "z");
-    let third = grow(rt.alloc(), &mut registry, "y");
-    let full = with_families(&rt, rt.alloc(), &mut registry);
-    give_up(&mut registry, load);
-    let less = reads(&rt, &registry, LESS);
-    give_back(&mut registry, second);
-    give_back(&mut registry, third);
-    full?;
-    less?;
+    let texts = texts_of_three(&rt, rt.alloc(), &mut registry, load);
+    texts?;
     reads(&rt, &registry, "# EOF\n")?;
     Ok(())
+}
+
+/// The text with two gauges more and families, and the text without the first gauge.
+fn texts_of_three(
+    rt: &impl Abort,
+    alloc: Global,
+    registry: &mut Registry,
+    load: Gauge,
+) -> Result<(), Error> {
+    let second = grow(alloc, registry, "z");
+    let third = grow(alloc, registry, "y");
+    let full = with_families(rt, alloc, registry);
+    give_up(registry, load);
+    let less = reads(rt, registry, LESS);
+    give_back(registry, second);
+    give_back(registry, third);
+    full?;
+    Ok(less?)
 }
 
 /// A gauge more.
@@ -404,17 +461,20 @@ fn surface(rt: HostRuntime) -> Result<(), Fail> {
     held(&rt, &registry, votes.metric());
     let more = votes.clone_claim(&mut registry);
     give_up(&mut registry, votes);
-    held(&rt, &registry, more.metric());
-    let before = more.inc(&mut registry);
-    let text = reads(
-        &rt,
-        &registry,
-        "# HELP a_b_votes Votes.\n# TYPE a_b_votes counter\na_b_votes_total 1\n# EOF\n",
-    );
+    let text = scoped_text(&rt, &mut registry, &more);
     give_up(&mut registry, more);
-    assert_eq!(rt; before, 0);
     text?;
     Ok(())
+}
+
+const SCOPED: &str =
+    "# HELP a_b_votes Votes.\n# TYPE a_b_votes counter\na_b_votes_total 1\n# EOF\n";
+
+fn scoped_text(rt: &impl Abort, registry: &mut Registry, votes: &Counter) -> Result<(), NoMemory> {
+    held(rt, registry, votes.metric());
+    let before = votes.inc(registry);
+    assert_eq!(rt; before, 0);
+    reads(rt, registry, SCOPED)
 }
 
 fn scoped(registry: &mut Registry) -> Result<Counter, Error> {
@@ -427,16 +487,28 @@ fn scoped(registry: &mut Registry) -> Result<Counter, Error> {
 fn surface_of_gauges(rt: HostRuntime) -> Result<(), Fail> {
     let mut registry = Registry::new(rt.alloc());
     let load = gauge(&mut registry, "load")?;
-    assert_eq!(rt; up(&rt, &mut registry, &load), (0, 1));
-    assert_eq!(rt; down(&rt, &mut registry, &load), (6, 5));
-    assert_eq!(rt; set(&rt, &mut registry, &load, 3), i64::MIN + 5);
-    assert_eq!(rt; fit(&rt, &mut registry, &load, 8u64), (Some(3), Some(8)));
-    assert_eq!(rt; fit(&rt, &mut registry, &load, u64::MAX), (None, None));
-    assert_eq!(rt; reach(&rt, &mut registry, &load, 4u8), Some(8));
-    assert_eq!(rt; reach(&rt, &mut registry, &load, 9u8), Some(8));
-    assert_eq!(rt; level(&rt, &registry, &load), 9);
+    go_up_and_down(&rt, &mut registry, &load);
+    fit_values(&rt, &mut registry, &load);
+    reach_values(&rt, &mut registry, &load);
     give_up(&mut registry, load);
     Ok(())
+}
+
+fn go_up_and_down(rt: &impl Abort, registry: &mut Registry, load: &Gauge) {
+    assert_eq!(rt; up(rt, registry, load), (0, 1));
+    assert_eq!(rt; down(rt, registry, load), (6, 5));
+    assert_eq!(rt; set(rt, registry, load, 3), i64::MIN + 5);
+}
+
+fn fit_values(rt: &impl Abort, registry: &mut Registry, load: &Gauge) {
+    assert_eq!(rt; fit(rt, registry, load, 8u64), (Some(3), Some(8)));
+    assert_eq!(rt; fit(rt, registry, load, u64::MAX), (None, None));
+}
+
+fn reach_values(rt: &impl Abort, registry: &mut Registry, load: &Gauge) {
+    assert_eq!(rt; reach(rt, registry, load, 4u8), Some(8));
+    assert_eq!(rt; reach(rt, registry, load, 9u8), Some(8));
+    assert_eq!(rt; level(rt, registry, load), 9);
 }
 
 fn up(rt: &impl Abort, registry: &mut Registry, load: &Gauge) -> (i64, i64) {
@@ -497,13 +569,18 @@ fn count_statuses(
 
 #[test]
 fn surface_of_tasks(rt: HostRuntime) -> Result<(), Fail> {
-    let name = String::from_str(rt.alloc(), "p_c")?;
+    labels_of_a_copy(&rt, rt.alloc())?;
+    let alone = task::Label::task(String::new(rt.alloc()), Execution::Dedicated);
+    assert!(rt; has_execution(rt.alloc(), &alone, "Dedicated")?);
+    Ok(())
+}
+
+fn labels_of_a_copy(rt: &impl Abort, alloc: Global) -> Result<(), NoMemory> {
+    let name = String::from_str(alloc, "p_c")?;
     let label = task::Label::task(name, Execution::Shared(true));
     let copy = label.clone_value()?;
     assert_eq!(rt; copy.name(), "p_c");
-    assert!(rt; has_execution(rt.alloc(), &copy, "SharedBlocking")?);
-    let alone = task::Label::task(String::new(rt.alloc()), Execution::Dedicated);
-    assert!(rt; has_execution(rt.alloc(), &alone, "Dedicated")?);
+    assert!(rt; has_execution(alloc, &copy, "SharedBlocking")?);
     Ok(())
 }
 
@@ -520,10 +597,14 @@ fn surface_of_detached(rt: HostRuntime) -> Result<(), Fail> {
     counter.add_gauge(0, 5);
     assert_eq!(rt; counter.get(), 2);
     assert_eq!(rt; counter.release(), 7);
+    detached_gauge(&rt);
+    Ok(())
+}
+
+fn detached_gauge(rt: &impl Abort) {
     let mut gauge: Detached<raw::Gauge, u8> = Detached::with_registration(8);
     gauge.add_gauge(0, -3);
     gauge.add_counter(0, 9);
     assert_eq!(rt; gauge.get(), -3);
     assert_eq!(rt; gauge.release(), 8);
-    Ok(())
 }
