@@ -1,0 +1,4 @@
+pub mod Flat
+pub mod Memory
+pub mod Noting
+pub mod Written

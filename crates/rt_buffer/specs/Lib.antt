@@ -1,0 +1,3 @@
+pub mod Flat
+pub mod Reading
+pub mod Tip

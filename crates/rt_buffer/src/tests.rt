@@ -1,0 +1,191 @@
+// The worked examples, and each call once.
+
+ghost use Rattle.std.specs.Prelude.{◌≡◌, IfOk, take, drop};
+ghost use Rattle.rt_buffer.specs.Flat.{StandsFor};
+ghost use Rattle.rt_store.specs.Calls.{blob_of};
+ghost use Rattle.rt_store.specs.Store.{content_at};
+
+use crate::{Buffer, Read};
+use rt_base::{Error, NoEnv, NoMemory, WriteOptions};
+use rt_bufs::{IoBuf, IoBufs};
+use rt_store::{BlobOf, Done, FaultConfig, MemStore, Storage};
+use std::alloc::Global;
+use std::process::Abort;
+use std::test::Fail;
+
+/// That the tip has these bytes from an offset on.
+fn has(rt: &impl Abort, tip: &Buffer, offset: u64, bytes: &[u8]) {
+    assert!(rt; tip.as_slice() == bytes);
+    assert_eq!(rt; tip.offset(), offset);
+    assert_eq!(rt; tip.is_empty(), bytes.is_empty());
+}
+
+/// A write at an offset, whether it goes in, and the bytes after it.
+type Merge = (u64, &'static [u8], bool, &'static [u8]);
+
+const MERGES: [Merge; 9] = [
+    (10, b"abc", true, b"abc"),
+    (13, b"d", true, b"abcd"),
+    (11, b"XY", true, b"aXYd"),
+    (9, b"q", false, b"aXYd"),
+    (16, b"z", true, b"aXYd\0\0z"),
+    (17, b"12", false, b"aXYd\0\0z"),
+    (17, b"", true, b"aXYd\0\0z"),
+    (18, b"", true, b"aXYd\0\0z\0"),
+    (u64::MAX, b"a", false, b"aXYd\0\0z\0"),
+];
+
+#[test]
+fn tip_merges(rt: HostRuntime) -> Result<(), Fail> {
+    let mut tip = Buffer::new(rt.alloc(), 10, 8);
+    for (offset, bytes, within, after) in MERGES {
+        assert_eq!(rt; tip.merge(bytes, offset)?, within);
+        has(&rt, &tip, 10, after);
+    }
+    assert_eq!(rt; tip.size(), 18);
+    Ok(())
+}
+
+/// That these are the bytes and the offset that were taken.
+fn took(rt: &impl Abort, taken: Option<(IoBuf, u64)>, offset: u64, bytes: &[u8]) {
+    match taken {
+        Some((buf, at)) => {
+            assert!(rt; buf.as_slice() == bytes);
+            assert_eq!(rt; at, offset);
+        }
+        None => assert!(rt; bytes.is_empty()),
+    }
+}
+
+#[test]
+fn tip_is_taken(rt: HostRuntime) -> Result<(), Fail> {
+    let mut tip = Buffer::new(rt.alloc(), 3, 4);
+    assert!(rt; tip.take()?.is_none());
+    let _ = tip.merge(b"abc", 3)?;
+    assert!(rt; tip.slice(1, 3)?.as_slice() == b"bc".as_slice());
+    took(&rt, tip.take()?, 3, b"abc");
+    has(&rt, &tip, 6, b"");
+    Ok(())
+}
+
+/// A new length, what is to be written out before it, and the tip after it.
+type Resize = (u64, &'static [u8], u64, &'static [u8]);
+
+const RESIZES: [Resize; 6] = [
+    (7, b"abc", 7, b""),
+    (6, b"abc", 6, b""),
+    (5, b"", 3, b"ab"),
+    (3, b"", 3, b""),
+    (1, b"", 1, b""),
+    (u64::MAX, b"abc", u64::MAX, b""),
+];
+
+#[test]
+fn tip_is_resized(rt: HostRuntime) -> Result<(), Fail> {
+    for (len, before, offset, after) in RESIZES {
+        let mut tip = Buffer::new(rt.alloc(), 3, 4);
+        let _ = tip.merge(b"abc", 3)?;
+        took(&rt, tip.resize(len)?, 3, before);
+        has(&rt, &tip, offset, after);
+    }
+    Ok(())
+}
+
+/// Buffers of these bytes.
+fn bufs(alloc: Global, bytes: &[u8]) -> Result<IoBufs, NoMemory> {
+    let mut copy = Vec::new(alloc);
+    copy.extend_from_slice(bytes)?;
+    IoBufs::from_buf(alloc, IoBuf::from_vec(copy)?)
+}
+
+/// Writes to a blob of a store in memory.
+fn write(store: &mut MemStore, blob: &BlobOf<MemStore>, bytes: IoBufs) -> Result<(), Error> {
+    match store.write_at(&mut NoEnv, blob, 0, bytes, WriteOptions::default()) {
+        Ok(Done::Now) => Ok(()),
+        Ok(Done::Gated(ticket)) => {
+            store.give_up_sync(ticket);
+            Err(Error::Timeout)
+        }
+        Err(error) => Err(error),
+    }
+}
+
+/// A read of so many bytes, by what the blob has in the store.
+fn next(reader: &mut Read<MemStore>, store: &mut MemStore, len: usize) -> Result<IoBufs, Error>
+    ensures bytes { StandsFor reader.old.ahead (content_at (blob_of store.old reader.old.blob)) → IfOk result (λ b. b.bytes ≡ take len (drop reader.old.ahead.position (content_at (blob_of store.old reader.old.blob)))) }
+    ensures stands { StandsFor reader.old.ahead (content_at (blob_of store.old reader.old.blob)) → StandsFor reader.new.ahead (content_at (blob_of store.new reader.old.blob)) }
+{
+    reader.read(store, &mut NoEnv, len)
+}
+
+/// Whether these bytes were read.
+fn are(bytes: Result<IoBufs, Error>, expected: &[u8]) -> bool {
+    match bytes {
+        Ok(bytes) => match bytes.coalesce() {
+            Ok(buf) => buf.as_slice() == expected,
+            Err(_) => false,
+        },
+        Err(_) => false,
+    }
+}
+
+/// That these are the bytes that were read, and that so many are held and left.
+fn gave(
+    rt: &impl Abort,
+    reader: &Read<MemStore>,
+    bytes: Result<IoBufs, Error>,
+    expected: &[u8],
+    left: (usize, u64),
+) {
+    assert!(rt; are(bytes, expected));
+    assert_eq!(rt; (reader.buffer_remaining(), reader.blob_remaining()), left);
+}
+
+/// Reads of `hello world!` by buffers of 8: the bytes, how many are held after them and how many left.
+const READS: [(usize, &[u8], (usize, u64)); 4] = [
+    (3, b"hel", (5, 9)),
+    (0, b"", (5, 9)),
+    (7, b"lo worl", (2, 2)),
+    (2, b"d!", (0, 0)),
+];
+
+fn reads(rt: &impl Abort, store: &mut MemStore, reader: &mut Read<MemStore>) {
+    for (len, expected, left) in READS {
+        let bytes = next(reader, store, len);
+        gave(rt, reader, bytes, expected, left);
+    }
+    assert_eq!(rt; next(reader, store, 1).is_err(), true);
+    assert_eq!(rt; (reader.position(), reader.blob_size()), (12, 12));
+}
+
+fn seeks(rt: &impl Abort, store: &mut MemStore, reader: &mut Read<MemStore>) -> Result<(), Error> {
+    reader.seek_to(0)?;
+    let bytes = next(reader, store, 3);
+    gave(rt, reader, bytes, b"hel", (5, 9));
+    reader.seek_to(6)?;
+    assert_eq!(rt; reader.buffer_remaining(), 2);
+    reader.seek_to(5)?;
+    assert_eq!(rt; reader.buffer_remaining(), 0);
+    assert_eq!(rt; reader.seek_to(13), Err(Error::BlobInsufficientLength));
+    assert_eq!(rt; reader.position(), 5);
+    Ok(())
+}
+
+#[test]
+fn blob_is_read_by_buffers(rt: HostRuntime) -> Result<(), Fail> {
+    let alloc = rt.alloc();
+    let mut store = MemStore::new(alloc, FaultConfig::default())?;
+    let text = bufs(alloc, b"hello world!")?;
+    match store.open(&mut NoEnv, "p", b"a") {
+        Ok((blob, _)) => {
+            let written = write(&mut store, &blob, text);
+            let mut reader = Read::new(alloc, blob, 12, 8);
+            reads(&rt, &mut store, &mut reader);
+            let sought = seeks(&rt, &mut store, &mut reader);
+            reader.close(&mut store);
+            assert_eq!(rt; (written, sought), (Ok(()), Ok(())));
+        }
+        Err(error) => panic!(rt; "{error}"),
+    }
+    Ok(())
+}
