@@ -608,3 +608,111 @@ fn detached_gauge(rt: &impl Abort) {
     assert_eq!(rt; gauge.get(), -3);
     assert_eq!(rt; gauge.release(), 8);
 }
+
+#[test]
+fn numbers_at_their_bounds(rt: HostRuntime) -> Result<(), Fail> {
+    let mut registry = Registry::new(rt.alloc());
+    let votes = counter(&mut registry, "votes", "Votes")?;
+    wrap_a_counter(&rt, &mut registry, &votes);
+    give_up(&mut registry, votes);
+    let load = gauge(&mut registry, "load")?;
+    wrap_a_gauge(&rt, &mut registry, &load);
+    give_up(&mut registry, load);
+    Ok(())
+}
+
+fn wrap_a_counter(rt: &impl Abort, registry: &mut Registry, votes: &Counter) {
+    for (by, before) in [
+        (u64::MAX, 0),
+        (1, u64::MAX),
+        (u64::MAX, 0),
+        (2, u64::MAX),
+        (0, 1),
+    ] {
+        assert_eq!(rt; raise(rt, registry, votes, by), before);
+    }
+}
+
+fn wrap_a_gauge(rt: &impl Abort, registry: &mut Registry, load: &Gauge) {
+    assert_eq!(rt; set(rt, registry, load, i64::MAX), 0);
+    assert_eq!(rt; up(rt, registry, load), (i64::MAX, i64::MIN));
+    assert_eq!(rt; set(rt, registry, load, i64::MIN), i64::MIN + 5);
+    assert_eq!(rt; down(rt, registry, load), (i64::MIN, i64::MAX));
+}
+
+/// How many gauges one name has at once.
+const SERIES: u32 = 2_000;
+
+#[test]
+fn thousands_of_series(rt: HostRuntime) -> Result<(), Fail> {
+    let mut registry = Registry::new(rt.alloc());
+    series(&rt, rt.alloc(), &mut registry, SERIES)?;
+    reads(&rt, &registry, "# EOF\n")?;
+    Ok(())
+}
+
+/// So many gauges at once, which are given up in turn.
+fn series(rt: &impl Abort, alloc: Global, registry: &mut Registry, left: u32) -> Result<(), Error> {
+    if left == 0 {
+        return Ok(has_lines(rt, registry, SERIES as usize + 3)?);
+    }
+    let host = format!(in alloc; "{left}")?;
+    let load = grow(alloc, registry, host.as_str())?;
+    let others = series(rt, alloc, registry, left - 1);
+    give_up(registry, load);
+    others
+}
+
+/// That the text has so many lines.
+fn has_lines(rt: &impl Abort, registry: &Registry, lines: usize) -> Result<(), NoMemory> {
+    let text = registry.encode()?;
+    let mut ends = 0usize;
+    for byte in text.as_str().as_bytes() {
+        if *byte == b'\n' {
+            ends = ends.saturating_add(1);
+        }
+    }
+    assert_eq!(rt; ends, lines);
+    Ok(())
+}
+
+/// A text of so many letters.
+fn letters(alloc: Global, count: usize) -> Result<String, NoMemory> {
+    let mut text = String::new(alloc);
+    for _ in 0..count {
+        text.push('x')?;
+    }
+    Ok(text)
+}
+
+/// Letters of a long name, help and label.
+const LONG: usize = 65_536;
+
+#[test]
+fn longest_texts(rt: HostRuntime) -> Result<(), Fail> {
+    let mut registry = Registry::new(rt.alloc());
+    let long = letters(rt.alloc(), LONG)?;
+    let labels = attribute(rt.alloc(), long.as_str(), long.as_str())?;
+    let load: Gauge = registry.register(long.as_str(), long.as_str(), &labels)?;
+    let text = has_length(&rt, &registry, 6 * LONG);
+    give_up(&mut registry, load);
+    text?;
+    refuse_long(&rt, &mut registry, long)?;
+    Ok(())
+}
+
+/// That the text is as long as so many letters and what stands between them.
+fn has_length(rt: &impl Abort, registry: &Registry, letters: usize) -> Result<(), NoMemory> {
+    let text = registry.encode()?;
+    let between = "# HELP  .\n# TYPE  gauge\n{=\"\"} 0\n# EOF\n";
+    assert_eq!(rt; text.as_str().len(), letters.saturating_add(between.len()));
+    Ok(())
+}
+
+/// That a long name with a dash at its end is refused.
+fn refuse_long(rt: &impl Abort, registry: &mut Registry, name: String) -> Result<(), NoMemory> {
+    let mut name = name;
+    name.push('-')?;
+    refuse::<raw::Gauge>(rt, registry, name.as_str(), "Load", MetricError::BadLabel);
+    Ok(())
+}
