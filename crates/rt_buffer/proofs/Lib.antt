@@ -1,4 +1,5 @@
 pub mod Flat
+pub mod Laid
 pub mod Memory
 pub mod Noting
 pub mod Written

@@ -4,9 +4,13 @@
 
 mod ahead;
 mod read;
+mod sync_state;
 #[cfg(test)]
 mod tests;
 mod tip;
+mod write;
 
 pub use read::Read;
+pub use sync_state::SyncState;
 pub use tip::Buffer;
+pub use write::Write;

@@ -5,7 +5,7 @@ ghost use Rattle.rt_buffer.specs.Flat.{StandsFor};
 ghost use Rattle.rt_store.specs.Calls.{blob_of};
 ghost use Rattle.rt_store.specs.Store.{content_at};
 
-use crate::{Buffer, Read};
+use crate::{Buffer, Read, Write};
 use rt_base::{Error, NoEnv, NoMemory, WriteOptions};
 use rt_bufs::{IoBuf, IoBufs};
 use rt_store::{BlobOf, Done, FaultConfig, MemStore, Storage};
@@ -184,6 +184,59 @@ fn blob_is_read_by_buffers(rt: HostRuntime) -> Result<(), Fail> {
             let sought = seeks(&rt, &mut store, &mut reader);
             reader.close(&mut store);
             assert_eq!(rt; (written, sought), (Ok(()), Ok(())));
+        }
+        Err(error) => panic!(rt; "{error}"),
+    }
+    Ok(())
+}
+
+/// Reads of `hello world`, of which `hello` lies in the blob: where, how many bytes, and which.
+const SEEN: [(u64, usize, &[u8]); 5] = [
+    (0, 11, b"hello world"),
+    (1, 3, b"ell"),
+    (4, 3, b"o w"),
+    (5, 6, b" world"),
+    (2, 0, b""),
+];
+
+fn sees(rt: &impl Abort, store: &mut MemStore, writer: &Write<MemStore>) {
+    for (offset, len, expected) in SEEN {
+        assert!(rt; are(writer.read_at(store, &mut NoEnv, offset, len), expected));
+    }
+    assert!(rt; refuses(store, writer, 11, Error::BlobInsufficientLength));
+    assert!(rt; refuses(store, writer, u64::MAX, Error::OffsetOverflow));
+}
+
+/// Whether a read of one byte is refused so.
+fn refuses(store: &mut MemStore, writer: &Write<MemStore>, offset: u64, why: Error) -> bool {
+    match writer.read_at(store, &mut NoEnv, offset, 1) {
+        Ok(_) => false,
+        Err(error) => error == why,
+    }
+}
+
+/// Writes into the tip of a writer behind `hello`.
+fn extend(rt: &impl Abort, writer: &mut Write<MemStore>) -> Result<(), NoMemory> {
+    assert!(rt; writer.try_write_at(5, b" world")?);
+    assert!(rt; !writer.try_write_at(4, b"x")?);
+    assert!(rt; writer.try_write_at(0, b"")?);
+    assert_eq!(rt; (writer.size(), writer.needs_sync()), (11, true));
+    Ok(())
+}
+
+#[test]
+fn tip_is_read_over_its_blob(rt: HostRuntime) -> Result<(), Fail> {
+    let alloc = rt.alloc();
+    let mut store = MemStore::new(alloc, FaultConfig::default())?;
+    let text = bufs(alloc, b"hello")?;
+    match store.open(&mut NoEnv, "p", b"a") {
+        Ok((blob, _)) => {
+            let written = write(&mut store, &blob, text);
+            let mut writer = Write::new(alloc, blob, 5, 16);
+            let extended = extend(&rt, &mut writer);
+            sees(&rt, &mut store, &writer);
+            writer.close(&mut store);
+            assert_eq!(rt; (written, extended.is_ok()), (Ok(()), true));
         }
         Err(error) => panic!(rt; "{error}"),
     }

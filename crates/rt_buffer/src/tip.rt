@@ -44,14 +44,16 @@ impl Buffer {
 
     /// Where its bytes begin.
     pub fn offset(&self) -> u64
-        ensures { result ≡ self.now.offset }
+        ensures offset { result ≡ self.now.offset }
+        ensures fits { end_of self.now < 2 ^ 64 }
     {
         self.offset
     }
 
     /// The end of its bytes.
     pub fn size(&self) -> u64
-        ensures { result ≡ end_of self.now }
+        ensures end { result ≡ end_of self.now }
+        ensures fits { end_of self.now < 2 ^ 64 }
     {
         self.offset + self.bytes.len() as u64
     }

@@ -1,0 +1,60 @@
+-- What a writer answers from its tip and its blob.
+use Rattle.std.specs.Prelude.{◌≡◌, ℕ, ◌-◌, ◌≤◌, min, Bool, true, false, not, ◌||◌, List, [], ◌∷◌, ◌++◌, length, take, drop, Result, Ok, Err}
+use Rattle.rt_base.specs.Counted.{Counts}
+use Rattle.rt_base.specs.declared.error.Error.{Error}
+use Rattle.rt_base.specs.declared.error.Error.TheVariants.{NoMemory}
+use Rattle.rt_base.specs.declared.options.ReadOptions.{ReadOptions}
+use Rattle.rt_base.specs.Noted.{Noted}
+use Rattle.rt_bufs.specs.Chunked.{Chunked}
+use Rattle.rt_bufs.specs.WritableChunks.{WritableChunks}
+use Rattle.rt_buffer.specs.declared.sync_state.SyncState.{SyncState}
+use Rattle.rt_buffer.specs.declared.sync_state.SyncState.TheVariants.{Clean, Dirty, Started}
+use Rattle.rt_store.specs.declared.ticket.Ticket.{Ticket}
+use Rattle.rt_buffer.specs.Reading.{no_hints}
+use Rattle.rt_buffer.specs.Tip.{Tip, end_of}
+
+abbrev pub is_clean : SyncState → Bool
+is_clean Clean = true
+is_clean Dirty = false
+is_clean (Started t) = false
+
+abbrev pub has_bytes : List ℕ → Bool
+has_bytes [] = false
+has_bytes (b ∷ bs) = true
+
+-- bytes are held back, or a change may not be durable
+abbrev pub needs_sync : Tip → SyncState → Bool
+needs_sync t s = has_bytes t.bytes || not (is_clean s)
+
+-- a read within the tip
+abbrev pub ReadsTip : Tip → ℕ → ℕ → Result Chunked Error → Type 0
+ReadsTip t offset len (Ok b) = b.bytes ≡ take len (drop (offset - t.offset) t.bytes)
+ReadsTip t offset len (Err e) = e ≡ NoMemory
+
+-- how many bytes of a read lie before the tip
+abbrev pub before_tip : Tip → ℕ → ℕ → ℕ
+before_tip t offset len = min len (t.offset - offset)
+
+-- a read behind that of the bytes before the tip
+abbrev pub AddsTip : Tip → ℕ → Result WritableChunks Error → Result Chunked Error → Type 0
+AddsTip t more (Ok fetched) (Ok b) = b.bytes ≡ fetched.bytes ++ take more t.bytes
+AddsTip t more (Ok fetched) (Err e) = e ≡ NoMemory
+AddsTip t more (Err e) r = r ≡ Err e
+
+-- a read that begins before the tip: one read of the store, up to the tip
+abbrev pub ReadsThrough : {S B : Type 0} → (S → B → ℕ → ℕ → ReadOptions → Result WritableChunks Error → S → List Noted → Type 0) → (S → ℕ) → B → Tip → ℕ → ℕ → S → Result Chunked Error → S → List Noted → Type 0
+ReadsThrough reads refusals blob t offset len old r new x =
+    (fetched : Result WritableChunks Error)
+    × reads old blob offset (before_tip t offset len) no_hints fetched new x
+    × Counts (refusals old) (refusals new) fetched
+    × AddsTip t (len - before_tip t offset len) fetched r
+
+-- a tip lies over the end of a content: it begins within it or at its end, and ends no earlier
+abbrev pub LiesOver : Tip → List ℕ → Type 0
+LiesOver t content = (t.offset ≤ length content) × (length content ≤ end_of t)
+
+-- a started sync is given up, and then the blob is closed
+abbrev pub ClosesWriter : {S B : Type 0} → (S → Ticket → S → Type 0) → (S → B → S → Type 0) → SyncState → B → S → S → Type 0
+ClosesWriter {S} gives_up closes Clean blob old new = closes old blob new
+ClosesWriter {S} gives_up closes Dirty blob old new = closes old blob new
+ClosesWriter {S} gives_up closes (Started t) blob old new = (mid : S) × gives_up old t mid × closes mid blob new
