@@ -468,3 +468,75 @@ fn admitted_bytes_stay(rt: HostRuntime) -> Result<(), Fail> {
     assert_eq!(rt; admitted(rt.alloc()), Ok((0, 3)));
     Ok(())
 }
+
+// Reads that may fault.
+fn each_read<S: Storage>(store: &mut S, blob: &S::Blob) {
+    let none = ReadOptions::default();
+    let _ = store.read_at(&mut NoEnv, blob, 0, 0, none);
+    let _ = store.read_many(&mut NoEnv, blob, &[], none);
+    let _ = store.start_read_many(&mut NoEnv, blob, &[], none);
+}
+
+// Changes that may fault.
+fn each_change<S: Storage>(alloc: Global, store: &mut S, blob: &S::Blob) {
+    let _ = write(alloc, store, blob, 0);
+    let _ = store.resize(&mut NoEnv, blob, 3);
+    let _ = done(store.sync(&mut NoEnv, blob));
+    let _ = sync_later(store, blob);
+}
+
+// Calls by name that may fault.
+fn each_name<S: Storage>(store: &mut S) {
+    let _ = store.scan(&mut NoEnv, "p");
+    let _ = make(store, "p", b"b");
+    let _ = store.remove(&mut NoEnv, "p", Some(b"b"));
+}
+
+// How many of these calls fault.
+fn faults_of(alloc: Global, faults: FaultConfig) -> Result<u64, Error> {
+    let mut store = MemStore::new(alloc, FaultConfig::default())?;
+    make(&mut store, "p", b"b")?;
+    let (blob, _) = store.open(&mut NoEnv, "p", b"a")?;
+    *store.config_mut() = faults;
+    each_read(&mut store, &blob);
+    each_change(alloc, &mut store, &blob);
+    each_name(&mut store);
+    store.close(blob);
+    Ok(store.injected())
+}
+
+fn has_faults(alloc: Global, faults: FaultConfig, count: u64) -> bool {
+    match faults_of(alloc, faults) {
+        Ok(seen) => seen == count,
+        Err(_) => false,
+    }
+}
+
+const HEIGHT: u32 = 1_000_000;
+
+#[test]
+fn each_rate_of_names(rt: HostRuntime) -> Result<(), Fail> {
+    let mut faults = FaultConfig::default();
+    assert!(rt; has_faults(rt.alloc(), faults, 0));
+    faults.open_rate = HEIGHT;
+    assert!(rt; has_faults(rt.alloc(), faults, 1));
+    faults.scan_rate = HEIGHT;
+    assert!(rt; has_faults(rt.alloc(), faults, 2));
+    faults.remove_rate = HEIGHT;
+    assert!(rt; has_faults(rt.alloc(), faults, 3));
+    Ok(())
+}
+
+#[test]
+fn each_rate_of_bytes(rt: HostRuntime) -> Result<(), Fail> {
+    let mut faults = FaultConfig::default();
+    faults.read_rate = HEIGHT;
+    assert!(rt; has_faults(rt.alloc(), faults, 3));
+    faults.sync_rate = HEIGHT;
+    assert!(rt; has_faults(rt.alloc(), faults, 5));
+    faults.write.rate = HEIGHT;
+    assert!(rt; has_faults(rt.alloc(), faults, 6));
+    faults.resize.rate = HEIGHT;
+    assert!(rt; has_faults(rt.alloc(), faults, 7));
+    Ok(())
+}
