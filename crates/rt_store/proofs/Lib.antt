@@ -2,6 +2,7 @@ mod Collected
 mod Counting
 mod Crashing
 mod Drawn
+mod Leading
 mod Named
 mod Redone
 mod Refusing

@@ -1,10 +1,10 @@
 -- A refusal that was found without a draw is the answer of a call that may draw.
-use Rattle.std.proofs.Common.{◌≡◌, ℕ, Bool, true, false, cond, List, [], sym, ap, ◌∙◌, rules}
+use Rattle.std.proofs.Common.{◌≡◌, ℕ, List, [], sym, ap, ◌∙◌, rules}
 use Rattle.std.proofs.lemmas.List.{append-nil}
 use Rattle.std.specs.Prelude.{Option, None, Some}
 use Rattle.rt_base.specs.Counted.{Notes}
 use Rattle.rt_base.specs.declared.error.Error.{Error}
-use Rattle.rt_base.specs.declared.error.Error.TheVariants.{Io, NoMemory, OffsetOverflow, BlobInsufficientLength}
+use Rattle.rt_base.specs.declared.error.Error.TheVariants.{Io, NoMemory}
 use Rattle.rt_base.specs.Noted.{Noted, Adds}
 use Rattle.rt_store.specs.Draws.{Refused}
 
@@ -19,9 +19,3 @@ refused_on refusal rate e h = h
 
 pub noted_refusal : (refusal : Option Error) (rate : ℕ) (e : Error) (old new : Option (List Noted)) → new ≡ old → Refused refusal 0 e [] → Notes old (Refused refusal rate e) new
 noted_refusal refusal rate e old new same h = ([], adds_none old new same, refused_on refusal rate e h)
-
--- a range is refused for one of its two causes
-range-cond : (b c : Bool) (e : Error) → cond b (let o : Option Error = Some OffsetOverflow in o) (cond c (Some BlobInsufficientLength) None) ≡ Some e → Refused (Some e) 0 e []
-range-cond true c e h = search rules
-range-cond false true e h = search rules
-range-cond false false e h = search rules

@@ -7,6 +7,7 @@ pub mod Directory
 pub mod Draws
 pub mod File
 pub mod Kept
+pub mod Leading
 pub mod Lent
 pub mod Reading
 pub mod Store

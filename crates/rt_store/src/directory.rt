@@ -1,5 +1,5 @@
 // The names of blobs, by partition.
-ghost use Rattle.std.specs.Prelude.{◌≡◌, ◌+◌, ◌*◌, ◌<◌, ◌≤◌, ◌++◌, List, [], None, ⊤, is_some, slice_get, vec_len, vec_capacity};
+ghost use Rattle.std.specs.Prelude.{◌≡◌, ◌+◌, ◌*◌, ◌<◌, ◌≤◌, ◌++◌, List, [], None, ⊤, length, slice_get, vec_len, vec_capacity};
 ghost use Rattle.std.specs.Option.{option_copied};
 ghost use Rattle.rt_base.specs.Counted.{Notes};
 ghost use Rattle.rt_base.specs.declared.choice.Choice.{Choice};
@@ -7,6 +7,7 @@ ghost use Rattle.rt_store.specs.Crash.{ChoosesAll, all_crashed};
 ghost use Rattle.rt_store.specs.Store.{count_later};
 ghost use Rattle.rt_store.specs.Directory.{named_numbers, numbers_of, at_name, names_in, number_of, named, unnamed, without_partition, no_partitions};
 ghost use Rattle.rt_store.specs.Draws.{Answers, if_ok};
+ghost use Rattle.rt_store.specs.Leading.{LeadToShelves};
 
 use crate::faults::FaultConfig;
 use crate::files::Files;
@@ -24,15 +25,20 @@ pub struct Directory {
 }
 
 impl Model for Directory {
+    ghost use Rattle.std.specs.Prelude.{length};
     ghost use Rattle.rt_store.specs.Directory.{Partitions};
+    ghost use Rattle.rt_store.specs.Leading.{LeadToShelves};
 
     ghost Value = { Partitions };
 
     ghost view = { λ d. record { shelf = d.partitions; shelves = d.shelves.items } };
+
+    ghost invariant = { λ d. LeadToShelves d.partitions (length d.shelves.items) };
 }
 
 impl Directory {
     /// No partitions.
+    #[tactic(auto, using(crate::proofs::Leading::no_shelves))]
     pub fn new(alloc: Global) -> Directory
         ensures { result ≡ no_partitions }
     {
@@ -45,7 +51,8 @@ impl Directory {
 
     /// The number of the blob of this name.
     pub fn number_of(&self, partition: &[u8], name: &[u8]) -> Option<u64>
-        ensures { result ≡ number_of partition.now name.now self.now }
+        ensures value { result ≡ number_of partition.now name.now self.now }
+        ensures shelves { LeadToShelves self.now.shelf (length self.now.shelves) }
     {
         match self.names_in(partition) {
             Some(names) => names.get(name),
@@ -55,7 +62,8 @@ impl Directory {
 
     /// The names of a partition, where it is there.
     pub fn names_in(&self, partition: &[u8]) -> Option<&Names>
-        ensures { option_copied result ≡ names_in partition.now self.now }
+        ensures value { option_copied result ≡ names_in partition.now self.now }
+        ensures shelves { LeadToShelves self.now.shelf (length self.now.shelves) }
     {
         match self.partitions.get(partition) {
             Some(shelf) => self.shelf(shelf),
@@ -118,29 +126,28 @@ impl Directory {
     }
 
     /// Takes a name away.
+    #[tactic(auto, using(crate::proofs::Leading::shelf_within, crate::proofs::Leading::set_length))]
     pub fn unname(&mut self, partition: &[u8], name: &[u8])
         ensures { self.new ≡ unnamed partition.now name.now self.old }
     {
         if let Some(shelf) = self.partitions.get(partition) {
-            if (shelf as usize) < self.shelves.len() {
-                self.shelves[shelf as usize].remove(name);
-            }
+            self.shelves[shelf as usize].remove(name);
         }
     }
 
     /// Takes a partition away, and with it its names.
+    #[tactic(auto, using(crate::proofs::Leading::shelf_within, crate::proofs::Leading::set_length, crate::proofs::Leading::shelves_without))]
     pub fn remove(&mut self, partition: &[u8])
         ensures { self.new ≡ without_partition partition.now self.old }
     {
         if let Some(shelf) = self.partitions.get(partition) {
-            if (shelf as usize) < self.shelves.len() {
-                self.shelves[shelf as usize].clear();
-            }
+            self.shelves[shelf as usize].clear();
         }
         self.partitions.remove(partition);
     }
 
     /// Gives a name a number, save where a fault is drawn.
+    #[tactic(auto, using(crate::proofs::Leading::shelf_within, crate::proofs::Leading::set_length))]
     pub fn name<E: Env>(
         &mut self,
         env: &mut E,
@@ -156,10 +163,8 @@ impl Directory {
     {
         let key = copy(self.alloc, name)?;
         if let Some(shelf) = self.partitions.get(partition) {
-            if (shelf as usize) < self.shelves.len() {
-                self.shelves[shelf as usize].put(env, rate, key, number)?;
-                return Ok(());
-            }
+            self.shelves[shelf as usize].put(env, rate, key, number)?;
+            return Ok(());
         }
         let mut names = Names::new(self.alloc);
         names.put(&mut NoEnv, 0, key, number)?;

@@ -1,5 +1,5 @@
 // The blobs of a store, by number.
-ghost use Rattle.std.specs.Prelude.{◌≡◌, ◌+◌, ◌*◌, ◌^◌, ◌<◌, ◌≤◌, List, [], ◌∷◌, ◌++◌, ◌-◌, length, map, take, Option, None, ⊤, IfOk, OnOk, OnErr, slice_get, is_some, true, vec_len, vec_capacity};
+ghost use Rattle.std.specs.Prelude.{◌≡◌, ◌+◌, ◌*◌, ◌^◌, ◌<◌, ◌≤◌, List, [], ◌∷◌, ◌++◌, ◌-◌, length, map, take, Option, None, Some, ⊤, IfOk, OnOk, OnErr, slice_get, is_some, true, vec_len, vec_capacity};
 ghost use Rattle.std.specs.Option.{option_copied};
 ghost use Rattle.rt_base.specs.Counted.{Notes};
 ghost use Rattle.rt_base.specs.declared.choice.Choice.{Choice};
@@ -68,11 +68,12 @@ impl Files {
         }
     }
 
-    /// The blob of a number.
-    pub fn get(&self, place: u64) -> Option<&File>
-        ensures { option_copied result ≡ slice_get self.now place }
+    /// The blob of a number that is there.
+    pub fn get(&self, place: u64) -> &File
+        requires { is_some (slice_get self.now place) ≡ true }
+        ensures { Some result.now ≡ slice_get self.now place }
     {
-        self.files.get(place as usize)
+        &self.files[place as usize]
     }
 
     /// Gives a blob that is there a live token.

@@ -12,6 +12,7 @@ ghost use Rattle.rt_store.specs.Directory.{named_numbers};
 ghost use Rattle.rt_store.specs.Draws.{Answers, if_ok};
 ghost use Rattle.rt_store.specs.File.{mutated};
 ghost use Rattle.rt_store.specs.Kept.{empty_store, injected_by, moved_to};
+ghost use Rattle.rt_store.specs.Leading.{IsCoherent};
 ghost use Rattle.rt_store.specs.Store.{count_later, end_refusal, refusal_at};
 ghost use Rattle.rt_store.specs.Whole.{after_admit, after_crash, snapshot_of, store_of};
 
@@ -56,19 +57,21 @@ pub struct MemStore {
 impl Model for MemStore {
     ghost use Rattle.std.specs.Prelude.{◌≡◌, ◌≤◌, ◌^◌};
     ghost use Rattle.rt_store.specs.Kept.{Kept};
+    ghost use Rattle.rt_store.specs.Leading.{LeadToBlobs, removals};
     ghost use Rattle.rt_store.specs.Store.{count_later};
 
     ghost Value = { Kept };
 
     ghost view = { λ m. record { state = record { directory = m.directory; files = m.files; opened = m.opened }; faults = m.faults; injected = m.injected; refusals = m.refusals } };
 
-    ghost invariant = { λ m. (m.later ≡ count_later m.files) × (m.later ≤ 2 ^ 62) };
+    ghost invariant = { λ m. (m.later ≡ count_later m.files) × (m.later ≤ 2 ^ 62) × LeadToBlobs m.directory (removals m.files) };
 }
 
 impl MemStore {
     ghost use Rattle.rt_store.specs.Lent.{LendsFaults};
 
     /// An empty store.
+    #[tactic(auto, using(crate::proofs::Leading::no_blobs))]
     pub fn new(alloc: Global, faults: FaultConfig) -> Result<MemStore, NoMemory>
         ensures { IfOk result (λ store. store ≡ empty_store faults) }
     {
@@ -86,7 +89,8 @@ impl MemStore {
 
     /// A store with the blobs of a snapshot. No token is live in it.
     pub fn from_snapshot(snapshot: Snapshot, faults: FaultConfig) -> MemStore
-        ensures { result ≡ store_of snapshot faults }
+        ensures value { result ≡ store_of snapshot faults }
+        ensures names { IsCoherent snapshot }
     {
         let Snapshot {
             directory,
@@ -108,9 +112,10 @@ impl MemStore {
     }
 
     /// The blobs alone: a snapshot knows no live tokens. It takes no memory.
-    #[tactic(auto, using(crate::proofs::Counting::count_closed))]
+    #[tactic(auto, using(crate::proofs::Counting::count_closed, crate::proofs::Leading::keeps_all_closed))]
     pub fn snapshot(self) -> Snapshot
-        ensures { result ≡ snapshot_of self.state }
+        ensures value { result ≡ snapshot_of self.state }
+        ensures names { IsCoherent result }
     {
         let MemStore {
             directory,
@@ -147,15 +152,18 @@ impl MemStore {
         &mut self.faults
     }
 
-    /// How many numbers a crash draws at most: two for each change that it decides over.
+    /// How many numbers a crash draws at most: two for each change that it decides over. At any time each name leads to
+    /// a blob that is there, and no two names to the same one, so it decides over a change once.
     pub fn crash_draws(&self) -> usize
-        ensures { result ≡ 2 * count_later self.now.state.files }
+        ensures value { result ≡ 2 * count_later self.now.state.files }
+        ensures names { IsCoherent self.now.state }
     {
         2 * self.later
     }
 
     /// What a crash leaves of the blobs that have a name: of each its base, and on it the later changes as far as they
     /// are kept. It adds the choices, and takes no memory.
+    #[tactic(auto, using(crate::proofs::Leading::keeps_crashed))]
     pub fn crash<E: Env>(&mut self, env: &mut E, choices: &mut Vec<Choice>)
         requires draws { 2 * count_later self.old.state.files ≤ E.spare env.old }
         requires places { vec_len choices.old + count_later self.old.state.files ≤ vec_capacity choices.old }
@@ -170,6 +178,7 @@ impl MemStore {
     }
 
     /// Makes all changes of the blob of a name durable, where it is there. It takes no memory.
+    #[tactic(auto, using(crate::proofs::Leading::keeps_admitted))]
     pub fn admit(&mut self, partition: &str, name: &[u8])
         ensures { self.new ≡ moved_to self.old (after_admit self.old.state partition.now name.now) }
     {
@@ -309,6 +318,7 @@ impl MemStore {
     }
 
     // Changes a blob.
+    #[tactic(auto, using(crate::proofs::Leading::keeps_mutated))]
     fn change<E: Env>(
         &mut self,
         env: &mut E,
@@ -330,6 +340,7 @@ impl MemStore {
     }
 
     // The base becomes the content.
+    #[tactic(auto, using(crate::proofs::Leading::keeps_synced))]
     fn save<E: Env>(&mut self, env: &mut E, blob: &Blob) -> Result<(), Error>
         ensures gives { Notes (E.noted env.old) (Saves self.old blob.now result) (E.noted env.new) }
         ensures after { self.new ≡ moved_to self.old (if_ok result (after_sync self.old blob.now) self.old.state) }
@@ -394,6 +405,7 @@ impl MemStore {
     }
 
     // Removes a blob by its name.
+    #[tactic(auto, using(crate::proofs::Leading::keeps_unnamed))]
     fn remove_blob(&mut self, partition: &[u8], name: &[u8])
         ensures { self.new ≡ moved_to self.old (without_blob self.old.state partition.now name.now) }
     {
@@ -405,6 +417,7 @@ impl MemStore {
     }
 
     // Removes a partition with all its blobs.
+    #[tactic(auto, using(crate::proofs::Leading::keeps_without))]
     fn remove_partition(&mut self, partition: &[u8])
         ensures { self.new ≡ moved_to self.old (without_blobs self.old.state partition.now) }
     {
@@ -432,6 +445,7 @@ impl MemStore {
     }
 
     // Opens a blob that is there, or makes it.
+    #[tactic(auto, using(crate::proofs::Leading::named_there, crate::proofs::Leading::keeps_token, crate::proofs::Leading::keeps_named))]
     fn open_blob<E: Env>(
         &mut self,
         env: &mut E,
@@ -453,14 +467,11 @@ impl MemStore {
             return Err(Error::PartitionNameInvalid(text_of(self.alloc, partition)?));
         }
         if let Some(place) = self.directory.number_of(partition.as_bytes(), name) {
-            if let Some(file) = self.files.get(place) {
-                let (len, version) = reopen(
-                    self.alloc, env, rate, file, partition, name, versions,
-                )?;
-                self.files.set_token(place, number);
-                self.opened = next;
-                return Ok((Blob { number, place }, len, version));
-            }
+            let file = self.files.get(place);
+            let (len, version) = reopen(self.alloc, env, rate, file, partition, name, versions)?;
+            self.files.set_token(place, number);
+            self.opened = next;
+            return Ok((Blob { number, place }, len, version));
         }
         let place = self.files.len() as u64;
         self.files.add(versions.1, number)?;
@@ -708,6 +719,7 @@ impl Storage for MemStore {
         }
     }
 
+    #[tactic(auto, using(crate::proofs::Leading::keeps_closed))]
     fn close(&mut self, blob: Blob) {
         self.files.close(&blob);
         let Blob {

@@ -16,11 +16,12 @@ pub struct Snapshot {
 
 impl Model for Snapshot {
     ghost use Rattle.std.specs.Prelude.{◌≡◌, ◌≤◌, ◌^◌};
+    ghost use Rattle.rt_store.specs.Leading.{LeadToBlobs, removals};
     ghost use Rattle.rt_store.specs.Store.{StoreState, count_later};
 
     ghost Value = { StoreState };
 
     ghost view = { λ s. record { directory = s.directory; files = s.files; opened = s.opened } };
 
-    ghost invariant = { λ s. (s.later ≡ count_later s.files) × (s.later ≤ 2 ^ 62) };
+    ghost invariant = { λ s. (s.later ≡ count_later s.files) × (s.later ≤ 2 ^ 62) × LeadToBlobs s.directory (removals s.files) };
 }
