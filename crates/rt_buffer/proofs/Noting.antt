@@ -7,7 +7,7 @@ use Rattle.rt_base.specs.Counted.{Notes}
 use Rattle.rt_store.specs.declared.ticket.Done.{Done}
 use Rattle.rt_buffer.specs.Reading.{ResizesAndSyncs}
 
-adds_both : (old mid new : Option (List Noted)) (xs ys : List Noted) → Adds old xs mid → Adds mid ys new → Adds old (xs ++ ys) new
+pub adds_both : (old mid new : Option (List Noted)) (xs ys : List Noted) → Adds old xs mid → Adds mid ys new → Adds old (xs ++ ys) new
 adds_both None mid new xs ys h k = tt
 adds_both (Some zs) mid new xs ys h k =
     let there : new ≡ Some ((zs ++ xs) ++ ys) = subst (λ m. Adds m ys new) h k in

@@ -1,4 +1,5 @@
 pub mod Flat
 pub mod Reading
+pub mod Steps
 pub mod Tip
 pub mod Writing

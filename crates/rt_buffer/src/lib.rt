@@ -9,8 +9,10 @@ mod sync_state;
 mod tests;
 mod tip;
 mod write;
+mod write_op;
 
 pub use read::Read;
 pub use sync_state::SyncState;
 pub use tip::Buffer;
 pub use write::Write;
+pub use write_op::{Rest, Step, Stepped, WriteOp};

@@ -5,7 +5,7 @@ ghost use Rattle.rt_buffer.specs.Flat.{StandsFor};
 ghost use Rattle.rt_store.specs.Calls.{blob_of};
 ghost use Rattle.rt_store.specs.Store.{content_at};
 
-use crate::{Buffer, Read, Write};
+use crate::{Buffer, Read, Step, Stepped, Write};
 use rt_base::{Error, NoEnv, NoMemory, WriteOptions};
 use rt_bufs::{IoBuf, IoBufs};
 use rt_store::{BlobOf, Done, FaultConfig, MemStore, Storage};
@@ -237,6 +237,105 @@ fn tip_is_read_over_its_blob(rt: HostRuntime) -> Result<(), Fail> {
             sees(&rt, &mut store, &writer);
             writer.close(&mut store);
             assert_eq!(rt; (written, extended.is_ok()), (Ok(()), true));
+        }
+        Err(error) => panic!(rt; "{error}"),
+    }
+    Ok(())
+}
+
+/// The writer that a call gave back.
+fn done(store: &mut MemStore, step: Step<MemStore>) -> Result<Write<MemStore>, Error> {
+    match step {
+        Stepped::Done(writer) => Ok(writer),
+        Stepped::Waiting(op) => {
+            op.give_up(store);
+            Err(Error::Timeout)
+        }
+        Stepped::Failed(error) => Err(error),
+    }
+}
+
+/// Writes bytes behind those of a writer and makes them durable.
+fn append(
+    store: &mut MemStore,
+    mut writer: Write<MemStore>,
+    bytes: &[u8],
+) -> Result<Write<MemStore>, Error> {
+    let size = writer.size();
+    match writer.try_write_at(size, bytes) {
+        Ok(true) => {
+            let step = writer.sync(store, &mut NoEnv, 1);
+            done(store, step)
+        }
+        _ => {
+            writer.close(store);
+            Err(Error::WriteFailed)
+        }
+    }
+}
+
+/// Writes `hello world!` in two parts.
+fn write_text(store: &mut MemStore, writer: Write<MemStore>) -> Result<(), Error> {
+    let writer = append(store, writer, b"hello")?;
+    let writer = append(store, writer, b" world!")?;
+    let step = writer.wait_for_sync(store, &mut NoEnv, 1);
+    done(store, step)?.close(store);
+    Ok(())
+}
+
+/// That a blob has `hello world!`.
+fn is_read_back(rt: &impl Abort, alloc: Global, store: &mut MemStore) {
+    match store.open(&mut NoEnv, "p", b"a") {
+        Ok((blob, len)) => {
+            assert_eq!(rt; len, 12);
+            let mut reader = Read::new(alloc, blob, len, 8);
+            reads(rt, store, &mut reader);
+            reader.close(store);
+        }
+        Err(error) => panic!(rt; "{error}"),
+    }
+}
+
+#[test]
+fn written_blob_is_read_back(rt: HostRuntime) -> Result<(), Fail> {
+    let alloc = rt.alloc();
+    let mut store = MemStore::new(alloc, FaultConfig::default())?;
+    match store.open(&mut NoEnv, "p", b"a") {
+        Ok((blob, len)) => {
+            let writer = Write::new(alloc, blob, len, 16);
+            assert_eq!(rt; write_text(&mut store, writer), Ok(()));
+        }
+        Err(error) => panic!(rt; "{error}"),
+    }
+    is_read_back(&rt, alloc, &mut store);
+    Ok(())
+}
+
+/// Cuts and extends a writer whose bytes are held back, and says which bytes it has.
+fn resize_text(
+    rt: &impl Abort,
+    store: &mut MemStore,
+    mut writer: Write<MemStore>,
+) -> Result<(), Error> {
+    let went = writer.try_write_at(0, b"hello");
+    let step = writer.resize(store, &mut NoEnv, 3, 1);
+    let writer = done(store, step)?;
+    let step = writer.resize(store, &mut NoEnv, 5, 1);
+    let writer = done(store, step)?;
+    assert_eq!(rt; (went.is_ok(), writer.size()), (true, 5));
+    assert!(rt; are(writer.read_at(store, &mut NoEnv, 0, 5), b"hel\0\0"));
+    writer.close(store);
+    Ok(())
+}
+
+#[test]
+fn writer_is_resized(rt: HostRuntime) -> Result<(), Fail> {
+    let alloc = rt.alloc();
+    let mut store = MemStore::new(alloc, FaultConfig::default())?;
+    match store.open(&mut NoEnv, "p", b"a") {
+        Ok((blob, len)) => {
+            let writer = Write::new(alloc, blob, len, 16);
+            assert_eq!(rt; resize_text(&rt, &mut store, writer), Ok(()));
         }
         Err(error) => panic!(rt; "{error}"),
     }
