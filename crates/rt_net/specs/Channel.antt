@@ -242,6 +242,11 @@ fresh size = record {
   sending = false;
 }
 
+-- the counts are in order: what `recv` answered was taken before, and what was taken was sent
+pub record AreCounted (c : ChannelState) : Type 0 where
+  pub read : c.read ≤ c.taken
+  pub taken : c.taken ≤ length c.put
+
 -- Who waits. A parked `recv` is a started one that lacks bytes, and both halves are open. A parked `send` is a started
 -- one with more than the buffer size before it, and both halves are alive; its sink may have failed, since the token of
 -- another network's sink, with this number, may poll here. A started `recv` that lacks bytes of an open sink is parked,

@@ -2,7 +2,7 @@
 use Rattle.std.specs.Prelude.{◌≡◌, ℕ, ◌+◌, ◌≤◌, true, ◌++◌, length, take, Some, IsSomeAnd}
 use Rattle.rt_net.specs.declared.pipe.Pipe.TheInside.{Inside}
 use Rattle.rt_net.specs.Forgotten.{IsWhole}
-use Rattle.rt_net.specs.Channel.{ChannelState, IsQuiet}
+use Rattle.rt_net.specs.Channel.{ChannelState, AreCounted, IsQuiet}
 
 -- the bytes kept stand between those that were answered and those that were given up with the channel
 abbrev pub channel_of : Inside → ChannelState
@@ -25,5 +25,6 @@ pub record IsKept (p : Inside) : Type 0 where
   pub within : p.held ≤ length p.bytes
   pub of_sink : p.sink.alive ≡ true → IsWhole p.forgotten.past
   pub of_stream : p.stream.alive ≡ true → IsWhole p.forgotten.past
+  pub counted : AreCounted (channel_of p)
   pub quiet : IsQuiet (channel_of p)
   pub answer : (len : ℕ) → p.receiving ≡ Some len → len ≤ p.held → IsSomeAnd p.ready (λ b. b.bytes ≡ take len p.bytes)

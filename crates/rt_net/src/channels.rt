@@ -3,7 +3,7 @@ ghost use Rattle.std.specs.Prelude.{◌≡◌, ◌+◌, ◌^◌, ◌<◌, ◌≤
 ghost use Rattle.std.specs.List.{list_any};
 ghost use Rattle.rt_base.specs.declared.error.Error.TheVariants.{UnknownToken};
 ghost use Rattle.rt_net.specs.Asked.{asked_of};
-ghost use Rattle.rt_net.specs.Channel.{fresh, Sends, PollsSend, Receives, PollsReceive, Peeks, after_send, after_poll_send, after_recv, after_poll_recv, ChannelState, IsQuiet};
+ghost use Rattle.rt_net.specs.Channel.{fresh, Sends, PollsSend, Receives, PollsReceive, Peeks, after_send, after_poll_send, after_recv, after_poll_recv, ChannelState, AreCounted, IsQuiet};
 ghost use Rattle.rt_net.specs.Network.{live_sink, live_stream, AtSink, AtStream, at_sink, at_stream, with_given_up_send, with_given_up_recv, with_closed_sink, with_closed_stream, sink_wakes, stream_wakes, waiting_halves, is_waited_at};
 
 use crate::pipe::Pipe;
@@ -69,6 +69,7 @@ impl Channels {
     pub fn waiting(&self, number: u64) -> (Option<u64>, Option<u64>)
         ensures tasks { result ≡ waiting_halves (slice_get self.now.list number) }
         ensures quiet { (c : ChannelState) → slice_get self.now.list number ≡ Some c → IsQuiet c }
+        ensures counted { (c : ChannelState) → slice_get self.now.list number ≡ Some c → AreCounted c }
     {
         match self.pipes.get(number as usize) {
             Some(pipe) => pipe.waiting(),

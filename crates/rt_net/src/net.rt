@@ -1,7 +1,7 @@
 // The network in memory.
 ghost use Rattle.std.specs.Prelude.{◌≡◌, ◌+◌, ◌<◌, ◌≤◌, ◌↔◌, [], ◌∷◌, ◌++◌, length, IsTrue, IfOk, OnErr, OnOk, Ok, Err, Some, None, false, slice_get, All, ◌||◌};
 ghost use Rattle.std.specs.List.{list_any};
-ghost use Rattle.rt_net.specs.Channel.{fresh, ChannelState, IsQuiet};
+ghost use Rattle.rt_net.specs.Channel.{fresh, ChannelState, AreCounted, IsQuiet};
 ghost use Rattle.rt_net.specs.Network.{ListenerState, IsQuietListener, is_waited_at, has_acceptor, waiting_halves, waiting_task};
 ghost use Rattle.rt_net.specs.Calls.{IsDialerAddress, NetBinds, NetDials, NetAccepts, net_after_bind, net_after_dial, net_after_accept, opened, idle_sink, idle_stream};
 ghost use Rattle.rt_net.specs.Kept.{empty_net, moved_to};
@@ -86,6 +86,7 @@ impl Net {
     pub fn waiting_halves(&self, number: u64) -> (Option<u64>, Option<u64>)
         ensures tasks { result ≡ waiting_halves (slice_get self.now.state.channels number) }
         ensures quiet { (c : ChannelState) → slice_get self.now.state.channels number ≡ Some c → IsQuiet c }
+        ensures counted { (c : ChannelState) → slice_get self.now.state.channels number ≡ Some c → AreCounted c }
     {
         self.channels.waiting(number)
     }

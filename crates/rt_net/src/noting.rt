@@ -1,5 +1,5 @@
-// A network over any other. It notes an event before and after each call that can fail, though none after one that was
-// out of memory, counts bytes, and has tokens of its own, which know the other end's address. The event of a receive has
+// A network over any other. It notes an event where a `bind`, `dial`, `accept`, `send` or `recv` starts and where it ends,
+// though none where it was out of memory, counts bytes, and has tokens of its own, which know the other end's address. The event of a receive has
 // the bytes that came. All room is taken before the inner call. It is proved from the trait alone.
 ghost use Rattle.std.specs.Prelude.{◌≡◌, ◌+◌, ◌≤◌, ◌<◌, IfOk, OnOk, OnErr, Ok, ◌∷◌, ◌++◌, [], length, vec_capacity};
 ghost use Rattle.rt_base.specs.Noted.{Adds, Happened};

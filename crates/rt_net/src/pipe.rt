@@ -1,6 +1,6 @@
 // One channel: the bytes that were not answered yet, and who waits at its two ends.
 ghost use Rattle.std.specs.Prelude.{◌≡◌, ℕ, ◌+◌, ◌-◌, ◌<◌, ◌≤◌, min, [], ◌++◌, length, take, drop, OnOk, OnErr, IfOk, Ok, Err, Some, None, true, false};
-ghost use Rattle.rt_net.specs.Channel.{fresh, is_open, receiver_task, failed_send, Sends, PollsSend, after_send, after_poll_send, closed_sink, closed_stream, given_up_send, given_up_recv, sent, appended, handed_task, is_drained, Settles, settled, answered, pulled, drained_task, moved, failed_recv, parked, Receives, PollsReceive, after_recv, after_poll_recv, started_length, Peeks, held, left, with_ended_sink, IsQuiet};
+ghost use Rattle.rt_net.specs.Channel.{fresh, is_open, receiver_task, failed_send, Sends, PollsSend, after_send, after_poll_send, closed_sink, closed_stream, given_up_send, given_up_recv, sent, appended, handed_task, is_drained, Settles, settled, answered, pulled, drained_task, moved, failed_recv, parked, Receives, PollsReceive, after_recv, after_poll_recv, started_length, Peeks, held, left, with_ended_sink, AreCounted, IsQuiet};
 ghost use Rattle.rt_net.specs.Network.{is_waited_at};
 
 use crate::byte_queue::ByteQueue;
@@ -64,6 +64,7 @@ impl Pipe {
     pub fn waiting(&self) -> (Option<u64>, Option<u64>)
         ensures tasks { result ≡ (receiver_task self.now.receiver, self.now.sender) }
         ensures quiet { IsQuiet self.now }
+        ensures counted { AreCounted self.now }
     {
         (self.waiting_receiver(), self.sender)
     }

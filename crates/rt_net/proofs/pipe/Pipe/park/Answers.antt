@@ -11,6 +11,7 @@ invariant_of-self c =
       within = c.self.invariant.within;
       of_sink = c.self.invariant.of_sink;
       of_stream = c.self.invariant.of_stream;
+      counted = record { read = c.self.invariant.counted.read; taken = c.self.invariant.counted.taken };
       quiet = quiet;
       answer = λ len started enough.
           let same : c.args.len ≡ len = cc in
