@@ -1,1 +1,4 @@
 mod Times
+mod Linear
+mod Tabled
+mod Framed

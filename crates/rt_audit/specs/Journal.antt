@@ -1,7 +1,8 @@
--- A journal: the list of its entries.
+-- A journal: the list of its entries, and what of them moves the time and the digest.
 use Rattle.std.specs.Prelude.{ℕ, List, [], ◌∷◌}
 use Rattle.rt_audit.specs.declared.entry.Entry.{Entry}
-use Rattle.rt_audit.specs.declared.entry.Entry.TheVariants.{Start, Advance, Skip}
+use Rattle.rt_audit.specs.declared.entry.Entry.TheVariants.{Start, Event, Advance, Skip}
+use Rattle.rt_audit.specs.Digest.{first_digest, event_digest}
 
 -- the entries, and how many more have room
 pub record Kept : Type 0 where
@@ -22,3 +23,16 @@ last_time_from time (entry ∷ entries) = last_time_from (time_after time entry)
 -- the time of the last start, advance or skip, and 0 before any
 abbrev pub last_time : List Entry → ℕ
 last_time entries = last_time_from 0 entries
+
+-- the digest after an entry: events alone move it
+abbrev pub digest_after : List ℕ → Entry → List ℕ
+digest_after digest (Event label fields) = event_digest digest label fields
+digest_after digest _ = digest
+
+abbrev pub digest_from : List ℕ → List Entry → List ℕ
+digest_from digest [] = digest
+digest_from digest (entry ∷ entries) = digest_from (digest_after digest entry) entries
+
+-- the digest of all events, in order
+abbrev pub digest_of : List Entry → List ℕ
+digest_of entries = digest_from first_digest entries

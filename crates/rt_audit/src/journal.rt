@@ -1,9 +1,9 @@
 //! The journal: a list of entries, with room that is taken before it is used.
 
 ghost use Rattle.std.specs.Prelude.{◌≡◌, ◌≤◌, ◌<◌, ◌+◌, ◌∷◌, ◌++◌, [], length, OnOk, OnErr, IsTrue, ◌↔◌};
-ghost use Rattle.rt_audit.specs.Journal.{last_time, time_after};
+ghost use Rattle.rt_audit.specs.Journal.{last_time, time_after, digest_of, digest_after};
 
-use crate::Entry;
+use crate::{Auditor, Entry};
 use rt_base::{Nanos, NoMemory};
 use std::alloc::Global;
 use std::marker::Model;
@@ -15,17 +15,18 @@ use std::marker::Model;
 pub struct Journal {
     entries: Vec<Entry>,
     last: Nanos,
+    auditor: Auditor,
 }
 
 impl Model for Journal {
     ghost use Rattle.std.specs.Prelude.{◌≡◌, ◌-◌, vec_len, vec_capacity};
-    ghost use Rattle.rt_audit.specs.Journal.{Kept, last_time};
+    ghost use Rattle.rt_audit.specs.Journal.{Kept, last_time, digest_of};
 
     ghost Value = { Kept };
 
     ghost view = { λ j. record { entries = j.entries.items; spare = vec_capacity j.entries - vec_len j.entries } };
 
-    ghost invariant = { λ j. j.last ≡ last_time j.entries.items };
+    ghost invariant = { λ j. (j.last ≡ last_time j.entries.items) × (j.auditor ≡ digest_of j.entries.items) };
 }
 
 impl Journal {
@@ -37,6 +38,7 @@ impl Journal {
         Journal {
             entries: Vec::new(alloc),
             last: 0,
+            auditor: Auditor::new(),
         }
     }
 
@@ -68,6 +70,20 @@ impl Journal {
         self.last
     }
 
+    /// The digest of the events, four bytes. No other entry moves it.
+    pub fn digest(&self) -> [u8; 4]
+        ensures { result ≡ digest_of self.now.entries }
+    {
+        self.auditor.digest()
+    }
+
+    /// An auditor of all events so far.
+    pub fn auditor(&self) -> Auditor
+        ensures { result ≡ digest_of self.now.entries }
+    {
+        self.auditor
+    }
+
     /// How many more entries have room.
     pub fn spare(&self) -> usize
         ensures { result ≡ self.now.spare }
@@ -94,6 +110,7 @@ impl Journal {
         ensures spare { self.new.spare + 1 ≡ self.old.spare }
     {
         self.last = time_after(self.last, &entry);
+        digest_after(&mut self.auditor, &entry);
         self.entries.push_reserved(entry);
     }
 }
@@ -107,5 +124,15 @@ fn time_after(time: Nanos, entry: &Entry) -> Nanos
         Entry::Advance { now } => *now,
         Entry::Skip { now } => *now,
         _ => time,
+    }
+}
+
+/// Takes an entry in, where it is an event.
+fn digest_after(auditor: &mut Auditor, entry: &Entry)
+    ensures { auditor.new ≡ digest_after auditor.old entry.now }
+{
+    match entry {
+        Entry::Event { label, fields } => auditor.chain(label.as_str(), fields.as_slice()),
+        _ => {}
     }
 }

@@ -1,9 +1,16 @@
-//! The journal of a run: its entries, how each is printed, and the list that keeps them.
+//! The journal of a run: its entries, how each is printed, the list that keeps them, and the digest of its events.
 #![tactic(auto)]
 
 mod answer;
+mod audit_env;
+mod audit_hasher;
+mod auditor;
 mod call;
 mod code;
+mod crc32c;
+mod crc32c_tables;
+#[cfg(test)]
+mod digest_tests;
 mod entry;
 mod finish;
 mod journal;
@@ -15,8 +22,12 @@ mod reply;
 mod tests;
 
 pub use answer::AnswerKind;
+pub use audit_env::AuditEnv;
+pub use audit_hasher::AuditHasher;
+pub use auditor::Auditor;
 pub use call::Call;
 pub use code::error_code;
+pub use crc32c::Crc32c;
 pub use entry::Entry;
 pub use finish::FinishCause;
 pub use journal::Journal;

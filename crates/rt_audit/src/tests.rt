@@ -1,5 +1,6 @@
 // The line of each entry, and each call once.
 
+use crate::digest_tests::agree_on_an_event;
 use crate::{AnswerKind, Call, CallReply, Entry, FinishCause, Journal, Label, Refusal, error_code};
 use rt_base::{Choice, Error, Items, NoMemory, Text};
 use std::alloc::Global;
@@ -244,5 +245,6 @@ fn surface(rt: HostRuntime) -> Result<(), Fail> {
     assert_eq!(rt; error_code(refusal.error()), 11);
     assert!(rt; has_words(alloc)?);
     assert!(rt; keeps_entries(alloc)?);
+    assert!(rt; agree_on_an_event(alloc)?);
     Ok(())
 }

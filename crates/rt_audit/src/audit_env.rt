@@ -1,0 +1,65 @@
+//! An environment that digests the events that it is told, and draws from a generator.
+
+ghost use Rattle.std.specs.Prelude.{◌≡◌, ◌≤◌, None, Ok, OnOk};
+ghost use Rattle.rand_core.specs.Stream.{next_u64};
+ghost use Rattle.rt_audit.specs.Digest.{first_digest, event_digest};
+
+use crate::Auditor;
+use rand_core::Rng;
+use rt_base::{Env, Event, NoMemory};
+
+/// Keeps the digest of its events, and a generator. It always has room, and takes no memory.
+#[derive(Drop)]
+pub struct AuditEnv<G: Rng> {
+    auditor: Auditor,
+    rng: G,
+}
+
+impl<G: Rng> AuditEnv<G> {
+    /// No events so far.
+    pub fn new(rng: G) -> Self
+        ensures auditor { result.auditor ≡ first_digest }
+        ensures rng { result.rng ≡ rng }
+    {
+        AuditEnv {
+            auditor: Auditor::new(),
+            rng,
+        }
+    }
+
+    /// An auditor of all events so far.
+    pub fn auditor(&self) -> Auditor
+        ensures { result ≡ self.now.auditor }
+    {
+        self.auditor
+    }
+}
+
+impl<G: Rng> Env for AuditEnv<G> {
+    ghost noted = { λ _. None };
+
+    ghost spare = { λ _. 18446744073709551616 };
+
+    fn reserve(&mut self, entries: usize) -> Result<(), NoMemory>
+        ensures room { OnOk result (entries ≤ 18446744073709551616) }
+        ensures unchanged { self.new ≡ self.old }
+        ensures succeeds { result ≡ Ok tt }
+    {
+        let _ = entries;
+        Ok(())
+    }
+
+    fn event(&mut self, event: Event)
+        ensures auditor { self.new.auditor ≡ event_digest self.old.auditor event.label event.fields }
+        ensures rng { self.new.rng ≡ self.old.rng }
+    {
+        self.auditor.event(&event);
+    }
+
+    fn draw(&mut self) -> u64
+        ensures auditor { self.new.auditor ≡ self.old.auditor }
+        ensures rng { (result, G.stream self.new.rng) ≡ next_u64 (G.stream self.old.rng) }
+    {
+        self.rng.next_u64()
+    }
+}
