@@ -1,26 +1,28 @@
 -- How a run has come to its outcome.
-use Rattle.std.proofs.Common.{◌≡◌, ◌⊎◌, ◌≢◌, ◌++◌, inl, inr, ℕ, List, refl, ap, ◌∙◌, sym, Bool, true, Option, Some, None, Result, Ok, Err}
+use Rattle.std.proofs.Common.{◌≡◌, ◌⊎◌, ◌≢◌, ◌++◌, inl, inr, ℕ, List, refl, ap, ◌∙◌, sym, Bool, true, Option, Some, None, is_some, IfSome, Result, Ok, Err}
 use Rattle.rt_audit.specs.declared.entry.Entry.{Entry}
 use Rattle.rt_audit.specs.declared.finish.FinishCause.{FinishCause}
-use Rattle.rt_audit.specs.declared.finish.FinishCause.TheVariants.{Completed, Timeout, Stalled, TimeOverflow, TooManyTasks, NoMemory}
+use Rattle.rt_audit.specs.declared.finish.FinishCause.TheVariants.{Completed, Timeout, Stalled, TaskPanicked, TimeOverflow, TooManyTasks, NoMemory}
 use Rattle.rt_model.specs.declared.begin.Begin.{Begin}
 use Rattle.rt_model.specs.State.{State, Clock, Finished, begun, stood_in}
 use Rattle.rt_model.specs.Effects.{after_all}
 use Rattle.rt_model.specs.Rules.{IsLawful}
 use Rattle.rt_model.specs.Walk.{Walks, Fronts, Breaks}
+use Rattle.rt_model.specs.Causes.{reached}
+use Rattle.rt_model.specs.Turns.{Frees}
 use Rattle.rt_model.specs.Tied.{Steps, Value}
-use Rattle.rt_model.specs.Run.{IsRun, IsCutOff, FailedBy, IsValidInput}
+use Rattle.rt_model.specs.Run.{IsRun, IsCutOff, IsValidInput}
 use Rattle.rt_machine.specs.Told.{own}
-use Rattle.rt_machine.specs.Failures.{finish_of}
-use Rattle.rt_machine.specs.declared.run_error.RunError.{RunError}
-use Rattle.rt_machine.specs.declared.run_error.RunError.TheVariants.{Timeout as IsTimeout, Stalled as IsStalled, TimeOverflow as IsTimeOverflow, TooManyTasks as AreTooManyTasks, NoMemory as IsNoMemory}
+use Rattle.rt_core.specs.Failures.{finish_of, text_of}
+use Rattle.rt_core.specs.declared.run_error.RunError.{RunError}
+use Rattle.rt_core.specs.declared.run_error.RunError.TheVariants.{Timeout as IsTimeout, Stalled as IsStalled, TaskPanicked as HasPanicked, TimeOverflow as IsTimeOverflow, TooManyTasks as AreTooManyTasks, NoMemory as IsNoMemory}
 use Rattle.rt_world.specs.World.{World}
 use Rattle.rt_world.specs.Calls.{Kept}
 use Rattle.rt_world.specs.Follows.{Follows, Agrees, IsMade, IsUnmade, unmade_of, value_of}
 use Rattle.rt_world.specs.Rounds.{EndAgrees}
 use Rattle.rt_world.specs.Ends.{EndsFor}
-use Rattle.rt_core.specs.Starting.{Starting}
-use Rattle.rt_core.specs.Outcome.{Ended, Completes}
+use Rattle.rt_world.proofs.Texts.{ends-with-text}
+use Rattle.rt_core.specs.Outcome.{Ended, Completes, FailedFor}
 
 module _ {A O G : Type 0} (p : Steps A O) (w : World A O G) where
   -- a run that was whole up to its cleanup
@@ -38,20 +40,24 @@ module _ {A O G : Type 0} (p : Steps A O) (w : World A O G) where
   ended-cut final last output whole e = record { whole = e.last; last = last; agrees = e.agrees; kept = inr refl }
 
   -- one that lacked memory in its cleanup, or before
-  pub ended-lacking : (before : World A O G) (outcome : Result O RunError) (final : FinishCause) → EndAgrees p before outcome → ((whole : Bool) (output : Option O) → Agrees p whole before output → EndsFor p w final output whole) → Ended p w NoMemory None
+  pub ended-lacking : (before : World A O G) (outcome : Result O FinishCause) (final : FinishCause) → EndAgrees p before outcome → ((whole : Bool) (output : Option O) → Agrees p whole before output → EndsFor p w final output whole) → Ended p w NoMemory None
   ended-lacking before (Ok output) final a ends = ended-cut final (Some output) None true (ends true (Some output) a)
-  ended-lacking before (Err IsNoMemory) final a ends = ended-cut final None None a.0 (ends a.0 None a.1)
-  ended-lacking before (Err IsTimeout) final a ends = ended-cut final None None true (ends true None a)
-  ended-lacking before (Err IsStalled) final a ends = ended-cut final None None true (ends true None a)
-  ended-lacking before (Err IsTimeOverflow) final a ends = ended-cut final None None true (ends true None a)
-  ended-lacking before (Err AreTooManyTasks) final a ends = ended-cut final None None true (ends true None a)
+  ended-lacking before (Err NoMemory) final a ends = ended-cut final None None a.0 (ends a.0 None a.1)
+  ended-lacking before (Err cause) final a ends = ended-cut final None None true (ends true None a)
 
 -- a maker that lacked memory
-pub unmade : {A O G : Type 0} (p : Steps A O) (old new : World A O G) → Kept old new → Follows p new.told (unmade_of old.held) → (Breaks (p.first old.told.state.clock.time) old.held new.told.state.turns (stood_in new.told.state) ⊎ Fronts (p.first old.told.state.clock.time) old.held new.told.state.turns) → IsUnmade p new
-unmade p old new kept follows breaks = record {
-  follows = rw kept.held follows;
-  breaks = rw (kept.held, ap (λ (c : Clock). c.time) kept.clock) breaks;
+pub unmade : {A O G : Type 0} (p : Steps A O) (old new : World A O G) (root : Option A) → Kept old new → Follows p new.told (unmade_of old.held) → (Breaks (p.first old.told.state.clock.time) old.held new.told.state.turns (stood_in new.told.state) ⊎ (Fronts (p.first old.told.state.clock.time) old.held new.told.state.turns × (root ≡ None))) → Frees old.held new.told.state.turns new.held → IsUnmade p new root
+unmade p old new root kept follows breaks frees = record {
+  before = old.held;
+  follows = follows;
+  breaks = rw (ap (λ (c : Clock). c.time) kept.clock) breaks;
+  frees = frees;
 }
+
+-- one that made no root
+pub none-made : {A : Type 0} (P Q : Type 0) (root : Option A) → root ≡ None → P ⊎ Q → P ⊎ (Q × (root ≡ None))
+none-made P Q root none (inl p) = inl p
+none-made P Q root none (inr q) = inr (q, none)
 
 -- a root that was made
 pub made : {A O G : Type 0} (p : Steps A O) (old new : World A O G) (root : A) → Kept old new → Follows p new.told (unmade_of old.held) → Walks (p.first old.told.state.clock.time) old.held new.told.state.turns (stood_in new.told.state) tt root new.held → IsMade p new root
@@ -65,7 +71,7 @@ pub ruleset outcome_laws = (ended-whole, ended-cut)
 
 -- a world at the end of its run, which is lawful and began so
 module _ {A O G : Type 0} (p : Steps A O) (begin : Begin) (w : World A O G) (lawful : IsLawful (begun begin) (own w.told)) (state : w.told.state ≡ after_all (begun begin) (own w.told)) (is : w.told.begin ≡ begin) where
-  is_run : (cause : FinishCause) (output : Option O) → w.told.state.phase ≡ Finished cause → Ended p w cause output → cause ≢ NoMemory → (v : Value A O) × IsRun p begin (own w.told) cause w.told.state v × (v.output ≡ output)
+  is_run : (cause : FinishCause) (output : Option O) → w.told.state.phase ≡ Finished cause → Ended p w cause output → cause ≢ NoMemory → (v : Value A O) × IsRun p begin (own w.told) cause w.told.state v × (v.output ≡ output) × (v.panic ≡ w.panic)
   is_run cause output ends e not =
       let kept : (e.whole ≡ true) × (e.last ≡ output) = elim e.kept [ inl h ↦ h | inr h ↦ absurd (not h) ] in (
         value_of w e.last None e.whole,
@@ -78,6 +84,7 @@ module _ {A O G : Type 0} (p : Steps A O) (begin : Begin) (w : World A O G) (law
           whole = kept.0;
         },
         kept.1,
+        refl,
       )
 
   is_cut_off : w.told.state.phase ≡ Finished NoMemory → Ended p w NoMemory None → IsCutOff p begin (own w.told)
@@ -88,15 +95,28 @@ module _ {A O G : Type 0} (p : Steps A O) (begin : Begin) (w : World A O G) (law
     tied = rw is at e.agrees.tied;
   }
 
-  failed : (cause : FinishCause) → w.told.state.phase ≡ Finished cause → Ended p w cause None → cause ≢ NoMemory → (end : State) × (v : Value A O) × IsRun p begin (own w.told) cause end v
-  failed cause ends e not = let r = is_run cause None ends e not in (w.told.state, r.0, r.1)
+  failed : (cause : FinishCause) → w.told.state.phase ≡ Finished cause → Ended p w cause None → cause ≢ NoMemory → (end : State) × (v : Value A O) × IsRun p begin (own w.told) cause end v × (v.panic ≡ w.panic)
+  failed cause ends e not = let r = is_run cause None ends e not in (w.told.state, r.0, r.1, r.3)
 
-  pub failed_by : (error : RunError) → w.told.state.phase ≡ Finished (finish_of error) → Ended p w (finish_of error) None → FailedBy p begin (own w.told) (finish_of error)
-  failed_by IsNoMemory ends e = inr (is_cut_off ends e)
-  failed_by IsTimeout ends e = failed Timeout ends e (λ h. cc)
-  failed_by IsStalled ends e = failed Stalled ends e (λ h. cc)
-  failed_by IsTimeOverflow ends e = failed TimeOverflow ends e (λ h. cc)
-  failed_by AreTooManyTasks ends e = failed TooManyTasks ends e (λ h. cc)
+  without : (cause : FinishCause) → w.told.state.phase ≡ Finished cause → Ended p w cause None → cause ≢ NoMemory → (end : State) × (v : Value A O) × IsRun p begin (own w.told) cause end v
+  without cause ends e not = let f = failed cause ends e not in (f.0, f.1, f.2)
+
+  failed_for : (error : RunError) → IfSome (text_of error) (λ text. w.panic ≡ Some text) → w.told.state.phase ≡ Finished (finish_of error) → Ended p w (finish_of error) None → FailedFor p begin (own w.told) error
+  failed_for IsNoMemory text ends e = inr (is_cut_off ends e)
+  failed_for (HasPanicked own_text) text ends e = let f = failed TaskPanicked ends e (λ h. cc) in (f.0, f.1, f.2, f.3 ∙ text)
+  failed_for IsTimeout text ends e = without Timeout ends e (λ h. cc)
+  failed_for IsStalled text ends e = without Stalled ends e (λ h. cc)
+  failed_for IsTimeOverflow text ends e = without TimeOverflow ends e (λ h. cc)
+  failed_for AreTooManyTasks text ends e = without TooManyTasks ends e (λ h. cc)
+
+  pub failed_by : (error : RunError) (cause : FinishCause) → finish_of error ≡ cause → IfSome (text_of error) (λ text. w.panic ≡ Some text) → w.told.state.phase ≡ Finished cause → Ended p w cause None → FailedFor p begin (own w.told) error
+  failed_by error cause is text ends e = failed_for error text (rw is ends) (rw is e)
+
+  -- a run that ends by a panic has its text
+  pub has_text : (cause : FinishCause) → w.told.state.phase ≡ Finished cause → Ended p w cause None → cause ≡ TaskPanicked → is_some w.panic ≡ true
+  has_text cause ends e panicked =
+      ends-with-text p begin (own w.told) (value_of w e.last None e.whole) lawful (rw is at e.agrees.tied)
+      (ap reached (sym state) ∙ rw ends refl ∙ ap Some panicked)
 
   pub completes : (given journal : List Entry) (rng : G) (output : O) (time cycle : ℕ) (deadline : Option ℕ) → w.told.state.phase ≡ Finished Completed → Ended p w Completed (Some output) → journal ≡ given ++ own w.told → time ≡ w.told.state.clock.time → w.told.state.clock.fixed ≡ begin → begin.cycle ≡ cycle → begin.deadline ≡ deadline → Completes p (record { begin = begin; given = given; rng = rng }) output (record { time = time; deadline = deadline; cycle = cycle; journal = journal; rng = rng })
   completes given journal rng output time cycle deadline ends e extends at fixed one two =
@@ -114,7 +134,8 @@ module _ {A O G : Type 0} (p : Steps A O) (begin : Begin) (w : World A O G) (law
 valid : {A O : Type 0} (p : Steps A O) (begin : Begin) (x : List Entry) (cause : FinishCause) → IsValidInput p begin → (end : State) × (v : Value A O) × IsRun p begin x cause end v → cause ≡ Completed
 valid p begin x cause v r = v x cause r.0 r.1 r.2
 
-pub only_memory : {A O : Type 0} (p : Steps A O) (begin : Begin) (x : List Entry) (error : RunError) → IsValidInput p begin → FailedBy p begin x (finish_of error) → error ≡ IsNoMemory
+pub only_memory : {A O : Type 0} (p : Steps A O) (begin : Begin) (x : List Entry) (error : RunError) → IsValidInput p begin → FailedFor p begin x error → error ≡ IsNoMemory
+only_memory p begin x (HasPanicked text) v f = let e = valid p begin x TaskPanicked v (f.0, f.1, f.2) in absurd (cc)
 only_memory p begin x IsNoMemory v f = refl
 only_memory p begin x IsTimeout v f = let e = valid p begin x Timeout v f in absurd (cc)
 only_memory p begin x IsStalled v f = let e = valid p begin x Stalled v f in absurd (cc)

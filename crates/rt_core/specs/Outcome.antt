@@ -2,14 +2,15 @@
 use Rattle.std.specs.Prelude.{◌≡◌, ◌≤◌, ◌⊎◌, ◌++◌, List, [], Bool, true, Option, Some, None, Result, Ok, Err}
 use Rattle.rt_audit.specs.declared.entry.Entry.{Entry}
 use Rattle.rt_audit.specs.declared.finish.FinishCause.{FinishCause}
-use Rattle.rt_audit.specs.declared.finish.FinishCause.TheVariants.{Completed, NoMemory}
+use Rattle.rt_audit.specs.declared.finish.FinishCause.TheVariants.{Completed, TaskPanicked, NoMemory}
 use Rattle.rt_model.specs.declared.begin.Begin.{Begin}
 use Rattle.rt_model.specs.State.{State, Finished, begun}
 use Rattle.rt_model.specs.Rules.{AreDrawn}
 use Rattle.rt_model.specs.Tied.{Steps, Value}
 use Rattle.rt_model.specs.Run.{IsRun, FailedBy}
-use Rattle.rt_machine.specs.Failures.{finish_of}
-use Rattle.rt_machine.specs.declared.run_error.RunError.{RunError}
+use Rattle.rt_core.specs.Failures.{finish_of}
+use Rattle.rt_core.specs.declared.run_error.RunError.{RunError}
+use Rattle.rt_core.specs.declared.run_error.RunError.TheVariants.{TaskPanicked as HasPanicked}
 use Rattle.rt_world.specs.World.{World}
 use Rattle.rt_world.specs.Follows.{Agrees}
 use Rattle.rt_core.specs.Starting.{Starting, Kept}
@@ -33,11 +34,17 @@ pub record Completes {A O G : Type 0} (p : Steps A O) (s : Starting G) (output :
   pub gives : value.output ≡ Some output
   pub keeps : kept ≡ kept_of end (s.given ++ entries) s.rng
 
--- a run from this beginning failed for this cause, and its entries follow those that were given
-pub record Fails {A O G : Type 0} (p : Steps A O) (s : Starting G) (journal : List Entry) (cause : FinishCause) : Type 0 where
+-- a run failed so. Where it ended by a panic, this was its text
+abbrev pub FailedFor : {A O : Type 0} → Steps A O → Begin → List Entry → RunError → Type 0
+FailedFor {A = A} {O = O} p begin x (HasPanicked text) =
+    (end : State) × (value : Value A O) × IsRun p begin x TaskPanicked end value × (value.panic ≡ Some text)
+FailedFor p begin x error = FailedBy p begin x (finish_of error)
+
+-- a run from this beginning failed so, and its entries follow those that were given
+pub record Fails {A O G : Type 0} (p : Steps A O) (s : Starting G) (journal : List Entry) (error : RunError) : Type 0 where
   pub entries : List Entry
   pub extends : journal ≡ s.given ++ entries
-  pub failed : FailedBy p s.begin entries cause
+  pub failed : FailedFor p s.begin entries error
 
 -- each round of the entries behind the given ones visits the ready list as it stands
 pub record DrawsNothing {G : Type 0} (s : Starting G) (journal : List Entry) : Type 0 where
@@ -45,10 +52,11 @@ pub record DrawsNothing {G : Type 0} (s : Starting G) (journal : List Entry) : T
   pub extends : journal ≡ s.given ++ entries
   pub drawn : AreDrawn (begun s.begin) entries
 
--- a world that can go on: no task is out of it, no call has lacked memory, and a cycle takes time
+-- a world that can go on: no task is out of it, no call has lacked memory, no panic is kept, and a cycle takes time
 pub record IsReady {A O G : Type 0} (w : World A O G) : Type 0 where
   pub none_out : w.out ≡ None
   pub unmarked : w.lacked ≡ None
+  pub calm : w.panic ≡ None
   pub cycle : 1 ≤ w.told.state.clock.fixed.cycle
 
 -- the run under way is finished for this cause, as the one that began so. No task is left
@@ -67,10 +75,10 @@ pub record Ended {A O G : Type 0} (p : Steps A O) (w : World A O G) (cause : Fin
   pub agrees : Agrees p whole w last
   pub kept : ((whole ≡ true) × (last ≡ output)) ⊎ (cause ≡ NoMemory)
 
-abbrev pub OutcomeEnds : {A O G : Type 0} → Steps A O → World A O G → Result O RunError → Type 0
+abbrev pub OutcomeEnds : {A O G : Type 0} → Steps A O → World A O G → Result O FinishCause → Type 0
 OutcomeEnds p w (Ok output) = Ended p w Completed (Some output)
-OutcomeEnds p w (Err error) = Ended p w (finish_of error) None
+OutcomeEnds p w (Err cause) = Ended p w cause None
 
-abbrev pub cause_of_outcome : {O : Type 0} → Result O RunError → FinishCause
+abbrev pub cause_of_outcome : {O : Type 0} → Result O FinishCause → FinishCause
 cause_of_outcome (Ok output) = Completed
-cause_of_outcome (Err error) = finish_of error
+cause_of_outcome (Err cause) = cause

@@ -59,5 +59,5 @@ pub record Kept (G : Type 0) : Type 0 where
   pub rng : G
 
 -- the beginning of a first run: its task numbers begin with 0
-abbrev pub first_begin : ℕ → ℕ → Option ℕ → Begin
-first_begin cycle start timeout = record { start = start; cycle = cycle; deadline = deadline_of start timeout; first = 0 }
+abbrev pub first_begin : ℕ → ℕ → Option ℕ → Bool → Begin
+first_begin cycle start timeout catch = record { start = start; cycle = cycle; deadline = deadline_of start timeout; first = 0; catch = catch }

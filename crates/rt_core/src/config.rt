@@ -1,6 +1,6 @@
 //! The settings of a run.
 
-ghost use Rattle.std.specs.Prelude.{◌≡◌, ◌≤◌, ◌<◌, ◌+◌, Option, None, Some};
+ghost use Rattle.std.specs.Prelude.{◌≡◌, ◌≤◌, ◌<◌, ◌+◌, Option, None, Some, false};
 ghost use Rattle.rt_core.specs.Starting.{assert_of, default_seed, seeded};
 
 use rand_chacha::ChaCha12Rng;
@@ -22,28 +22,32 @@ pub enum ConfigError {
     DeadlineTooLate,
 }
 
-/// The settings of a run: its generator, and in nanoseconds its cycle, its start and its timeout.
+/// The settings of a run: its generator, in nanoseconds its cycle, its start and its timeout, and whether panics of tasks
+/// are caught.
 #[derive(Debug, Drop)]
 pub struct Config<G> {
     pub(crate) rng: G,
     pub(crate) cycle: Nanos,
     pub(crate) start_time: Nanos,
     pub(crate) timeout: Option<Nanos>,
+    pub(crate) catch_panics: bool,
 }
 
 impl Config<ChaCha12Rng> {
-    /// A generator of seed 42, a cycle of 1,000,000 ns, start 0 and no timeout.
+    /// A generator of seed 42, a cycle of 1,000,000 ns, start 0, no timeout, and panics not caught.
     pub fn new() -> Self
         ensures rng { result.rng ≡ seeded default_seed }
         ensures cycle { result.cycle ≡ 1000000 }
         ensures start { result.start_time ≡ 0 }
         ensures timeout { result.timeout ≡ None }
+        ensures catch { result.catch_panics ≡ false }
     {
         Config {
             rng: ChaCha12Rng::seed_from_u64(42),
             cycle: 1_000_000,
             start_time: 0,
             timeout: None,
+            catch_panics: false,
         }
     }
 }
@@ -54,6 +58,7 @@ impl Default for Config<ChaCha12Rng> {
         ensures cycle { result.cycle ≡ 1000000 }
         ensures start { result.start_time ≡ 0 }
         ensures timeout { result.timeout ≡ None }
+        ensures catch { result.catch_panics ≡ false }
     {
         Config::new()
     }
@@ -84,6 +89,16 @@ impl<G> Config<G> {
         Config { timeout, ..self }
     }
 
+    /// Sets whether panics of tasks are caught: then they end no run. A panic of the root always does.
+    pub fn with_catch_panics(self, catch: bool) -> Self
+        ensures { result ≡ record self { catch_panics = catch } }
+    {
+        Config {
+            catch_panics: catch,
+            ..self
+        }
+    }
+
     /// The cycle.
     pub fn cycle(&self) -> Nanos
         ensures { result ≡ self.now.cycle }
@@ -103,6 +118,13 @@ impl<G> Config<G> {
         ensures { result ≡ self.now.timeout }
     {
         self.timeout
+    }
+
+    /// Whether panics of tasks are caught.
+    pub fn catch_panics(&self) -> bool
+        ensures { result ≡ self.now.catch_panics }
+    {
+        self.catch_panics
     }
 
     /// Tests the settings: in this order `ZeroCycle` exactly where the cycle is 0, `StartTooLate` exactly where the

@@ -1,27 +1,179 @@
 //! Contexts: where a task stands in the tree of its run.
 
-ghost use Rattle.std.specs.Prelude.{◌≡◌, ◌≤◌, ◌<◌, true, false, IfOk, IfErr, IsErr, ◌↔◌};
-ghost use Rattle.rt_base.specs.declared.error.Error.TheVariants.{ClockOverflow};
+ghost use Rattle.std.specs.Prelude.{◌≡◌, ◌≤◌, true, IfOk, IfErr};
+ghost use Rattle.rt_base.specs.Attributes.{with_attribute};
+ghost use Rattle.rt_base.specs.Label.{is_label};
+ghost use Rattle.rt_base.specs.declared.execution.Execution.TheVariants.{Shared, Dedicated as IsDedicated};
+ghost use Rattle.rt_audit.specs.declared.call.Call.TheVariants.{Child, CloseNode};
 ghost use Rattle.rt_model.specs.Rules.{MayCall};
+ghost use Rattle.rt_model.specs.Turns.{Plainly, Spawning};
 ghost use Rattle.rt_world.specs.Calls.{Kept};
-ghost use Rattle.rt_world.specs.Walked.{Closes};
-ghost use Rattle.rt_core.specs.Pollers.{sleep_for, until};
+ghost use Rattle.rt_world.specs.Walked.{Closes, Reads};
+ghost use Rattle.rt_core.specs.Contexts.{IsMakerOf, IsRefusedKey, child_heard, child_name, context_on, handle_heard, root_context, makes_on, spawn_told};
+ghost use Rattle.rt_core.specs.Pollers.{sleep_for, sleep_until};
 
-use crate::Sleep;
-use rt_base::{Error, MAX_TIME, Nanos};
+use crate::handle::HandleOf;
+use crate::{NoPoller, Sleep};
+use rt_base::{
+    Error, Execution, Items, MAX_TIME, MetricError, Name, Nanos, NoMemory, Refused, Text,
+    add_attribute, clone_attributes, prefixed_name, validate_label,
+};
 use rt_world::World;
+use std::alloc::Global;
+use std::marker::Model;
 
-/// A context on a node of the run. It is a token: it must be spent by [`close`](Self::close).
+/// A context on a node of the run, with its name and a hint of where a task spawned on it runs. It is a token: it must be
+/// spent by [`spawn`](Self::spawn) or [`close`](Self::close).
+///
+/// Contracts see its node, its name and its hint.
 pub struct Context {
     node: u64,
+    name: Name,
+    execution: Execution,
+    alloc: Global,
+}
+
+impl Model for Context {
+    ghost use Rattle.rt_core.specs.Contexts.{Context};
+
+    ghost Value = { Context };
+
+    ghost view = { λ c. record { node = c.node; name = c.name; execution = c.execution } };
 }
 
 impl Context {
-    /// A context on a node.
-    pub(crate) fn on(node: u64) -> Self
-        ensures { result.node ≡ node }
+    /// A context on a node, with this name.
+    fn on(alloc: Global, node: u64, name: Name) -> Self
+        ensures { result ≡ context_on node name }
     {
-        Context { node }
+        Context {
+            node,
+            name,
+            execution: Execution::Shared(false),
+            alloc,
+        }
+    }
+
+    /// The context of a run's root.
+    pub(crate) fn root(alloc: Global) -> Self
+        ensures { result ≡ root_context }
+    {
+        let name = Name {
+            label: Text::of(String::new(alloc)),
+            attributes: Items::of(Vec::new(alloc)),
+        };
+        Context::on(alloc, 0, name)
+    }
+
+    /// A copy of its label and attributes. `NoMemory` alone is refused.
+    pub fn name(&self) -> Result<Name, Error>
+        ensures ok { IfOk result (λ name. name ≡ self.now.name) }
+        ensures err { IfErr result (λ error. error ≡ Error.NoMemory) }
+    {
+        Ok(self.name.clone_value()?)
+    }
+
+    /// The context with this attribute; a key that is there gets this value. A refusal hands the context back as it was.
+    ///
+    /// Errors, the first that holds: `Metric(BadLabel)` exactly where the key isn't valid, `NoMemory`.
+    pub fn with_attribute(mut self, key: &str, value: &str) -> Result<Context, Refused<Context>>
+        ensures ok { IfOk result (λ context. (is_label key.now ≡ true) × (context ≡ record self { name = record self.name { attributes = with_attribute self.name.attributes key.now value.now } })) }
+        ensures err { IfErr result (λ refused. (refused.back ≡ self) × IsRefusedKey key.now refused.error) }
+    {
+        if let Err(kind) = validate_label(key) {
+            return Err(Refused {
+                back: self,
+                error: Error::Metric(kind),
+            });
+        }
+        let Ok(copy) = clone_attributes(self.alloc, self.name.attributes.as_slice()) else {
+            return Err(lacking(self));
+        };
+        let mut attributes = copy.into_inner();
+        if add_attribute(self.alloc, &mut attributes, key, value).is_err() {
+            return Err(lacking(self));
+        }
+        self.name.attributes = Items::of(attributes);
+        Ok(self)
+    }
+
+    /// The context with the hint that a task spawned on it runs among the others, and whether it may block.
+    pub fn shared(mut self, blocking: bool) -> Context
+        ensures { result ≡ record self { execution = Shared blocking } }
+    {
+        self.execution = Execution::Shared(blocking);
+        self
+    }
+
+    /// The context with the hint that a task spawned on it runs on a thread of its own.
+    pub fn dedicated(mut self) -> Context
+        ensures { result ≡ record self { execution = IsDedicated } }
+    {
+        self.execution = Execution::Dedicated;
+        self
+    }
+
+    /// A context on a fresh child of its node, with the same attributes. The label is the parent's, `_` and this one. The
+    /// child of a node that has ended is born ended. It takes memory.
+    ///
+    /// Errors, the first that holds: `UnknownToken`, `Metric` with `BadLabel` where the label isn't valid, or `Reserved`
+    /// where the full one begins with `runtime`, `NoMemory`.
+    #[tactic(auto, using(rt_world::proofs::Walked::read_laws))]
+    pub fn child<T, O, G>(&self, world: &mut World<T, O, G>, label: &str) -> Result<Context, Error>
+        requires { MayCall world.old.told.state world.old.out }
+        ensures kept { Kept world.old world.new }
+        ensures called { Reads (Plainly (Child self.now.node label.now)) (child_heard self.now label.now) world.old world.new result }
+    {
+        let Ok(name) = self.child_name(label) else {
+            world.lack();
+            return Err(Error::NoMemory);
+        };
+        match world.child(self.node, label) {
+            Ok((node, _)) => Ok(Context::on(self.alloc, node, name)),
+            Err(error) => Err(error),
+        }
+    }
+
+    /// Spawns a task, on its node. The task is made of a context on a fresh child of that, with the same label and
+    /// attributes. On a node that has ended nothing is made, and the handle is closed. It takes memory.
+    ///
+    /// Errors, the first that holds, each hands the context back: `UnknownToken`, `TooManyTasks` exactly where the next
+    /// number is `u64::MAX`, `NoMemory`.
+    #[tactic(auto, using(rt_world::proofs::Walked::read_laws))]
+    pub fn spawn<T, O, G, F: FnOnce(Context) -> T + Drop>(
+        self,
+        world: &mut World<T, O, G>,
+        make: F,
+    ) -> Result<HandleOf<O, NoPoller>, Refused<Context>>
+        requires calling { MayCall world.old.told.state world.old.out }
+        requires callable { F.IsAlwaysCallable make }
+        ensures kept { Kept world.old world.new }
+        ensures back { IfErr result (λ refused. refused.back ≡ self) }
+        ensures called { (makes : Context → T) → IsMakerOf (F.post make) makes → Reads (Spawning self.node (makes_on self makes)) handle_heard world.old world.new (spawn_told result) }
+    {
+        let Context {
+            node,
+            name,
+            execution,
+            alloc,
+        } = self;
+        let made = |(name, number)|
+            requires { F.IsAlwaysCallable make }
+            ensures { F.post make (context_on number name) result }
+        { make(Context::on(alloc, number, name)) };
+        match world.spawn(node, name, made) {
+            Ok(Some((task, number))) => Ok(HandleOf::of(task)),
+            Ok(None) => Ok(HandleOf::closed()),
+            Err((error, name)) => Err(Refused {
+                back: Context {
+                    node,
+                    name,
+                    execution,
+                    alloc,
+                },
+                error,
+            }),
+        }
     }
 
     /// Closes the context. Its node isn't live from then on, and isn't ended by it. It takes no memory.
@@ -29,9 +181,14 @@ impl Context {
     pub fn close<T, O, G>(self, world: &mut World<T, O, G>)
         requires { MayCall world.old.told.state world.old.out }
         ensures kept { Kept world.old world.new }
-        ensures closed { Closes self.node world.old world.new }
+        ensures closed { Closes (CloseNode self.node) world.old world.new }
     {
-        let Context { node } = self;
+        let Context {
+            node,
+            name: _,
+            execution: _,
+            alloc: _,
+        } = self;
         world.close_node(node);
     }
 
@@ -57,15 +214,36 @@ impl Context {
     }
 
     /// A sleep until this moment, in nanoseconds since the epoch. `ClockOverflow` exactly where it is past `MAX_TIME`.
+    #[tactic(auto, unfolding(crate::specs::Pollers::sleep_until))]
     pub fn sleep_until(&self, deadline: Nanos) -> Result<Sleep, Error>
-        ensures refused { IsErr result ↔ (MAX_TIME < deadline) }
-        ensures sleep { IfOk result (λ sleep. sleep ≡ until deadline) }
-        ensures error { IfErr result (λ error. error ≡ ClockOverflow) }
+        ensures { result ≡ sleep_until deadline }
     {
         let _ = &self.node;
         if MAX_TIME < deadline {
             return Err(Error::ClockOverflow);
         }
         Ok(Sleep::until(deadline))
+    }
+
+    /// The name of a child.
+    fn child_name(&self, label: &str) -> Result<Name, NoMemory>
+        ensures { IfOk result (λ name. name ≡ child_name self.now.name label.now) }
+    {
+        let label = prefixed_name(self.alloc, self.name.label.as_str(), label)?;
+        Ok(Name {
+            label: Text::of(label),
+            attributes: clone_attributes(self.alloc, self.name.attributes.as_slice())?,
+        })
+    }
+}
+
+/// A context that is handed back since memory was lacking.
+fn lacking(context: Context) -> Refused<Context>
+    ensures back { result.back ≡ context }
+    ensures error { result.error ≡ Error.NoMemory }
+{
+    Refused {
+        back: context,
+        error: Error::NoMemory,
     }
 }

@@ -8,13 +8,14 @@ use rt_world::{Task, World};
 /// What makes the root of a run.
 ///
 /// It is lawful as a task is: `first` says what it does next, by the time, and `make` makes exactly these calls and then
-/// this root. The context that it is handed stands on node 0.
+/// this root. The context that it is handed stands on node 0, with an empty label.
 pub trait RootMaker<T: Task>: Sized {
     ghost use Rattle.std.specs.Prelude.{◌≡◌, [], None};
     ghost use Rattle.rt_model.specs.Tied.{First};
     ghost use Rattle.rt_model.specs.Rules.{MayCall};
     ghost use Rattle.rt_world.specs.Calls.{Kept};
     ghost use Rattle.rt_world.specs.Walked.{Rooted};
+    ghost use Rattle.rt_core.specs.Contexts.{root_context};
 
     // what it does next
     ghost first: { Self → First T T.Output };
@@ -25,7 +26,7 @@ pub trait RootMaker<T: Task>: Sized {
         context: Context,
         world: &mut World<T, T::Output, G>,
     ) -> Result<T, NoMemory>
-        requires node { context.node ≡ 0 }
+        requires root { context ≡ root_context }
         requires out { world.old.out ≡ None }
         requires calling { MayCall world.old.told.state world.old.out }
         requires fresh { world.old.told.state.turns ≡ [] }

@@ -1,15 +1,13 @@
 //! Runners.
 
-ghost use Rattle.std.specs.Prelude.{◌≡◌, ◌≤◌, ◌↔◌, [], None, Some, Ok, Err, IsOk, IfOk, IfErr, MatchResult};
-ghost use Rattle.rt_audit.specs.declared.finish.FinishCause.TheVariants.{NoMemory};
+ghost use Rattle.std.specs.Prelude.{◌≡◌, ◌≤◌, ◌↔◌, [], None, Some, Ok, Err, IsOk, IfOk, IfErr, MatchResult, false};
 ghost use Rattle.rt_model.specs.Tied.{with_first};
 ghost use Rattle.rt_model.specs.Run.{IsValidInput};
-ghost use Rattle.rt_machine.specs.Failures.{finish_of};
 ghost use Rattle.rt_core.specs.Starting.{assert_of, deadline_of, default_seed, first_begin, seeded, IsWithin, Kept};
 ghost use Rattle.rt_core.specs.Given.{entries_of};
 ghost use Rattle.rt_core.specs.Outcome.{Completes, Fails, DrawsNothing};
 
-use crate::running::run_maker;
+use crate::running::{error_of, run_maker};
 use crate::{Checkpoint, Config, ConfigError, Failure, Finished, RootMaker, RunError};
 use rand_chacha::ChaCha12Rng;
 use rand_core::Rng;
@@ -46,7 +44,7 @@ impl<G: Rng + Drop> Runner<G> {
     /// the settings.
     pub fn new(config: Config<G>) -> Result<Runner<G>, ConfigError>
         ensures accepted { IsOk result ↔ (assert_of config.cycle config.start_time config.timeout ≡ Ok tt) }
-        ensures ok { IfOk result (λ r. r ≡ record { begin = first_begin config.cycle config.start_time config.timeout; given = []; rng = config.rng }) }
+        ensures ok { IfOk result (λ r. r ≡ record { begin = first_begin config.cycle config.start_time config.timeout config.catch_panics; given = []; rng = config.rng }) }
         ensures refused { IfErr result (λ e. assert_of config.cycle config.start_time config.timeout ≡ Err e) }
     {
         match config.assert() {
@@ -57,6 +55,7 @@ impl<G: Rng + Drop> Runner<G> {
                     cycle,
                     start_time,
                     timeout,
+                    catch_panics,
                 } = config;
                 Ok(Runner {
                     rng,
@@ -65,6 +64,7 @@ impl<G: Rng + Drop> Runner<G> {
                         cycle,
                         deadline: deadline_after(start_time, timeout),
                         first: 0,
+                        catch: catch_panics,
                     },
                     journal: None,
                 })
@@ -83,7 +83,7 @@ impl<G: Rng + Drop> Runner<G> {
         maker: M,
     ) -> Result<Finished<T::Output, G>, Failure>
         ensures run { IfOk result (λ f. Completes (with_first T.steps (M.first maker)) self f.output f.checkpoint) }
-        ensures failure { IfErr result (λ f. Fails (with_first T.steps (M.first maker)) self f.journal.entries (finish_of f.cause)) }
+        ensures failure { IfErr result (λ f. Fails (with_first T.steps (M.first maker)) self f.journal.entries f.cause) }
         ensures orders { MatchResult result (λ f. DrawsNothing self f.checkpoint.journal) (λ f. DrawsNothing self f.journal.entries) }
         ensures complete { IsValidInput (with_first T.steps (M.first maker)) self.begin → IfErr result (λ f. f.cause ≡ RunError.NoMemory) }
     {
@@ -102,10 +102,10 @@ impl<G: Rng + Drop> Runner<G> {
                 });
             }
         };
-        let outcome = run_maker::<T, M, G>(&mut world, maker);
+        let outcome = run_maker::<T, M, G>(alloc, &mut world, maker);
         world.facts();
         let time = world.now();
-        let (journal, rng) = world.into_parts();
+        let (journal, rng, panic) = world.into_parts();
         match outcome {
             Ok(output) => Ok(Finished {
                 output,
@@ -117,7 +117,10 @@ impl<G: Rng + Drop> Runner<G> {
                     cycle: begin.cycle,
                 },
             }),
-            Err(cause) => Err(Failure { cause, journal }),
+            Err(cause) => Err(Failure {
+                cause: error_of(cause, panic),
+                journal,
+            }),
         }
     }
 }
@@ -130,7 +133,7 @@ impl<G: Rng + Drop> Runner<G> {
         maker: M,
     ) -> Result<T::Output, Failure>
         ensures run { IfOk result (λ output. (kept : Kept G) × Completes (with_first T.steps (M.first maker)) self output kept × DrawsNothing self kept.journal) }
-        ensures failure { IfErr result (λ f. Fails (with_first T.steps (M.first maker)) self f.journal.entries (finish_of f.cause)) }
+        ensures failure { IfErr result (λ f. Fails (with_first T.steps (M.first maker)) self f.journal.entries f.cause) }
         ensures orders { IfErr result (λ f. DrawsNothing self f.journal.entries) }
         ensures complete { IsValidInput (with_first T.steps (M.first maker)) self.begin → IfErr result (λ f. f.cause ≡ RunError.NoMemory) }
     {
@@ -150,7 +153,7 @@ impl Runner<ChaCha12Rng> {
     /// [`Config::assert`] refuses these settings.
     pub fn timed(timeout: Nanos) -> Result<Runner<ChaCha12Rng>, ConfigError>
         ensures accepted { IsOk result ↔ (assert_of 1000000 0 (Some timeout) ≡ Ok tt) }
-        ensures ok { IfOk result (λ r. r ≡ record { begin = first_begin 1000000 0 (Some timeout); given = []; rng = seeded default_seed }) }
+        ensures ok { IfOk result (λ r. r ≡ record { begin = first_begin 1000000 0 (Some timeout) false; given = []; rng = seeded default_seed }) }
         ensures refused { IfErr result (λ e. assert_of 1000000 0 (Some timeout) ≡ Err e) }
     {
         Runner::new(Config::new().with_timeout(Some(timeout)))
@@ -160,7 +163,7 @@ impl Runner<ChaCha12Rng> {
 impl Default for Runner<ChaCha12Rng> {
     /// A runner with the settings of [`Config::new`].
     fn default() -> Self
-        ensures { result ≡ record { begin = first_begin 1000000 0 None; given = []; rng = seeded default_seed } }
+        ensures { result ≡ record { begin = first_begin 1000000 0 None false; given = []; rng = seeded default_seed } }
     {
         match Runner::new(Config::new()) {
             Ok(runner) => runner,

@@ -19,7 +19,7 @@ impl Outcome for Probe {
     type Output = u64;
 }
 
-#[tactic(auto, using(rt_world::proofs::Walked::task_laws))]
+#[tactic(auto, using(rt_world::proofs::Walked::task_laws), unfolding(crate::specs::Pollers::sleep_until))]
 impl Task for Probe {
     ghost use Rattle.std.specs.Prelude.{if◌then◌else◌};
     ghost use Rattle.rt_model.specs.declared.answer.Answer.TheVariants.{Ready, NoMemory as LacksMemory};
@@ -62,8 +62,9 @@ impl RootMaker<Probe> for RootProbe {
     ghost use Rattle.rt_audit.specs.declared.call.Call.TheVariants.{CloseNode};
     ghost use Rattle.rt_model.specs.Turns.{Plainly};
     ghost use Rattle.rt_model.specs.Walk.{Gives, Spends};
+    ghost use Rattle.rt_core.specs.Contexts.{root_context};
 
-    ghost first = { λ maker now. if maker.makes then Gives tt (record { context = record { node = 0 }; calls = maker.calls }) else Spends (Plainly (CloseNode 0)) (Gives tt (record { context = record { node = 0 }; calls = maker.calls })) };
+    ghost first = { λ maker now. if maker.makes then Gives tt (record { context = root_context; calls = maker.calls }) else Spends (Plainly (CloseNode 0)) (Gives tt (record { context = root_context; calls = maker.calls })) };
 
     fn make<G: Rng>(
         self,
@@ -128,8 +129,9 @@ struct RootJuggler;
 impl RootMaker<Juggler> for RootJuggler {
     ghost use Rattle.rt_model.specs.Walk.{Gives};
     ghost use Rattle.rt_core.specs.Pollers.{until};
+    ghost use Rattle.rt_core.specs.Contexts.{root_context};
 
-    ghost first = { λ maker now. Gives tt (record { context = record { node = 0 }; first = until 5000000; second = until 5000000 }) };
+    ghost first = { λ maker now. Gives tt (record { context = root_context; first = until 5000000; second = until 5000000 }) };
 
     fn make<G: Rng>(
         self,

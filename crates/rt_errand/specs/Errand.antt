@@ -10,6 +10,7 @@ use Rattle.rt_model.specs.declared.answer.Answer.TheVariants.{Pending, Ready}
 use Rattle.rt_model.specs.Tied.{TaskSteps}
 use Rattle.rt_model.specs.Turns.{Plainly, Heard, Plain}
 use Rattle.rt_model.specs.Walk.{Step, Last, Does, Gives, then, followed_by}
+use Rattle.rt_core.specs.Contexts.{root_context}
 use Rattle.rt_core.specs.Sleeper.{Sleeper}
 use Rattle.rt_core.specs.Pollers.{sleep_for, sleep_polls, sleep_spends, reschedule_polls, reschedule_spends, closes}
 use Rattle.rt_core.specs.declared.yields.Reschedule.{Reschedule}
@@ -79,4 +80,4 @@ errand_steps = record { next = λ e time task. polled e e.stage time task; last 
 
 -- the root, on node 0
 abbrev pub errand_made : RootErrand → Step Errand Errand Output (Unit {0})
-errand_made maker = Gives tt (record { context = record { node = 0 }; stage = maker.stage; number = maker.number })
+errand_made maker = Gives tt (record { context = root_context; stage = maker.stage; number = maker.number })

@@ -7,6 +7,7 @@ use Rattle.rt_model.specs.declared.answer.Answer.{Answer}
 use Rattle.rt_model.specs.declared.answer.Answer.TheVariants.{Pending, Ready}
 use Rattle.rt_model.specs.Tied.{TaskSteps}
 use Rattle.rt_model.specs.Walk.{Step, Last, Gives, then, followed_by}
+use Rattle.rt_core.specs.Contexts.{root_context}
 use Rattle.rt_core.specs.Sleeper.{Sleeper}
 use Rattle.rt_core.specs.Pollers.{sleep_for, sleep_polls, sleep_spends, closes}
 use Rattle.rt_errand.specs.declared.retry.Retry.{Retry}
@@ -81,4 +82,4 @@ retry_steps = record { next = λ r time task. polled r r.stage time; last = λ r
 
 -- the root, on node 0
 abbrev pub retry_made : Step Retry Retry Output (Unit {0})
-retry_made = Gives tt (record { context = record { node = 0 }; stage = Fresh })
+retry_made = Gives tt (record { context = root_context; stage = Fresh })

@@ -1,6 +1,6 @@
 // Whole journals, as text.
 
-use crate::{Errand, Retry, RootErrand, RootRetry, Stage};
+use crate::{Crew, Errand, Retry, RootCrew, RootErrand, RootRetry, Stage};
 use rand_chacha::ChaCha12Rng;
 use rt_audit::Journal;
 use rt_core::utils::reschedule;
@@ -497,5 +497,109 @@ fn refused_settings(rt: HostRuntime) -> Result<(), Fail> {
     );
     assert!(rt; refusal(late) == Some(ConfigError::DeadlineTooLate));
     assert!(rt; refusal(last_moment().with_timeout(Some(0))) == None);
+    Ok(())
+}
+
+/// A run of a crew whose worker gives 7, and what comes of it.
+fn crew_plays(
+    alloc: Global,
+    config: Config<ChaCha12Rng>,
+    expected: Expected,
+) -> Result<bool, NoMemory> {
+    let Ok(runner) = Runner::new(config) else {
+        return Ok(false);
+    };
+    let run = runner.start_and_recover::<Crew, RootCrew>(alloc, RootCrew { number: 7 });
+    is_as_expected(alloc, run, expected)
+}
+
+#[test]
+fn a_worker_is_joined(rt: HostRuntime) -> Result<(), Fail> {
+    let expected = Expected {
+        ending: Ok(Ok(7)),
+        time: 3_000_000,
+        lines: "\
+start 0 - 1000000 0
+root 0
+round 0
+visit 0
+event process_task 00000000000000000000000000000000 -
+call 0 child 0 worker -> node 1
+call 0 spawn 1 -> task 1 node 2
+call 0 join 1 -> pending
+answer 0 pending
+advance 1000000
+round 1
+visit 1
+event process_task 00000000000000000000000000000001 776f726b6572
+call 1 sleep-poll 2000000 -> pending 0
+answer 1 pending
+advance 2000000
+fire 0
+wake 1
+round 1
+visit 1
+event process_task 00000000000000000000000000000001 776f726b6572
+call 1 sleep-poll 2000000 -> ready
+answer 1 ready
+call 1 close-node 2 -> ok
+answer 1 ended
+wake 0
+nodeend 1
+wake 1
+advance 3000000
+round 0 1
+visit 0
+event process_task 00000000000000000000000000000000 -
+call 0 join 1 -> ready
+answer 0 ready
+cleanup
+nodeend 0
+call 0 give-up 1 -> ok
+call 0 close-node 0 -> ok
+answer 0 ended
+crash
+finish ok
+",
+    };
+    assert!(rt; crew_plays(rt.alloc(), Config::new(), expected)?);
+    Ok(())
+}
+
+#[test]
+fn the_root_is_ended_last(rt: HostRuntime) -> Result<(), Fail> {
+    let expected = Expected {
+        ending: Err(RunError::Timeout),
+        time: 2_000_000,
+        lines: "\
+start 0 2000000 1000000 0
+root 0
+round 0
+visit 0
+event process_task 00000000000000000000000000000000 -
+call 0 child 0 worker -> node 1
+call 0 spawn 1 -> task 1 node 2
+call 0 join 1 -> pending
+answer 0 pending
+advance 1000000
+round 1
+visit 1
+event process_task 00000000000000000000000000000001 776f726b6572
+call 1 sleep-poll 2000000 -> pending 0
+answer 1 pending
+advance 2000000
+cleanup
+nodeend 0
+call 1 close-node 2 -> ok
+answer 1 ended
+call 0 give-up 1 -> ok
+call 0 close-node 0 -> ok
+answer 0 ended
+crash
+finish timeout
+",
+    };
+    let config = Config::new().with_timeout(Some(2_000_000));
+    assert!(rt; crew_plays(rt.alloc(), config, expected)?);
     Ok(())
 }

@@ -1,75 +1,106 @@
 -- What stands where a run has reached its cause, and where tasks are visited.
-use Rattle.std.proofs.Common.{◌≡◌, ◌≢◌, ◌⊎◌, inl, inr, ℕ, List, [], ◌∷◌, ◌++◌, drop, Option, Some, None, Bool, true, false, leb, ◌-◌, ◌^◌, ◌&&◌, refl, arith, Contains}
+use Rattle.std.proofs.Common.{◌≡◌, ◌≢◌, ℕ, List, [], ◌∷◌, ◌++◌, drop, Option, Some, None, Bool, true, false, leb, ◌-◌, ◌^◌, ◌&&◌, refl, arith, Contains}
 use Rattle.rt_audit.specs.declared.answer.AnswerKind.{AnswerKind}
-use Rattle.rt_audit.specs.declared.answer.AnswerKind.TheVariants.{Pending, Ready, NoMemory, Ended}
+use Rattle.rt_audit.specs.declared.answer.AnswerKind.TheVariants.{Pending, Ready, Panicked, Stopped, NoMemory, Ended}
 use Rattle.rt_audit.specs.declared.finish.FinishCause.{FinishCause}
-use Rattle.rt_audit.specs.declared.finish.FinishCause.TheVariants.{Completed, Timeout, Stalled, TimeOverflow, TooManyTasks, NoMemory as OutOfMemory}
+use Rattle.rt_audit.specs.declared.finish.FinishCause.TheVariants.{Completed, TaskPanicked, Timeout, Stalled, TimeOverflow, TooManyTasks, NoMemory as OutOfMemory}
 use Rattle.rt_audit.specs.declared.entry.Entry.{Entry}
 use Rattle.rt_audit.specs.declared.entry.Entry.TheVariants.{Start, Event, Root, Round, Visit, Answer, NodeEnd, Advance, Skip, Cleanup, Crash, Finish}
 use Rattle.rt_super.specs.Alarms.{Alarm}
-use Rattle.rt_model.specs.Lists.{has_number, is_nil, is_some_number}
+use Rattle.rt_super.specs.Ancestry.{is_ended}
+use Rattle.rt_model.specs.declared.result.Outcome.{Outcome}
+use Rattle.rt_model.specs.declared.result.Outcome.TheVariants.{There, Exited}
+use Rattle.rt_model.specs.Lists.{has_number, is_nil, is_some_number, find}
+use Rattle.rt_model.specs.Marks.{is_flagged}
 use Rattle.rt_model.specs.declared.begin.Begin.{Begin}
-use Rattle.rt_model.specs.State.{State, Phase, Making, Between, Visiting, Entered, Polling, Turning, Over, Cleaning, Closing, Crashed, Finished, Clock, begun, Ending}
+use Rattle.rt_model.specs.State.{State, Phase, Making, Between, Visiting, Entered, Polling, Ending, Leaving, Turning, Over, Cleaning, Closing, Crashed, Finished, Clock, begun}
 use Rattle.rt_model.specs.Alarms.{skip_to, fires}
-use Rattle.rt_model.specs.Causes.{is_late, overflows, from_running, turning_cause, where_true, cause_at}
-use Rattle.rt_model.specs.Effects.{after, after_all, answered, entered, cleaned, ended, finished, left_of}
+use Rattle.rt_model.specs.Causes.{is_late, overflows, from_running, turning_cause, where_true, cause_at, reached}
+use Rattle.rt_model.specs.Effects.{after, after_all, is_settled, answered, entered, entered_by, node_ended, cleans, leaves, ended, left_pending, finished, left_of}
 use Rattle.rt_model.specs.Rules.{May, MayAnswer, MayRound, MayClose, IsLawful}
 use Rattle.rt_laws.proofs.Clock.{lawful-front, lawful-tail}
 use Rattle.rt_laws.proofs.Endings.{run_cause}
 use Rattle.rt_laws.proofs.Rounds.{contains-from_has}
 
--- tasks are visited before the deadline, and what ends a round is the root's answer, or that memory was lacking
+-- what ends a round is the root's answer, or that memory was lacking
+abbrev IsRoundCause : FinishCause → Type 0
+IsRoundCause Completed = Unit {0}
+IsRoundCause TaskPanicked = Unit {0}
+IsRoundCause OutOfMemory = Unit {0}
+IsRoundCause _ = ⊥
+
+-- and tasks are visited before the deadline
 abbrev pub IsSoundAt : Phase → Clock → Type 0
 IsSoundAt (Visiting left) c = is_late c ≡ false
 IsSoundAt (Entered task left) c = is_late c ≡ false
 IsSoundAt (Polling task left) c = is_late c ≡ false
-IsSoundAt (Ending task left) c = is_late c ≡ false
-IsSoundAt (Over cause) c = (cause ≡ Completed) ⊎ (cause ≡ OutOfMemory)
+IsSoundAt (Ending task result left) c = is_late c ≡ false
+IsSoundAt (Leaving task result left) c = is_late c ≡ false
+IsSoundAt (Over cause) c = IsRoundCause cause
 IsSoundAt _ c = Unit {0}
 
 abbrev pub IsSound : State → Type 0
 IsSound s = IsSoundAt s.phase s.clock
 
-sound-entered : (p : Phase) (c : Clock) → IsSoundAt p c → IsSoundAt (entered p) c
-sound-entered (Entered task left) c k = k
-sound-entered _ c k = k
+sound-by : (stopped flagged : Bool) (task : ℕ) (left : List ℕ) (c : Clock) → is_late c ≡ false → IsSoundAt (entered_by stopped flagged task left) c
+sound-by true flagged task left c k = tt
+sound-by false true task left c k = k
+sound-by false false task left c k = k
 
-sound-cleaned : (p : Phase) (c : Clock) → IsSoundAt p c → IsSoundAt (cleaned p) c
-sound-cleaned (Cleaning cause) c k = tt
-sound-cleaned _ c k = k
+sound-entered : (s : State) (p : Phase) (c : Clock) → IsSoundAt p c → IsSoundAt (entered s p) c
+sound-entered s (Entered task left) c k = sound-by (is_some_number task s.root && s.panicked) (is_flagged (find task s.marks)) task left c k
+sound-entered s _ c k = k
+
+sound-node : (p : Phase) (c : Clock) → IsSoundAt p c → IsSoundAt (node_ended p) c
+sound-node (Cleaning cause) c k = tt
+sound-node (Leaving task result left) c k = k
+sound-node _ c k = k
+
+sound-cleans : (over : Bool) (cause : Option FinishCause) (c : Clock) → IsSoundAt (cleans over cause) c
+sound-cleans true cause c = tt
+sound-cleans false cause c = tt
 
 sound-round : (p : Phase) (s : State) → MayRound p s → is_late s.clock ≡ false
 sound-round Between s m = m
 sound-round Turning s m = m.1
 sound-round _ s m = absurd m
 
-sound-ended : (p : Phase) (c : Clock) → IsSoundAt p c → IsSoundAt (ended p) c
-sound-ended (Ending task left) c k = k
-sound-ended _ c k = k
+sound-leaves : (settles : Bool) (task : ℕ) (result : Option Outcome) (left : List ℕ) (c : Clock) → is_late c ≡ false → IsSoundAt (leaves settles task result left) c
+sound-leaves true task result left c k = k
+sound-leaves false task result left c k = k
 
-sound-finished : (is_root : Bool) (task : ℕ) (left : List ℕ) (c : Clock) → is_late c ≡ false → IsSoundAt (finished is_root task left) c
-sound-finished true task left c k = inl refl
-sound-finished false task left c k = k
+sound-ended : (settles : Bool) (p : Phase) (c : Clock) → IsSoundAt p c → IsSoundAt (ended settles p) c
+sound-ended settles (Ending task result left) c k = sound-leaves settles task result left c k
+sound-ended settles _ c k = k
 
-sound-answered : (s : State) (task : ℕ) (kind : AnswerKind) → MayAnswer s task kind → IsSound s → IsSoundAt (answered s.root s.phase task kind) s.clock
-sound-answered s task Pending m k = rw m at k
-sound-answered s task Ready m k = sound-finished (is_some_number task s.root) task (left_of s.phase) s.clock (rw m at k)
-sound-answered s task NoMemory m k = inr refl
-sound-answered s task Ended m k = sound-ended s.phase s.clock k
-sound-answered s task _ m k = k
+sound-pending : (flagged : Bool) (task : ℕ) (left : List ℕ) (c : Clock) → is_late c ≡ false → IsSoundAt (left_pending flagged task left) c
+sound-pending true task left c k = k
+sound-pending false task left c k = k
+
+sound-finished : (is_root : Bool) (cause : FinishCause) (result : Outcome) (task : ℕ) (left : List ℕ) (c : Clock) → IsRoundCause cause → is_late c ≡ false → IsSoundAt (finished is_root cause result task left) c
+sound-finished true cause result task left c h k = h
+sound-finished false cause result task left c h k = k
+
+sound-answered : (s : State) (task : ℕ) (kind : AnswerKind) → MayAnswer s task kind → IsSound s → IsSoundAt (answered s task kind) s.clock
+sound-answered s task Pending m k = sound-pending (is_flagged (find task s.marks)) task (left_of s.phase) s.clock (rw m at k)
+sound-answered s task Ready m k = sound-finished (is_some_number task s.root) Completed There task (left_of s.phase) s.clock tt (rw m at k)
+sound-answered s task Panicked m k = sound-finished (is_some_number task s.root) TaskPanicked Exited task (left_of s.phase) s.clock tt (rw m at k)
+sound-answered s task Stopped m k = tt
+sound-answered s task NoMemory m k = tt
+sound-answered s task Ended m k = sound-ended (is_settled s task) s.phase s.clock k
 
 sound-after : (s : State) (e : Entry) → May s e → IsSound s → IsSound (after s e)
 unfolding after
 sound-after s (Start next now deadline cycle) m k = tt
-sound-after s (Event label fields) m k = sound-entered s.phase s.clock k
+sound-after s (Event label fields) m k = sound-entered s s.phase s.clock k
 sound-after s (Root task) m k = tt
 sound-after s (Round order) m k = sound-round s.phase s m.1.0
 sound-after s (Visit task) m k = rw m.1.0 at k
 sound-after s (Answer task kind) m k = sound-answered s task kind m.1 k
-sound-after s (NodeEnd node) m k = sound-cleaned s.phase s.clock k
+sound-after s (NodeEnd node) m k = sound-node s.phase s.clock k
 sound-after s (Advance now) m k = tt
 sound-after s (Skip now) m k = rw m.1.0 tt
-sound-after s Cleanup m k = tt
+sound-after s Cleanup m k = sound-cleans (is_ended s.nodes 0) (reached s) s.clock
 sound-after s (Crash choices) m k = tt
 sound-after s (Finish cause) m k = tt
 sound-after s _ m k = k
@@ -141,10 +172,10 @@ Needs Timeout s = is_late s.clock ≡ true
 Needs TimeOverflow s = overflows s.clock ≡ true
 Needs _ s = Unit {0}
 
-needs-round : (cause : FinishCause) (s : State) → (cause ≡ Completed) ⊎ (cause ≡ OutOfMemory) → Needs cause s
-needs-round Stalled s h = elim h [ inl e ↦ absurd (cc) | inr e ↦ absurd (cc) ]
-needs-round Timeout s h = elim h [ inl e ↦ absurd (cc) | inr e ↦ absurd (cc) ]
-needs-round TimeOverflow s h = elim h [ inl e ↦ absurd (cc) | inr e ↦ absurd (cc) ]
+needs-round : (cause : FinishCause) (s : State) → IsRoundCause cause → Needs cause s
+needs-round Stalled s h = absurd h
+needs-round Timeout s h = absurd h
+needs-round TimeOverflow s h = absurd h
 needs-round _ s h = tt
 
 needs-turning : (cause : FinishCause) (s : State) → cause_at Turning s ≡ Some cause → Needs cause s

@@ -5,28 +5,30 @@ use Rattle.rt_audit.specs.declared.call.Call.{Call}
 use Rattle.rt_audit.specs.declared.call.Call.TheVariants.{SleepPoll}
 use Rattle.rt_audit.specs.declared.reply.CallReply.{CallReply}
 use Rattle.rt_audit.specs.declared.reply.CallReply.TheVariants.{PendingAt, Ready as IsOver}
-use Rattle.rt_audit.specs.declared.answer.AnswerKind.TheVariants.{Pending as IsPending, Ready as IsReady, NoMemory as LacksMemory, Ended as IsEnded}
+use Rattle.rt_audit.specs.declared.answer.AnswerKind.TheVariants.{Pending as IsPending, Ready as IsReady, Panicked as IsPanicked, Stopped as IsStopped, NoMemory as LacksMemory, Ended as IsEnded}
 use Rattle.rt_audit.specs.declared.finish.FinishCause.{FinishCause}
 use Rattle.rt_audit.specs.declared.finish.FinishCause.TheVariants.{Completed, NoMemory}
 use Rattle.rt_audit.specs.declared.entry.Entry.{Entry}
 use Rattle.rt_audit.specs.declared.entry.Entry.TheVariants.{Start, Call as CallEntry, Event, Wake, Draw, Root, Round, Visit, Answer as AnswerEntry, Advance, Skip, Fire, Cleanup}
 use Rattle.rt_model.specs.declared.answer.Answer.{Answer}
-use Rattle.rt_model.specs.declared.answer.Answer.TheVariants.{Pending, Ready}
+use Rattle.rt_model.specs.declared.answer.Answer.TheVariants.{Pending, Ready, Panicked}
 use Rattle.rt_model.specs.declared.begin.Begin.{Begin}
-use Rattle.rt_model.specs.State.{State, Phase, Making, Between, Visiting, Entered, Polling, Turning, Over, Finished, Turn, stood_in, begun}
+use Rattle.rt_model.specs.State.{State, Phase, Making, Between, Visiting, Entered, Polling, Halted, Turning, Over, Finished, Turn, stood_in, begun}
 use Rattle.rt_model.specs.Events.{process_task, task_fields}
 use Rattle.rt_model.specs.Alarms.{alarm_of, skip_to, fires}
 use Rattle.rt_model.specs.Causes.{cause_at, reached, from_running}
-use Rattle.rt_model.specs.Effects.{after, after_all}
+use Rattle.rt_model.specs.Effects.{after, after_all, task_label}
 use Rattle.rt_model.specs.Rules.{Answers, May, MayRound, IsLawful}
-use Rattle.rt_model.specs.Turns.{Held, Ask, Sleeping, Heard, Asks, Fits, call_of}
+use Rattle.rt_model.specs.Lists.{find}
+use Rattle.rt_super.specs.Ancestry.{is_ended}
+use Rattle.rt_model.specs.Turns.{Held, Ask, Sleeping, Heard, Asks, Fits, call_of, put}
 use Rattle.rt_model.specs.Walk.{Step, Does, Gives, Gave, Walks, Fronts}
-use Rattle.rt_model.specs.Tied.{Steps, Value, nothing, MovesCleanup, Moves, Keeps, Polls, IsTied, find, taken, put}
+use Rattle.rt_model.specs.Tied.{Steps, Value, nothing, MovesCleanup, Moves, Polls, IsTied, taken}
 use Rattle.rt_model.specs.Run.{IsValidInput}
-use Rattle.rt_laws.proofs.Endings.{EndsFor, ends-all}
+use Rattle.rt_laws.proofs.Endings.{EndsFor, ends-all, cleans-for}
 use Rattle.rt_laws.proofs.Starts.{run_starts}
 use Rattle.rt_laws.proofs.Stands.{stands, may_stand}
-use Rattle.rt_laws.proofs.Values.{all-whole, not-whole, same-parts}
+use Rattle.rt_laws.proofs.Values.{all-whole, not-whole}
 use Rattle.rt_laws.proofs.Fronts.{LeadsTo, walks-front, front-front, leads-fronts, leads-gave}
 
 -- the rest of a run that finishes for this cause, and isn't cut off
@@ -74,7 +76,7 @@ module _ {A O : Type 0} (p : Steps A O) where
 
   cleanup : (s : State) (u : Value A O) → IsFine (reached s) → Completes p (after s Cleanup) u
   unfolding after
-  cleanup s u f x cause r = fine-ends (reached s) cause (after_all (after s Cleanup) x).phase f r.caused r.ends (ends-all (reached s) (after s Cleanup) x refl refl r.lawful).1
+  cleanup s u f x cause r = fine-ends (reached s) cause (after_all (after s Cleanup) x).phase f r.caused r.ends (ends-all (reached s) (after s Cleanup) x refl (cleans-for (is_ended s.nodes 0) (reached s)) r.lawful).1
 
   pub over : (s : State) (v : Value A O) → s.phase ≡ Over Completed → s.owed ≡ [] → Completes p s v
   over s v h o = continues s v (λ cause e. cc) c
@@ -95,7 +97,10 @@ module _ {A O : Type 0} (p : Steps A O) where
       let k : MovesCleanup p s v Making u = rw h at m in
       elim k [
         | inl k ↦ walks-front (stood_in s) tt k.0 u.held s.turns v.held (p.first s.clock.time) k.1
-        | inr k ↦ not-whole u (record v { unmade = k.0; whole = false }) w refl k.2
+        | inr k ↦ absurd (elim k.0 [
+          | inl b ↦ not-whole u (record v { held = u.held; unmade = u.unmade; whole = false }) w refl b.1
+          | inr b ↦ not-whole u (record v { held = u.held; unmade = None; whole = false }) w refl b.1
+        ])
       ]
 
   making-front : (s : State) (v : Value A O) (x : List Entry) (cause : FinishCause) → s.phase ≡ Making → Rest p s v x cause → Fronts (p.first s.clock.time) v.held s.turns
@@ -142,32 +147,40 @@ module _ {A O : Type 0} (p : Steps A O) where
   polling-front s v task left a (AnswerEntry other IsPending ∷ x) cause h f r =
       let m = further s v (AnswerEntry other IsPending) x cause r in
       let n = r.lawful.0.1 in
-      let k : Polls p s other v.held Pending m.0.held = m.1.0 in
-      walks-front (stood_in s) Pending k.left k.moved s.turns (taken task v.held) (p.task.next a s.clock.time task) (polls-walk s v task other a Pending m.0.held (cc) f k)
+      let end : Held A O = m.1.0 in
+      let k : Polls p s other v.held Pending end = m.1.1 in
+      walks-front (stood_in s) Pending k.left k.moved s.turns (taken task v.held) (p.task.next a s.clock.time task) (polls-walk s v task other a Pending end (cc) f k)
   polling-front s v task left a (AnswerEntry other IsReady ∷ x) cause h f r =
       let m = further s v (AnswerEntry other IsReady) x cause r in
       let n = r.lawful.0.1 in
-      let k = m.1 in
-      let o : O = k.0 in
-      let k : Polls p s other v.held (Ready o) m.0.held = k.1 in
-      walks-front (stood_in s) (Ready o) k.left k.moved s.turns (taken task v.held) (p.task.next a s.clock.time task) (polls-walk s v task other a (Ready o) m.0.held (cc) f k)
+      let o : O = m.1.0 in
+      let end : Held A O = m.1.1 in
+      let k : Polls p s other v.held (Ready o) end = m.1.2 in
+      walks-front (stood_in s) (Ready o) k.left k.moved s.turns (taken task v.held) (p.task.next a s.clock.time task) (polls-walk s v task other a (Ready o) end (cc) f k)
+  polling-front s v task left a (AnswerEntry other IsPanicked ∷ x) cause h f r =
+      let m = further s v (AnswerEntry other IsPanicked) x cause r in
+      let n = r.lawful.0.1 in
+      let text : List ℕ = m.1.0 in
+      let end : Held A O = m.1.1 in
+      let k : Polls p s other v.held (Panicked text) end = m.1.2 in
+      walks-front (stood_in s) (Panicked text) k.left k.moved s.turns (taken task v.held) (p.task.next a s.clock.time task) (polls-walk s v task other a (Panicked text) end (cc) f k)
   polling-front s v task left a (AnswerEntry other LacksMemory ∷ x) cause h f r =
       let m = further s v (AnswerEntry other LacksMemory) x cause r in
       let k = m.1 in
-      not-whole m.0 (record v { held = put other k.left (taken other v.held); whole = false }) m.2 refl k.is
+      not-whole m.0 (record v { held = put other k.left k.moved; whole = false }) m.2 refl k.is
   polling-front s v task left a (AnswerEntry other IsEnded ∷ x) cause h f r = absurd (rw h at r.lawful.0.1)
-  polling-front s v task left a (AnswerEntry other kind ∷ x) cause h f r = absurd r.lawful.0.1
+  polling-front s v task left a (AnswerEntry other IsStopped ∷ x) cause h f r = let n : Polling task left ≡ Halted other = rw h at r.lawful.0.1 in absurd (cc)
   polling-front s v task left a (e ∷ x) cause h f r = let z : stands (Polling task left) e ≡ true = rw h at (may_stand s e r.lawful.0) in absurd (cc)
 
   -- visits
 
   module _ (s : State) (v : Value A O) (owes : s.owed ≡ []) where
-    pub entered : (task : ℕ) (left : List ℕ) → s.phase ≡ Entered task left → Completes p (after s (Event process_task (task_fields task []))) v → Completes p s v
+    pub entered : (task : ℕ) (left : List ℕ) → s.phase ≡ Entered task left → Completes p (after s (Event process_task (task_fields task (task_label s task)))) v → Completes p s v
     entered task left h more = continues s v (λ cause e. cc) c
       where
         c : Continues s v
         c (Event label fields) u m k w =
-            let same : fields ≡ task_fields task [] = rw h at m.1.2 in
+            let same : fields ≡ task_fields task (task_label s task) = rw h at m.1.2 in
             rw (m.1.1, same, k) more
         c (Wake other) u m k w = absurd (cc)
         c e u m k w = let z : stands (Entered task left) e ≡ true = rw h at (may_stand s e m) in absurd (cc)
@@ -179,7 +192,7 @@ module _ {A O : Type 0} (p : Steps A O) where
         c (Visit other) u m k w =
             let is : from_running s.running left ≡ other ∷ drop 1 (from_running s.running left) = rw h at m.1.1 in
             let same : other ≡ task = cc in
-            rw (same, k) more
+            rw (same, k.0) more
         c (Advance now) u m k w =
             let is : from_running s.running left ≡ [] = rw h at m.1.1 in
             absurd (cc)
@@ -194,7 +207,7 @@ module _ {A O : Type 0} (p : Steps A O) where
         c (Visit other) u m k w =
             let is : from_running s.running left ≡ other ∷ drop 1 (from_running s.running left) = rw h at m.1.1 in
             absurd (cc)
-        c (Advance now) u m k w = rw (m.1.2, k) more
+        c (Advance now) u m k w = rw (m.1.2, k.0) more
         c Cleanup u m k w = cleanup s u f
         c (Wake other) u m k w = absurd (cc)
         c e u m k w = let z : stands (Visiting left) e ≡ true = rw h at (may_stand s e m) in absurd (cc)
@@ -231,11 +244,12 @@ module _ {A O : Type 0} (p : Steps A O) where
 
           c : Continues s v
           c (CallEntry by call reply) u m k w = calls by call reply u (rw is at m.1.0) k m.1.1
-          c (AnswerEntry other IsPending) u m k w = let n = m.1 in absurd (gave (Does ask on) Pending u.held other l (cc) k.0)
-          c (AnswerEntry other IsReady) u m k w = let n = m.1 in let o : O = k.0 in absurd (gave (Does ask on) (Ready o) u.held other l (cc) k.1)
-          c (AnswerEntry other LacksMemory) u m k w = not-whole u (record v { held = put other k.left (taken other v.held); whole = false }) w refl k.is
+          c (AnswerEntry other IsPending) u m k w = let n = m.1 in absurd (gave (Does ask on) Pending k.0 other l (cc) k.1)
+          c (AnswerEntry other IsReady) u m k w = let n = m.1 in let o : O = k.0 in absurd (gave (Does ask on) (Ready o) k.1 other l (cc) k.2)
+          c (AnswerEntry other IsPanicked) u m k w = let n = m.1 in let text : List ℕ = k.0 in absurd (gave (Does ask on) (Panicked text) k.1 other l (cc) k.2)
+          c (AnswerEntry other IsStopped) u m k w = let n : Polling task left ≡ Halted other = rw is at m.1 in absurd (cc)
+          c (AnswerEntry other LacksMemory) u m k w = not-whole u (record v { held = put other k.left k.moved; whole = false }) w refl k.is
           c (AnswerEntry other IsEnded) u m k w = absurd (rw is at m.1)
-          c (AnswerEntry other kind) u m k w = absurd m.1
           c (Wake other) u m k w = absurd (cc)
           c e u m k w = let z : stands (Polling task left) e ≡ true = rw is at (may_stand s e m) in absurd (cc)
 
@@ -256,28 +270,29 @@ module _ {A O : Type 0} (p : Steps A O) where
           told (PendingAt number) m f = let l = m.0 in absurd (omega arith)
           told _ m f = absurd m
 
-      pub polling_gives : (answer : Answer O) (next : A) → s.root ≡ Some task → Leads (Gives answer next) → (answer ≡ Pending → Completes p (after s (AnswerEntry task IsPending)) (record v { held = put task next now })) → Completes p s v
-      polling_gives answer next root l more = continues s v (λ cause e. cc) c
+      pub polling_gives : (answer : Answer O) (next : A) → s.root ≡ Some task → ((text : List ℕ) → answer ≢ Panicked text) → Leads (Gives answer next) → (answer ≡ Pending → Completes p (after s (AnswerEntry task IsPending)) (record v { held = put task next now })) → Completes p s v
+      polling_gives answer next root calm l more = continues s v (λ cause e. cc) c
         where
           calls : (by : Option ℕ) (call : Call) (reply : CallReply) (u : Value A O) → by ≡ Some task → u ≡ v → Completes p (after s (CallEntry by call reply)) u
           calls by call reply u e k x cause r =
               let rest : Rest p (after s (CallEntry (Some task) call reply)) u x cause = rw e at r in
               absurd (called (Gives answer next) call reply u x cause l k rest)
 
-          pends : (other : ℕ) (u : Value A O) → other ≡ task → Polls p s other v.held Pending u.held × Keeps v u → Completes p (after s (AnswerEntry other IsPending)) u
-          pends other u e k =
-              let g = gave (Gives answer next) Pending u.held other l e k.0 in
-              let held : u.held ≡ put task next now = k.0.is ∙ rw (e, ← g.1, g.2) refl in
-              let same : u ≡ record v { held = put task next now } = same-parts u (record v { held = put task next now }) held k.1.0 k.1.1 k.1.2 in
+          pends : (other : ℕ) (u : Value A O) (end : Held A O) → other ≡ task → Polls p s other v.held Pending end → u ≡ record v { held = end } → Completes p (after s (AnswerEntry other IsPending)) u
+          pends other u end e k is =
+              let g = gave (Gives answer next) Pending end other l e k in
+              let held : end ≡ put task next now = k.is ∙ rw (e, ← g.1, g.2) refl in
+              let same : u ≡ record v { held = put task next now } = is ∙ rw held refl in
               rw (e, same) (more g.0)
 
           c : Continues s v
           c (CallEntry by call reply) u m k w = calls by call reply u (rw is at m.1.0) k
-          c (AnswerEntry other IsPending) u m k w = let n = m.1 in pends other u (cc) k
+          c (AnswerEntry other IsPending) u m k w = let n = m.1 in pends other u k.0 (cc) k.1 k.2
           c (AnswerEntry other IsReady) u m k w = let n = m.1 in let e : task ≡ other = cc in ready s u other (root ∙ ap Some e)
-          c (AnswerEntry other LacksMemory) u m k w = not-whole u (record v { held = put other k.left (taken other v.held); whole = false }) w refl k.is
+          c (AnswerEntry other IsPanicked) u m k w = let n = m.1 in let text : List ℕ = k.0 in absurd (calm text (gave (Gives answer next) (Panicked text) k.1 other l (cc) k.2).0)
+          c (AnswerEntry other IsStopped) u m k w = let n : Polling task left ≡ Halted other = rw is at m.1 in absurd (cc)
+          c (AnswerEntry other LacksMemory) u m k w = not-whole u (record v { held = put other k.left k.moved; whole = false }) w refl k.is
           c (AnswerEntry other IsEnded) u m k w = absurd (rw is at m.1)
-          c (AnswerEntry other kind) u m k w = absurd m.1
           c (Wake other) u m k w = absurd (cc)
           c e u m k w = let z : stands (Polling task left) e ≡ true = rw is at (may_stand s e m) in absurd (cc)
 
@@ -316,7 +331,7 @@ module _ {A O : Type 0} (p : Steps A O) where
         c : Continues s v
         c (Draw value) u m k w = absurd (busy s.phase h m.1)
         c (Round order) u m k w = absurd (busy s.phase h m.1.0)
-        c (Skip other) u m k w = let n = m.1.1 in let same : other ≡ now = cc in rw (same, k) more
+        c (Skip other) u m k w = let n = m.1.1 in let same : other ≡ now = cc in rw (same, k.0) more
         c (Fire alarm) u m k w = let n = m.1.2 in absurd (cc)
         c Cleanup u m k w = cleanup s u f
         c (Wake other) u m k w = absurd (cc)
@@ -332,7 +347,7 @@ module _ {A O : Type 0} (p : Steps A O) where
         c (Draw value) u m k w = absurd (busy s.phase h m.1)
         c (Round order) u m k w = absurd (busy s.phase h m.1.0)
         c (Skip other) u m k w = let n = m.1.1 in absurd (cc)
-        c (Fire other) u m k w = let n = m.1.2 in let same : other ≡ alarm = cc in rw (same, k) more
+        c (Fire other) u m k w = let n = m.1.2 in let same : other ≡ alarm = cc in rw (same, k.0) more
         c Cleanup u m k w = cleanup s u f
         c (Wake other) u m k w = absurd (cc)
         c e u m k w = let z : stands Turning e ≡ true = rw h at (may_stand s e m) in absurd (cc)
@@ -377,7 +392,7 @@ module _ {A O : Type 0} (p : Steps A O) where
         round-drawn (draws ++ value ∷ []) x cause rest
     round-drawn draws (Round order ∷ x) cause r =
         let m = further (drawn s draws) v (Round order) x cause r in
-        let rest : Rest p (after s (Round order)) v x cause = rw m.1 at m.3 in
+        let rest : Rest p (after s (Round order)) v x cause = rw m.1.0 at m.3 in
         more order r.lawful.0.1.1 x cause rest
     round-drawn draws (Cleanup ∷ x) cause r =
         let m = further (drawn s draws) v Cleanup x cause r in

@@ -1,20 +1,20 @@
 -- What is no run that was cut off.
-use Rattle.std.proofs.Common.{◌≡◌, ℕ, inl, inr, true, false, List, [], ◌∷◌, ◌++◌, Some, None, refl, rules, take, drop}
+use Rattle.std.proofs.Common.{◌≡◌, ℕ, inl, inr, true, false, List, [], ◌∷◌, ◌++◌, Some, refl, rules, arith, take, drop}
 use Rattle.std.proofs.lemmas.List.Sorted.{IsPermutation-refl}
 use Rattle.rt_audit.specs.declared.answer.AnswerKind.TheVariants.{Ready as AnswersReady, NoMemory as LacksMemory, Ended}
 use Rattle.rt_audit.specs.declared.finish.FinishCause.TheVariants.{NoMemory}
-use Rattle.rt_audit.specs.declared.entry.Entry.{Entry}
 use Rattle.rt_audit.specs.declared.entry.Entry.TheVariants.{Call, Answer as Answered, NodeEnd, Cleanup}
 use Rattle.rt_audit.specs.declared.call.Call.{Call as CallOf}
-use Rattle.rt_audit.specs.declared.call.Call.TheVariants.{CloseNode, SleepPoll, Wake as WakeCall}
+use Rattle.rt_audit.specs.declared.call.Call.TheVariants.{CloseNode, Spawn, SleepPoll, Wake as WakeCall}
 use Rattle.rt_audit.specs.declared.reply.CallReply.{CallReply}
-use Rattle.rt_audit.specs.declared.reply.CallReply.TheVariants.{Done, PendingAt}
-use Rattle.rt_model.specs.State.{State, Turn, Stood, stood_in, begun}
+use Rattle.rt_audit.specs.declared.reply.CallReply.TheVariants.{Done, TaskAt, PendingAt}
+use Rattle.rt_model.specs.Lists.{find}
+use Rattle.rt_model.specs.State.{Turn, Stood, begun}
 use Rattle.rt_model.specs.Effects.{after, after_all}
-use Rattle.rt_model.specs.Turns.{Held, has_place}
+use Rattle.rt_model.specs.Turns.{Held, put, with_task, freed_by, FreesOne, has_place}
 use Rattle.rt_model.specs.Rules.{IsLawful}
-use Rattle.rt_model.specs.Walk.{Step, Spends, Gives, Breaks, Fronts, Stops, stood_before}
-use Rattle.rt_model.specs.Tied.{Steps, Value, nothing, taken, put, IsTied}
+use Rattle.rt_model.specs.Walk.{Gives, Stops, stood_before}
+use Rattle.rt_model.specs.Tied.{Value, nothing, taken}
 use Rattle.rt_model.specs.Run.{IsCutOff}
 use Rattle.rt_laws.specs.Examples.{small_begin, ready_root, busy_root, closes_node, opening, visiting_root, root_ends, finishing, silent_end, lacking_journal, invented_in_poll, invented_in_end}
 use Rattle.rt_laws.proofs.Misses.{tied-tail}
@@ -71,15 +71,26 @@ none_in_an_end number r =
       | inr k ↦ no-other-lack _ _ k.0.front k.0.rest _ k.0.are refl refl k.0.walks
     ]
 
+-- what a call moves whose ask isn't known
+moves-some : (held : Held (Unit {0}) ℕ) (call : CallOf) (reply : CallReply) → (end : Held (Unit {0}) ℕ) × FreesOne held call reply end
+moves-some held (Spawn node) (TaskAt task number) = (put task tt held, (tt, refl))
+moves-some held call reply = (freed_by held call reply, refl)
+
+puts : (k : ℕ) (xs : List (ℕ × Unit {0})) → find k (with_task k tt xs) ≡ Some tt
+puts k [] = grind arith
+puts k (x ∷ xs) = grind (arith, puts k xs)
+
 -- the busy root lacks memory behind its first sleep, and in its end
 pub lacks_within : (call : CallOf) (reply : CallReply) → IsLawful (begun small_begin) (lacking_journal call reply) → IsCutOff busy_root small_begin (lacking_journal call reply)
 unfolding begun after
 lacks_within call reply lawful =
     let v : Value (Unit {0}) ℕ = record nothing { held = put 0 tt nothing.held } in
-    let w : Value (Unit {0}) ℕ = record v { whole = false } in
+    let m = moves-some nothing.held call reply in
+    let w : Value (Unit {0}) ℕ = record v { held = put 0 tt m.0; whole = false } in
+    let end : Value (Unit {0}) ℕ = record w { held = taken 0 w.held } in
     let asked = after_all (begun small_begin) (opening ++ visiting_root ++ (Call (Some 0) (SleepPoll 5) (PendingAt 0) ∷ Call (Some 0) call reply ∷ [])) in
     record {
-      value = record w { held = nothing.held };
+      value = end;
       lawful = lawful;
       ends = refl;
       tied = (
@@ -90,10 +101,10 @@ lacks_within call reply lawful =
           (tt, nothing.held, (refl, refl, refl), refl),
           (
             v,
-            refl,
+            (refl, refl),
             (
               v,
-              refl,
+              (refl, refl),
               (
                 v,
                 refl,
@@ -105,8 +116,8 @@ lacks_within call reply lawful =
                     refl,
                     (
                       w,
-                      record { before = tt; left = tt; there = refl; breaks = inl (record { front = take 1 asked.turns; rest = drop 1 asked.turns; are = refl; walks = ((refl, refl), tt) }); is = refl },
-                      (w, refl, (w, refl, (record w { held = nothing.held }, (tt, refl, inr (record { front = []; rest = []; are = refl; walks = tt }, refl)), (record w { held = nothing.held }, (refl, refl), (record w { held = nothing.held }, refl, refl))))),
+                      record { before = tt; left = tt; there = refl; breaks = inl (record { front = take 1 asked.turns; rest = drop 1 asked.turns; are = refl; walks = ((refl, refl), tt) }); moved = m.0; frees = (nothing.held, refl, (m.0, m.1, refl)); is = refl },
+                      (w, refl, (w, refl, (end, (tt, puts 0 m.0.tasks, inr (record { front = []; rest = []; are = refl; walks = tt }, refl, refl)), (end, (refl, refl), (end, refl, refl))))),
                     ),
                   ),
                 ),

@@ -1,21 +1,25 @@
 -- A cleanup only ends tasks, and a run ends for the cause that it had reached.
-use Rattle.std.proofs.Common.{◌≡◌, ◌≢◌, ◌⊎◌, inl, inr, ℕ, List, [], ◌∷◌, ◌++◌, Option, Some, Bool, true, false, refl, sym, ap, ◌∙◌, All}
+use Rattle.std.proofs.Common.{◌≡◌, ◌≢◌, ◌⊎◌, inl, inr, ℕ, List, [], ◌∷◌, ◌++◌, Option, Some, Bool, true, false, not, ◌&&◌, if◌then◌else◌, arith, refl, sym, ap, ◌∙◌, All}
 use Rattle.std.specs.List.{AllByRecursion}
 use Rattle.std.proofs.lemmas.List.Elements.{All-from_recursion}
 use Rattle.rt_audit.specs.declared.call.Call.{Call}
-use Rattle.rt_audit.specs.declared.call.Call.TheVariants.{Wake as WakeCall}
+use Rattle.rt_audit.specs.declared.call.Call.TheVariants.{Wake as WakeCall, Abort, AbortTask}
 use Rattle.rt_audit.specs.declared.reply.CallReply.{CallReply}
 use Rattle.rt_audit.specs.declared.answer.AnswerKind.{AnswerKind}
-use Rattle.rt_audit.specs.declared.answer.AnswerKind.TheVariants.{Pending, Ready, NoMemory, Ended}
+use Rattle.rt_audit.specs.declared.answer.AnswerKind.TheVariants.{Pending, Ready, Panicked, Stopped, NoMemory, Ended}
 use Rattle.rt_audit.specs.declared.finish.FinishCause.{FinishCause}
 use Rattle.rt_audit.specs.declared.finish.FinishCause.TheVariants.{NoMemory as OutOfMemory}
 use Rattle.rt_audit.specs.declared.entry.Entry.{Entry}
 use Rattle.rt_audit.specs.declared.entry.Entry.TheVariants.{Start, Call as CallEntry, Event, Wake, Draw, Root, Round, Visit, Answer, NodeEnd, Advance, Skip, Fire, Cleanup, Crash, Finish}
 use Rattle.rt_model.specs.declared.begin.Begin.{Begin}
-use Rattle.rt_model.specs.State.{State, Phase, Between, Turning, Cleaning, Closing, Crashed, Finished, begun, Ending}
+use Rattle.rt_model.specs.declared.mark.Mark.{Mark}
+use Rattle.rt_model.specs.declared.result.TaskResult.{TaskResult}
+use Rattle.rt_super.specs.Ancestry.{is_ended}
+use Rattle.rt_model.specs.Lists.{find, those}
+use Rattle.rt_model.specs.State.{State, Phase, Between, Turning, Ending, Leaving, Cleaning, Closing, Crashed, Finished, begun}
 use Rattle.rt_model.specs.Causes.{reached, ends_next}
-use Rattle.rt_model.specs.Effects.{after, after_all, is_closing, due_called, cause_of, answered, cleaned, ended}
-use Rattle.rt_model.specs.Rules.{May, CallsAt, MayAnswer, MayRound, MayClose, MayCrash, MayFinish, IsLawful}
+use Rattle.rt_model.specs.Effects.{after, after_all, is_closing, is_settled, due_called, due_answered, due_node, due_panic, due_ended, ends_in_panic, cause_of, answered, node_ended, cleans, ended}
+use Rattle.rt_model.specs.Rules.{May, CallsAt, MayAnswer, MayEndNode, MayRound, MayClose, MayCrash, MayFinish, IsLawful}
 use Rattle.rt_model.proofs.Append.{after_all-append}
 use Rattle.rt_laws.specs.Cleanup.{IsOfCleanup}
 use Rattle.rt_laws.proofs.Clock.{lawful-tail}
@@ -52,45 +56,74 @@ module _ (cause : Option FinishCause) where
   crash-ends (Closing of) running k m = k
   crash-ends _ running k m = absurd m
 
-  cleaned-ends : (p : Phase) → EndsFor cause p → EndsFor cause (cleaned p)
+  cleaned-ends : (p : Phase) → EndsFor cause p → EndsFor cause (node_ended p)
   cleaned-ends (Cleaning of) k = k
+  cleaned-ends (Leaving task result left) k = absurd k
   cleaned-ends _ k = k
+
+  node-closing : (p : Phase) (ms : List (ℕ × Mark)) (node : ℕ) → EndsFor cause p → MayEndNode p ms node → is_closing p ≡ true
+  node-closing (Cleaning of) ms node k m = refl
+  node-closing (Leaving task result left) ms node k m = absurd k
+  node-closing _ ms node k m = absurd m
 
   finish-ends : (p : Phase) (end : FinishCause) → EndsFor cause p → MayFinish p end → (end ≡ OutOfMemory) ⊎ (cause ≡ Some end)
   finish-ends (Crashed of) end k m = elim m [ inl h ↦ inl h | inr h ↦ inr (sym k ∙ h) ]
   finish-ends _ end k m = absurd m
 
-  ended-ends : (p : Phase) → EndsFor cause p → EndsFor cause (ended p)
-  ended-ends (Ending task left) k = absurd k
-  ended-ends _ k = k
+  ended-ends : (settles : Bool) (p : Phase) → EndsFor cause p → EndsFor cause (ended settles p)
+  ended-ends settles (Ending task result left) k = absurd k
+  ended-ends settles _ k = k
 
-  answer-ends : (s : State) (task : ℕ) (kind : AnswerKind) → EndsFor cause s.phase → MayAnswer s task kind → IsOfCleanup (Answer task kind) × EndsFor cause (answered s.root s.phase task kind)
+  answer-ends : (s : State) (task : ℕ) (kind : AnswerKind) → EndsFor cause s.phase → MayAnswer s task kind → IsOfCleanup (Answer task kind) × EndsFor cause (answered s task kind)
   answer-ends s task Pending k m = absurd (rw m at k)
   answer-ends s task Ready k m = absurd (rw m at k)
+  answer-ends s task Panicked k m = absurd (rw m at k)
+  answer-ends s task Stopped k m = absurd (rw m at k)
   answer-ends s task NoMemory k m = absurd (rw m at k)
-  answer-ends s task Ended k m = (tt, ended-ends s.phase k)
-  answer-ends s task _ k m = absurd m
+  answer-ends s task Ended k m = (tt, ended-ends (is_settled s task) s.phase k)
 
-  owes-none : (call : Call) (reply : CallReply) → due_called true call reply ≡ []
-  owes-none (WakeCall task) reply = refl
-  owes-none _ reply = refl
+  owes-none : (ms : List (ℕ × Mark)) (call : Call) (reply : CallReply) → due_called true ms call reply ≡ []
+  owes-none ms (WakeCall task) reply = refl
+  owes-none ms (Abort task) reply = refl
+  owes-none ms (AbortTask task) reply = refl
+  owes-none ms _ reply = refl
 
-  owes-called : (closing : Bool) (call : Call) (reply : CallReply) → closing ≡ true → due_called closing call reply ≡ []
-  owes-called true call reply h = owes-none call reply
-  owes-called false call reply h = absurd (cc)
+  owes-called : (closing : Bool) (ms : List (ℕ × Mark)) (call : Call) (reply : CallReply) → closing ≡ true → due_called closing ms call reply ≡ []
+  owes-called true ms call reply h = owes-none ms call reply
+  owes-called false ms call reply h = absurd (cc)
+
+  owes-ended : (p : Phase) (settles : Bool) (r : Option TaskResult) → EndsFor cause p → (ends_in_panic p ≡ false) × (due_ended p settles r ≡ [])
+  owes-ended (Ending task result left) settles r k = absurd k
+  owes-ended _ settles r k = (refl, refl)
+
+  owes-no-panic : (s : State) → ends_in_panic s.phase ≡ false → due_panic s ≡ []
+  owes-no-panic s h = rw h (no-wake s.root_left s.panicked s.clock.fixed.catch)
+    where
+      no-wake : (left panicked catch : Bool) → (if left && not panicked && false && not catch then those s.root else []) ≡ []
+      no-wake left panicked catch = grind (arith)
+
+  owes-answered : (s : State) (task : ℕ) (kind : AnswerKind) → EndsFor cause s.phase → due_answered s task kind ≡ []
+  owes-answered s task Ended k =
+      let e = owes-ended s.phase (is_settled s task) (find task s.results) k in
+      rw (owes-no-panic s e.0, e.1) refl
+  owes-answered s task _ k = refl
+
+  owes-node : (closing : Bool) (s : State) (node : ℕ) → closing ≡ true → due_node closing s node ≡ []
+  owes-node true s node h = refl
+  owes-node false s node h = absurd (cc)
 
   ends-entry : (s : State) (e : Entry) → s.owed ≡ [] → EndsFor cause s.phase → May s e → IsOfCleanup e × ((after s e).owed ≡ []) × EndsFor cause (after s e).phase
   unfolding after
   ends-entry s (Start next now deadline cycle) o k m = absurd (rw m.1.0 at k)
-  ends-entry s (CallEntry by call reply) o k m = (tt, owes-called (is_closing s.phase) call reply (call-closing s.phase s.root (ends_next s.running s.root) by k m.1.0), k)
+  ends-entry s (CallEntry by call reply) o k m = (tt, owes-called (is_closing s.phase) s.marks call reply (call-closing s.phase s.root (ends_next s.running s.root) by k m.1.0), k)
   ends-entry s (Event label fields) o k m = absurd (rw m.1.0 at k)
   ends-entry s (Wake task) o k m = absurd (cc)
   ends-entry s (Draw value) o k m = absurd (no-round s.phase s k m.1)
   ends-entry s (Root task) o k m = absurd (rw m.1.0 at k)
   ends-entry s (Round order) o k m = absurd (no-round s.phase s k m.1.0)
   ends-entry s (Visit task) o k m = absurd (rw m.1.0 at k)
-  ends-entry s (Answer task kind) o k m = let a = answer-ends s task kind k m.1 in (a.0, refl, a.1)
-  ends-entry s (NodeEnd node) o k m = (tt, refl, cleaned-ends s.phase k)
+  ends-entry s (Answer task kind) o k m = let a = answer-ends s task kind k m.1 in (a.0, owes-answered s task kind k, a.1)
+  ends-entry s (NodeEnd node) o k m = (tt, owes-node (is_closing s.phase) s node (node-closing s.phase s.marks node k m.1), cleaned-ends s.phase k)
   ends-entry s (Advance now) o k m = absurd (rw m.1.0 at k)
   ends-entry s (Skip now) o k m = absurd (rw m.1.0 at k)
   ends-entry s (Fire alarm) o k m = absurd (rw m.1.0 at k)
@@ -104,6 +137,11 @@ module _ (cause : Option FinishCause) where
       let h = ends-entry s e o k l.0 in
       let rest = ends-all (after s e) x h.1 h.2 l.1 in
       ((h.0, rest.0), rest.1)
+
+-- a cleanup begins for the cause that was reached
+pub cleans-for : (over : Bool) (cause : Option FinishCause) → EndsFor cause (cleans over cause)
+cleans-for true cause = refl
+cleans-for false cause = refl
 
 clock-entry : (s : State) (e : Entry) → IsOfCleanup e → (after s e).clock ≡ s.clock
 unfolding after
@@ -123,7 +161,7 @@ module _ (b : Begin) (x y : List Entry) (l : IsLawful (begun b) (x ++ Cleanup �
 
   behind : AllByRecursion IsOfCleanup y × EndsFor (reached closes) (after_all (after closes Cleanup) y).phase
   unfolding after
-  behind = ends-all (reached closes) (after closes Cleanup) y refl refl (lawful-tail (begun b) x (Cleanup ∷ y) l).1
+  behind = ends-all (reached closes) (after closes Cleanup) y refl (cleans-for (is_ended closes.nodes 0) (reached closes)) (lawful-tail (begun b) x (Cleanup ∷ y) l).1
 
   pub run_cleaned : All IsOfCleanup y
   run_cleaned = All-from_recursion IsOfCleanup y behind.0

@@ -11,7 +11,8 @@ use Rattle.rt_model.specs.declared.begin.Begin.{Begin}
 use Rattle.rt_model.specs.State.{begun}
 use Rattle.rt_model.specs.Effects.{after, after_all}
 use Rattle.rt_model.specs.Rules.{AreDrawn}
-use Rattle.rt_model.specs.Tied.{Value, IsTied, nothing, put}
+use Rattle.rt_model.specs.Turns.{put}
+use Rattle.rt_model.specs.Tied.{Value, IsTied, nothing}
 use Rattle.rt_model.specs.Run.{IsRun, IsValidInput}
 use Rattle.rt_model.proofs.Append.{IsTied-append}
 use Rattle.rt_laws.specs.Examples.{small_begin, begin_by, pending_root, visiting_root, root_ends, finishing, stalled_journal, late_journal, at_once_late_journal, overflow_journal, no_number_journal, ready_journal, skipped_journal, short_journal, drawn}
@@ -34,14 +35,14 @@ polls-tied b = (
     (tt, nothing.held, (refl, refl, refl), refl),
     (
       waits,
-      refl,
+      (refl, refl),
       (
         waits,
-        refl,
+        (refl, refl),
         (
           waits,
           refl,
-          (waits, (record { before = tt; left = tt; moved = nothing.held; there = refl; walks = (refl, refl, refl); is = refl }, (refl, refl, refl)), refl),
+          (waits, (waits.held, record { before = tt; left = tt; moved = nothing.held; there = refl; walks = (refl, refl, refl); is = refl }, refl), refl),
         ),
       ),
     ),
@@ -63,7 +64,7 @@ module _ (b : Begin) (cause : FinishCause) where
   unfolding begun after
   stepped-tied now =
       let s = after (after_all (begun b) (polls_once b)) (Advance now) in
-      IsTied-append pending_root (begun b) nothing waits nothing (polls_once b) ((Advance now ∷ []) ++ root_ends ++ finishing cause) (polls-tied b) (waits, refl, ends-tied pending_root s waits tt cause refl refl refl refl refl)
+      IsTied-append pending_root (begun b) nothing waits nothing (polls_once b) ((Advance now ∷ []) ++ root_ends ++ finishing cause) (polls-tied b) (waits, (refl, refl), ends-tied pending_root s waits tt cause refl refl refl refl refl)
 
 pub stalled_run : EndsBy small_begin stalled_journal Stalled
 unfolding begun after

@@ -14,7 +14,7 @@ use Rattle.rt_model.specs.Events.{process_task, task_fields}
 use Rattle.rt_model.specs.State.{State, begun}
 use Rattle.rt_model.specs.Effects.{after, after_all}
 use Rattle.rt_model.specs.Rules.{IsLawful}
-use Rattle.rt_model.specs.Tied.{Steps, Value, nothing, IsTied, taken}
+use Rattle.rt_model.specs.Tied.{Steps, Value, nothing, IsTied}
 use Rattle.rt_model.specs.Run.{IsRun}
 use Rattle.rt_laws.specs.Examples.{small_begin, ready_root, opening, visiting_root, still_asleep, awake, root_ends, finishing, stray_call, open_node, unanswered_poll, second_task, ordered, finished_for, called, missing_wake, early_fire, early_sleep, skipped_journal}
 use Rattle.rt_laws.proofs.Clock.{lawful-tail}
@@ -90,14 +90,14 @@ module _ (number : ℕ) (cause : FinishCause) (end : State) (value : Value (Unit
       let whole : w.whole ≡ true = all-whole p (after_all (begun small_begin) (front ++ (Answered 0 Ended ∷ []))) w value (finishing Completed) t.1.2 r.whole in
       elim t.1.1.2 [
         | inl k ↦ (let closed = k.0.0 in absurd (cc))
-        | inr k ↦ not-whole w (record u { held = taken 0 u.held; whole = false }) whole refl k.1
+        | inr k ↦ not-whole w (record u { held = w.held; whole = false }) whole refl k.2
       ]
 
   pub no_unasked_call : (call : CallOf) (reply : CallReply) → IsRun (ready_root number) small_begin (called call reply) cause end value → ⊥
   unfolding begun after
   no_unasked_call call reply r =
       let t = tied-tail (ready_root number) (begun small_begin) nothing value (opening ++ visiting_root ++ (Call (Some 0) call reply ∷ [])) (Answered 0 AnswersReady ∷ root_ends ++ finishing Completed) r.tied in
-      t.1.1.1.walks
+      t.1.1.2.walks
 
   pub no_lacking_run : IsRun (ready_root number) small_begin (finished_for NoMemory) cause end value → ⊥
   unfolding begun after

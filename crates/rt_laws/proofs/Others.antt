@@ -1,12 +1,20 @@
--- A part that lacked memory leaves the states of the other tasks as they were, and so does each end.
-use Rattle.std.proofs.Common.{◌≡◌, ◌≢◌, inl, inr, ℕ, List, [], ◌∷◌, refl, ap, ◌∙◌, arith}
+-- A part that lacked memory leaves the states of the other tasks as they were, but for those that it spawned, and so does each end.
+use Rattle.std.proofs.Common.{◌≡◌, ◌≢◌, inl, inr, ℕ, List, [], ◌∷◌, refl, ap, ◌∙◌, arith, All}
+use Rattle.std.specs.List.{AllByRecursion}
+use Rattle.std.proofs.lemmas.List.Elements.{recursion_from_All}
 use Rattle.std.proofs.lemmas.Bool.{cases_Bool}
 use Rattle.rt_audit.specs.declared.answer.AnswerKind.TheVariants.{NoMemory, Ended}
+use Rattle.rt_audit.specs.declared.call.Call.{Call}
+use Rattle.rt_audit.specs.declared.call.Call.TheVariants.{Spawn, Join, GiveUp}
+use Rattle.rt_audit.specs.declared.reply.CallReply.{CallReply}
+use Rattle.rt_audit.specs.declared.reply.CallReply.TheVariants.{Done, TaskAt, Ready}
 use Rattle.rt_audit.specs.declared.entry.Entry.TheVariants.{Answer}
+use Rattle.rt_model.specs.Lists.{find, without}
 use Rattle.rt_model.specs.State.{State, Stood, Turn, stood_in}
-use Rattle.rt_model.specs.Turns.{Held, call_of, heard_of, has_place}
+use Rattle.rt_model.specs.Turns.{Ask, Spawning, Held, with_task, call_of, heard_of, moved, moved_by, freed_by, FreesOne, Frees, has_place}
 use Rattle.rt_model.specs.Walk.{Step, Does, Spends, Gives, Gave, Goes, Walks}
-use Rattle.rt_model.specs.Tied.{Steps, Value, Moves, find, without, with_task, taken}
+use Rattle.rt_model.specs.Tied.{Steps, Value, Moves, taken}
+use Rattle.rt_laws.specs.Spawns.{Spawns}
 
 find-without : {A : Type 0} → (task other : ℕ) (xs : List (ℕ × A)) → other ≢ task → find other (without task xs) ≡ find other xs
 find-without task other [] n = refl
@@ -16,32 +24,68 @@ find-with : {A : Type 0} → (task other : ℕ) (a : A) (xs : List (ℕ × A)) �
 find-with task other a [] n = grind arith
 find-with task other a (x ∷ xs) n = grind (arith, find-with task other a xs n)
 
--- no call moves a value
-module _ {A L O R : Type 0} (stood : Stood) (answer : R) (left : L) (end : Held A O) where
-  gave-keeps : (held : Held A O) (step : Step A L O R) → Gave stood held step answer left end → end ≡ held
+abbrev SpawnsOthers : ℕ → Turn → Type 0
+SpawnsOthers other t = Spawns other t → ⊥
+
+-- what a call moves, but the state of a task that it spawned
+module _ {A O : Type 0} (other : ℕ) where
+  abbrev Same : Held A O → Held A O → Type 0
+  Same held end = find other end.tasks ≡ find other held.tasks
+
+  freed-same : (held : Held A O) (call : Call) (reply : CallReply) → Same held (freed_by held call reply)
+  freed-same held (Join task) Ready = refl
+  freed-same held (GiveUp task) Done = refl
+  freed-same held _ _ = refl
+
+  put-same : (held : Held A O) (task number : ℕ) (a : A) → (((told : ℕ) × (TaskAt task number ≡ TaskAt other told)) → ⊥) → find other (with_task task a held.tasks) ≡ find other held.tasks
+  put-same held task number a n = find-with task other a held.tasks (λ e. n (number, rw e refl))
+
+  moved-same : (held : Held A O) (ask : Ask A O) (call : Call) (reply : CallReply) → (((told : ℕ) × (reply ≡ TaskAt other told)) → ⊥) → Same held (moved_by held ask call reply)
+  moved-same held (Spawning node made) call (TaskAt task number) n = put-same held task number (made number) n
+  moved-same held ask call reply n = freed-same held call reply
+
+  frees-one : (held : Held A O) (call : Call) (reply : CallReply) (end : Held A O) → (((told : ℕ) × (reply ≡ TaskAt other told)) → ⊥) → FreesOne held call reply end → Same held end
+  frees-one held (Spawn node) (TaskAt task number) end n f = ap (λ (x : Held A O). find other x.tasks) f.1 ∙ put-same held task number f.0 n
+  frees-one held call reply end n f = ap (λ (x : Held A O). find other x.tasks) f ∙ freed-same held call reply
+
+  frees-same : (held : Held A O) (turns : List Turn) (end : Held A O) → AllByRecursion (SpawnsOthers other) turns → Frees held turns end → Same held end
+  frees-same held [] end n f = ap (λ (x : Held A O). find other x.tasks) f
+  frees-same held (t ∷ turns) end n f = frees-same f.0 turns end n.1 f.2 ∙ frees-one held t.call t.reply f.0 n.0 f.1
+
+-- and so of a walk
+module _ {A L O R : Type 0} (other : ℕ) (stood : Stood) (answer : R) (left : L) (end : Held A O) where
+  gave-keeps : (held : Held A O) (step : Step A L O R) → Gave stood held step answer left end → Same other held end
   gave-keeps held (Does ask on) h = absurd h
   gave-keeps held (Spends ask next) h = gave-keeps held next h.1
-  gave-keeps held (Gives given state) h = h.2
+  gave-keeps held (Gives given state) h = ap (λ (x : Held A O). find other x.tasks) h.2
 
-  goes-keeps : (more : Held A O → Step A L O R → Type 0) → ((held : Held A O) (step : Step A L O R) → more held step → end ≡ held) → (held : Held A O) (step : Step A L O R) (t : Turn) → Goes more held step t → end ≡ held
-  goes-keeps more on held (Does ask step) t h = on held (step (heard_of held t)) h.1
-  goes-keeps more on held (Spends ask next) t h = elim (cases_Bool (has_place t.stood (call_of ask))) [
-    | inl there ↦ on held next (h.0 there).2
-    | inr gone ↦ goes-keeps more on held next t (h.1 gone)
+  goes-keeps : (more : Held A O → Step A L O R → Type 0) → ((held : Held A O) (step : Step A L O R) → more held step → Same other held end) → (held : Held A O) (step : Step A L O R) (t : Turn) → SpawnsOthers other t → Goes more held step t → Same other held end
+  goes-keeps more on held (Does ask step) t n h = on (moved held ask t) (step (heard_of held t)) h.1 ∙ moved-same other held ask t.call t.reply n
+  goes-keeps more on held (Spends ask next) t n h = elim (cases_Bool (has_place t.stood (call_of ask))) [
+    | inl there ↦ on (moved held ask t) next (h.0 there).2 ∙ moved-same other held ask t.call t.reply n
+    | inr gone ↦ goes-keeps more on held next t n (h.1 gone)
   ]
-  goes-keeps more on held (Gives given state) t h = absurd h
+  goes-keeps more on held (Gives given state) t n h = absurd h
 
-  walks-keep : (turns : List Turn) (held : Held A O) (step : Step A L O R) → Walks step held turns stood answer left end → end ≡ held
-  walks-keep [] held step h = gave-keeps held step h
-  walks-keep (t ∷ turns) held step h = goes-keeps (λ held step. Walks step held turns stood answer left end) (λ held step h. walks-keep turns held step h) held step t h
+  walks-keep : (turns : List Turn) (held : Held A O) (step : Step A L O R) → AllByRecursion (SpawnsOthers other) turns → Walks step held turns stood answer left end → Same other held end
+  walks-keep [] held step n h = gave-keeps held step h
+  walks-keep (t ∷ turns) held step n h = goes-keeps (λ held step. Walks step held turns stood answer left end) (λ held step h. walks-keep turns held step n.1 h) held step t n.0 h
 
 module _ (A O : Type 0) (p : Steps A O) (s : State) (v w : Value A O) (task : ℕ) where
-  pub poll_keeps : (other : ℕ) → Moves p s v (Answer task NoMemory) w → other ≢ task → find other w.held.tasks ≡ find other v.held.tasks
-  poll_keeps other h n =
-      ap (λ (x : Value A O). find other x.held.tasks) h.is ∙ find-with task other h.left (without task v.held.tasks) n ∙ find-without task other v.held.tasks n
+  abbrev SpawnsNone : ℕ → Type 0
+  SpawnsNone other = All (λ (t : Turn). Spawns other t → ⊥) s.turns
 
-  pub end_keeps : (other : ℕ) → Moves p s v (Answer task Ended) w → other ≢ task → find other w.held.tasks ≡ find other v.held.tasks
-  end_keeps other h n = elim h.2 [
-    | inl k ↦ ap (λ (x : Held A O). find other x.tasks) (walks-keep (stood_in s) tt tt w.held s.turns (taken task v.held) (p.task.last h.0 s.clock.time task) k.0) ∙ find-without task other v.held.tasks n
-    | inr k ↦ ap (λ (x : Value A O). find other x.held.tasks) k.1 ∙ find-without task other v.held.tasks n
-  ]
+  pub poll_keeps : (other : ℕ) → Moves p s v (Answer task NoMemory) w → other ≢ task → SpawnsNone other → find other w.held.tasks ≡ find other v.held.tasks
+  poll_keeps other h n spawns =
+      ap (λ (x : Value A O). find other x.held.tasks) h.is
+      ∙ find-with task other h.left h.moved.tasks n
+      ∙ frees-same other (taken task v.held) s.turns h.moved (recursion_from_All (λ (t : Turn). Spawns other t → ⊥) s.turns spawns) h.frees
+      ∙ find-without task other v.held.tasks n
+
+  pub end_keeps : (other : ℕ) → Moves p s v (Answer task Ended) w → other ≢ task → SpawnsNone other → find other w.held.tasks ≡ find other v.held.tasks
+  end_keeps other h n spawns =
+      let all = recursion_from_All (λ (t : Turn). Spawns other t → ⊥) s.turns spawns in
+      elim h.2 [
+        | inl k ↦ walks-keep other (stood_in s) tt tt w.held s.turns (taken task v.held) (p.task.last h.0 s.clock.time task) all k.0 ∙ find-without task other v.held.tasks n
+        | inr k ↦ frees-same other (taken task v.held) s.turns w.held all k.1 ∙ find-without task other v.held.tasks n
+      ]

@@ -1,5 +1,5 @@
 -- What a lawful list keeps to: the range of time, and who calls where.
-use Rattle.std.proofs.Common.{◌≡◌, ◌≢◌, ◌≤◌, ℕ, List, [], ◌∷◌, ◌++◌, Option, Some, None, refl, arith, All}
+use Rattle.std.proofs.Common.{◌≡◌, ◌≢◌, ◌≤◌, ℕ, List, [], ◌∷◌, ◌++◌, Option, Some, None, Bool, true, false, ◌&&◌, refl, arith, All}
 use Rattle.std.specs.List.{AllByRecursion}
 use Rattle.std.proofs.lemmas.List.Elements.{All-from_recursion}
 use Rattle.rt_base.specs.declared.time.TheConstants.{MAX_TIME}
@@ -8,18 +8,25 @@ use Rattle.rt_audit.specs.declared.call.Call.TheVariants.{SleepPoll}
 use Rattle.rt_audit.specs.declared.reply.CallReply.{CallReply}
 use Rattle.rt_audit.specs.declared.reply.CallReply.TheVariants.{PendingAt}
 use Rattle.rt_audit.specs.declared.answer.AnswerKind.{AnswerKind}
-use Rattle.rt_audit.specs.declared.answer.AnswerKind.TheVariants.{Pending, Ready, NoMemory}
+use Rattle.rt_audit.specs.declared.answer.AnswerKind.TheVariants.{Pending, Ready, Panicked, Stopped, NoMemory, Ended}
+use Rattle.rt_audit.specs.declared.finish.FinishCause.{FinishCause}
+use Rattle.rt_audit.specs.declared.finish.FinishCause.TheVariants.{Completed, TaskPanicked}
 use Rattle.rt_audit.specs.declared.entry.Entry.{Entry}
 use Rattle.rt_audit.specs.declared.entry.Entry.TheVariants.{Start, Call as CallEntry, Event, Root, Round, Visit, Answer, NodeEnd, Advance, Fire, Cleanup, Crash, Finish}
 use Rattle.rt_super.specs.Alarms.{Alarm, AlarmList}
 use Rattle.rt_model.specs.declared.begin.Begin.{Begin}
-use Rattle.rt_model.specs.State.{State, Phase, Blank, Making, Entered, Polling, Cleaning, Closing, begun, Ending}
+use Rattle.rt_model.specs.declared.result.Outcome.{Outcome}
+use Rattle.rt_model.specs.declared.result.Outcome.TheVariants.{There, Exited}
+use Rattle.rt_super.specs.Ancestry.{is_ended}
+use Rattle.rt_model.specs.Lists.{find, is_some_number}
+use Rattle.rt_model.specs.Marks.{is_flagged}
+use Rattle.rt_model.specs.State.{State, Phase, Blank, Making, Entered, Polling, Halted, Ending, Leaving, Cleaning, Closing, begun}
 use Rattle.rt_model.specs.Alarms.{slept}
-use Rattle.rt_model.specs.Causes.{ends_next}
-use Rattle.rt_model.specs.Effects.{after, after_all, alarms_called, answered, entered, cleaned}
+use Rattle.rt_model.specs.Causes.{ends_next, reached}
+use Rattle.rt_model.specs.Effects.{after, after_all, is_settled, alarms_called, answered, entered, entered_by, node_ended, cleans, leaves, ended, left_pending, finished, left_of}
 use Rattle.rt_model.specs.Rules.{Answers, CallsAt, IsEndedNext, May, MayClose, IsLawful}
 use Rattle.rt_model.proofs.Time.{time-within}
-use Rattle.rt_model.proofs.Rooted.{IsBefore, before-after, runs-before}
+use Rattle.rt_laws.specs.Visits.{IsInVisit}
 use Rattle.rt_laws.proofs.Clock.{lawful-front, lawful-tail}
 use Rattle.rt_laws.proofs.Each.{Each, each-with, each-waking, each-drop}
 
@@ -58,14 +65,87 @@ pub run_asked : (b : Begin) (x y : List Entry) (by : Option ℕ) (due alarm : �
 run_asked b x y by due alarm l = (lawful-tail (begun b) x (CallEntry by (SleepPoll due) (PendingAt alarm) ∷ y) l).0.1.1.1
 
 -- a cleanup doesn't begin in a visit
-outside-close : (p : Phase) (task : ℕ) (left : List ℕ) → MayClose p → (p ≢ Entered task left) × (p ≢ Polling task left) × (p ≢ Ending task left)
-outside-close (Entered task left) other rest m = absurd m
-outside-close (Polling task left) other rest m = absurd m
-outside-close (Ending task left) other rest m = absurd m
-outside-close _ other rest m = ((λ h. cc), (λ h. cc), (λ h. cc))
+outside-close : (p : Phase) → MayClose p → IsInVisit p → ⊥
+outside-close (Entered task left) m v = m
+outside-close (Polling task left) m v = m
+outside-close (Halted task) m v = m
+outside-close (Ending task result left) m v = m
+outside-close (Leaving task result left) m v = m
+outside-close _ m v = v
 
-pub run_outside : (b : Begin) (x y : List Entry) (task : ℕ) (left : List ℕ) → IsLawful (begun b) (x ++ Cleanup ∷ y) → ((after_all (begun b) x).phase ≢ Entered task left) × ((after_all (begun b) x).phase ≢ Polling task left) × ((after_all (begun b) x).phase ≢ Ending task left)
-run_outside b x y task left l = outside-close (after_all (begun b) x).phase task left (lawful-tail (begun b) x (Cleanup ∷ y) l).0.1
+pub run_outside : (b : Begin) (x y : List Entry) → IsLawful (begun b) (x ++ Cleanup ∷ y) → IsInVisit (after_all (begun b) x).phase → ⊥
+run_outside b x y l = outside-close (after_all (begun b) x).phase (lawful-tail (begun b) x (Cleanup ∷ y) l).0.1
+
+-- before the root is taken in there is none
+abbrev IsBefore : Phase → Option ℕ → Type 0
+IsBefore Blank root = root ≡ None
+IsBefore Making root = root ≡ None
+IsBefore _ root = Unit {0}
+
+before-by : (stopped flagged : Bool) (task : ℕ) (left : List ℕ) (root : Option ℕ) → IsBefore (entered_by stopped flagged task left) root
+before-by true flagged task left root = tt
+before-by false true task left root = tt
+before-by false false task left root = tt
+
+before-entered : (s : State) (p : Phase) (root : Option ℕ) → IsBefore p root → IsBefore (entered s p) root
+before-entered s (Entered task left) root k = before-by (is_some_number task s.root && s.panicked) (is_flagged (find task s.marks)) task left root
+before-entered s _ root k = k
+
+before-node : (p : Phase) (root : Option ℕ) → IsBefore p root → IsBefore (node_ended p) root
+before-node (Leaving task result left) root k = tt
+before-node (Cleaning cause) root k = tt
+before-node _ root k = k
+
+before-cleans : (over : Bool) (cause : Option FinishCause) (root : Option ℕ) → IsBefore (cleans over cause) root
+before-cleans true cause root = tt
+before-cleans false cause root = tt
+
+before-leaves : (settles : Bool) (task : ℕ) (result : Option Outcome) (left : List ℕ) (root : Option ℕ) → IsBefore (leaves settles task result left) root
+before-leaves true task result left root = tt
+before-leaves false task result left root = tt
+
+before-ended : (settles : Bool) (p : Phase) (root : Option ℕ) → IsBefore p root → IsBefore (ended settles p) root
+before-ended settles (Ending task result left) root k = before-leaves settles task result left root
+before-ended settles _ root k = k
+
+before-pending : (flagged : Bool) (task : ℕ) (left : List ℕ) (root : Option ℕ) → IsBefore (left_pending flagged task left) root
+before-pending true task left root = tt
+before-pending false task left root = tt
+
+before-finished : (is_root : Bool) (cause : FinishCause) (result : Outcome) (task : ℕ) (left : List ℕ) (root : Option ℕ) → IsBefore (finished is_root cause result task left) root
+before-finished true cause result task left root = tt
+before-finished false cause result task left root = tt
+
+before-answered : (s : State) (task : ℕ) (kind : AnswerKind) (root : Option ℕ) → IsBefore s.phase root → IsBefore (answered s task kind) root
+before-answered s task Pending root k = before-pending (is_flagged (find task s.marks)) task (left_of s.phase) root
+before-answered s task Ready root k = before-finished (is_some_number task s.root) Completed There task (left_of s.phase) root
+before-answered s task Panicked root k = before-finished (is_some_number task s.root) TaskPanicked Exited task (left_of s.phase) root
+before-answered s task Stopped root k = tt
+before-answered s task NoMemory root k = tt
+before-answered s task Ended root k = before-ended (is_settled s task) s.phase root k
+
+before-after : (s : State) (e : Entry) → May s e → IsBefore s.phase s.root → IsBefore (after s e).phase (after s e).root
+unfolding after
+before-after s (Start next now deadline cycle) m k = rw m.1.0 at k
+before-after s (Event label fields) m k = before-entered s s.phase s.root k
+before-after s (Root task) m k = tt
+before-after s (Round order) m k = tt
+before-after s (Visit task) m k = tt
+before-after s (Answer task kind) m k = before-answered s task kind s.root k
+before-after s (NodeEnd node) m k = before-node s.phase s.root k
+before-after s (Advance now) m k = tt
+before-after s Cleanup m k = before-cleans (is_ended s.nodes 0) (reached s) s.root
+before-after s (Crash choices) m k = tt
+before-after s (Finish cause) m k = tt
+before-after s _ m k = k
+
+before-all : (s : State) (x : List Entry) → IsBefore s.phase s.root → IsLawful s x → IsBefore (after_all s x).phase (after_all s x).root
+before-all s [] k l = k
+before-all s (e ∷ x) k l = before-all (after s e) x (before-after s e l.0 k) l.1
+
+runs-before : (b : Begin) (x : List Entry) → IsLawful (begun b) x → IsBefore (after_all (begun b) x).phase (after_all (begun b) x).root
+unfolding begun
+runs-before b x l = before-all (begun b) x refl l
 
 ended-by : (root next : Option ℕ) → IsEndedNext root next None → root ≡ None
 ended-by root None m = m.0
@@ -74,7 +154,7 @@ ended-by root (Some task) m = absurd (cc)
 called-by : (p : Phase) (root next : Option ℕ) → IsBefore p root → CallsAt p root next None → root ≡ None
 called-by Making root next k m = k
 called-by (Polling task left) root next k m = absurd (cc)
-called-by (Ending task left) root next k m = absurd (cc)
+called-by (Ending task result left) root next k m = absurd (cc)
 called-by (Closing cause) root next k m = ended-by root next m
 called-by _ root next k m = absurd m
 

@@ -1,22 +1,32 @@
 -- A round that runs to its end visits each task that was ready and runs.
-use Rattle.std.proofs.Common.{◌≡◌, ◌⊎◌, inl, inr, ℕ, zero, suc, List, [], ◌∷◌, ◌++◌, drop, true, false, eqb, ap, arith, Contains, Bool, Option}
+use Rattle.std.proofs.Common.{◌≡◌, ◌⊎◌, inl, inr, ℕ, zero, suc, List, [], ◌∷◌, ◌++◌, drop, true, false, eqb, ap, arith, Contains, Bool, ◌&&◌, Option}
 use Rattle.std.proofs.lemmas.Bool.{cases_Bool}
 use Rattle.std.proofs.lemmas.List.Elements.{Contains-append_right}
 use Rattle.std.proofs.lemmas.List.Sorted.{Contains-permutation}
 use Rattle.rt_audit.specs.declared.answer.AnswerKind.{AnswerKind}
-use Rattle.rt_audit.specs.declared.answer.AnswerKind.TheVariants.{Pending, Ready, NoMemory, Ended}
+use Rattle.rt_audit.specs.declared.answer.AnswerKind.TheVariants.{Pending, Ready, Panicked, Stopped, NoMemory, Ended}
 use Rattle.rt_audit.specs.declared.finish.FinishCause.{FinishCause}
+use Rattle.rt_audit.specs.declared.finish.FinishCause.TheVariants.{Completed, TaskPanicked}
 use Rattle.rt_audit.specs.declared.entry.Entry.{Entry}
-use Rattle.rt_audit.specs.declared.entry.Entry.TheVariants.{Start, Event, Draw, Root, Round, Visit, Answer, NodeEnd, Advance, Skip, Fire, Cleanup, Crash, Finish}
-use Rattle.rt_model.specs.Lists.{has_number, without_number, is_some_number}
+use Rattle.rt_audit.specs.declared.entry.Entry.TheVariants.{Start, Call as CallEntry, Event, Draw, Root, Round, Visit, Answer, NodeEnd, Advance, Skip, Fire, Cleanup, Crash, Finish}
+use Rattle.rt_audit.specs.declared.call.Call.{Call}
+use Rattle.rt_audit.specs.declared.call.Call.TheVariants.{Spawn}
+use Rattle.rt_audit.specs.declared.reply.CallReply.{CallReply}
+use Rattle.rt_audit.specs.declared.reply.CallReply.TheVariants.{TaskAt}
+use Rattle.rt_model.specs.declared.mark.Mark.{Mark}
+use Rattle.rt_model.specs.declared.result.Outcome.{Outcome}
+use Rattle.rt_model.specs.declared.result.Outcome.TheVariants.{There, Exited}
+use Rattle.rt_super.specs.Ancestry.{is_ended}
+use Rattle.rt_model.specs.Lists.{has_number, with_number, without_number, is_some_number, find}
+use Rattle.rt_model.specs.Marks.{is_flagged}
 use Rattle.rt_model.specs.declared.begin.Begin.{Begin}
-use Rattle.rt_model.specs.State.{State, Phase, Visiting, Entered, Polling, Over, Cleaning, Closing, Crashed, Finished, Between, Turning, begun, Ending}
-use Rattle.rt_model.specs.Causes.{from_running, ends_next}
-use Rattle.rt_model.specs.Effects.{after, after_all, answered, entered, cleaned, ended, finished, left_of}
-use Rattle.rt_model.specs.Rules.{May, MayAnswer, MayRound, MayCrash, MayFinish, IsLawful, MayEnd}
+use Rattle.rt_model.specs.State.{State, Phase, Visiting, Entered, Polling, Halted, Ending, Leaving, Over, Cleaning, Closing, Crashed, Finished, Between, Turning, begun}
+use Rattle.rt_model.specs.Causes.{from_running, ends_next, reached}
+use Rattle.rt_model.specs.Effects.{after, after_all, is_settled, running_called, answered, entered, entered_by, node_ended, cleans, leaves, ended, left_pending, finished, left_of}
+use Rattle.rt_model.specs.Rules.{May, MayAnswer, MayRound, MayCrash, MayFinish, MayEndNode, IsLawful, MayEnd}
 use Rattle.rt_laws.proofs.Clock.{lawful-front, lawful-tail}
 
-has-from_contains : (k : ℕ) (xs : List ℕ) → Contains xs k → has_number k xs ≡ true
+pub has-from_contains : (k : ℕ) (xs : List ℕ) → Contains xs k → has_number k xs ≡ true
 has-from_contains k [] (i, l, e) = absurd (omega arith)
 has-from_contains k (x ∷ xs) (zero, l, e) = grind arith
 has-from_contains k (x ∷ xs) (suc i, l, e) = grind (arith, has-from_contains k xs (i, omega arith, e))
@@ -42,15 +52,25 @@ abbrev IsInRound : ℕ → Phase → Type 0
 IsInRound task (Visiting left) = Unit {0}
 IsInRound task (Entered other left) = eqb other task ≡ false
 IsInRound task (Polling other left) = eqb other task ≡ false
-IsInRound task (Ending other left) = eqb other task ≡ false
+IsInRound task (Ending other result left) = eqb other task ≡ false
+IsInRound task (Leaving other result left) = eqb other task ≡ false
 IsInRound task _ = ⊥
 
 has-without : (task other : ℕ) (running : List ℕ) → eqb other task ≡ false → has_number task running ≡ true → has_number task (without_number other running) ≡ true
 has-without task other [] e h = cc
 has-without task other (x ∷ running) e h = grind (arith, has-without task other running)
 
--- past all rounds
+has-with : (task other : ℕ) (running : List ℕ) → has_number task running ≡ true → has_number task (with_number other running) ≡ true
+has-with task other [] h = absurd (cc)
+has-with task other (x ∷ running) h = grind (arith, has-with task other running)
+
+has-called : (task : ℕ) (running : List ℕ) (call : Call) (reply : CallReply) → has_number task running ≡ true → has_number task (running_called running call reply) ≡ true
+has-called task running (Spawn node) (TaskAt other number) h = has-with task other running h
+has-called task running _ _ h = h
+
+-- past the visits of all rounds
 abbrev IsPast : Phase → Type 0
+IsPast (Halted task) = Unit {0}
 IsPast (Over cause) = Unit {0}
 IsPast (Cleaning cause) = Unit {0}
 IsPast (Closing cause) = Unit {0}
@@ -58,41 +78,47 @@ IsPast (Crashed cause) = Unit {0}
 IsPast (Finished cause) = Unit {0}
 IsPast _ = ⊥
 
-past-entered : (p : Phase) → IsPast p → IsPast (entered p)
-past-entered (Entered task left) k = absurd k
-past-entered _ k = k
+past-entered : (s : State) (p : Phase) → IsPast p → IsPast (entered s p)
+past-entered s (Entered task left) k = absurd k
+past-entered s _ k = k
 
-past-cleaned : (p : Phase) → IsPast p → IsPast (cleaned p)
-past-cleaned (Cleaning cause) k = tt
-past-cleaned _ k = k
+past-node : (p : Phase) → IsPast p → IsPast (node_ended p)
+past-node (Cleaning cause) k = tt
+past-node (Leaving task result left) k = absurd k
+past-node _ k = k
+
+past-cleans : (over : Bool) (cause : Option FinishCause) → IsPast (cleans over cause)
+past-cleans true cause = tt
+past-cleans false cause = tt
 
 past-round : (p : Phase) (s : State) → IsPast p → MayRound p s → ⊥
 past-round Between s k m = k
 past-round Turning s k m = k
 past-round _ s k m = m
 
-past-ended : (p : Phase) → IsPast p → IsPast (ended p)
-past-ended (Ending task left) k = absurd k
-past-ended _ k = k
+past-ended : (settles : Bool) (p : Phase) → IsPast p → IsPast (ended settles p)
+past-ended settles (Ending task result left) k = absurd k
+past-ended settles _ k = k
 
-past-answered : (s : State) (task : ℕ) (kind : AnswerKind) → IsPast s.phase → MayAnswer s task kind → IsPast (answered s.root s.phase task kind)
+past-answered : (s : State) (task : ℕ) (kind : AnswerKind) → IsPast s.phase → MayAnswer s task kind → IsPast (answered s task kind)
 past-answered s task Pending k m = absurd (rw m at k)
 past-answered s task Ready k m = absurd (rw m at k)
+past-answered s task Panicked k m = absurd (rw m at k)
+past-answered s task Stopped k m = tt
 past-answered s task NoMemory k m = tt
-past-answered s task Ended k m = past-ended s.phase k
-past-answered s task _ k m = k
+past-answered s task Ended k m = past-ended (is_settled s task) s.phase k
 
 past-after : (s : State) (e : Entry) → IsPast s.phase → May s e → IsPast (after s e).phase
 unfolding after
 past-after s (Start next now deadline cycle) k m = absurd (rw m.1.0 at k)
-past-after s (Event label fields) k m = past-entered s.phase k
+past-after s (Event label fields) k m = past-entered s s.phase k
 past-after s (Root task) k m = absurd (rw m.1.0 at k)
 past-after s (Round order) k m = absurd (past-round s.phase s k m.1.0)
 past-after s (Visit task) k m = absurd (rw m.1.0 at k)
 past-after s (Answer task kind) k m = past-answered s task kind k m.1
-past-after s (NodeEnd node) k m = past-cleaned s.phase k
+past-after s (NodeEnd node) k m = past-node s.phase k
 past-after s (Advance now) k m = absurd (rw m.1.0 at k)
-past-after s Cleanup k m = tt
+past-after s Cleanup k m = past-cleans (is_ended s.nodes 0) (reached s)
 past-after s (Crash choices) k m = tt
 past-after s (Finish cause) k m = tt
 past-after s _ k m = k
@@ -113,9 +139,22 @@ module _ (task : ℕ) where
   abbrev Next : Entry → State → Type 0
   Next e s = (e ≡ Visit task) ⊎ (IsPast s.phase ⊎ Waits s.phase s.running)
 
-  waits-entered : (p : Phase) (running : List ℕ) → Waits p running → Waits (entered p) running
-  waits-entered (Entered other left) running w = w
-  waits-entered _ running w = w
+  abbrev Goes : Phase → List ℕ → Type 0
+  Goes p running = IsPast p ⊎ Waits p running
+
+  waits-by : (stopped flagged : Bool) (other : ℕ) (left running : List ℕ) → Waits (Entered other left) running → Goes (entered_by stopped flagged other left) running
+  waits-by true flagged other left running w = inl tt
+  waits-by false true other left running w = inr w
+  waits-by false false other left running w = inr w
+
+  waits-entered : (s : State) (p : Phase) (running : List ℕ) → Waits p running → Goes (entered s p) running
+  waits-entered s (Entered other left) running w = waits-by (is_some_number other s.root && s.panicked) (is_flagged (find other s.marks)) other left running w
+  waits-entered s _ running w = inr w
+
+  waits-node : (p : Phase) (running : List ℕ) (ms : List (ℕ × Mark)) (node : ℕ) → Waits p running → MayEndNode p ms node → Waits (node_ended p) running
+  waits-node (Leaving other result left) running ms node w m = (tt, w.1, w.2)
+  waits-node (Cleaning cause) running ms node w m = absurd w.0
+  waits-node _ running ms node w m = absurd m
 
   no-round : (p : Phase) (s : State) → IsInRound task p → MayRound p s → ⊥
   no-round Between s k m = k
@@ -140,22 +179,31 @@ module _ (task : ℕ) where
         inr (inr (e, rest-has task other left h m.1.1 e, w.2)))
   ]
 
-  waits-finished : (is_root : Bool) (other : ℕ) (left running : List ℕ) → eqb other task ≡ false → has_number task left ≡ true → has_number task running ≡ true → IsPast (finished is_root other left) ⊎ Waits (finished is_root other left) running
-  waits-finished true other left running e h r = inl tt
-  waits-finished false other left running e h r = inr (e, h, r)
+  waits-finished : (is_root : Bool) (cause : FinishCause) (result : Outcome) (other : ℕ) (left running : List ℕ) → eqb other task ≡ false → has_number task left ≡ true → has_number task running ≡ true → Goes (finished is_root cause result other left) running
+  waits-finished true cause result other left running e h r = inl tt
+  waits-finished false cause result other left running e h r = inr (e, h, r)
 
-  waits-ended : (p : Phase) (next : Option ℕ) (other : ℕ) (running : List ℕ) → Waits p running → MayEnd p next other → Waits (ended p) (without_number other running)
-  waits-ended (Ending ends left) next other running w m = (tt, w.1, rw m (has-without task ends running w.0 w.2))
-  waits-ended (Closing cause) next other running w m = absurd w.0
-  waits-ended _ next other running w m = absurd m
+  waits-pending : (flagged : Bool) (other : ℕ) (left running : List ℕ) → eqb other task ≡ false → has_number task left ≡ true → has_number task running ≡ true → Waits (left_pending flagged other left) running
+  waits-pending true other left running e h r = (e, h, r)
+  waits-pending false other left running e h r = (tt, h, r)
+
+  waits-leaves : (settles : Bool) (other : ℕ) (result : Option Outcome) (left running : List ℕ) → eqb other task ≡ false → has_number task left ≡ true → has_number task running ≡ true → Waits (leaves settles other result left) running
+  waits-leaves true other result left running e h r = (tt, h, r)
+  waits-leaves false other result left running e h r = (e, h, r)
+
+  waits-ended : (settles : Bool) (p : Phase) (next : Option ℕ) (other : ℕ) (running : List ℕ) → Waits p running → MayEnd p next other → Waits (ended settles p) (without_number other running)
+  waits-ended settles (Ending ends result left) next other running w m = waits-leaves settles ends result left (without_number other running) w.0 w.1 (rw m (has-without task ends running w.0 w.2))
+  waits-ended settles (Closing cause) next other running w m = absurd w.0
+  waits-ended settles _ next other running w m = absurd m
 
   next-answer : (s : State) (other : ℕ) (kind : AnswerKind) → Waits s.phase s.running → May s (Answer other kind) → Next (Answer other kind) (after s (Answer other kind))
   unfolding after
-  next-answer s other Pending w m = inr (inr (tt, w.1, w.2))
-  next-answer s other Ready w m = inr (waits-finished (is_some_number other s.root) other (left_of s.phase) s.running (let k = w.0 in rw m.1 at k) w.1 w.2)
+  next-answer s other Pending w m = inr (inr (waits-pending (is_flagged (find other s.marks)) other (left_of s.phase) s.running (let k = w.0 in rw m.1 at k) w.1 w.2))
+  next-answer s other Ready w m = inr (waits-finished (is_some_number other s.root) Completed There other (left_of s.phase) s.running (let k = w.0 in rw m.1 at k) w.1 w.2)
+  next-answer s other Panicked w m = inr (waits-finished (is_some_number other s.root) TaskPanicked Exited other (left_of s.phase) s.running (let k = w.0 in rw m.1 at k) w.1 w.2)
+  next-answer s other Stopped w m = inr (inl tt)
   next-answer s other NoMemory w m = inr (inl tt)
-  next-answer s other Ended w m = inr (inr (waits-ended s.phase (ends_next s.running s.root) other s.running w m.1))
-  next-answer s other _ w m = absurd m.1
+  next-answer s other Ended w m = inr (inr (waits-ended (is_settled s other) s.phase (ends_next s.running s.root) other s.running w m.1))
 
   not-over : (s : State) → Waits s.phase s.running → EndsRound s → ⊥
   not-over s w ends =
@@ -166,17 +214,18 @@ module _ (task : ℕ) where
   next : (s : State) (e : Entry) → Waits s.phase s.running → May s e → Next e (after s e)
   unfolding after
   next s (Start first now deadline cycle) w m = let k = w.0 in absurd (rw m.1.0 at k)
-  next s (Event label fields) w m = inr (inr (waits-entered s.phase s.running w))
+  next s (CallEntry by call reply) w m = inr (inr (w.0, w.1, has-called task s.running call reply w.2))
+  next s (Event label fields) w m = inr (waits-entered s s.phase s.running w)
   next s (Draw value) w m = absurd (no-round s.phase s w.0 m.1)
   next s (Root other) w m = let k = w.0 in absurd (rw m.1.0 at k)
   next s (Round order) w m = absurd (no-round s.phase s w.0 m.1.0)
   next s (Visit other) w m = next-visit s other w m
   next s (Answer other kind) w m = next-answer s other kind w m
-  next s (NodeEnd node) w m = let k = w.0 in absurd (rw m.1.1 at k)
+  next s (NodeEnd node) w m = inr (inr (waits-node s.phase s.running s.marks node w m.1))
   next s (Advance now) w m = absurd (not-over s w (m.1.0, m.1.1))
   next s (Skip now) w m = let k = w.0 in absurd (rw m.1.0 at k)
   next s (Fire alarm) w m = let k = w.0 in absurd (rw m.1.0 at k)
-  next s Cleanup w m = inr (inl tt)
+  next s Cleanup w m = inr (inl (past-cleans (is_ended s.nodes 0) (reached s)))
   next s (Crash choices) w m = absurd (no-crash s.phase s.running w.0 m.1.0)
   next s (Finish cause) w m = absurd (no-finish s.phase cause w.0 m.1)
   next s _ w m = inr (inr w)

@@ -11,8 +11,9 @@ use Rattle.rt_super.specs.Ancestry.{is_live, with_end}
 use Rattle.rt_model.specs.State.{State, begun}
 use Rattle.rt_model.specs.Effects.{after, after_all}
 use Rattle.rt_model.specs.Rules.{IsLawful}
-use Rattle.rt_model.specs.Turns.{Held}
-use Rattle.rt_model.specs.Tied.{Steps, Value, nothing, MovesCleanup, IsTied, find, taken, put}
+use Rattle.rt_model.specs.Lists.{find}
+use Rattle.rt_model.specs.Turns.{Held, put}
+use Rattle.rt_model.specs.Tied.{Steps, Value, nothing, MovesCleanup, IsTied, taken}
 use Rattle.rt_model.specs.Run.{IsRun, IsCutOff}
 use Rattle.rt_model.proofs.Append.{IsLawful-append, IsTied-append}
 use Rattle.rt_laws.specs.Examples.{small_begin, gave, closes_node, ready_root, Sleeper, sleeping_root, opening, visiting_root, still_asleep, awake, alarm_fires, root_ends, finishing, ready_journal, skipped_journal, short_journal, cut_journal}
@@ -37,7 +38,7 @@ ready_run number =
       reaches = refl;
       ends = refl;
       caused = λ e. cc;
-      tied = (nothing, refl, (v, (tt, nothing.held, (refl, refl, refl), refl), (v, refl, (v, refl, (v, refl, (w, (number, record { before = tt; left = tt; moved = taken 0 held; there = refl; walks = (refl, refl, refl); is = refl }, refl, refl, refl), ends-tied p (after_all (begun small_begin) (opening ++ visiting_root ++ (Answered 0 AnswersReady ∷ []))) w tt Completed refl refl refl refl refl))))));
+      tied = (nothing, refl, (v, (tt, nothing.held, (refl, refl, refl), refl), (v, (refl, refl), (v, (refl, refl), (v, refl, (w, (number, held, record { before = tt; left = tt; moved = taken 0 held; there = refl; walks = (refl, refl, refl); is = refl }, refl), ends-tied p (after_all (begun small_begin) (opening ++ visiting_root ++ (Answered 0 AnswersReady ∷ []))) w tt Completed refl refl refl refl refl))))));
       whole = refl;
     }
 
@@ -54,7 +55,7 @@ asleep-tied due =
     let v = with_root due None in
     let w = with_root due (Some 0) in
     let none : 0 + due ≡ due = omega arith in
-    (nothing, refl, (v, (root, no_values, (refl, rw none refl, refl), refl), (v, refl, (v, refl, (v, refl, (v, refl, (w, (record { before = root; left = record { due = due; alarm = Some 0 }; moved = no_values; there = refl; walks = ((refl, refl), (refl, refl, refl)); is = refl }, (refl, refl, refl)), (w, refl, refl))))))))
+    (nothing, refl, (v, (root, no_values, (refl, rw none refl, refl), refl), (v, (refl, refl), (v, (refl, refl), (v, refl, (v, refl, (w, (w.held, record { before = root; left = record { due = due; alarm = Some 0 }; moved = no_values; there = refl; walks = ((refl, refl), (refl, refl, refl)); is = refl }, refl), (w, (refl, refl), refl))))))))
 
 -- and from where its alarm goes off
 abbrev waking_up : ℕ → List Entry
@@ -73,16 +74,16 @@ wakes-tied due time =
     let v = with_root due (Some 0) in
     let w : Value Sleeper ℕ = record v { output = Some 0 } in (
       v,
-      refl,
+      (refl, refl),
       (
         v,
         refl,
         (
           v,
-          refl,
+          (refl, refl),
           (
             v,
-            refl,
+            (refl, refl),
             (
               v,
               refl,
@@ -91,7 +92,7 @@ wakes-tied due time =
                 refl,
                 (
                   w,
-                  (0, record { before = root; left = root; moved = no_values; there = refl; walks = ((refl, tt), (refl, refl, refl)); is = refl }, refl, refl, refl),
+                  (0, v.held, record { before = root; left = root; moved = no_values; there = refl; walks = ((refl, tt), (refl, refl, refl)); is = refl }, refl),
                   ends-tied (sleeping_root due) (after_all (asleep due time) (alarm_fires ++ visiting_root ++ awake due)) w root Completed refl refl refl refl refl,
                 ),
               ),
@@ -112,7 +113,7 @@ skipped_run due later within =
       reaches = refl;
       ends = refl;
       caused = λ e. cc;
-      tied = IsTied-append (sleeping_root due) (begun small_begin) nothing v (gave 0) first (Skip due ∷ waking_up due) (asleep-tied due) (v, refl, wakes-tied due due);
+      tied = IsTied-append (sleeping_root due) (begun small_begin) nothing v (gave 0) first (Skip due ∷ waking_up due) (asleep-tied due) (v, (refl, refl), wakes-tied due due);
       whole = refl;
     }
 
@@ -149,16 +150,16 @@ cut_off due =
           (root, no_values, (refl, rw none refl, refl), refl),
           (
             v,
-            refl,
+            (refl, refl),
             (
               v,
-              refl,
+              (refl, refl),
               (
                 v,
                 refl,
                 (
                   w,
-                  record { before = root; left = root; there = refl; breaks = inl (record { front = []; rest = []; are = refl; walks = tt }); is = refl },
+                  record { before = root; left = root; there = refl; breaks = inl (record { front = []; rest = []; are = refl; walks = tt }); moved = no_values; frees = refl; is = refl },
                   ends-tied (sleeping_root due) (after_all (begun small_begin) (opening ++ visiting_root ++ (Answered 0 LacksMemory ∷ []))) w root NoMemory refl refl refl refl refl,
                 ),
               ),

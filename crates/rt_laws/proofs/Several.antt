@@ -2,13 +2,14 @@
 use Rattle.std.proofs.Common.{◌≡◌, ◌⊎◌, inl, inr, true, false, List, [], ◌∷◌, ◌++◌, refl, sym, ap, ◌∙◌}
 use Rattle.std.proofs.lemmas.Bool.{cases_Bool, true≢false, false≢true}
 use Rattle.rt_audit.specs.declared.finish.FinishCause.{FinishCause}
+use Rattle.rt_audit.specs.declared.finish.FinishCause.TheVariants.{Completed}
 use Rattle.rt_audit.specs.declared.entry.Entry.{Entry}
 use Rattle.rt_audit.specs.declared.entry.Entry.TheVariants.{Start}
 use Rattle.rt_model.specs.declared.begin.Begin.{Begin}
 use Rattle.rt_model.specs.State.{Phase, Blank, Finished, State, begun}
 use Rattle.rt_model.specs.Effects.{after, after_all}
 use Rattle.rt_model.specs.Rules.{May, IsLawful}
-use Rattle.rt_model.specs.Runs.{Runs, renews, renewed, runs_from, AreLawful}
+use Rattle.rt_model.specs.Runs.{Runs, renews, runs_from, AreLawful}
 use Rattle.rt_laws.specs.Several.{GoesOn}
 use Rattle.rt_laws.proofs.Starts.{start-first}
 
@@ -21,8 +22,13 @@ stays : (s : State) (e : Entry) → May s e → renews e s.phase ≡ false
 stays s (Start next now deadline cycle) m = rw m.1.0 refl
 stays s _ m = refl
 
-renews-finished : (p : Phase) (e : Entry) → renews e p ≡ true → (cause : FinishCause) × (p ≡ Finished cause)
-renews-finished (Finished cause) e h = (cause, refl)
+renews-completed : (cause : FinishCause) (e : Entry) → renews e (Finished cause) ≡ true → cause ≡ Completed
+renews-completed Completed e h = refl
+renews-completed _ (Start next now deadline cycle) h = absurd (false≢true h)
+renews-completed _ _ h = absurd (false≢true h)
+
+renews-finished : (p : Phase) (e : Entry) → renews e p ≡ true → p ≡ Finished Completed
+renews-finished (Finished cause) e h = ap Finished (renews-completed cause e h)
 renews-finished _ (Start next now deadline cycle) h = absurd (false≢true h)
 renews-finished _ _ h = absurd (false≢true h)
 
@@ -30,20 +36,20 @@ blank-same : (e : Entry) → renews e Blank ≡ false
 blank-same (Start next now deadline cycle) = refl
 blank-same _ = refl
 
-begins : (c : Begin) (later : List Begin) (cause : FinishCause) (s : State) (y : List Entry) → s.phase ≡ Finished cause → AreLawful (runs_from c later) y → AreLawful (from s (c ∷ later)) y
+begins : (c : Begin) (later : List Begin) (s : State) (y : List Entry) → s.phase ≡ Finished Completed → AreLawful (runs_from c later) y → AreLawful (from s (c ∷ later)) y
 unfolding begun
-begins c later cause s [] ends h = tt
-begins c later cause s (e ∷ y) ends h =
+begins c later s [] ends h = tt
+begins c later s (e ∷ y) ends h =
     let k : May (begun c) e × AreLawful (from (after (begun c) e) later) y = rw (blank-same e) at h in
     let renew : renews e s.phase ≡ true = rw (start-first c e k.0, ends) refl in
     rw renew k
 
-joined : (c : Begin) (later : List Begin) (cause : FinishCause) (s : State) (x y : List Entry) → IsLawful s x → (after_all s x).phase ≡ Finished cause → AreLawful (runs_from c later) y → AreLawful (from s (c ∷ later)) (x ++ y)
-joined c later cause s [] y l ends h = begins c later cause s y ends h
-joined c later cause s (e ∷ x) y l ends h = rw (stays s e l.0) (l.0, joined c later cause (after s e) x y l.1 ends h)
+joined : (c : Begin) (later : List Begin) (s : State) (x y : List Entry) → IsLawful s x → (after_all s x).phase ≡ Finished Completed → AreLawful (runs_from c later) y → AreLawful (from s (c ∷ later)) (x ++ y)
+joined c later s [] y l ends h = begins c later s y ends h
+joined c later s (e ∷ x) y l ends h = rw (stays s e l.0) (l.0, joined c later (after s e) x y l.1 ends h)
 
-pub join_runs : (b c : Begin) (later : List Begin) (cause : FinishCause) (x y : List Entry) → IsLawful (begun b) x → (after_all (begun b) x).phase ≡ Finished cause → AreLawful (runs_from c later) y → AreLawful (runs_from b (c ∷ later)) (x ++ y)
-join_runs b c later cause x y l ends h = joined c later cause (begun b) x y l ends h
+pub join_runs : (b c : Begin) (later : List Begin) (x y : List Entry) → IsLawful (begun b) x → (after_all (begun b) x).phase ≡ Finished Completed → AreLawful (runs_from c later) y → AreLawful (runs_from b (c ∷ later)) (x ++ y)
+join_runs b c later x y l ends h = joined c later (begun b) x y l ends h
 
 alone : (s : State) (later : List Begin) (x : List Entry) → IsLawful s x → AreLawful (from s later) x
 alone s later [] l = tt
@@ -53,12 +59,12 @@ pub run_alone : (b : Begin) (others : List Begin) (x : List Entry) → IsLawful 
 run_alone b others x l = alone (begun b) others x l
 
 -- at a start behind a finished run
-next-here : (s : State) (later : List Begin) (e : Entry) (es : List Entry) (cause : FinishCause) → s.phase ≡ Finished cause → renews e s.phase ≡ true → AreLawful (from s later) (e ∷ es) → GoesOn s later (e ∷ es)
+next-here : (s : State) (later : List Begin) (e : Entry) (es : List Entry) → s.phase ≡ Finished Completed → renews e s.phase ≡ true → AreLawful (from s later) (e ∷ es) → GoesOn s later (e ∷ es)
 unfolding begun
-next-here s [] e es cause ends renew h =
+next-here s [] e es ends renew h =
     let m : May s e = rw renew at h.0 in
     absurd (true≢false (sym renew ∙ stays s e m))
-next-here s (c ∷ later) e es cause ends renew h = record {
+next-here s (c ∷ later) e es ends renew h = record {
   own = [];
   rest = e ∷ es;
   next = c;
@@ -66,7 +72,6 @@ next-here s (c ∷ later) e es cause ends renew h = record {
   are = refl;
   comes = refl;
   lawful = tt;
-  cause = cause;
   ends = ends;
   goes_on = rw (blank-same e) (rw renew at h);
 }
@@ -82,7 +87,6 @@ one-more s later e es m (inr g) = inr (record {
   are = ap (λ x. e ∷ x) g.are;
   comes = g.comes;
   lawful = (m, g.lawful);
-  cause = g.cause;
   ends = g.ends;
   goes_on = g.goes_on;
 })
@@ -90,7 +94,7 @@ one-more s later e es m (inr g) = inr (record {
 apart : (s : State) (later : List Begin) (z : List Entry) → AreLawful (from s later) z → IsLawful s z ⊎ GoesOn s later z
 apart s later [] h = inl tt
 apart s later (e ∷ es) h = elim (cases_Bool (renews e s.phase)) [
-  | inl renew ↦ let ends = renews-finished s.phase e renew in inr (next-here s later e es ends.0 ends.1 renew h)
+  | inl renew ↦ inr (next-here s later e es (renews-finished s.phase e renew) renew h)
   | inr same ↦ let k : May s e × AreLawful (from (after s e) later) es = rw same at h in one-more s later e es k.0 (apart (after s e) later es k.1)
 ]
 

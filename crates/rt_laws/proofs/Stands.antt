@@ -3,13 +3,14 @@ use Rattle.std.proofs.Common.{◌≡◌, ℕ, List, [], Option, Bool, true, fals
 use Rattle.rt_audit.specs.declared.call.Call.{Call}
 use Rattle.rt_audit.specs.declared.reply.CallReply.{CallReply}
 use Rattle.rt_audit.specs.declared.answer.AnswerKind.{AnswerKind}
-use Rattle.rt_audit.specs.declared.answer.AnswerKind.TheVariants.{Pending, Ready, NoMemory, Ended}
+use Rattle.rt_audit.specs.declared.answer.AnswerKind.TheVariants.{Pending, Ready, Panicked, Stopped, NoMemory, Ended}
 use Rattle.rt_audit.specs.declared.finish.FinishCause.{FinishCause}
 use Rattle.rt_audit.specs.declared.entry.Entry.{Entry}
 use Rattle.rt_audit.specs.declared.entry.Entry.TheVariants.{Start, Call as CallEntry, Event, Wake, Draw, Root, Round, Visit, Answer, NodeEnd, Advance, Skip, Fire, Cleanup, Crash, Finish}
-use Rattle.rt_model.specs.State.{State, Phase, Blank, Making, Between, Visiting, Entered, Polling, Turning, Over, Cleaning, Closing, Crashed, Ending}
+use Rattle.rt_model.specs.declared.mark.Mark.{Mark}
+use Rattle.rt_model.specs.State.{State, Phase, Blank, Making, Between, Visiting, Entered, Polling, Halted, Ending, Leaving, Turning, Over, Cleaning, Closing, Crashed}
 use Rattle.rt_model.specs.Causes.{ends_next}
-use Rattle.rt_model.specs.Rules.{CallsAt, May, MayAnswer, MayRound, MayClose, MayCrash, MayFinish, MayEnd}
+use Rattle.rt_model.specs.Rules.{CallsAt, May, MayAnswer, MayRound, MayClose, MayCrash, MayFinish, MayEnd, MayEndNode}
 
 -- the entry may come in this phase, if it may come at all
 abbrev pub stands : Phase → Entry → Bool
@@ -27,8 +28,10 @@ stands (Visiting left) Cleanup = true
 stands (Entered task left) (Event label fields) = true
 stands (Polling task left) (CallEntry by call reply) = true
 stands (Polling task left) (Answer other kind) = true
-stands (Ending task left) (CallEntry by call reply) = true
-stands (Ending task left) (Answer other kind) = true
+stands (Halted task) (Answer other kind) = true
+stands (Ending task result left) (CallEntry by call reply) = true
+stands (Ending task result left) (Answer other kind) = true
+stands (Leaving task result left) (NodeEnd node) = true
 stands Turning (Draw value) = true
 stands Turning (Round order) = true
 stands Turning (Skip now) = true
@@ -46,7 +49,7 @@ module _ (by : Option ℕ) (call : Call) (reply : CallReply) where
   call-stands : (p : Phase) (root next : Option ℕ) → CallsAt p root next by → stands p (CallEntry by call reply) ≡ true
   call-stands Making root next m = refl
   call-stands (Polling task left) root next m = refl
-  call-stands (Ending task left) root next m = refl
+  call-stands (Ending task result left) root next m = refl
   call-stands (Closing cause) root next m = refl
   call-stands _ root next m = absurd m
 
@@ -61,16 +64,22 @@ round-stands Turning s order m = refl
 round-stands _ s order m = absurd m
 
 end-stands : (p : Phase) (next : Option ℕ) (task : ℕ) → MayEnd p next task → stands p (Answer task Ended) ≡ true
-end-stands (Ending ended left) next task m = refl
+end-stands (Ending ended result left) next task m = refl
 end-stands (Closing cause) next task m = refl
 end-stands _ next task m = absurd m
 
 answer-stands : (s : State) (task : ℕ) (kind : AnswerKind) → MayAnswer s task kind → stands s.phase (Answer task kind) ≡ true
 answer-stands s task Pending m = rw m refl
 answer-stands s task Ready m = rw m refl
+answer-stands s task Panicked m = rw m refl
+answer-stands s task Stopped m = rw m refl
 answer-stands s task NoMemory m = rw m refl
 answer-stands s task Ended m = end-stands s.phase (ends_next s.running s.root) task m
-answer-stands s task _ m = absurd m
+
+node-stands : (p : Phase) (ms : List (ℕ × Mark)) (node : ℕ) → MayEndNode p ms node → stands p (NodeEnd node) ≡ true
+node-stands (Leaving task result left) ms node m = refl
+node-stands (Cleaning cause) ms node m = refl
+node-stands _ ms node m = absurd m
 
 cleanup-stands : (p : Phase) → MayClose p → stands p Cleanup ≡ true
 cleanup-stands Making m = refl
@@ -98,7 +107,7 @@ may_stand s (Root task) m = rw m.1.0 refl
 may_stand s (Round order) m = round-stands s.phase s order m.1.0
 may_stand s (Visit task) m = rw m.1.0 refl
 may_stand s (Answer task kind) m = answer-stands s task kind m.1
-may_stand s (NodeEnd node) m = rw m.1.1 refl
+may_stand s (NodeEnd node) m = node-stands s.phase s.marks node m.1
 may_stand s (Advance now) m = rw m.1.0 refl
 may_stand s (Skip now) m = rw m.1.0 refl
 may_stand s (Fire alarm) m = rw m.1.0 refl

@@ -1,27 +1,32 @@
 -- Outside a clock step no alarm is overdue, and in a clock step none by a cycle.
-use Rattle.std.proofs.Common.{◌≡◌, ◌≢◌, ◌≤◌, ◌<◌, ◌+◌, ◌-◌, ◌↔◌, ℕ, List, [], ◌∷◌, ◌++◌, Option, Some, None, false, refl, arith, All, Contains, Bool, true}
+use Rattle.std.proofs.Common.{◌≡◌, ◌≢◌, ◌≤◌, ◌<◌, ◌+◌, ◌&&◌, ◌-◌, ◌↔◌, ℕ, List, [], ◌∷◌, ◌++◌, Option, Some, None, false, refl, arith, All, Contains, Bool, true}
 use Rattle.std.proofs.lemmas.List.Elements.{All-weaker}
 use Rattle.rt_audit.specs.declared.call.Call.{Call}
 use Rattle.rt_audit.specs.declared.call.Call.TheVariants.{SleepPoll}
 use Rattle.rt_audit.specs.declared.reply.CallReply.{CallReply}
 use Rattle.rt_audit.specs.declared.reply.CallReply.TheVariants.{PendingAt, Ready as IsReady}
 use Rattle.rt_audit.specs.declared.answer.AnswerKind.{AnswerKind}
-use Rattle.rt_audit.specs.declared.answer.AnswerKind.TheVariants.{Pending, Ready, NoMemory, Ended}
+use Rattle.rt_audit.specs.declared.answer.AnswerKind.TheVariants.{Pending, Ready, Panicked, Stopped, NoMemory, Ended}
 use Rattle.rt_audit.specs.declared.finish.FinishCause.{FinishCause}
+use Rattle.rt_audit.specs.declared.finish.FinishCause.TheVariants.{Completed, TaskPanicked}
 use Rattle.rt_audit.specs.declared.entry.Entry.{Entry}
 use Rattle.rt_audit.specs.declared.entry.Entry.TheVariants.{Start, Call as CallEntry, Event, Root, Round, Visit, Answer, NodeEnd, Advance, Skip, Fire, Cleanup, Crash, Finish}
 use Rattle.rt_super.specs.Alarms.{Alarm, AlarmList}
 use Rattle.rt_model.specs.declared.begin.Begin.{Begin}
-use Rattle.rt_model.specs.State.{State, Phase, Between, Entered, Turning, Cleaning, Closing, Crashed, begun, Ending}
+use Rattle.rt_model.specs.declared.result.Outcome.{Outcome}
+use Rattle.rt_model.specs.declared.result.Outcome.TheVariants.{There, Exited}
+use Rattle.rt_super.specs.Ancestry.{is_ended}
+use Rattle.rt_model.specs.Marks.{is_flagged}
+use Rattle.rt_model.specs.State.{State, Phase, Between, Entered, Ending, Leaving, Turning, Cleaning, Closing, Crashed, begun}
 use Rattle.rt_model.specs.Alarms.{slept, skip_to, ahead, fires}
-use Rattle.rt_model.specs.Effects.{after, after_all, alarms_called, answered, entered, cleaned, ended, finished, left_of}
+use Rattle.rt_model.specs.Effects.{after, after_all, alarms_called, is_settled, answered, entered, entered_by, node_ended, cleans, leaves, ended, left_pending, finished, left_of}
 use Rattle.rt_model.specs.Rules.{May, MayAnswer, MayRound, MayCrash, MayFinish, Answers, IsLawful}
-use Rattle.rt_model.specs.Causes.{is_late}
+use Rattle.rt_model.specs.Causes.{is_late, reached}
 use Rattle.rt_laws.specs.Earliest.{IsEarliest}
 use Rattle.rt_laws.proofs.Clock.{lawful-front, lawful-tail}
 use Rattle.rt_laws.proofs.Order.{NoneBefore, none-before, none-sooner, AreOrdered, order-after, run_order}
 use Rattle.rt_laws.proofs.Each.{each-with, each-waking, each-drop}
-use Rattle.rt_model.specs.Lists.{is_some_number}
+use Rattle.rt_model.specs.Lists.{is_some_number, find}
 
 -- no alarm that is set is due before this moment
 abbrev pub earliest_due : Phase → ℕ → ℕ → ℕ
@@ -62,33 +67,52 @@ none-skipped : (ready : List ℕ) (alarms : List Alarm) (time now : ℕ) → Are
 none-skipped [] alarms time now o h = none-ahead alarms time now o h
 none-skipped (k ∷ ready) alarms time now o h = absurd (cc)
 
-timely-entered : (p : Phase) (s : State) → IsTimelyAt p s → IsTimelyAt (entered p) s
-timely-entered (Entered task left) s k = k
+-- nothing is overdue
+abbrev AreAhead : State → Type 0
+AreAhead s = NoneBefore (s.clock.time + 1) s.alarms.alarms
+
+timely-by : (stopped flagged : Bool) (task : ℕ) (left : List ℕ) (s : State) → AreAhead s → IsTimelyAt (entered_by stopped flagged task left) s
+timely-by true flagged task left s k = k
+timely-by false true task left s k = k
+timely-by false false task left s k = k
+
+timely-entered : (p : Phase) (s : State) → IsTimelyAt p s → IsTimelyAt (entered s p) s
+timely-entered (Entered task left) s k = timely-by (is_some_number task s.root && s.panicked) (is_flagged (find task s.marks)) task left s k
 timely-entered _ s k = k
 
-timely-cleaned : (p : Phase) (s : State) → IsTimelyAt p s → IsTimelyAt (cleaned p) s
-timely-cleaned (Cleaning cause) s k = k
-timely-cleaned _ s k = k
+timely-node : (p : Phase) (s : State) → IsTimelyAt p s → IsTimelyAt (node_ended p) s
+timely-node (Cleaning cause) s k = k
+timely-node (Leaving task result left) s k = k
+timely-node _ s k = k
 
 timely-round : (p : Phase) (s : State) → AreOrdered s.alarms.alarms → MayRound p s → IsTimelyAt p s → NoneBefore (s.clock.time + 1) s.alarms.alarms
 timely-round Between s o m k = k
 timely-round Turning s o m k = none-fires s.alarms.alarms s.clock.time o m.2
 timely-round _ s o m k = absurd m
 
-timely-ended : (p : Phase) (s : State) → IsTimelyAt p s → IsTimelyAt (ended p) s
-timely-ended (Ending task left) s k = k
-timely-ended _ s k = k
+timely-leaves : (settles : Bool) (task : ℕ) (result : Option Outcome) (left : List ℕ) (s : State) → AreAhead s → IsTimelyAt (leaves settles task result left) s
+timely-leaves true task result left s k = k
+timely-leaves false task result left s k = k
 
-timely-finished : (is_root : Bool) (task : ℕ) (left : List ℕ) (s : State) → NoneBefore (s.clock.time + 1) s.alarms.alarms → IsTimelyAt (finished is_root task left) s
-timely-finished true task left s k = k
-timely-finished false task left s k = k
+timely-ended : (settles : Bool) (p : Phase) (s : State) → IsTimelyAt p s → IsTimelyAt (ended settles p) s
+timely-ended settles (Ending task result left) s k = timely-leaves settles task result left s k
+timely-ended settles _ s k = k
 
-timely-answered : (s : State) (task : ℕ) (kind : AnswerKind) → MayAnswer s task kind → IsTimely s → IsTimelyAt (answered s.root s.phase task kind) s
-timely-answered s task Pending m k = rw m at k
-timely-answered s task Ready m k = timely-finished (is_some_number task s.root) task (left_of s.phase) s (rw m at k)
+timely-pending : (flagged : Bool) (task : ℕ) (left : List ℕ) (s : State) → AreAhead s → IsTimelyAt (left_pending flagged task left) s
+timely-pending true task left s k = k
+timely-pending false task left s k = k
+
+timely-finished : (is_root : Bool) (cause : FinishCause) (result : Outcome) (task : ℕ) (left : List ℕ) (s : State) → AreAhead s → IsTimelyAt (finished is_root cause result task left) s
+timely-finished true cause result task left s k = k
+timely-finished false cause result task left s k = k
+
+timely-answered : (s : State) (task : ℕ) (kind : AnswerKind) → MayAnswer s task kind → IsTimely s → IsTimelyAt (answered s task kind) s
+timely-answered s task Pending m k = timely-pending (is_flagged (find task s.marks)) task (left_of s.phase) s (rw m at k)
+timely-answered s task Ready m k = timely-finished (is_some_number task s.root) Completed There task (left_of s.phase) s (rw m at k)
+timely-answered s task Panicked m k = timely-finished (is_some_number task s.root) TaskPanicked Exited task (left_of s.phase) s (rw m at k)
+timely-answered s task Stopped m k = rw m at k
 timely-answered s task NoMemory m k = rw m at k
-timely-answered s task Ended m k = timely-ended s.phase s k
-timely-answered s task _ m k = k
+timely-answered s task Ended m k = timely-ended (is_settled s task) s.phase s k
 
 timely-crash : (p : Phase) (s : State) (running : List ℕ) → MayCrash p running → IsTimelyAt p s → NoneBefore (s.clock.time + 1) s.alarms.alarms
 timely-crash (Closing cause) s running m k = k
@@ -97,6 +121,10 @@ timely-crash _ s running m k = absurd m
 timely-finish : (p : Phase) (s : State) (cause : FinishCause) → MayFinish p cause → IsTimelyAt p s → NoneBefore (s.clock.time + 1) s.alarms.alarms
 timely-finish (Crashed reached) s cause m k = k
 timely-finish _ s cause m k = absurd m
+
+timely-cleans : (over : Bool) (cause : Option FinishCause) (s : State) → s.alarms.alarms ≡ [] → IsTimelyAt (cleans over cause) s
+timely-cleans true cause s none = rw none tt
+timely-cleans false cause s none = rw none tt
 
 timely-after : (s : State) (e : Entry) → AreOrdered s.alarms.alarms → May s e → IsTimely s → IsTimely (after s e)
 unfolding after
@@ -108,7 +136,7 @@ timely-after s (Root task) o m k = rw m.1.0 at k
 timely-after s (Round order) o m k = timely-round s.phase s o m.1.0 k
 timely-after s (Visit task) o m k = rw m.1.0 at k
 timely-after s (Answer task kind) o m k = timely-answered s task kind m.1 k
-timely-after s (NodeEnd node) o m k = timely-cleaned s.phase s k
+timely-after s (NodeEnd node) o m k = timely-node s.phase s k
 timely-after s (Advance now) o m k =
     let e = m.1.2 in
     let b : NoneBefore (s.clock.time + 1) s.alarms.alarms = rw m.1.0 at k in
@@ -116,7 +144,7 @@ timely-after s (Advance now) o m k =
 timely-after s (Skip now) o m k =
     rw m.1.0 (none-sooner (now - (s.clock.fixed.cycle - 1)) now s.alarms.alarms (omega arith) (none-skipped s.ready s.alarms.alarms s.clock.time now o m.1.1))
 timely-after s (Fire alarm) o m k = each-drop (λ at told. earliest_due s.phase s.clock.time s.clock.fixed.cycle ≤ at) s.alarms.alarms k
-timely-after s Cleanup o m k = tt
+timely-after s Cleanup o m k = timely-cleans (is_ended s.nodes 0) (reached s) (after s Cleanup) refl
 timely-after s (Crash choices) o m k = timely-crash s.phase s s.running m.1.0 k
 timely-after s (Finish cause) o m k = timely-finish s.phase s cause m.1 k
 timely-after s _ o m k = k

@@ -11,8 +11,8 @@ use Rattle.rt_model.specs.declared.answer.Answer.TheVariants.{Pending, Ready}
 use Rattle.rt_model.specs.Events.{process_task, task_fields}
 use Rattle.rt_model.specs.State.{State, begun}
 use Rattle.rt_model.specs.Effects.{after, after_all}
-use Rattle.rt_model.specs.Turns.{Held}
-use Rattle.rt_model.specs.Tied.{Value, nothing, put}
+use Rattle.rt_model.specs.Turns.{Held, put}
+use Rattle.rt_model.specs.Tied.{Value, nothing}
 use Rattle.rt_model.specs.Run.{IsValidInput}
 use Rattle.rt_laws.specs.Examples.{small_begin, ready_root, Sleeper, sleeper_heard, sleeping_root, opening, visiting_root, still_asleep}
 use Rattle.rt_laws.proofs.Completing.{Completes, begins, making_gives, rounds, visiting, entered, visited, polling_gives, polling_sleeps, polling_wakes, fired, skips, woken}
@@ -38,7 +38,7 @@ ready_valid number =
     let s5 = after s4 (Event process_task (task_fields 0 [])) in
     let held : Held (Unit {0}) ℕ = nothing.held in
     let v : Value (Unit {0}) ℕ = record nothing { held = put 0 tt held } in
-    let polls : Completes p s5 v = polling_gives p s5 v refl 0 [] tt refl refl held (Ready number) tt refl (refl, refl) (λ e. absurd (cc)) in
+    let polls : Completes p s5 v = polling_gives p s5 v refl 0 [] tt refl refl held (Ready number) tt refl (λ text e. cc) (refl, refl) (λ e. absurd (cc)) in
     let visits : Completes p s3 v = visiting p s3 v refl 0 (0 ∷ []) [] refl refl tt (entered p s4 v refl 0 [] refl polls) in
     begins p small_begin
     (making_gives p s1 nothing refl tt held refl (refl, refl) tt
@@ -84,7 +84,7 @@ falls-asleep due later more =
     let v = with_root due None in
     let w = with_root due (Some 0) in
     let steps : Completes p (after s (Answered 0 AnswersPending)) w = visited p (after s (Answered 0 AnswersPending)) w refl [] refl refl tt more in
-    let answers : Completes p s v = polling_gives p s v refl 0 [] root refl refl no_values Pending (record { due = due; alarm = Some 0 }) refl ((refl, refl), (refl, refl)) (λ e. steps) in
+    let answers : Completes p s v = polling_gives p s v refl 0 [] root refl refl no_values Pending (record { due = due; alarm = Some 0 }) refl (λ text e. cc) ((refl, refl), (refl, refl)) (λ e. steps) in
     polling_sleeps p (polled due) v refl 0 [] root refl refl no_values due None (sleeper_heard root) (refl, refl) later answers
 
 stays-awake : Completes (sleeping_root 0) (polled 0) (with_root 0 None)
@@ -94,7 +94,7 @@ stays-awake =
     let root : Sleeper = record { due = 0; alarm = None } in
     let s = after (polled 0) (Call (Some 0) (SleepPoll 0) IsOver) in
     let v = with_root 0 None in
-    let answers : Completes p s v = polling_gives p s v refl 0 [] root refl refl no_values (Ready 0) root refl ((refl, tt), (refl, refl)) (λ e. absurd (cc)) in
+    let answers : Completes p s v = polling_gives p s v refl 0 [] root refl refl no_values (Ready 0) root refl (λ text e. cc) ((refl, tt), (refl, refl)) (λ e. absurd (cc)) in
     polling_wakes p (polled 0) v refl 0 [] root refl refl no_values 0 None (sleeper_heard root) (refl, refl) (omega arith) answers
 
 -- where its alarm goes off
@@ -113,7 +113,7 @@ wakes-up due time late =
     let v = with_root due (Some 0) in
     let over : ltb time due ≡ false = grind arith in
     let now : leb due time ≡ true = grind arith in
-    let answers : Completes p s7 v = polling_gives p s7 v refl 0 [] root refl refl no_values (Ready 0) root refl ((refl, tt), (refl, refl)) (λ e. absurd (cc)) in
+    let answers : Completes p s7 v = polling_gives p s7 v refl 0 [] root refl refl no_values (Ready 0) root refl (λ text e. cc) ((refl, tt), (refl, refl)) (λ e. absurd (cc)) in
     let polls : Completes p s6 v = polling_wakes p s6 v refl 0 [] root refl refl no_values due (Some 0) (sleeper_heard root) (refl, refl) late answers in
     let visits : Completes p s4 v = visiting p s4 v refl 0 (0 ∷ []) [] refl refl tt (entered p s5 v refl 0 [] refl polls) in
     let round : Completes p s3 v = rounds p s3 v (inr (refl, refl, refl)) tt (λ order perm. rw (only 0 order perm) visits) refl in

@@ -1,18 +1,19 @@
 -- The entries of a run determine what it moves: the steps decide each walk, as long as no part lacked memory.
-use Rattle.std.proofs.Common.{◌≡◌, inl, inr, ℕ, List, [], ◌∷◌, Option, Some, None, Bool, true, false, refl, ap, sym, ◌∙◌}
+use Rattle.std.proofs.Common.{◌≡◌, inl, inr, ℕ, List, [], ◌∷◌, Option, Some, None, is_some, if◌then◌else◌, Bool, true, false, refl, ap, sym, ◌∙◌}
 use Rattle.rt_audit.specs.declared.answer.AnswerKind.{AnswerKind}
-use Rattle.rt_audit.specs.declared.answer.AnswerKind.TheVariants.{Pending as IsPending, Ready as IsReady, NoMemory as LacksMemory, Ended as IsEnded}
+use Rattle.rt_audit.specs.declared.answer.AnswerKind.TheVariants.{Pending as IsPending, Ready as IsReady, Panicked as IsPanicked, Stopped as IsStopped, NoMemory as LacksMemory, Ended as IsEnded}
 use Rattle.rt_audit.specs.declared.finish.FinishCause.{FinishCause}
 use Rattle.rt_audit.specs.declared.entry.Entry.{Entry}
-use Rattle.rt_audit.specs.declared.entry.Entry.TheVariants.{Root, Answer as AnswerEntry, Cleanup, Crash}
+use Rattle.rt_audit.specs.declared.entry.Entry.TheVariants.{Root, Round, Visit, Answer as AnswerEntry, Advance, Skip, Fire, Cleanup, Crash}
 use Rattle.rt_model.specs.declared.answer.Answer.{Answer}
-use Rattle.rt_model.specs.declared.answer.Answer.TheVariants.{Pending, Ready}
+use Rattle.rt_model.specs.declared.answer.Answer.TheVariants.{Pending, Ready, Panicked}
 use Rattle.rt_model.specs.declared.begin.Begin.{Begin}
 use Rattle.rt_model.specs.State.{State, Phase, Making, Stood, Turn, stood_in, begun}
 use Rattle.rt_model.specs.Effects.{after}
-use Rattle.rt_model.specs.Turns.{Held}
+use Rattle.rt_model.specs.Lists.{find, is_some_number}
+use Rattle.rt_model.specs.Turns.{Held, put}
 use Rattle.rt_model.specs.Walk.{Step, Does, Spends, Gives, Gave, Walks}
-use Rattle.rt_model.specs.Tied.{Steps, Value, Keeps, Polls, EndsState, Makes, MovesAnswer, MovesCleanup, MovesCrash, Moves, IsTied, find, taken, put, no_number, nothing, output_after}
+use Rattle.rt_model.specs.Tied.{Steps, Value, Polls, EndsState, Makes, MakerBreaks, MovesAnswer, MovesCleanup, MovesCrash, Moves, IsTied, taken, no_number, nothing, given, kept_text, with_result}
 use Rattle.rt_model.specs.Run.{IsRun}
 use Rattle.rt_laws.proofs.Same.{same_begin}
 use Rattle.rt_laws.proofs.Fronts.{goes-both}
@@ -32,17 +33,6 @@ module _ {A L O R : Type 0} (stood : Stood) (a b : R) (l m : L) (e f : Held A O)
   walks-same (t ∷ turns) held step h k =
       goes-both (λ held step. Walks step held turns stood a l e) (λ held step. Walks step held turns stood b m f) (λ held step h k. walks-same turns held step h k) held step t h k
 
-abbrev value_of : {A O : Type 0} → Held A O → Option O → Option A → Bool → Value A O
-value_of held output unmade whole = record { held = held; output = output; unmade = unmade; whole = whole }
-
-pub same-parts : {A O : Type 0} → (u w : Value A O) → u.held ≡ w.held → u.output ≡ w.output → u.unmade ≡ w.unmade → u.whole ≡ w.whole → u ≡ w
-same-parts u w p q r s =
-    let h : value_of u.held u.output u.unmade u.whole ≡ value_of w.held w.output w.unmade w.whole = rw (p, q, r, s) refl in
-    h
-
-same-kept : {A O : Type 0} → (v u w : Value A O) → u.held ≡ w.held → Keeps v u → Keeps v w → u ≡ w
-same-kept v u w p h k = same-parts u w p (h.0 ∙ sym k.0) (h.1 ∙ sym k.1) (h.2 ∙ sym k.2)
-
 same-some : {A : Type 0} → (x : Option A) (a b : A) → x ≡ Some a → x ≡ Some b → a ≡ b
 same-some x a b h k = cc
 
@@ -51,8 +41,8 @@ pub not-whole : {A O C : Type 0} → (v u : Value A O) → v.whole ≡ true → 
 not-whole v u h k e = absurd (cc)
 
 module _ {A O : Type 0} (p : Steps A O) (s : State) (v u w : Value A O) where
-  polls-same : (task : ℕ) (a b : Answer O) → Polls p s task v.held a u.held → Polls p s task v.held b w.held → (a ≡ b) × (u.held ≡ w.held)
-  polls-same task a b h k =
+  polls-same : (task : ℕ) (a b : Answer O) (e f : Held A O) → Polls p s task v.held a e → Polls p s task v.held b f → (a ≡ b) × (e ≡ f)
+  polls-same task a b e f h k =
       let same = same-some (find task v.held.tasks) k.before h.before k.there h.there in
       let walks = k.walks in
       let other : Walks (p.task.next h.before s.clock.time task) (taken task v.held) s.turns (stood_in s) b k.left k.moved = rw same at walks in
@@ -71,24 +61,36 @@ module _ {A O : Type 0} (p : Steps A O) (s : State) (v u w : Value A O) where
         | inl k ↦ (
             let e = (walks-same (stood_in s) tt tt tt tt u.held w.held s.turns held (p.task.last before s.clock.time number) h.0 k.0).2 in
             h.1 ∙ ap (λ (x : Held A O). record v { held = x }) e ∙ sym k.1)
-        | inr k ↦ not-whole w (record v { held = held; whole = false }) second refl k.1
+        | inr k ↦ not-whole w (record v { held = w.held; whole = false }) second refl k.2
       ]
-      | inr h ↦ not-whole u (record v { held = held; whole = false }) first refl h.1
+      | inr h ↦ not-whole u (record v { held = u.held; whole = false }) first refl h.2
     ]
 
     answer-same : (task : ℕ) (kind : AnswerKind) → MovesAnswer p s v task kind u → MovesAnswer p s v task kind w → u ≡ w
-    answer-same task IsPending h k = same-kept v u w (polls-same task Pending Pending h.0 k.0).1 h.1 k.1
+    answer-same task IsPending h k =
+        let q = polls-same task Pending Pending h.0 k.0 h.1 k.1 in
+        h.2 ∙ rw q.1 refl ∙ sym k.2
     answer-same task IsReady h k =
-        let q = polls-same task (Ready h.0) (Ready k.0) h.1 k.1 in
+        let q = polls-same task (Ready h.0) (Ready k.0) h.1 k.1 h.2 k.2 in
         let o : h.0 ≡ k.0 = let e = q.0 in cc in
-        same-parts u w q.1 (h.2 ∙ ap (λ (o : O). output_after s.root task o v.output) o ∙ sym k.2) (h.3 ∙ sym k.3) (h.4 ∙ sym k.4)
-    answer-same task LacksMemory h k = not-whole u (record v { held = put task h.left (taken task v.held); whole = false }) first refl h.is
+        h.3 ∙ (rw (o, q.1) refl) ∙ sym k.3
+    answer-same task IsPanicked h k =
+        let q = polls-same task (Panicked h.0) (Panicked k.0) h.1 k.1 h.2 k.2 in
+        let text : h.0 ≡ k.0 = let e = q.0 in cc in
+        h.3 ∙ (rw (text, q.1) refl) ∙ sym k.3
+    answer-same task IsStopped h k = h ∙ sym k
+    answer-same task LacksMemory h k = not-whole u (record v { held = put task h.left h.moved; whole = false }) first refl h.is
     answer-same task IsEnded h k =
         let same = same-some (find task v.held.tasks) k.0 h.0 k.1 h.1 in
         let ends = k.2 in
         let other : EndsState p s task h.0 (taken task v.held) v w = rw same at ends in
         ends-same task h.0 (taken task v.held) v h.2 other
-    answer-same task _ h k = absurd h
+
+    broken : (x : Value A O) → x.whole ≡ true → MakerBreaks p s v x → ⊥
+    broken x whole h = elim h [
+      | inl h ↦ not-whole x (record v { held = x.held; unmade = x.unmade; whole = false }) whole refl h.1
+      | inr h ↦ not-whole x (record v { held = x.held; unmade = None; whole = false }) whole refl h.1
+    ]
 
     cleanup-same : (phase : Phase) → MovesCleanup p s v phase u → MovesCleanup p s v phase w → u ≡ w
     cleanup-same Making h k = elim h [
@@ -96,9 +98,9 @@ module _ {A O : Type 0} (p : Steps A O) (s : State) (v u w : Value A O) where
         | inl k ↦ (
             let q = makes-same h.0 k.0 u.held w.held h.1 k.1 in
             h.2 ∙ rw (q.0, q.1) refl ∙ sym k.2)
-        | inr k ↦ not-whole w (record v { unmade = k.0; whole = false }) second refl k.2
+        | inr k ↦ absurd (broken w second k.0)
       ]
-      | inr h ↦ not-whole u (record v { unmade = h.0; whole = false }) first refl h.2
+      | inr h ↦ absurd (broken u first h.0)
     ]
     cleanup-same _ h k = h ∙ sym k
 
@@ -113,6 +115,11 @@ module _ {A O : Type 0} (p : Steps A O) (s : State) (v u w : Value A O) where
     moves-same (AnswerEntry task kind) h k = answer-same task kind h k
     moves-same Cleanup h k = cleanup-same s.phase h k
     moves-same (Crash choices) h k = crash-same v.unmade h k
+    moves-same (Round order) h k = h.0 ∙ sym k.0
+    moves-same (Visit task) h k = h.0 ∙ sym k.0
+    moves-same (Advance now) h k = h.0 ∙ sym k.0
+    moves-same (Skip now) h k = h.0 ∙ sym k.0
+    moves-same (Fire alarm) h k = h.0 ∙ sym k.0
     moves-same _ h k = h ∙ sym k
 
 -- what is whole was whole before
@@ -123,20 +130,29 @@ module _ {A O : Type 0} (p : Steps A O) (s : State) (v w : Value A O) (whole : w
   was-ended : (number : ℕ) (before : A) (held : Held A O) (v : Value A O) → EndsState p s number before held v w → v.whole ≡ true
   was-ended number before held v k = elim k [
     | inl k ↦ was-same (record v { held = w.held }) k.1
-    | inr k ↦ not-whole w (record v { held = held; whole = false }) whole refl k.1
+    | inr k ↦ not-whole w (record v { held = w.held; whole = false }) whole refl k.2
   ]
 
+  -- an output leaves it as it is, wherever it goes
+  was-given : (is_root : Bool) (task : ℕ) (o : O) (end : Held A O) → w ≡ (if is_root then record v { held = end; output = Some o } else record v { held = with_result (is_some (find task s.results)) task o end }) → v.whole ≡ true
+  was-given true task o end k = was-same (record v { held = end; output = Some o }) k
+  was-given false task o end k = was-same (record v { held = with_result (is_some (find task s.results)) task o end }) k
+
   was-answered : (task : ℕ) (kind : AnswerKind) → MovesAnswer p s v task kind w → v.whole ≡ true
-  was-answered task IsPending k = sym k.1.2 ∙ whole
-  was-answered task IsReady k = sym k.4 ∙ whole
-  was-answered task LacksMemory k = not-whole w (record v { held = put task k.left (taken task v.held); whole = false }) whole refl k.is
+  was-answered task IsPending k = was-same (record v { held = k.0 }) k.2
+  was-answered task IsReady k = was-given (is_some_number task s.root) task k.0 k.1 k.3
+  was-answered task IsPanicked k = was-same (record v { held = k.1; panic = kept_text s task k.0 v.panic }) k.3
+  was-answered task IsStopped k = was-same v k
+  was-answered task LacksMemory k = not-whole w (record v { held = put task k.left k.moved; whole = false }) whole refl k.is
   was-answered task IsEnded k = was-ended task k.0 (taken task v.held) v k.2
-  was-answered task _ k = absurd k
 
   was-cleaned : (phase : Phase) → MovesCleanup p s v phase w → v.whole ≡ true
   was-cleaned Making k = elim k [
     | inl k ↦ was-same (record v { held = w.held; unmade = Some k.0 }) k.2
-    | inr k ↦ not-whole w (record v { unmade = k.0; whole = false }) whole refl k.2
+    | inr k ↦ absurd (elim k.0 [
+      | inl h ↦ not-whole w (record v { held = w.held; unmade = w.unmade; whole = false }) whole refl h.1
+      | inr h ↦ not-whole w (record v { held = w.held; unmade = None; whole = false }) whole refl h.1
+    ])
   ]
   was-cleaned _ k = was-same v k
 
@@ -149,6 +165,11 @@ module _ {A O : Type 0} (p : Steps A O) (s : State) (v w : Value A O) (whole : w
   was-whole (AnswerEntry task kind) k = was-answered task kind k
   was-whole Cleanup k = was-cleaned s.phase k
   was-whole (Crash choices) k = was-crashed v.unmade k
+  was-whole (Round order) k = k.1
+  was-whole (Visit task) k = k.1
+  was-whole (Advance now) k = k.1
+  was-whole (Skip now) k = k.1
+  was-whole (Fire alarm) k = k.1
   was-whole _ k = was-same v k
 
 pub all-whole : {A O : Type 0} → (p : Steps A O) (s : State) (v w : Value A O) (x : List Entry) → IsTied p s v x w → w.whole ≡ true → v.whole ≡ true
@@ -163,9 +184,9 @@ tied-same p s v u w (e ∷ x) h k first second =
     let other : IsTied p (after s e) h.0 x w = rw same at rest in
     tied-same p (after s e) h.0 u w x h.2 other first second
 
-pub same_value : (A O : Type 0) (p : Steps A O) (b c : Begin) (x : List Entry) (cause other : FinishCause) (end last : State) (v w : Value A O) → IsRun p b x cause end v → IsRun p c x other last w → v ≡ w
-same_value A O p b c x cause other end last v w first second =
-    let begins = same_begin A A O O p p b c x cause other end last v w first second in
+pub same_value : (A O : Type 0) (p : Steps A O) (b c : Begin) (x : List Entry) (cause other : FinishCause) (end last : State) (v w : Value A O) → IsRun p b x cause end v → IsRun p c x other last w → b.catch ≡ c.catch → v ≡ w
+same_value A O p b c x cause other end last v w first second catch =
+    let begins = same_begin A A O O p p b c x cause other end last v w first second catch in
     let tied = second.tied in
     let other : IsTied p (begun b) nothing x w = rw begins tied in
     tied-same p (begun b) nothing v w x first.tied other first.whole second.whole

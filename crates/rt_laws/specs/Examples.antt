@@ -1,5 +1,5 @@
 -- Small roots, and what a run of each writes. The definitions are tried on them.
-use Rattle.std.specs.Prelude.{ℕ, ◌+◌, ◌-◌, ◌^◌, List, [], ◌∷◌, ◌++◌, Option, Some, None}
+use Rattle.std.specs.Prelude.{ℕ, ◌+◌, ◌-◌, ◌^◌, List, [], ◌∷◌, ◌++◌, Option, Some, None, false}
 use Rattle.rt_base.specs.declared.time.TheConstants.{MAX_TIME}
 use Rattle.rt_audit.specs.declared.call.Call.{Call as CallOf}
 use Rattle.rt_audit.specs.declared.call.Call.TheVariants.{CloseNode, SleepPoll, Wake as WakeCall}
@@ -20,11 +20,11 @@ use Rattle.rt_model.specs.Tied.{Steps, Value, with_first, nothing}
 
 -- from time 0 and number 0, by cycles of a millisecond, without a deadline
 abbrev pub small_begin : Begin
-small_begin = record { start = 0; cycle = 1000000; deadline = None; first = 0 }
+small_begin = record { start = 0; cycle = 1000000; deadline = None; first = 0; catch = false }
 
 -- the same with this cycle, this deadline, and task numbers from this one on
 abbrev pub begin_by : ℕ → Option ℕ → ℕ → Begin
-begin_by cycle deadline first = record { start = 0; cycle = cycle; deadline = deadline; first = first }
+begin_by cycle deadline first = record { start = 0; cycle = cycle; deadline = deadline; first = first; catch = false }
 
 -- an end that closes the root's node
 abbrev pub closes_node : {A : Type 0} → Last A ℕ

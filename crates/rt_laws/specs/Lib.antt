@@ -1,4 +1,10 @@
+pub mod Aborts
 pub mod Cleanup
 pub mod Earliest
 pub mod Examples
+pub mod Polls
 pub mod Several
+pub mod Spawns
+pub mod Stored
+pub mod Supervised
+pub mod Visits

@@ -1,6 +1,6 @@
 -- A journal of several runs, apart.
 use Rattle.std.specs.Prelude.{◌≡◌, List, ◌∷◌, ◌++◌}
-use Rattle.rt_audit.specs.declared.finish.FinishCause.{FinishCause}
+use Rattle.rt_audit.specs.declared.finish.FinishCause.TheVariants.{Completed}
 use Rattle.rt_audit.specs.declared.entry.Entry.{Entry}
 use Rattle.rt_model.specs.declared.begin.Begin.{Begin}
 use Rattle.rt_model.specs.State.{State, Finished}
@@ -8,7 +8,7 @@ use Rattle.rt_model.specs.Effects.{after_all}
 use Rattle.rt_model.specs.Rules.{IsLawful}
 use Rattle.rt_model.specs.Runs.{runs_from, AreLawful}
 
--- from this state the run under way has a front of the entries and is finished there, and the rest are runs from the later beginnings
+-- from this state the run under way has a front of the entries and completes there, and the rest are runs from the later beginnings
 pub record GoesOn (s : State) (later : List Begin) (entries : List Entry) : Type 0 where
   pub own : List Entry
   pub rest : List Entry
@@ -17,6 +17,5 @@ pub record GoesOn (s : State) (later : List Begin) (entries : List Entry) : Type
   pub are : entries ≡ own ++ rest
   pub comes : later ≡ next ∷ others
   pub lawful : IsLawful s own
-  pub cause : FinishCause
-  pub ends : (after_all s own).phase ≡ Finished cause
+  pub ends : (after_all s own).phase ≡ Finished Completed
   pub goes_on : AreLawful (runs_from next others) rest

@@ -2,35 +2,49 @@
 #![tactic(auto)]
 
 mod examples;
+mod supervised;
 
-ghost use Rattle.std.specs.Prelude.{◌≡◌, ◌≢◌, ◌≤◌, ◌<◌, ◌+◌, ◌++◌, ◌⊎◌, ◌↔◌, [], ◌∷◌, ℕ, List, Option, Some, None, true, false, All, Contains};
+ghost use Rattle.std.specs.Prelude.{Bool, ◌≡◌, ◌≢◌, ◌≤◌, ◌<◌, ◌+◌, ◌++◌, ◌⊎◌, ◌↔◌, [], ◌∷◌, ℕ, List, Option, Some, None, true, false, All, Contains};
 ghost use Rattle.rt_base.specs.declared.time.TheConstants.{MAX_TIME};
 ghost use Rattle.rt_audit.specs.declared.call.Call.{Call};
-ghost use Rattle.rt_audit.specs.declared.call.Call.TheVariants.{SleepPoll};
+ghost use Rattle.rt_audit.specs.declared.call.Call.TheVariants.{Child, Join, SleepPoll};
 ghost use Rattle.rt_audit.specs.declared.reply.CallReply.{CallReply};
-ghost use Rattle.rt_audit.specs.declared.reply.CallReply.TheVariants.{PendingAt, Ready};
+ghost use Rattle.rt_audit.specs.declared.reply.CallReply.TheVariants.{NodeAt, PendingAt, Ready};
 ghost use Rattle.rt_audit.specs.declared.answer.AnswerKind.TheVariants.{NoMemory, Ended};
 ghost use Rattle.rt_audit.specs.declared.entry.Entry.{Entry};
-ghost use Rattle.rt_audit.specs.declared.entry.Entry.TheVariants.{Start, Call as Called, Wake, Root, Round, Visit, Answer, Advance, Skip, Fire, Cleanup};
+ghost use Rattle.rt_audit.specs.declared.entry.Entry.TheVariants.{Start, Call as Called, Event, Wake, Root, Round, Visit, Answer, Advance, Skip, Fire, Cleanup};
 ghost use Rattle.rt_audit.specs.declared.finish.FinishCause.{FinishCause};
-ghost use Rattle.rt_audit.specs.declared.finish.FinishCause.TheVariants.{Timeout, Stalled, TimeOverflow, NoMemory as OutOfMemory};
+ghost use Rattle.rt_audit.specs.declared.finish.FinishCause.TheVariants.{Completed, Timeout, Stalled, TimeOverflow, NoMemory as OutOfMemory};
 ghost use Rattle.rt_super.specs.Alarms.{Alarm};
+ghost use Rattle.rt_super.specs.Ancestry.{is_known, is_ended, links, nodes_below};
 ghost use Rattle.rt_model.specs.declared.begin.Begin.{Begin};
-ghost use Rattle.rt_model.specs.State.{State, Entered, Polling, Ending, Turning, Finished, begun};
+ghost use Rattle.rt_model.specs.declared.mark.Mark.{Mark};
+ghost use Rattle.rt_model.specs.State.{State, Turn, Ending, Turning, Finished, begun};
 ghost use Rattle.rt_model.specs.Causes.{is_late, overflows, reached};
-ghost use Rattle.rt_model.specs.Effects.{after_all};
+ghost use Rattle.rt_model.specs.Effects.{after, after_all};
 ghost use Rattle.rt_model.specs.Rules.{IsLawful};
-ghost use Rattle.rt_model.specs.Tied.{Steps, Value, Moves, find};
+ghost use Rattle.rt_model.specs.Lists.{find};
+ghost use Rattle.rt_model.specs.Marks.{is_flagged};
+ghost use Rattle.rt_model.specs.Tied.{Steps, Value, Moves};
 ghost use Rattle.rt_model.specs.Run.{IsRun};
 ghost use Rattle.rt_model.specs.Runs.{AreLawful, runs_from};
+ghost use Rattle.rt_laws.specs.Aborts.{IsAbortOf};
 ghost use Rattle.rt_laws.specs.Cleanup.{IsOfCleanup};
 ghost use Rattle.rt_laws.specs.Earliest.{IsEarliest};
+ghost use Rattle.rt_laws.specs.Polls.{PollsNone};
 ghost use Rattle.rt_laws.specs.Several.{GoesOn};
+ghost use Rattle.rt_laws.specs.Spawns.{Spawns};
+ghost use Rattle.rt_laws.specs.Stored.{IsStored};
+ghost use Rattle.rt_laws.specs.Visits.{IsInVisit};
 
 pub use examples::{
     a_ready_root_has_its_run, a_run_that_lacked_memory_is_cut_off, a_sleeping_root_has_its_run,
     each_other_cause_ends_a_run, near_misses_are_no_runs, near_misses_are_not_cut_off,
     near_misses_are_not_lawful, small_inputs_are_valid, small_rounds_are_not_drawn,
+};
+pub use supervised::{
+    a_task_of_the_maker_has_its_run, a_task_that_aborts_itself_has_its_run,
+    near_misses_of_tasks_are_not_lawful, no_run_begins_behind_one_that_failed,
 };
 
 /// Time never goes back: not behind any state, and so nowhere in a run.
@@ -116,15 +130,19 @@ pub fn a_run_ends_for_a_cause_that_holds()
     ensures overflow { (b : Begin) (x y : List Entry) → IsLawful (begun b) (x ++ Cleanup ∷ y) → (after_all (begun b) (x ++ Cleanup ∷ y)).phase ≡ Finished TimeOverflow → overflows (after_all (begun b) x).clock ≡ true }
 {}
 
-/// The entries of a run determine its beginning, its cause and its end, whatever the tasks.
+/// The entries of a run determine its beginning and its cause, whatever the tasks. No entry keeps whether panics are
+/// caught; where that is the same, they determine its end too.
 pub fn entries_determine_the_end<A, B, O, P>()
-    ensures { (p : Steps A O) (q : Steps B P) (b c : Begin) (x : List Entry) (cause other : FinishCause) (end last : State) (v : Value A O) (w : Value B P) → IsRun p b x cause end v → IsRun q c x other last w → (b ≡ c) × (cause ≡ other) × (end ≡ last) }
+    ensures beginning { (p : Steps A O) (q : Steps B P) (b c : Begin) (x : List Entry) (cause other : FinishCause) (end last : State) (v : Value A O) (w : Value B P) → IsRun p b x cause end v → IsRun q c x other last w → b ≡ record c { catch = b.catch } }
+    ensures cause { (p : Steps A O) (q : Steps B P) (b c : Begin) (x : List Entry) (cause other : FinishCause) (end last : State) (v : Value A O) (w : Value B P) → IsRun p b x cause end v → IsRun q c x other last w → cause ≡ other }
+    ensures end { (p : Steps A O) (q : Steps B P) (b c : Begin) (x : List Entry) (cause other : FinishCause) (end last : State) (v : Value A O) (w : Value B P) → IsRun p b x cause end v → IsRun q c x other last w → b.catch ≡ c.catch → end ≡ last }
 {}
 
-/// Tasks that take the same steps, in runs with the same entries, give the same output and leave the same values.
+/// Tasks that take the same steps, in runs with the same entries that both catch panics or don't, give the same output
+/// and leave the same values.
 #[tactic(auto, using(crate::proofs::Values::same_value))]
 pub fn entries_determine_the_output<A, O>()
-    ensures { (p : Steps A O) (b c : Begin) (x : List Entry) (cause other : FinishCause) (end last : State) (v w : Value A O) → IsRun p b x cause end v → IsRun p c x other last w → v ≡ w }
+    ensures { (p : Steps A O) (b c : Begin) (x : List Entry) (cause other : FinishCause) (end last : State) (v w : Value A O) → IsRun p b x cause end v → IsRun p c x other last w → b.catch ≡ c.catch → v ≡ w }
 {}
 
 /// A run that has begun at all begins with its start.
@@ -146,10 +164,10 @@ pub fn a_pending_sleep_is_due_in_time()
     ensures { (b : Begin) (x y : List Entry) (by : Option ℕ) (due alarm : ℕ) → IsLawful (begun b) (x ++ Called by (SleepPoll due) (PendingAt alarm) ∷ y) → due ≤ MAX_TIME }
 {}
 
-/// No cleanup begins within a visit: its poll is answered first, and a task that ends in it has ended.
+/// No cleanup begins within a visit: its poll is answered first, and a task that ends in it has ended, with its node.
 #[tactic(auto, using(crate::proofs::Ranges::run_outside))]
 pub fn no_cleanup_in_the_midst_of_a_poll()
-    ensures { (b : Begin) (x y : List Entry) (task : ℕ) (left : List ℕ) → IsLawful (begun b) (x ++ Cleanup ∷ y) → let s = after_all (begun b) x in (s.phase ≢ Entered task left) × (s.phase ≢ Polling task left) × (s.phase ≢ Ending task left) }
+    ensures { (b : Begin) (x y : List Entry) → IsLawful (begun b) (x ++ Cleanup ∷ y) → IsInVisit (after_all (begun b) x).phase → ⊥ }
 {}
 
 /// Each call is made by a task, but those of the maker and of a root that was not taken in: behind the root's entry none is made by nobody.
@@ -159,16 +177,49 @@ pub fn nobody_calls_behind_the_last_end()
     ensures behind { (b : Begin) (x y : List Entry) (task : ℕ) → IsLawful (begun b) (x ++ Root task ∷ y) → All (λ (e : Entry). (call : Call) (reply : CallReply) → e ≢ Called None call reply) y }
 {}
 
-/// A poll that lacked memory leaves the states of all other tasks as they were, and so does each end, whether it lacked memory or not.
+/// A poll that lacked memory leaves the states of all other tasks as they were, but for those that it spawned, and so does
+/// each end, whether it lacked memory or not.
 pub fn lacking_memory_keeps_the_other_tasks<A, O>()
-    ensures polls { (p : Steps A O) (s : State) (v w : Value A O) (task other : ℕ) → Moves p s v (Answer task NoMemory) w → other ≢ task → find other w.held.tasks ≡ find other v.held.tasks }
-    ensures ends { (p : Steps A O) (s : State) (v w : Value A O) (task other : ℕ) → Moves p s v (Answer task Ended) w → other ≢ task → find other w.held.tasks ≡ find other v.held.tasks }
+    ensures polls { (p : Steps A O) (s : State) (v w : Value A O) (task other : ℕ) → Moves p s v (Answer task NoMemory) w → other ≢ task → All (λ (t : Turn). Spawns other t → ⊥) s.turns → find other w.held.tasks ≡ find other v.held.tasks }
+    ensures ends { (p : Steps A O) (s : State) (v w : Value A O) (task other : ℕ) → Moves p s v (Answer task Ended) w → other ≢ task → All (λ (t : Turn). Spawns other t → ⊥) s.turns → find other w.held.tasks ≡ find other v.held.tasks }
 {}
 
 /// Several runs in one journal are walked one after another: runs that are lawful each from its own beginning are lawful
-/// together, where each but the last is finished, and no other journals are.
+/// together, where each but the last has completed, and no other journals are.
 pub fn runs_stand_one_after_another()
-    ensures joined { (b next : Begin) (others : List Begin) (cause : FinishCause) (x y : List Entry) → IsLawful (begun b) x → (after_all (begun b) x).phase ≡ Finished cause → AreLawful (runs_from next others) y → AreLawful (runs_from b (next ∷ others)) (x ++ y) }
+    ensures joined { (b next : Begin) (others : List Begin) (x y : List Entry) → IsLawful (begun b) x → (after_all (begun b) x).phase ≡ Finished Completed → AreLawful (runs_from next others) y → AreLawful (runs_from b (next ∷ others)) (x ++ y) }
     ensures alone { (b : Begin) (others : List Begin) (x : List Entry) → IsLawful (begun b) x → AreLawful (runs_from b others) x }
     ensures apart { (b : Begin) (others : List Begin) (z : List Entry) → AreLawful (runs_from b others) z → IsLawful (begun b) z ⊎ GoesOn (begun b) others z }
+{}
+
+/// From the moment at which a task is flagged on, no poll of it begins. One that is under way goes on.
+pub fn a_flagged_task_is_polled_no_more()
+    ensures { (b : Begin) (x y : List Entry) (task : ℕ) → IsLawful (begun b) (x ++ y) → is_flagged (find task (after_all (begun b) x).marks) ≡ true → PollsNone (after_all (begun b) x) y task }
+{}
+
+/// A task ends at most once, and its result comes to be there only with its end: it is stored at most once. It is handed
+/// out at most once.
+pub fn a_result_is_stored_and_handed_out_once()
+    ensures ends { (b : Begin) (x y : List Entry) (task : ℕ) → IsLawful (begun b) (x ++ Answer task Ended ∷ y) → All (λ (e : Entry). e ≢ Answer task Ended) y }
+    ensures stored { (b : Begin) (x y : List Entry) (e : Entry) (task : ℕ) → IsLawful (begun b) (x ++ e ∷ y) → (IsStored (after_all (begun b) x) task → ⊥) → IsStored (after (after_all (begun b) x) e) task → e ≡ Answer task Ended }
+    ensures handed_out { (b : Begin) (x y : List Entry) (by : Option ℕ) (task : ℕ) → IsLawful (begun b) (x ++ Called by (Join task) Ready ∷ y) → All (λ (e : Entry). (other : Option ℕ) → e ≢ Called other (Join task) Ready) y }
+{}
+
+/// No poll begins of a task on an ended node. From the visit that ends a task on, none begins of a task below its node,
+/// whether that was spawned before or later.
+pub fn nobody_is_polled_below_an_end()
+    ensures on_it { (b : Begin) (x y : List Entry) (task : ℕ) (m : Mark) → IsLawful (begun b) (x ++ y) → find task (after_all (begun b) x).marks ≡ Some m → is_ended (after_all (begun b) x).nodes m.node ≡ true → PollsNone (after_all (begun b) x) y task }
+    ensures below { (b : Begin) (x y z : List Entry) (task child : ℕ) (m k : Mark) → IsLawful (begun b) (x ++ Answer task Ended ∷ (y ++ z)) → find task (after_all (begun b) x).marks ≡ Some m → let t = after_all (begun b) (x ++ Answer task Ended ∷ y) in find child t.marks ≡ Some k → Contains (nodes_below m.node (links t.nodes)) k.node → PollsNone t z child }
+{}
+
+/// A task is ended unpolled only where an abort named it before, or its node has ended.
+pub fn whoever_ends_unpolled_was_aborted_or_ended()
+    ensures { (b : Begin) (x y : List Entry) (label : List ℕ) (fields : List (List ℕ)) (task : ℕ) (left : List ℕ) → IsLawful (begun b) (x ++ Event label fields ∷ y) → let s = after_all (begun b) x in (after s (Event label fields)).phase ≡ Ending task None left → ((e : Entry) × Contains x e × IsAbortOf task e) ⊎ ((m : Mark) × (find task s.marks ≡ Some m) × (is_ended s.nodes m.node ≡ true)) }
+{}
+
+/// Who is born under an ended node is ended. What stands below an ended node is ended, and whoever has ended stays so.
+pub fn ends_go_down_the_tree()
+    ensures born { (b : Begin) (x y : List Entry) (by : Option ℕ) (node number : ℕ) (label : List ℕ) (ended : Bool) → IsLawful (begun b) (x ++ Called by (Child node label) (NodeAt number ended) ∷ y) → let s = after_all (begun b) x in is_ended s.nodes node ≡ true → (ended ≡ true) × (is_ended (after s (Called by (Child node label) (NodeAt number ended))).nodes number ≡ true) }
+    ensures below { (b : Begin) (x : List Entry) (n j : ℕ) → IsLawful (begun b) x → let s = after_all (begun b) x in is_ended s.nodes n ≡ true → Contains (nodes_below n (links s.nodes)) j → is_ended s.nodes j ≡ true }
+    ensures stays { (b : Begin) (x y : List Entry) (n : ℕ) → IsLawful (begun b) (x ++ y) → is_known (after_all (begun b) x).nodes n ≡ true → is_ended (after_all (begun b) x).nodes n ≡ true → is_ended (after_all (begun b) (x ++ y)).nodes n ≡ true }
 {}

@@ -1,5 +1,5 @@
 -- How many tasks run, and which of them a cleanup ends next.
-use Rattle.std.proofs.Common.{◌≡◌, ◌+◌, ℕ, List, [], ◌∷◌, refl, true, Option, Some, None, length, arith, ◌<◌}
+use Rattle.std.proofs.Common.{◌≡◌, ◌+◌, ℕ, List, [], ◌∷◌, refl, true, Option, Some, None, length, arith, ◌<◌, IfSome}
 use Rattle.rt_super.specs.Alarms.{Alarm}
 use Rattle.rt_model.specs.Lists.{has_number, with_number, without_number}
 use Rattle.rt_model.specs.Alarms.{fires}
@@ -42,4 +42,8 @@ pub below-has : (bound k : ℕ) (ns : List ℕ) → AreBelow bound ns → has_nu
 below-has bound k [] b h = cc
 below-has bound k (n ∷ ns) b h = grind (arith, below-has bound k ns b.1)
 
-pub ruleset count_laws = (length-with, ends-fewer, ends-runs, ends-none, fires-some, below-with, below-without, below-has)
+pub below-some : (bound : ℕ) (by : Option ℕ) (ns : List ℕ) → AreBelow bound ns → IfSome by (λ k. has_number k ns ≡ true) → IfSome by (λ k. k < bound)
+below-some bound None ns b h = tt
+below-some bound (Some k) ns b h = below-has bound k ns b h
+
+pub ruleset count_laws = (below-some, length-with, ends-fewer, ends-runs, ends-none, fires-some, below-with, below-without, below-has)

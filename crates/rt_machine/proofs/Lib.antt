@@ -1,4 +1,17 @@
 pub mod Entries
 pub mod Alarms
+pub mod Numbered
+pub mod Changed
+pub mod Calm
+pub mod Totals
 pub mod Counts
+pub mod Refused
+pub mod Nodes
+pub mod Owed
+pub mod Fine
+pub mod Seats
 pub mod Turning
+pub mod Ended
+pub mod Visits
+pub mod Over
+pub mod Replays

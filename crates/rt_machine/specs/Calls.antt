@@ -1,26 +1,26 @@
 -- What a call leaves of what a machine shows.
-use Rattle.std.specs.Prelude.{◌≡◌, ℕ, [], ◌∷◌, ◌++◌, true, false, List, Option, Some, None, leb, if◌then◌else◌}
+use Rattle.std.specs.Prelude.{◌≡◌, ◌⊎◌, ℕ, [], ◌∷◌, ◌++◌, true, false, List, Bool, Option, Some, None, leb, if◌then◌else◌}
 use Rattle.rt_base.specs.declared.error.Error.{Error}
-use Rattle.rt_base.specs.declared.error.Error.TheVariants.{NoMemory, UnknownToken}
+use Rattle.rt_base.specs.declared.error.Error.TheVariants.{NoMemory}
 use Rattle.rt_audit.specs.declared.call.Call.{Call}
-use Rattle.rt_audit.specs.declared.call.Call.TheVariants.{Wake, CloseNode}
 use Rattle.rt_audit.specs.declared.reply.CallReply.{CallReply}
-use Rattle.rt_audit.specs.declared.reply.CallReply.TheVariants.{Done, PendingAt, Ready, Refused}
+use Rattle.rt_audit.specs.declared.reply.CallReply.TheVariants.{Done, TaskAt, Closed, Pending, PendingAt, Ready, Refused}
 use Rattle.rt_super.specs.Alarms.{AlarmList}
-use Rattle.rt_super.specs.Ancestry.{is_live}
 use Rattle.rt_model.specs.State.{State, Turn, stood_in}
 use Rattle.rt_model.specs.Alarms.{alarm_of}
 use Rattle.rt_model.specs.Lists.{or_else}
-use Rattle.rt_model.specs.Rules.{WasGiven}
-use Rattle.rt_model.specs.Effects.{stood_called}
+use Rattle.rt_model.specs.Rules.{Answers}
+use Rattle.rt_model.specs.Turns.{has_place}
+use Rattle.rt_model.specs.Effects.{stood_called, running_called, numbers_called}
 use Rattle.rt_machine.specs.Places.{Seen}
 
 -- a call with its reply, and what stood when it was made
 abbrev pub turn_in : State → Call → CallReply → Turn
 turn_in s call reply = record { call = call; reply = reply; stood = stood_in s }
 
--- the call was noted with this reply, and nothing that decides what comes next has changed
+-- the call was noted with this reply, which it may have, and nothing that decides what comes next has changed
 pub record Noted (by : Option ℕ) (old new : Seen) (call : Call) (reply : CallReply) : Type 0 where
+  pub answers : Answers old.told.state call reply
   pub turns : new.told.state.turns ≡ old.told.state.turns ++ turn_in old.told.state call reply ∷ []
   pub begin : new.told.begin ≡ old.told.begin
   pub given : new.told.given ≡ old.told.given
@@ -28,7 +28,8 @@ pub record Noted (by : Option ℕ) (old new : Seen) (call : Call) (reply : CallR
   pub phase : new.told.state.phase ≡ old.told.state.phase
   pub clock : new.told.state.clock ≡ old.told.state.clock
   pub root : new.told.state.root ≡ old.told.state.root
-  pub running : new.told.state.running ≡ old.told.state.running
+  pub numbers : new.told.state.numbers ≡ numbers_called old.told.state.numbers call reply
+  pub running : new.told.state.running ≡ running_called old.told.state.running call reply
   pub stood : stood_in new.told.state ≡ stood_called (stood_in old.told.state) by call reply
   pub lacked : new.lacked ≡ old.lacked
 
@@ -40,6 +41,15 @@ marked lacked turns = or_else lacked (Some turns)
 abbrev pub lacking : Seen → Seen
 lacking s = record { told = s.told; lacked = marked s.lacked s.told.state.turns }
 
+-- the call was refused: it lacked memory, or it was noted with this error
+abbrev pub IsRefused : Option ℕ → Seen → Seen → Call → Error → Type 0
+IsRefused by old new call error = ((error ≡ NoMemory) × (new ≡ lacking old)) ⊎ Noted by old new call (Refused error)
+
+-- the call spends a token: where that isn't there it does nothing
+pub record Spent (by : Option ℕ) (old new : Seen) (call : Call) : Type 0 where
+  pub there : has_place (stood_in old.told.state) call ≡ true → Noted by old new call Done
+  pub gone : has_place (stood_in old.told.state) call ≡ false → new ≡ old
+
 -- what a poll of a sleep was told
 abbrev pub sleep_reply : Option ℕ → CallReply
 sleep_reply None = Ready
@@ -49,14 +59,12 @@ sleep_reply (Some alarm) = PendingAt alarm
 abbrev pub slept_number : ℕ → AlarmList → ℕ → Option ℕ → Option ℕ
 slept_number time alarms due alarm = if leb due time then None else Some (alarm_of alarms due alarm)
 
--- a wake was refused: it lacked memory, or the number was never given
-abbrev pub WakeRefused : Option ℕ → Seen → Seen → ℕ → Error → Type 0
-WakeRefused by old new task NoMemory = new ≡ lacking old
-WakeRefused by old new task UnknownToken =
-    (WasGiven old.told.state.numbers task → ⊥) × Noted by old new (Wake task) (Refused UnknownToken)
-WakeRefused by old new task _ = ⊥
+-- what a spawn was told: the task and the node of its own context, or that the node had ended
+abbrev pub spawn_reply : Option (ℕ × ℕ) → CallReply
+spawn_reply None = Closed
+spawn_reply (Some at) = TaskAt at.0 at.1
 
--- a context was closed, or its node wasn't live
-pub record Closed (by : Option ℕ) (old new : Seen) (node : ℕ) : Type 0 where
-  pub live : is_live old.told.state.nodes node ≡ true → Noted by old new (CloseNode node) Done
-  pub gone : is_live old.told.state.nodes node ≡ false → new ≡ old
+-- what a poll of a result was told: whether it is there
+abbrev pub join_reply : Bool → CallReply
+join_reply true = Ready
+join_reply false = Pending

@@ -1,5 +1,8 @@
 pub mod Told
+pub mod Labels
 pub mod Places
+pub mod News
+pub mod Causes
 pub mod Calls
-pub mod Failures
+pub mod Ends
 pub mod Steps

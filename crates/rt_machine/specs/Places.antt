@@ -1,11 +1,17 @@
 -- The room that a run takes in advance, as a sum by kind of what it owes.
-use Rattle.std.specs.Prelude.{◌≡◌, ◌≤◌, ◌<◌, ◌+◌, ◌-◌, ◌*◌, ◌^◌, ℕ, List, [], ◌∷◌, length, Bool, true, false, Option, Some, None}
+use Rattle.std.specs.Prelude.{◌≡◌, ◌≤◌, ◌<◌, ◌+◌, ◌-◌, ◌*◌, ◌^◌, ℕ, List, [], ◌∷◌, length, Bool, true, false, not, Option, Some, None}
 use Rattle.rt_base.specs.declared.time.TheConstants.{MAX_TIME}
 use Rattle.rt_super.specs.Alarms.{AlarmList}
-use Rattle.rt_super.specs.Ancestry.{TreeRecord}
-use Rattle.rt_model.specs.State.{Phase, Blank, Entered, Polling, Cleaning, Closing, Crashed, Finished, State, Turn}
+use Rattle.rt_super.specs.Ancestry.{NodeState, TreeRecord, AreEnded}
+use Rattle.rt_model.specs.declared.mark.Mark.{Mark}
+use Rattle.rt_model.specs.declared.result.Outcome.{Outcome}
+use Rattle.rt_model.specs.declared.result.Outcome.TheVariants.{Open}
+use Rattle.rt_model.specs.declared.result.TaskResult.{TaskResult}
+use Rattle.rt_model.specs.Rows.{Rows, total}
+use Rattle.rt_model.specs.State.{Phase, Blank, Entered, Polling, Halted, Cleaning, Closing, Crashed, Finished, State, Turn}
 use Rattle.rt_model.specs.Effects.{is_closing}
 use Rattle.rt_machine.specs.Told.{Told, Journaled}
+use Rattle.rt_machine.specs.Labels.{Labelled}
 
 -- what a journal tells, and the turns that were made before a call of the part under way lacked memory, if one did
 pub record Seen : Type 0 where
@@ -17,35 +23,53 @@ abbrev pub places : Phase → ℕ
 places Blank = 0
 places (Entered task left) = 6
 places (Polling task left) = 5
+places (Halted task) = 5
 places (Cleaning cause) = 3
 places (Closing cause) = 2
 places (Crashed cause) = 1
 places (Finished cause) = 0
 places _ = 4
 
--- 1 where the node of a run is live
+-- 1 where it is so
 abbrev pub ones : Bool → ℕ
 ones true = 1
 ones false = 0
 
--- and beside these: a firing and a wake for each alarm, the end of each running task, the closing of node 0
-abbrev pub promised_by : State → Bool → ℕ
-promised_by s live = 2 * length s.alarms.alarms + length s.running + ones live
+-- the closing of each live node
+abbrev pub live_count : List NodeState → ℕ
+live_count [] = 0
+live_count (x ∷ xs) = ones x.live + live_count xs
 
--- node 0 has ended
-abbrev pub ends_at : Phase → List ℕ
-ends_at (Closing cause) = 0 ∷ []
-ends_at (Crashed cause) = 0 ∷ []
-ends_at (Finished cause) = 0 ∷ []
-ends_at _ = []
+-- the end of a task's node, and a wake by its flag where the task was left pending
+abbrev pub mark_places : Mark → ℕ
+mark_places m = 1 + ones m.left
 
--- the tree of node 0 alone, without a task
-abbrev pub lone_node : Bool → List ℕ → TreeRecord
-lone_node live ends = record {
-  nodes = record { number = 0; parent = None; born_ended = false; live = live; task = None } ∷ [];
-  ends = ends;
-  flags = [];
-}
+-- a wake of who waits for a result that is open
+abbrev pub open_places : Outcome → ℕ
+open_places (Open waits) = 1
+open_places _ = 0
+
+-- the giving up of a result, the abort by it, and that wake
+abbrev pub result_places : TaskResult → ℕ
+result_places r = 1 + ones (not r.aborted) + open_places r.outcome
+
+-- the task that is visited may be left pending
+abbrev pub visit_places : Phase → ℕ
+visit_places (Entered task left) = 1
+visit_places (Polling task left) = 1
+visit_places (Halted task) = 1
+visit_places _ = 0
+
+-- and beside these: a firing and a wake for each alarm, the end of each running task, and a wake of the root by a panic
+abbrev pub promised_by : State → ℕ
+promised_by s =
+    2 * length s.alarms.alarms
+    + length s.running
+    + live_count s.nodes.nodes
+    + total mark_places s.marks
+    + total result_places s.results
+    + ones (not s.panicked)
+    + visit_places s.phase
 
 -- each number is below this one
 abbrev pub AreBelow : ℕ → List ℕ → Type 0
@@ -53,20 +77,31 @@ AreBelow bound [] = Unit {0}
 AreBelow bound (k ∷ ks) = (k < bound) × AreBelow bound ks
 
 -- how the fields of a machine stand for the state that its journal tells
-pub record Stands (journal : Journaled) (time next : ℕ) (root : Option ℕ) (live closing : Bool) (ready : List ℕ) (ready_spare : ℕ) (alarms : AlarmList) (promised : ℕ) : Type 0 where
+pub record Stands (journal : Journaled) (time next : ℕ) (root : Option ℕ) (root_left panicked closing : Bool) (tree : TreeRecord) (labels : Labelled) (ready : List ℕ) (ready_spare : ℕ) (alarms : AlarmList) (marks : Rows Mark) (results : Rows TaskResult) (promised : ℕ) : Type 0 where
   pub clock_is : journal.told.state.clock ≡ record { time = time; fixed = journal.told.begin }
   pub numbers_are : journal.told.state.numbers ≡ record { first = journal.told.begin.first; next = next }
   pub root_is : journal.told.state.root ≡ root
-  pub nodes_are : journal.told.state.nodes ≡ lone_node live (ends_at journal.told.state.phase)
+  pub left_is : journal.told.state.root_left ≡ root_left
+  pub panicked_is : journal.told.state.panicked ≡ panicked
+  pub nodes_are : journal.told.state.nodes ≡ tree
+  pub labels_are : journal.told.state.labels ≡ labels.items
   pub closing_is : closing ≡ is_closing journal.told.state.phase
   pub ready_is : journal.told.state.ready ≡ ready
   pub alarms_are : journal.told.state.alarms ≡ alarms
+  pub marks_are : journal.told.state.marks ≡ marks.items
+  pub results_are : journal.told.state.results ≡ results.items
   pub none_drawn : journal.told.state.draws ≡ []
   pub none_owed : journal.told.state.owed ≡ []
-  pub promised_is : promised ≡ promised_by journal.told.state live
+  -- after the cleanup has begun every node is ended
+  pub all_ended : closing ≡ true → AreEnded journal.told.state.nodes
+  -- each node has its label, and each task its places
+  pub label_next : labels.count ≡ length tree.nodes
+  pub mark_next : marks.next ≡ next
+  pub result_next : results.next ≡ next
+  pub promised_is : promised_by journal.told.state ≤ promised
   pub room : promised + places journal.told.state.phase ≤ journal.spare
-  -- each alarm has its place in the ready list
-  pub ready_room : length journal.told.state.alarms.alarms ≤ ready_spare
+  -- whoever is woken by any of this has a place in the ready list
+  pub ready_room : promised ≤ ready_spare
   -- the greatest number is no task's
   pub fit : AreBelow (2 ^ 64 - 1) journal.told.state.running
   pub within : journal.told.begin.start ≤ MAX_TIME

@@ -1,34 +1,57 @@
 //! The calls of a run's tasks and of its maker.
 
-ghost use Rattle.std.specs.Prelude.{◌≡◌, ◌≤◌, ◌<◌, ◌+◌, ◌^◌, ◌-◌, IfOk, IfErr, IfSome, OnErr, OnOk, length, true, Option, None, Some, is_some};
+ghost use Rattle.std.specs.Prelude.{◌≡◌, ◌≤◌, ◌<◌, ◌+◌, ◌^◌, ◌-◌, IfOk, IfErr, IfSome, OnErr, OnOk, length, true, false, Option, None, Some, is_some, ℕ, List};
+ghost use Rattle.std.specs.Option.{ForSome};
+ghost use Rattle.rt_base.specs.Label.{prefixed};
 ghost use Rattle.rt_base.specs.declared.time.TheConstants.{MAX_TIME};
 ghost use Rattle.rt_super.specs.Alarms.{AreSet};
-ghost use Rattle.rt_model.specs.Lists.{has_number};
+ghost use Rattle.rt_super.specs.Ancestry.{is_live, is_ended};
+ghost use Rattle.rt_model.specs.Lists.{has_number, find};
 ghost use Rattle.rt_model.specs.Alarms.{alarm_of, slept, is_set};
-ghost use Rattle.rt_model.specs.Rules.{MayCall, WasGiven};
-ghost use Rattle.rt_machine.specs.Calls.{Noted, Closed, WakeRefused, lacking, sleep_reply, slept_number};
+ghost use Rattle.rt_model.specs.Effects.{label_at};
+ghost use Rattle.rt_model.specs.Rules.{Answers, MayCall, WasGiven, is_free, label_refusal};
+ghost use Rattle.rt_machine.specs.Calls.{Noted, Spent, IsRefused, lacking, sleep_reply, slept_number, spawn_reply, join_reply};
+ghost use Rattle.rt_machine.specs.Causes.{error_of};
 
 use crate::Machine;
-use crate::room::{take_places, take_ready};
-use rt_audit::{Call, CallReply, Entry, Refusal};
-use rt_base::{Error, Nanos, NoMemory};
+use crate::cause::Cause;
+use crate::room::take_places;
+use rt_audit::{Call, CallReply, Entry, Label, Refusal};
+use rt_base::{Error, MetricError, Nanos, NoMemory, Text, child_label};
 use rt_super::{Alarms, NOBODY};
 
-#[tactic(auto, using(crate::proofs::Counts::count_laws), unfolding(rt_model::specs::Effects::after))]
+#[tactic(auto, using(crate::proofs::Counts::count_laws, crate::proofs::Totals::place_laws, crate::proofs::Nodes::node_laws, crate::proofs::Refused::refused_laws, crate::proofs::Owed::owed_laws), unfolding(rt_model::specs::Effects::after))]
 impl Machine {
     /// Marks that a call lacked memory.
-    fn lack(&mut self)
+    pub fn lack(&mut self)
         ensures { self.new ≡ lacking self.old }
     {
         self.journal.mark_lack();
     }
 
+    /// Notes a call that is refused. Without memory it says so instead.
+    pub(crate) fn refuse(&mut self, by: Option<u64>, call: Call, cause: Cause) -> Error
+        requires calling { MayCall self.old.told.state by }
+        requires cause { Answers self.old.told.state call (CallReply.Refused (error_of cause)) }
+        ensures { IsRefused by self.old self.new call result }
+    {
+        let room = take_places(&mut self.journal, &mut self.ready, self.promised, 1);
+        let refusal = Refusal::new(*self.ready.allocator(), cause.error());
+        let (Ok(()), Ok(error)) = (room, refusal) else {
+            self.lack();
+            return Error::NoMemory;
+        };
+        let reply = CallReply::Refused { error };
+        self.journal.note(Entry::Call { by, call, reply });
+        cause.error()
+    }
+
     /// Closes the context of a node. It takes no memory. Where the node isn't live it does nothing, and writes no entry.
     pub fn close_node(&mut self, by: Option<u64>, node: u64)
         requires { MayCall self.old.told.state by }
-        ensures { Closed by self.old self.new node }
+        ensures { Spent by self.old self.new (Call.CloseNode node) }
     {
-        if node != 0 || !self.live {
+        if !self.tree.lives(node) {
             return;
         }
         self.journal.note(Entry::Call {
@@ -36,57 +59,116 @@ impl Machine {
             call: Call::CloseNode { node },
             reply: CallReply::Done,
         });
-        self.live = false;
+        self.tree.release(node);
         self.promised -= 1;
+    }
+
+    /// The full label of a child of a node, or why there is none; without a cause memory was lacking.
+    fn full_label(&self, node: u64, label: &str) -> Result<Text, Option<Cause>>
+        ensures live { IfOk result (λ full. is_live self.now.told.state.nodes node ≡ true) }
+        ensures fine { IfOk result (λ full. label_refusal (label_at self.now.told.state.labels node) label.now ≡ None) }
+        ensures full { IfOk result (λ full. full ≡ prefixed (label_at self.now.told.state.labels node) label.now) }
+        ensures err { IfErr result (λ why. ForSome why (λ cause. Answers self.now.told.state (Call.Child node label.now) (CallReply.Refused (error_of cause)))) }
+    {
+        if !self.tree.lives(node) {
+            return Err(Some(Cause::UnknownToken));
+        }
+        let alloc = *self.ready.allocator();
+        match child_label(alloc, self.labels.get(node), label) {
+            Ok(full) => Ok(Text::of(full)),
+            Err(Error::Metric(MetricError::BadLabel)) => Err(Some(Cause::BadLabel)),
+            Err(Error::Metric(MetricError::Reserved)) => Err(Some(Cause::Reserved)),
+            Err(_) => Err(None),
+        }
+    }
+
+    /// Makes a child of a node. Answers its number and whether the node has ended. It takes memory.
+    pub fn child(&mut self, by: Option<u64>, node: u64, label: &str) -> Result<(u64, bool), Error>
+        requires { MayCall self.old.told.state by }
+        ensures ok { IfOk result (λ made. Noted by self.old self.new (Call.Child node label.now) (CallReply.NodeAt made.0 made.1)) }
+        ensures err { IfErr result (λ e. IsRefused by self.old self.new (Call.Child node label.now) e) }
+    {
+        let Ok(call) = self.child_call(node, label) else {
+            self.lack();
+            return Err(Error::NoMemory);
+        };
+        match self.full_label(node, label) {
+            Ok(full) => self.make_child(by, node, call, full),
+            Err(Some(cause)) => Err(self.refuse(by, call, cause)),
+            Err(None) => {
+                self.lack();
+                Err(Error::NoMemory)
+            }
+        }
+    }
+
+    /// Notes a child, and makes it.
+    fn make_child(
+        &mut self,
+        by: Option<u64>,
+        node: u64,
+        call: Call,
+        full: Text,
+    ) -> Result<(u64, bool), Error>
+        requires calling { MayCall self.old.told.state by }
+        requires live { is_live self.old.told.state.nodes node ≡ true }
+        requires call { (label : List ℕ) × (call ≡ Call.Child node label) × (label_refusal (label_at self.old.told.state.labels node) label ≡ None) × (full ≡ prefixed (label_at self.old.told.state.labels node) label) }
+        ensures ok { IfOk result (λ made. Noted by self.old self.new call (CallReply.NodeAt made.0 made.1)) }
+        ensures err { IfErr result (λ e. (e ≡ Error.NoMemory) × (self.new ≡ lacking self.old)) }
+    {
+        let room = take_places(&mut self.journal, &mut self.ready, self.promised, 2);
+        let place = self.labels.reserve(1);
+        if room.is_err() || place.is_err() {
+            self.lack();
+            return Err(Error::NoMemory);
+        }
+        let Ok((number, ended)) = self.tree.child(node) else {
+            self.lack();
+            return Err(Error::NoMemory);
+        };
+        self.labels.push(full);
+        self.promised += 1;
+        let reply = CallReply::NodeAt {
+            node: number,
+            ended,
+        };
+        self.journal.note(Entry::Call { by, call, reply });
+        Ok((number, ended))
+    }
+
+    /// The call that makes a child.
+    fn child_call(&self, node: u64, label: &str) -> Result<Call, NoMemory>
+        ensures { IfOk result (λ call. call ≡ Call.Child node label.now) }
+    {
+        let alloc = *self.ready.allocator();
+        let text = Text::of(label.to_owned(alloc)?);
+        let label = Label::new(alloc, text)?;
+        Ok(Call::Child { node, label })
     }
 
     /// Queues a task. It takes memory.
     pub fn wake(&mut self, by: Option<u64>, task: u64) -> Result<(), Error>
         requires { MayCall self.old.told.state by }
-        ensures ok { OnOk result (WasGiven self.old.told.state.numbers task × Noted by self.old self.new (Call.Wake task) CallReply.Done) }
-        ensures err { IfErr result (λ e. WakeRefused by self.old self.new task e) }
+        ensures ok { OnOk result (Noted by self.old self.new (Call.Wake task) CallReply.Done) }
+        ensures err { IfErr result (λ e. IsRefused by self.old self.new (Call.Wake task) e) }
     {
-        let room = take_places(&mut self.journal, self.promised, 2);
-        let place = take_ready(&mut self.ready, self.alarms.len(), 1);
-        if room.is_err() || place.is_err() {
+        let call = Call::Wake { task };
+        if task < self.journal.begin().first || self.next <= task {
+            let error = self.refuse(by, call, Cause::UnknownToken);
+            return Err(error);
+        }
+        let room = take_places(&mut self.journal, &mut self.ready, self.promised, 2);
+        if room.is_err() {
             self.lack();
             return Err(Error::NoMemory);
         }
-        if task < self.journal.begin().first || self.next <= task {
-            let error = self.refuse_wake(by, task);
-            return Err(error);
-        }
-        let call = Call::Wake { task };
-        self.journal.note(Entry::Call {
-            by,
-            call,
-            reply: CallReply::Done,
-        });
+        let reply = CallReply::Done;
+        self.journal.note(Entry::Call { by, call, reply });
         if !self.closing {
             self.journal.note(Entry::Wake { task });
             self.ready.push_reserved(task);
         }
         Ok(())
-    }
-
-    /// Notes a wake of a number that was not given. It is refused.
-    fn refuse_wake(&mut self, by: Option<u64>, task: u64) -> Error
-        requires calling { MayCall self.old.told.state by }
-        requires unknown { WasGiven self.old.told.state.numbers task → ⊥ }
-        ensures { WakeRefused by self.old self.new task result }
-    {
-        let room = take_places(&mut self.journal, self.promised, 1);
-        let refusal = Refusal::new(*self.ready.allocator(), Error::UnknownToken);
-        let (Ok(()), Ok(error)) = (room, refusal) else {
-            self.lack();
-            return Error::NoMemory;
-        };
-        self.journal.note(Entry::Call {
-            by,
-            call: Call::Wake { task },
-            reply: CallReply::Refused { error },
-        });
-        Error::UnknownToken
     }
 
     /// Polls a sleep that is over at `due`, which may have an alarm already. Answers the number of its alarm, or
@@ -104,9 +186,8 @@ impl Machine {
         ensures ok { IfOk result (λ told. Noted by self.old self.new (Call.SleepPoll due) (sleep_reply told)) }
         ensures err { OnErr result (self.new ≡ lacking self.old) }
     {
-        let room = take_places(&mut self.journal, self.promised, 3);
-        let place = take_ready(&mut self.ready, self.alarms.len(), 1);
-        if room.is_err() || place.is_err() {
+        let room = take_places(&mut self.journal, &mut self.ready, self.promised, 3);
+        if room.is_err() {
             self.lack();
             return Err(NoMemory);
         }

@@ -9,9 +9,9 @@ ghost use Rattle.rt_model.specs.Effects.{left_of};
 ghost use Rattle.rt_machine.specs.Told.{pushed};
 ghost use Rattle.rt_machine.specs.Steps.{Turns, TurnStands, StepStands};
 
+use crate::Machine;
 use crate::room::take_places;
-use crate::{Machine, RunError};
-use rt_audit::Entry;
+use rt_audit::{Entry, FinishCause};
 use rt_base::{MAX_TIME, Nanos, NoMemory};
 use rt_super::NOBODY;
 
@@ -43,7 +43,7 @@ impl Machine {
         ensures ok { OnOk result (self.new ≡ record { told = pushed self.old.told (Entry.Advance (self.old.told.state.clock.time + self.old.told.state.clock.fixed.cycle)); lacked = self.old.lacked }) }
         ensures err { OnErr result (self.new ≡ self.old) }
     {
-        take_places(&mut self.journal, self.promised, 1)?;
+        take_places(&mut self.journal, &mut self.ready, self.promised, 1)?;
         let now = self.time + self.journal.begin().cycle;
         self.journal.push(Entry::Advance { now });
         self.time = now;
@@ -57,7 +57,7 @@ impl Machine {
         ensures ok { OnOk result (self.new ≡ record { told = pushed self.old.told (Entry.Skip to); lacked = self.old.lacked }) }
         ensures err { OnErr result (self.new ≡ self.old) }
     {
-        take_places(&mut self.journal, self.promised, 1)?;
+        take_places(&mut self.journal, &mut self.ready, self.promised, 1)?;
         self.journal.push(Entry::Skip { now: to });
         self.time = to;
         Ok(())
@@ -123,7 +123,7 @@ impl Machine {
 
     /// One turn of a clock step: it skips, tests the deadline, and sets alarms off. Answers whether somebody is ready,
     /// or the cause that the run has reached.
-    fn take_turn(&mut self) -> Result<bool, RunError>
+    fn take_turn(&mut self) -> Result<bool, FinishCause>
         requires phase { self.old.told.state.phase ≡ Turning }
         ensures turns { Turns self.old.told self.new.told }
         ensures stands { TurnStands self.new.told.state result }
@@ -131,24 +131,24 @@ impl Machine {
         ensures lacked { self.new.lacked ≡ self.old.lacked }
     {
         if self.skip_ahead().is_err() {
-            return Err(RunError::NoMemory);
+            return Err(FinishCause::NoMemory);
         }
         if self.is_late() {
-            return Err(RunError::Timeout);
+            return Err(FinishCause::Timeout);
         }
         self.fire_all();
         if !self.ready.is_empty() {
             return Ok(true);
         }
         if self.alarms.is_empty() {
-            return Err(RunError::Stalled);
+            return Err(FinishCause::Stalled);
         }
         Ok(false)
     }
 
     /// Moves time on by a cycle after a round, and then to where somebody is ready. Answers the cause that the run has
     /// reached, where it ends there: `TimeOverflow` exactly where a cycle more would pass the last moment.
-    pub fn clock_step(&mut self) -> Result<(), RunError>
+    pub fn clock_step(&mut self) -> Result<(), FinishCause>
         requires phase { self.old.told.state.phase ≡ Visiting (left_of self.old.told.state.phase) }
         requires round { from_running self.old.told.state.running (left_of self.old.told.state.phase) ≡ [] }
         ensures turns { Turns self.old.told self.new.told }
@@ -158,10 +158,10 @@ impl Machine {
         ensures lacked { self.new.lacked ≡ self.old.lacked }
     {
         if self.overflows() {
-            return Err(RunError::TimeOverflow);
+            return Err(FinishCause::TimeOverflow);
         }
         if self.advance().is_err() {
-            return Err(RunError::NoMemory);
+            return Err(FinishCause::NoMemory);
         }
         loop {
             if self.take_turn()? {

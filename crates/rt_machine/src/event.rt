@@ -1,23 +1,23 @@
 //! The events that a run notes itself.
 
-ghost use Rattle.std.specs.Prelude.{◌≡◌, [], IfOk, codes};
+ghost use Rattle.std.specs.Prelude.{◌≡◌, IfOk, codes};
 ghost use Rattle.rt_model.specs.Events.{process_task, task_fields};
 
 use rt_audit::Entry;
 use rt_base::{Items, NoMemory, Text};
 use std::alloc::Global;
 
-/// The event of a visit. The root's label is empty.
-pub fn task_event(alloc: Global, task: u64) -> Result<Entry, NoMemory>
-    ensures { IfOk result (λ entry. entry ≡ Entry.Event process_task (task_fields task [])) }
+/// The event of a visit.
+pub fn task_event(alloc: Global, task: u64, label: &str) -> Result<Entry, NoMemory>
+    ensures { IfOk result (λ entry. entry ≡ Entry.Event process_task (task_fields task label.now)) }
 {
-    let label = "process_task".to_owned(alloc)?;
+    let name = "process_task".to_owned(alloc)?;
     let number = (task as u128).to_be_bytes().to_vec(alloc)?;
     let mut fields = Vec::with_capacity(alloc, 2)?;
     fields.push(Items::of(number))?;
-    fields.push(Items::of(Vec::new(alloc)))?;
+    fields.push(Items::of(label.as_bytes().to_vec(alloc)?))?;
     Ok(Entry::Event {
-        label: Text::of(label),
+        label: Text::of(name),
         fields: Items::of(fields),
     })
 }

@@ -2,15 +2,28 @@
 #![tactic(auto)]
 
 mod calls;
+mod cause;
 mod clock;
+mod ends;
 mod event;
+#[cfg(test)]
+mod journals;
+mod labels;
 mod machine;
+mod marks;
+#[cfg(test)]
+mod numbers;
+#[cfg(test)]
+mod reading;
+#[cfg(test)]
+mod replay;
+mod results;
 mod room;
-mod run_error;
 mod run_journal;
 #[cfg(test)]
 mod tests;
+mod tokens;
+mod wakes;
 
 pub use machine::Machine;
-pub use run_error::RunError;
 pub use run_journal::RunJournal;

@@ -1,21 +1,26 @@
 //! The state that a run's journal tells, kept beside it.
 
-ghost use Rattle.std.specs.Prelude.{◌≡◌, ◌≢◌, ◌≤◌, ◌<◌, ◌+◌, ◌∷◌, ◌++◌, ◌^◌, ◌-◌, [], IfOk, IfErr, OnErr, OnOk, IsTrue, drop, is_some, None, ◌↔◌};
+ghost use Rattle.std.specs.Prelude.{ℕ, ◌≡◌, ◌≢◌, ◌≤◌, ◌<◌, ◌+◌, ◌∷◌, ◌++◌, ◌^◌, ◌-◌, ◌&&◌, not, [], IfOk, IfErr, OnErr, OnOk, IsTrue, drop, is_some, None, ◌↔◌};
 ghost use Rattle.rt_base.specs.declared.time.TheConstants.{MAX_TIME};
-ghost use Rattle.rt_model.specs.State.{begun, Making, Visiting, Polling, Closing};
-ghost use Rattle.rt_model.specs.Causes.{is_late, from_running, ends_next};
-ghost use Rattle.rt_model.specs.Effects.{after_all, left_of, cause_of};
+ghost use Rattle.rt_super.specs.Ancestry.{first_record};
+ghost use Rattle.rt_model.specs.Lists.{find, is_some_number};
+ghost use Rattle.rt_model.specs.State.{begun, Making, Visiting};
+ghost use Rattle.rt_model.specs.Marks.{is_flagged};
+ghost use Rattle.rt_model.specs.Causes.{is_late, from_running};
+ghost use Rattle.rt_model.specs.Effects.{after_all, left_of, task_label};
 ghost use Rattle.rt_model.specs.Events.{process_task, task_fields};
-ghost use Rattle.rt_model.specs.Rules.{IsLawful, AreDrawn, MayAnswer, MayRound, MayClose, MayCrash, MayFinish};
+ghost use Rattle.rt_model.specs.Rules.{IsLawful, AreDrawn, MayAnswer, MayRound, MayCrash, MayFinish};
 ghost use Rattle.rt_machine.specs.Told.{AreCalls, fresh, pushed, own};
 
 use crate::RunJournal;
 use crate::event::task_event;
-use crate::room::{take_places, take_ready};
+use crate::labels::Labels;
+use crate::marks::{is_flagged, leave};
+use crate::room::take_places;
 use rt_audit::{AnswerKind, Entry, FinishCause, Journal};
-use rt_base::{Items, Nanos, NoMemory};
-use rt_model::Begin;
-use rt_super::Alarms;
+use rt_base::{Items, Nanos, NoMemory, Text};
+use rt_model::{Begin, Mark, Table, TaskResult};
+use rt_super::{Alarms, Tree};
 use std::alloc::Global;
 use std::marker::Model;
 
@@ -27,11 +32,19 @@ pub struct Machine {
     pub(crate) journal: RunJournal,
     pub(crate) time: Nanos,
     pub(crate) next: u64,
-    root: Option<u64>,
-    pub(crate) live: bool,
+    pub(crate) root: Option<u64>,
+    /// Whether the root was left pending once.
+    pub(crate) root_left: bool,
+    /// Whether a panic is kept.
+    pub(crate) panicked: bool,
     pub(crate) closing: bool,
+    pub(crate) tree: Tree,
+    pub(crate) labels: Labels,
     pub(crate) ready: Vec<u64>,
     pub(crate) alarms: Alarms,
+    pub(crate) marks: Table<Mark>,
+    pub(crate) results: Table<TaskResult>,
+    /// How many entries may still have to be written without memory, beside those of the phase.
     pub(crate) promised: usize,
 }
 
@@ -43,10 +56,21 @@ impl Model for Machine {
 
     ghost view = { λ m. record { told = m.journal.told; lacked = m.journal.lacked } };
 
-    ghost invariant = { λ m. Stands m.journal m.time m.next m.root m.live m.closing m.ready.items (vec_capacity m.ready - vec_len m.ready) m.alarms m.promised };
+    ghost invariant = { λ m. Stands m.journal m.time m.next m.root m.root_left m.panicked m.closing m.tree m.labels m.ready.items (vec_capacity m.ready - vec_len m.ready) m.alarms m.marks m.results m.promised };
 }
 
-#[tactic(auto, using(crate::proofs::Counts::count_laws), unfolding(rt_model::specs::Effects::after, rt_model::specs::State::begun))]
+/// A tree with its first node's label, and room for the first round.
+fn first_node(alloc: Global) -> Result<(Tree, Labels), NoMemory>
+    ensures { IfOk result (λ made. (made.0 ≡ first_record) × (made.1.items ≡ (0, []) ∷ []) × (made.1.count ≡ 1)) }
+{
+    let tree = Tree::new(alloc)?;
+    let mut labels = Labels::new(alloc);
+    labels.reserve(1)?;
+    labels.push(Text::of(String::new(alloc)));
+    Ok((tree, labels))
+}
+
+#[tactic(auto, using(crate::proofs::Counts::count_laws, crate::proofs::Totals::place_laws), unfolding(rt_model::specs::Effects::after, rt_model::specs::State::begun))]
 impl Machine {
     /// Begins a run after these entries. Without room it gives them back.
     pub fn begin(alloc: Global, journal: Journal, begin: Begin) -> Result<Machine, Journal>
@@ -55,9 +79,13 @@ impl Machine {
         ensures err { IfErr result (λ back. back.entries ≡ journal.entries) }
     {
         let mut journal = RunJournal::after(journal, begin);
-        if take_places(&mut journal, 1, 1).is_err() {
+        let mut ready = Vec::new(alloc);
+        if take_places(&mut journal, &mut ready, 2, 1).is_err() {
             return Err(journal.into_inner());
         }
+        let Ok((tree, labels)) = first_node(alloc) else {
+            return Err(journal.into_inner());
+        };
         journal.push(Entry::Start {
             next: begin.first,
             now: begin.start,
@@ -69,11 +97,16 @@ impl Machine {
             time: begin.start,
             next: begin.first,
             root: None,
-            live: true,
+            root_left: false,
+            panicked: false,
             closing: false,
-            ready: Vec::new(alloc),
+            tree,
+            labels,
+            ready,
             alarms: Alarms::new(alloc),
-            promised: 1,
+            marks: Table::new(alloc, begin.first),
+            results: Table::new(alloc, begin.first),
+            promised: 2,
         })
     }
 
@@ -132,6 +165,27 @@ impl Machine {
         *self.ready.allocator()
     }
 
+    /// Whether the root is to be stopped at its visit, since a panic is kept.
+    pub fn is_stopped(&self, task: u64) -> bool
+        ensures { result ≡ (is_some_number task self.now.told.state.root && self.now.told.state.panicked) }
+    {
+        self.panicked && self.root == Some(task)
+    }
+
+    /// Whether a task is flagged, and so ends at its visit.
+    pub fn is_flagged(&self, task: u64) -> bool
+        ensures { result ≡ is_flagged (find task self.now.told.state.marks) }
+    {
+        is_flagged(&self.marks, task)
+    }
+
+    /// Whether the panic that a spawned task reports now will be kept: none is caught, and none is kept yet.
+    pub fn keeps_next_panic(&self) -> bool
+        ensures { result ≡ (not self.now.told.state.panicked && not self.now.told.state.clock.fixed.catch) }
+    {
+        !self.panicked && !self.journal.begin().catch
+    }
+
     /// Gives the root its number, and queues it.
     pub fn register_root(&mut self) -> Result<u64, NoMemory>
         requires phase { self.old.told.state.phase ≡ Making }
@@ -139,10 +193,13 @@ impl Machine {
         ensures ok { IfOk result (λ task. (task ≡ self.old.told.state.numbers.next) × (self.new ≡ record { told = pushed self.old.told (Entry.Root task); lacked = self.old.lacked })) }
         ensures err { OnErr result (self.new ≡ self.old) }
     {
-        take_places(&mut self.journal, self.promised, 2)?;
-        take_ready(&mut self.ready, self.alarms.len(), 1)?;
+        take_places(&mut self.journal, &mut self.ready, self.promised, 2)?;
+        self.marks.reserve(1)?;
+        self.results.reserve(1)?;
         let task = self.next;
         self.journal.push(Entry::Root { task });
+        self.marks.skip();
+        self.results.skip();
         self.next = task + 1;
         self.root = Some(task);
         self.promised += 1;
@@ -157,7 +214,7 @@ impl Machine {
         ensures told { OnOk result (self.new ≡ record { told = pushed self.old.told (Entry.Round self.old.told.state.ready); lacked = self.old.lacked }) }
         ensures err { OnErr result (self.new ≡ self.old) }
     {
-        take_places(&mut self.journal, self.promised, 1)?;
+        take_places(&mut self.journal, &mut self.ready, self.promised, 1)?;
         let kept = self.ready.as_slice().to_vec(*self.ready.allocator())?;
         order.clear();
         order.extend_from_slice(self.ready.as_slice())?;
@@ -168,55 +225,46 @@ impl Machine {
         Ok(())
     }
 
+    /// The label of a task: that of its node. The root's is empty.
+    fn label(&self, task: u64) -> &str
+        ensures { result.now ≡ task_label self.now.told.state task }
+    {
+        match self.marks.get(task) {
+            Some(mark) => self.labels.get(mark.node),
+            None => "",
+        }
+    }
+
     /// Begins a visit of a number of the round.
     pub fn visit(&mut self, task: u64) -> Result<(), NoMemory>
         requires phase { self.old.told.state.phase ≡ Visiting (left_of self.old.told.state.phase) }
         requires next { from_running self.old.told.state.running (left_of self.old.told.state.phase) ≡ task ∷ drop 1 (from_running self.old.told.state.running (left_of self.old.told.state.phase)) }
-        ensures ok { OnOk result (self.new ≡ record { told = pushed (pushed self.old.told (Entry.Visit task)) (Entry.Event process_task (task_fields task [])); lacked = self.old.lacked }) }
+        ensures ok { OnOk result (self.new ≡ record { told = pushed (pushed self.old.told (Entry.Visit task)) (Entry.Event process_task (task_fields task (task_label self.old.told.state task))); lacked = self.old.lacked }) }
         ensures err { OnErr result (self.new ≡ self.old) }
     {
-        take_places(&mut self.journal, self.promised, 2)?;
-        let event = task_event(*self.ready.allocator(), task)?;
+        take_places(&mut self.journal, &mut self.ready, self.promised, 3)?;
+        let event = task_event(*self.ready.allocator(), task, self.label(task))?;
         self.journal.push(Entry::Visit { task });
         self.journal.push(event);
+        self.promised += 1;
         Ok(())
     }
 
-    /// Ends the poll of a visit.
+    /// Ends the poll of a visit, or the visit of a root that is stopped.
     pub fn answer(&mut self, task: u64, kind: AnswerKind)
-        requires phase { self.old.told.state.phase ≡ Polling task (left_of self.old.told.state.phase) }
         requires may { MayAnswer self.old.told.state task kind }
         requires kind { kind ≢ AnswerKind.Ended }
         ensures { self.new ≡ record { told = pushed self.old.told (Entry.Answer task kind); lacked = self.old.lacked } }
     {
         self.journal.push(Entry::Answer { task, kind });
-    }
-
-    /// Begins the cleanup: nobody is ready and no alarm is set from here on, and node 0 has ended.
-    pub fn cleanup(&mut self)
-        requires { MayClose self.old.told.state.phase }
-        ensures { self.new ≡ record { told = pushed (pushed self.old.told Entry.Cleanup) (Entry.NodeEnd 0); lacked = self.old.lacked } }
-    {
-        let alarms = 2 * self.alarms.len();
-        self.journal.push(Entry::Cleanup);
-        self.ready.clear();
-        self.alarms.clear();
-        self.promised -= alarms;
-        self.journal.push(Entry::NodeEnd { node: 0 });
-        self.closing = true;
-    }
-
-    /// Says that a task's state is ended, in the cleanup.
-    pub fn task_ended(&mut self, task: u64)
-        requires phase { self.old.told.state.phase ≡ Closing (cause_of self.old.told.state.phase) }
-        requires next { ends_next self.old.told.state.running self.old.told.state.root ≡ Some task }
-        ensures { self.new ≡ record { told = pushed self.old.told (Entry.Answer task AnswerKind.Ended); lacked = self.old.lacked } }
-    {
-        self.journal.push(Entry::Answer {
-            task,
-            kind: AnswerKind::Ended,
-        });
-        self.promised -= 1;
+        let AnswerKind::Pending = kind else {
+            self.promised -= 1;
+            return;
+        };
+        self.root_left = self.root_left || self.root == Some(task);
+        if !leave(&mut self.marks, task) {
+            self.promised -= 1;
+        }
     }
 
     /// Writes the crash of the store, which has nothing to choose yet.
@@ -252,7 +300,9 @@ impl Machine {
         ensures drawn { AreDrawn (begun self.now.told.begin) (own self.now.told) }
         ensures state { self.now.told.state ≡ after_all (begun self.now.told.begin) (own self.now.told) }
         ensures calls { AreCalls self.now.told.calls }
+        ensures fresh { (task : ℕ) → self.now.told.state.numbers.next ≤ task → find task self.now.told.state.results ≡ None }
     {
+        self.results.facts();
         self.journal.facts()
     }
 }

@@ -1,4 +1,4 @@
 pub mod Append
 pub mod Walks
 pub mod Time
-pub mod Rooted
+pub mod Rows

@@ -1,7 +1,11 @@
 -- Walks, one after another.
-use Rattle.std.proofs.Common.{◌≡◌, List, [], ◌∷◌, ◌++◌}
+use Rattle.std.proofs.Common.{◌≡◌, ℕ, List, [], ◌∷◌, ◌++◌, refl}
+use Rattle.rt_audit.specs.declared.call.Call.{Call}
+use Rattle.rt_audit.specs.declared.call.Call.TheVariants.{Child, CloseNode, Spawn, Abort, AbortTask, Wake, Join, GiveUp, SleepPoll}
+use Rattle.rt_audit.specs.declared.reply.CallReply.{CallReply}
+use Rattle.rt_audit.specs.declared.reply.CallReply.TheVariants.{Done, NodeAt, TaskAt, Closed, Pending, PendingAt, Ready, Refused}
 use Rattle.rt_model.specs.State.{Stood, Turn}
-use Rattle.rt_model.specs.Turns.{Held, heard_of, moved}
+use Rattle.rt_model.specs.Turns.{Ask, Plainly, Sleeping, Sending, Spawning, Held, Asks, IsPlain, Frees, FreesOne, freed_by, heard_of, moved, moved_by}
 use Rattle.rt_model.specs.Walk.{Step, Does, Spends, Gives, Gave, Goes, Walks, Fronts, Lacks, Stops, then, stood_before}
 
 -- what is said of a step and of what follows from it is said, behind the next turn, of both
@@ -72,3 +76,36 @@ module _ {A L O R M Q : Type 0} (more : R → L → Step A M O Q) (s1 : Stood) (
   stops-then s2 [] (u ∷ us) held step e w k = gave-goes more s1 r a mid (λ held step. Stops step held us s2) u held step e w k
   stops-then s2 (t ∷ ts) us held step e w k =
       goes-then more (λ held step. Walks step held ts s1 r a mid) (λ held step. Stops step held (ts ++ us) s2) (λ held step w. stops-then s2 ts us held step e w k) held step t w
+
+-- what is freed by calls, one after another
+pub frees-append : {A O : Type 0} (ts us : List Turn) (held mid end : Held A O) → Frees held ts mid → Frees mid us end → Frees held (ts ++ us) end
+frees-append [] us held mid end h k = rw (← h) k
+frees-append (t ∷ ts) us held mid end h k = (h.0, h.1, frees-append ts us h.0 mid end h.2 k)
+
+frees-plain : {A O : Type 0} (held : Held A O) (call : Call) (reply : CallReply) → IsPlain call → FreesOne held call reply (freed_by held call reply)
+frees-plain held (Child node label) reply h = refl
+frees-plain held (CloseNode node) reply h = refl
+frees-plain held (Spawn node) reply h = absurd h
+frees-plain held (Abort task) reply h = refl
+frees-plain held (AbortTask task) reply h = refl
+frees-plain held (Wake task) reply h = refl
+frees-plain held (Join task) reply h = refl
+frees-plain held (GiveUp task) reply h = refl
+frees-plain held (SleepPoll due) reply h = refl
+
+frees-spawn : {A O : Type 0} (held : Held A O) (node : ℕ) (made : ℕ → A) (reply : CallReply) → FreesOne held (Spawn node) reply (moved_by held (Spawning node made) (Spawn node) reply)
+frees-spawn held node made Done = refl
+frees-spawn held node made (NodeAt number ended) = refl
+frees-spawn held node made (TaskAt task number) = (made number, refl)
+frees-spawn held node made Closed = refl
+frees-spawn held node made Pending = refl
+frees-spawn held node made (PendingAt alarm) = refl
+frees-spawn held node made Ready = refl
+frees-spawn held node made (Refused error) = refl
+
+-- what a turn that was asked moves, its call may move
+pub frees-moved : {A O : Type 0} (held : Held A O) (ask : Ask A O) (t : Turn) → Asks ask t → FreesOne held t.call t.reply (moved held ask t)
+frees-moved held (Plainly call) t h = rw h.0 (frees-plain held call t.reply h.1)
+frees-moved held (Sleeping due alarm) t h = rw h.0 refl
+frees-moved held (Sending call value) t h = rw h.0 (frees-plain held call t.reply h.1)
+frees-moved held (Spawning node made) t h = rw h.0 (frees-spawn held node made t.reply)

@@ -5,7 +5,7 @@ use Rattle.rt_audit.specs.declared.finish.FinishCause.{FinishCause}
 use Rattle.rt_audit.specs.declared.finish.FinishCause.TheVariants.{Timeout, Stalled, TimeOverflow, TooManyTasks}
 use Rattle.rt_super.specs.Alarms.{Alarm}
 use Rattle.rt_model.specs.Lists.{is_nil, has_number, is_some_number, or_else}
-use Rattle.rt_model.specs.State.{Phase, Blank, Making, Between, Visiting, Entered, Polling, Ending, Turning, Over, Cleaning, Closing, Crashed, Finished, Clock, State}
+use Rattle.rt_model.specs.State.{Phase, Blank, Making, Between, Visiting, Entered, Polling, Halted, Ending, Leaving, Turning, Over, Cleaning, Closing, Crashed, Finished, Clock, State}
 use Rattle.rt_model.specs.Alarms.{skip_to, fires}
 
 -- the deadline is there
@@ -54,7 +54,9 @@ cause_at (Over cause) s = Some cause
 cause_at Blank s = None
 cause_at (Entered task left) s = None
 cause_at (Polling task left) s = None
-cause_at (Ending task left) s = None
+cause_at (Halted task) s = None
+cause_at (Ending task result left) s = None
+cause_at (Leaving task result left) s = None
 cause_at (Cleaning cause) s = cause
 cause_at (Closing cause) s = cause
 cause_at (Crashed cause) s = cause

@@ -1,4 +1,7 @@
 pub mod Lists
+pub mod Rows
+pub mod Marks
+pub mod Results
 pub mod State
 pub mod Alarms
 pub mod Draws

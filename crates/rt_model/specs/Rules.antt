@@ -1,33 +1,98 @@
 -- What may come next in a journal.
-use Rattle.std.specs.Prelude.{◌≡◌, ◌≢◌, ◌⊎◌, ◌<◌, ◌≤◌, ◌+◌, ◌-◌, ◌^◌, ℕ, List, [], ◌∷◌, Option, Some, None, true, false, drop}
+use Rattle.std.specs.Prelude.{◌≡◌, ◌≢◌, ◌⊎◌, ◌<◌, ◌≤◌, ◌+◌, ◌-◌, ◌^◌, ℕ, List, [], ◌∷◌, Option, Some, None, is_some, option_map, Bool, true, false, not, ◌&&◌, leb, if◌then◌else◌, drop}
 use Rattle.std.specs.List.Sorted.{IsPermutation}
-use Rattle.rt_base.specs.declared.error.Error.TheVariants.{UnknownToken}
+use Rattle.rt_base.specs.declared.error.Error.{Error}
+use Rattle.rt_base.specs.declared.error.Error.TheVariants.{UnknownToken, TooManyTasks, Exited as HasExited, Closed as ErrClosed, Metric}
+use Rattle.rt_base.specs.declared.metric_error.MetricError.TheVariants.{BadLabel, Reserved}
+use Rattle.rt_base.specs.Label.{is_label, is_reserved, prefixed}
 use Rattle.rt_base.specs.declared.time.TheConstants.{MAX_TIME}
 use Rattle.rt_audit.specs.declared.call.Call.{Call}
-use Rattle.rt_audit.specs.declared.call.Call.TheVariants.{CloseNode, Wake as WakeCall, SleepPoll}
+use Rattle.rt_audit.specs.declared.call.Call.TheVariants.{Child, CloseNode, Spawn, Abort, AbortTask, Wake as WakeCall, Join, GiveUp, SleepPoll}
 use Rattle.rt_audit.specs.declared.reply.CallReply.{CallReply}
-use Rattle.rt_audit.specs.declared.reply.CallReply.TheVariants.{Done, PendingAt, Ready as IsReady, Refused}
+use Rattle.rt_audit.specs.declared.reply.CallReply.TheVariants.{Done, NodeAt, TaskAt, Closed, Pending as StillPending, PendingAt, Ready as IsReady, Refused}
 use Rattle.rt_audit.specs.declared.answer.AnswerKind.{AnswerKind}
-use Rattle.rt_audit.specs.declared.answer.AnswerKind.TheVariants.{Pending, Ready, NoMemory, Ended}
+use Rattle.rt_audit.specs.declared.answer.AnswerKind.TheVariants.{Pending, Ready, Panicked, Stopped, NoMemory, Ended}
 use Rattle.rt_audit.specs.declared.finish.FinishCause.{FinishCause}
 use Rattle.rt_audit.specs.declared.finish.FinishCause.TheVariants.{NoMemory as OutOfMemory}
 use Rattle.rt_audit.specs.declared.entry.Entry.{Entry}
 use Rattle.rt_audit.specs.declared.entry.Entry.TheVariants.{Start, Call as CallEntry, Event, Wake, Draw, Root, Round, Visit, Answer, NodeEnd, Advance, Skip, Fire, Cleanup, Crash, Finish}
-use Rattle.rt_super.specs.Ancestry.{is_live}
-use Rattle.rt_model.specs.State.{Phase, Blank, Making, Between, Visiting, Entered, Polling, Ending, Turning, Cleaning, Closing, Crashed, Finished, Numbers, State}
+use Rattle.rt_super.specs.Ancestry.{TreeRecord, is_live, is_known, is_ended, task_on}
+use Rattle.rt_model.specs.declared.mark.Mark.{Mark}
+use Rattle.rt_model.specs.declared.result.Outcome.{Outcome}
+use Rattle.rt_model.specs.declared.result.Outcome.TheVariants.{Open, There, Exited, Closed as IsClosed}
+use Rattle.rt_model.specs.declared.result.TaskResult.{TaskResult}
+use Rattle.rt_model.specs.Lists.{find}
+use Rattle.rt_model.specs.Results.{may_abort}
+use Rattle.rt_model.specs.State.{Phase, Blank, Making, Between, Visiting, Entered, Polling, Halted, Ending, Leaving, Turning, Cleaning, Closing, Crashed, Finished, Numbers, State}
 use Rattle.rt_model.specs.Alarms.{is_set, skip_to, fires}
 use Rattle.rt_model.specs.Causes.{is_late, from_running, ends_next}
 use Rattle.rt_model.specs.Draws.{shuffled}
-use Rattle.rt_model.specs.Effects.{left_of, visited, cause_of, after}
+use Rattle.rt_model.specs.Effects.{left_of, visited, label_at, task_label, after}
 use Rattle.rt_model.specs.Events.{process_task, task_fields}
 
 -- this number was given to a task of this run
 abbrev pub WasGiven : Numbers → ℕ → Type 0
 WasGiven n task = (n.first ≤ task) × (task < n.next)
 
+-- the call was refused for this
+abbrev pub IsRefusal : Error → CallReply → Type 0
+IsRefusal error (Refused other) = other ≡ error
+IsRefusal error _ = ⊥
+
+abbrev pub OutcomeAnswers : Outcome → CallReply → Type 0
+OutcomeAnswers (Open waits) reply = reply ≡ StillPending
+OutcomeAnswers There reply = reply ≡ IsReady
+OutcomeAnswers Exited reply = IsRefusal HasExited reply
+OutcomeAnswers IsClosed reply = IsRefusal ErrClosed reply
+
+-- a task can be put on the node: it is live, and without one
+abbrev pub is_free : TreeRecord → ℕ → Bool
+is_free n node = is_live n node && not (is_some (task_on n node))
+
+-- why a label is refused under that of a node
+abbrev pub label_refusal : List ℕ → List ℕ → Option Error
+label_refusal prefix label =
+    if not (is_label label) then Some (Metric BadLabel)
+    else if is_reserved (prefixed prefix label) then Some (Metric Reserved)
+    else None
+
+-- a child of a node that is live: refused for its label, or fresh, and ended exactly where the node is
+abbrev pub ChildAnswers : State → ℕ → List ℕ → CallReply → Type 0
+ChildAnswers s node label (NodeAt number ended) =
+    (label_refusal (label_at s.labels node) label ≡ None) × (is_known s.nodes number ≡ false) × (ended ≡ is_ended s.nodes node)
+ChildAnswers s node label (Refused error) = Some error ≡ label_refusal (label_at s.labels node) label
+ChildAnswers s node label _ = ⊥
+
+-- a spawn on a node that is free, while numbers are left
+abbrev pub SpawnAnswers : State → ℕ → CallReply → Type 0
+SpawnAnswers s node (TaskAt task number) =
+    (task ≡ s.numbers.next) × (is_ended s.nodes node ≡ false) × (is_known s.nodes number ≡ false)
+SpawnAnswers s node Closed = is_ended s.nodes node ≡ true
+SpawnAnswers s node _ = ⊥
+
+-- the refusals of a call in their order: the first that holds, or what the call answers without one
+abbrev pub Unless : Bool → Error → (CallReply → Type 0) → CallReply → Type 0
+Unless true error otherwise reply = IsRefusal error reply
+Unless false error otherwise reply = otherwise reply
+
+-- a poll of a result
+abbrev pub JoinAnswers : Option TaskResult → CallReply → Type 0
+JoinAnswers None reply = IsRefusal UnknownToken reply
+JoinAnswers (Some r) reply = OutcomeAnswers r.outcome reply
+
 -- the reply is one that the call may have
 abbrev pub Answers : State → Call → CallReply → Type 0
+Answers s (Child node label) reply = Unless (not (is_live s.nodes node)) UnknownToken (ChildAnswers s node label) reply
 Answers s (CloseNode node) Done = is_live s.nodes node ≡ true
+Answers s (Spawn node) reply =
+    Unless (not (is_free s.nodes node)) UnknownToken
+    (λ reply. Unless (leb (2 ^ 64 - 1) s.numbers.next) TooManyTasks (SpawnAnswers s node) reply)
+    reply
+Answers s (Abort task) Done = may_abort (find task s.results) ≡ true
+Answers s (AbortTask task) Done = is_some (find task s.marks) ≡ true
+Answers s (AbortTask task) (Refused error) = (error ≡ UnknownToken) × (is_some (find task s.marks) ≡ false)
+Answers s (Join task) reply = JoinAnswers (find task s.results) reply
+Answers s (GiveUp task) Done = is_some (find task s.results) ≡ true
 Answers s (WakeCall task) Done = WasGiven s.numbers task
 Answers s (WakeCall task) (Refused error) = (error ≡ UnknownToken) × (WasGiven s.numbers task → ⊥)
 Answers s (SleepPoll due) IsReady = due ≤ s.clock.time
@@ -44,7 +109,7 @@ IsEndedNext root (Some task) by = by ≡ Some task
 abbrev pub CallsAt : Phase → Option ℕ → Option ℕ → Option ℕ → Type 0
 CallsAt Making root next by = by ≡ None
 CallsAt (Polling task left) root next by = by ≡ Some task
-CallsAt (Ending task left) root next by = by ≡ Some task
+CallsAt (Ending task result left) root next by = by ≡ Some task
 CallsAt (Closing cause) root next by = IsEndedNext root next by
 CallsAt _ root next by = ⊥
 
@@ -53,7 +118,7 @@ MayCall s by = CallsAt s.phase s.root (ends_next s.running s.root) by
 
 -- this task's end may be over
 abbrev pub MayEnd : Phase → Option ℕ → ℕ → Type 0
-MayEnd (Ending ended left) next task = task ≡ ended
+MayEnd (Ending ended result left) next task = task ≡ ended
 MayEnd (Closing cause) next task = next ≡ Some task
 MayEnd _ next task = ⊥
 
@@ -61,9 +126,10 @@ MayEnd _ next task = ⊥
 abbrev pub MayAnswer : State → ℕ → AnswerKind → Type 0
 MayAnswer s task Pending = s.phase ≡ Polling task (left_of s.phase)
 MayAnswer s task Ready = s.phase ≡ Polling task (left_of s.phase)
+MayAnswer s task Panicked = s.phase ≡ Polling task (left_of s.phase)
+MayAnswer s task Stopped = s.phase ≡ Halted task
 MayAnswer s task NoMemory = s.phase ≡ Polling task (left_of s.phase)
 MayAnswer s task Ended = MayEnd s.phase (ends_next s.running s.root) task
-MayAnswer s task _ = ⊥
 
 -- a round may begin here
 abbrev pub MayRound : Phase → State → Type 0
@@ -76,7 +142,9 @@ abbrev pub MayClose : Phase → Type 0
 MayClose Blank = ⊥
 MayClose (Entered task left) = ⊥
 MayClose (Polling task left) = ⊥
-MayClose (Ending task left) = ⊥
+MayClose (Halted task) = ⊥
+MayClose (Ending task result left) = ⊥
+MayClose (Leaving task result left) = ⊥
 MayClose (Cleaning cause) = ⊥
 MayClose (Closing cause) = ⊥
 MayClose (Crashed cause) = ⊥
@@ -91,6 +159,12 @@ abbrev pub MayFinish : Phase → FinishCause → Type 0
 MayFinish (Crashed reached) cause = (cause ≡ OutOfMemory) ⊎ (reached ≡ Some cause)
 MayFinish _ cause = ⊥
 
+-- the node ends here: that of a task that leaves, or in the cleanup node 0
+abbrev pub MayEndNode : Phase → List (ℕ × Mark) → ℕ → Type 0
+MayEndNode (Leaving task result left) ms node = option_map (λ m. m.node) (find task ms) ≡ Some node
+MayEndNode (Cleaning cause) ms node = node ≡ 0
+MayEndNode _ ms node = ⊥
+
 abbrev pub MayFree : State → Entry → Type 0
 MayFree s (Start next now deadline cycle) =
     (s.phase ≡ Blank)
@@ -102,7 +176,7 @@ MayFree s (CallEntry by call reply) = MayCall s by × Answers s call reply
 MayFree s (Event label fields) =
     (s.phase ≡ Entered (visited s.phase) (left_of s.phase))
     × (label ≡ process_task)
-    × (fields ≡ task_fields (visited s.phase) [])
+    × (fields ≡ task_fields (visited s.phase) (task_label s (visited s.phase)))
 MayFree s (Wake task) = ⊥
 MayFree s (Draw value) = MayRound s.phase s
 MayFree s (Root task) = (s.phase ≡ Making) × (task ≡ s.numbers.next) × (task < 2 ^ 64 - 1)
@@ -111,7 +185,7 @@ MayFree s (Visit task) =
     (s.phase ≡ Visiting (left_of s.phase))
     × (from_running s.running (left_of s.phase) ≡ task ∷ drop 1 (from_running s.running (left_of s.phase)))
 MayFree s (Answer task kind) = MayAnswer s task kind
-MayFree s (NodeEnd node) = (node ≡ 0) × (s.phase ≡ Cleaning (cause_of s.phase))
+MayFree s (NodeEnd node) = MayEndNode s.phase s.marks node
 MayFree s (Advance now) =
     (s.phase ≡ Visiting (left_of s.phase))
     × (from_running s.running (left_of s.phase) ≡ [])

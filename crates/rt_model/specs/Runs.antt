@@ -1,5 +1,6 @@
 -- Several runs in one journal, one after another.
 use Rattle.std.specs.Prelude.{List, [], ◌∷◌, Bool, true, false, if◌then◌else◌}
+use Rattle.rt_audit.specs.declared.finish.FinishCause.TheVariants.{Completed}
 use Rattle.rt_audit.specs.declared.entry.Entry.{Entry}
 use Rattle.rt_audit.specs.declared.entry.Entry.TheVariants.{Start}
 use Rattle.rt_model.specs.declared.begin.Begin.{Begin}
@@ -16,14 +17,14 @@ abbrev pub runs_from : Begin → List Begin → Runs
 runs_from begin later = record { state = begun begin; later = later }
 
 abbrev pub renews : Entry → Phase → Bool
-renews (Start next now deadline cycle) (Finished cause) = true
+renews (Start next now deadline cycle) (Finished Completed) = true
 renews _ _ = false
 
 abbrev pub next_run : Runs → List Begin → Runs
 next_run r [] = r
 next_run r (begin ∷ later) = runs_from begin later
 
--- behind a finished run a start begins the next one
+-- behind a completed run a start begins the next one
 abbrev pub renewed : Runs → Entry → Runs
 renewed r e = if renews e r.state.phase then next_run r r.later else r
 

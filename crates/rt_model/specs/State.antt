@@ -1,11 +1,14 @@
 -- What a run is at a moment, as its journal tells it: a product of parts, each moved by entries on its own.
-use Rattle.std.specs.Prelude.{ℕ, List, [], Option, None}
+use Rattle.std.specs.Prelude.{ℕ, List, [], ◌∷◌, Option, None, Bool, false}
 use Rattle.rt_super.specs.Alarms.{AlarmList, no_alarms}
 use Rattle.rt_super.specs.Ancestry.{TreeRecord, first_record}
 use Rattle.rt_audit.specs.declared.call.Call.{Call}
 use Rattle.rt_audit.specs.declared.reply.CallReply.{CallReply}
 use Rattle.rt_audit.specs.declared.finish.FinishCause.{FinishCause}
 use Rattle.rt_model.specs.declared.begin.Begin.{Begin}
+use Rattle.rt_model.specs.declared.mark.Mark.{Mark}
+use Rattle.rt_model.specs.declared.result.Outcome.{Outcome}
+use Rattle.rt_model.specs.declared.result.TaskResult.{TaskResult}
 
 -- where the run stands, which decides what may come next
 pub data Phase : Type 0 where
@@ -21,8 +24,12 @@ pub data Phase : Type 0 where
   Entered : (task : ℕ) → (left : List ℕ) → Phase
   -- in the poll of a task
   Polling : (task : ℕ) → (left : List ℕ) → Phase
-  -- a task that isn't the root has answered, and ends within its visit
-  Ending : (task : ℕ) → (left : List ℕ) → Phase
+  -- the root is visited, and a panic is kept: its answer comes next
+  Halted : (task : ℕ) → Phase
+  -- a task ends within its visit. It may have finished, and then its result becomes this
+  Ending : (task : ℕ) → (result : Option Outcome) → (left : List ℕ) → Phase
+  -- the state of a task is ended, and its node ends next
+  Leaving : (task : ℕ) → (result : Option Outcome) → (left : List ℕ) → Phase
   -- in a clock step
   Turning : Phase
   -- the root is finished, or a poll lacked memory
@@ -48,6 +55,7 @@ pub record Numbers : Type 0 where
 pub record Stood : Type 0 where
   pub alarms : AlarmList
   pub nodes : TreeRecord
+  pub results : List (ℕ × TaskResult)
 
 -- a call with its reply, and what stood when it was made
 pub record Turn : Type 0 where
@@ -61,6 +69,10 @@ pub record State : Type 0 where
   pub numbers : Numbers
   -- the root's number, once it is taken in
   pub root : Option ℕ
+  -- whether it was left pending once
+  pub root_left : Bool
+  -- whether a panic is kept
+  pub panicked : Bool
   -- the tasks that run, in order of their numbers
   pub running : List ℕ
   -- the numbers to visit in the next round, with duplicates
@@ -69,13 +81,19 @@ pub record State : Type 0 where
   pub draws : List ℕ
   pub alarms : AlarmList
   pub nodes : TreeRecord
+  -- the label of each node
+  pub labels : List (ℕ × List ℕ)
+  -- the spawned tasks that run, up to the end of their nodes
+  pub marks : List (ℕ × Mark)
+  -- the results that were not given up, by their tasks
+  pub results : List (ℕ × TaskResult)
   -- the numbers that the last event must still wake
   pub owed : List ℕ
   -- the calls of the part under way
   pub turns : List Turn
 
 abbrev pub stood_in : State → Stood
-stood_in s = record { alarms = s.alarms; nodes = s.nodes }
+stood_in s = record { alarms = s.alarms; nodes = s.nodes; results = s.results }
 
 -- before the first entry of a run that begins so: no task, no alarm, and node 0 alone
 unfoldable pub begun : Begin → State
@@ -84,11 +102,16 @@ begun b = record {
   phase = Blank;
   numbers = record { first = b.first; next = b.first };
   root = None;
+  root_left = false;
+  panicked = false;
   running = [];
   ready = [];
   draws = [];
   alarms = no_alarms;
   nodes = first_record;
+  labels = (0, []) ∷ [];
+  marks = [];
+  results = [];
   owed = [];
   turns = [];
 }

@@ -2,6 +2,8 @@
 
 ghost use Rattle.std.specs.Prelude.{◌≡◌, ◌↔◌, IsTrue};
 
+use rt_base::Text;
+
 /// The answer of a poll.
 #[derive(Debug, Drop)]
 pub enum Answer<O> {
@@ -9,6 +11,8 @@ pub enum Answer<O> {
     Pending,
     /// The task has finished, with this output.
     Ready(O),
+    /// The task has panicked, with this text.
+    Panicked(Text),
     /// A call lacked memory. The run ends.
     NoMemory,
 }

@@ -10,4 +10,6 @@ pub struct Begin {
     pub cycle: Nanos,
     pub deadline: Option<Nanos>,
     pub first: u64,
+    /// Whether panics of tasks are caught, and end no run.
+    pub catch: bool,
 }

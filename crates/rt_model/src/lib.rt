@@ -4,6 +4,12 @@
 
 mod answer;
 mod begin;
+mod mark;
+mod result;
+mod table;
 
 pub use answer::Answer;
 pub use begin::Begin;
+pub use mark::Mark;
+pub use result::{Outcome, TaskResult};
+pub use table::Table;

@@ -4,7 +4,7 @@ use Rattle.std.proofs.lemmas.List.{append-nil}
 use Rattle.std.proofs.lemmas.Option.{slice_get_read}
 use Rattle.rand_chacha.specs.ChaCha.{ChaCha}
 use Rattle.rt_audit.specs.declared.entry.Entry.{Entry}
-use Rattle.rt_audit.specs.declared.finish.FinishCause.{FinishCause}
+use Rattle.rt_core.specs.declared.run_error.RunError.{RunError}
 use Rattle.rt_model.specs.Tied.{Steps}
 use Rattle.rt_core.specs.Starting.{Starting, Kept}
 use Rattle.rt_core.specs.Outcome.{Completes, Fails, DrawsNothing}
@@ -23,8 +23,8 @@ module _ (p : Steps Script ℤ) (r from : Starting ChaCha) (same : r ≡ from) w
   pub completes-from : (output : ℤ) (kept : Kept ChaCha) → Completes p r output kept → Completes p from output kept
   completes-from output kept run = subst (λ s. Completes p s output kept) same run
 
-  pub fails-from : (journal : List Entry) (cause : FinishCause) → Fails p r journal cause → Fails p from journal cause
-  fails-from journal cause run = subst (λ s. Fails p s journal cause) same run
+  pub fails-from : (journal : List Entry) (error : RunError) → Fails p r journal error → Fails p from journal error
+  fails-from journal error run = subst (λ s. Fails p s journal error) same run
 
   pub draws-from : (journal : List Entry) → DrawsNothing r journal → DrawsNothing from journal
   draws-from journal drawn = subst (λ s. DrawsNothing s journal) same drawn

@@ -1,14 +1,12 @@
 -- What a simulation has run.
-use Rattle.std.specs.Prelude.{◌≡◌, ◌≢◌, ◌+◌, ◌++◌, ℕ, ℤ, List, [], ◌∷◌, length, slice_get, Option, Some}
+use Rattle.std.specs.Prelude.{◌≡◌, ◌≢◌, ◌+◌, ◌++◌, ℕ, ℤ, List, [], ◌∷◌, length, slice_get, Option, Some, false}
 use Rattle.rand_chacha.specs.ChaCha.{ChaCha}
 use Rattle.rt_audit.specs.declared.entry.Entry.{Entry}
 use Rattle.rt_audit.specs.declared.entry.Entry.TheVariants.{Round}
-use Rattle.rt_audit.specs.declared.finish.FinishCause.TheVariants.{NoMemory as LackedMemory}
 use Rattle.rt_audit.specs.Journal.{last_time}
 use Rattle.rt_model.specs.Walk.{Gives}
 use Rattle.rt_model.specs.Tied.{Steps, with_first}
-use Rattle.rt_machine.specs.Failures.{finish_of}
-use Rattle.rt_machine.specs.declared.run_error.RunError.TheVariants.{NoMemory}
+use Rattle.rt_core.specs.declared.run_error.RunError.TheVariants.{NoMemory}
 use Rattle.rt_core.specs.Starting.{Starting, Kept, first_begin, seeded, default_seed}
 use Rattle.rt_core.specs.Outcome.{Completes, Fails, DrawsNothing}
 use Rattle.rt_scenario.specs.declared.scenario.Scenario.{Scenario}
@@ -27,7 +25,7 @@ root_steps m = with_first script_steps (λ now. Gives tt (begun m))
 
 -- how the first run begins under this timeout
 abbrev pub starting : Option ℕ → Starting ChaCha
-starting timeout = record { begin = first_begin 1000000 0 timeout; given = []; rng = seeded default_seed }
+starting timeout = record { begin = first_begin 1000000 0 timeout false; given = []; rng = seeded default_seed }
 
 -- this maker makes the root of this script of the scenario
 pub record Makes (s : Scenario) (root : ℕ) (script : ScriptText) (m : RootScript) : Type 0 where
@@ -39,14 +37,14 @@ abbrev pub Comes : RootScript → Starting ChaCha → List Entry → ℕ → Run
 Comes m s entries time (Ok output) =
     (kept : Kept ChaCha) × (kept.journal ≡ s.given ++ entries) × (kept.time ≡ time) × Completes (root_steps m) s output kept
 Comes m s entries time (Failed error) =
-    (error ≢ NoMemory) × (last_time (s.given ++ entries) ≡ time) × Fails (root_steps m) s (s.given ++ entries) (finish_of error)
+    (error ≢ NoMemory) × (last_time (s.given ++ entries) ≡ time) × Fails (root_steps m) s (s.given ++ entries) error
 
 -- these entries are those of a run that lacked memory
 pub record Halts (s : Scenario) (root : ℕ) (from : Starting ChaCha) (entries : List Entry) : Type 0 where
   pub script : ScriptText
   pub maker : RootScript
   pub makes : Makes s root script maker
-  pub lacks : Fails (root_steps maker) from (from.given ++ entries) LackedMemory
+  pub lacks : Fails (root_steps maker) from (from.given ++ entries) NoMemory
   pub drawn : DrawsNothing from (from.given ++ entries)
 
 abbrev pub rounds_in : List Entry → ℕ

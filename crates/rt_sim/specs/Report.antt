@@ -4,8 +4,8 @@ use Rattle.std.specs.Fmt.{decimal, signed_decimal}
 use Rattle.rt_base.specs.Outside.{Appends}
 use Rattle.rt_audit.specs.declared.entry.Entry.{Entry}
 use Rattle.rt_audit.specs.Lines.{line_of}
-use Rattle.rt_machine.specs.declared.run_error.RunError.{RunError}
-use Rattle.rt_machine.specs.declared.run_error.RunError.TheVariants.{Timeout, Stalled, TimeOverflow, TooManyTasks, NoMemory}
+use Rattle.rt_core.specs.declared.run_error.RunError.{RunError}
+use Rattle.rt_core.specs.declared.run_error.RunError.TheVariants.{Timeout, Stalled, TaskPanicked, TimeOverflow, TooManyTasks, NoMemory}
 use Rattle.rt_scenario.specs.KindWords.{kind_word}
 use Rattle.rt_scenario.specs.declared.kind.Kind.{Kind}
 use Rattle.rt_sim.specs.declared.outcome.RunResult.{RunResult}
@@ -15,13 +15,19 @@ use Rattle.rt_sim.specs.declared.outcome.RunReport.{RunReport}
 abbrev pub word_of : RunError → List ℕ
 word_of Timeout = codes "timeout"
 word_of Stalled = codes "stalled"
+word_of (TaskPanicked text) = codes "panicked"
 word_of TimeOverflow = codes "overflow"
 word_of TooManyTasks = codes "tasks"
 word_of NoMemory = codes "nomemory"
 
+-- behind the word a panic has its text
+abbrev pub detail_of : RunError → List ℕ
+detail_of (TaskPanicked text) = codes " " ++ text
+detail_of error = []
+
 abbrev pub result_text : RunResult → List ℕ
 result_text (Ok value) = codes "result ok " ++ (signed_decimal value ++ codes "\n")
-result_text (Failed error) = codes "result " ++ (word_of error ++ codes "\n")
+result_text (Failed error) = (codes "result " ++ (word_of error ++ detail_of error)) ++ codes "\n"
 
 abbrev pub numbers_text : RunReport → List ℕ
 numbers_text run = codes "time " ++ (decimal run.time ++ (codes "\nrounds " ++ (decimal run.rounds ++ codes "\ndigest 00000000\n")))

@@ -7,6 +7,7 @@ use Rattle.rt_model.specs.declared.answer.Answer.{Answer}
 use Rattle.rt_model.specs.declared.answer.Answer.TheVariants.{Pending, Ready, NoMemory}
 use Rattle.rt_model.specs.Walk.{Step, Last, Gives, then, followed_by}
 use Rattle.rt_model.specs.Tied.{TaskSteps}
+use Rattle.rt_core.specs.Contexts.{root_context}
 use Rattle.rt_core.specs.Sleeper.{Sleeper}
 use Rattle.rt_core.specs.Pollers.{sleep_for, sleep_polls, sleep_spends, reschedule_polls, reschedule_spends, unqueued, closes}
 use Rattle.rt_core.specs.declared.yields.Reschedule.{Reschedule}
@@ -91,4 +92,4 @@ script_steps = record { next = λ s time task. polled s time task; last = λ s t
 
 -- the script that a maker makes: at its first line, on node 0
 abbrev pub begun : RootScript → Script
-begun m = record { lines = m.lines; place = 0; last = pos 0; waits = Nothing; context = record { node = 0 } }
+begun m = record { lines = m.lines; place = 0; last = pos 0; waits = Nothing; context = root_context }

@@ -3,7 +3,7 @@
 ghost use Rattle.std.specs.Prelude.{◌≡◌, ◌≤◌, ◌++◌, Err, OnOk, OnErr, codes, string_bytes};
 ghost use Rattle.rt_base.specs.Outside.{Appends, HasRisen};
 ghost use Rattle.rt_audit.specs.Lines.{line_of};
-ghost use Rattle.rt_sim.specs.Report.{report_text, entries_text, result_text, numbers_text, word_of, IsWritten, IsPart};
+ghost use Rattle.rt_sim.specs.Report.{report_text, entries_text, result_text, numbers_text, word_of, detail_of, IsWritten, IsPart};
 
 use crate::{RunReport, RunResult};
 use rt_audit::Entry;
@@ -131,8 +131,21 @@ fn add_result(text: &mut String, ended: &RunResult) -> Result<(), NoMemory>
         }
         RunResult::Failed(error) => {
             let word = error_word(error);
-            write!(text, "result {word}\n")?;
+            write!(text, "result {word}")?;
+            add_detail(text, error)?;
+            text.push_str("\n")?;
         }
+    }
+    Ok(())
+}
+
+/// Behind the word of a panic stands its text.
+fn add_detail(text: &mut String, error: &RunError) -> Result<(), NoMemory>
+    ensures { OnOk result (string_bytes text.new ≡ string_bytes text.old ++ detail_of error.now) }
+{
+    if let RunError::TaskPanicked(panic) = error {
+        let panic = panic.as_str();
+        write!(text, " {panic}")?;
     }
     Ok(())
 }
@@ -152,6 +165,7 @@ fn error_word(error: &RunError) -> &'static str
     match error {
         RunError::Timeout => "timeout",
         RunError::Stalled => "stalled",
+        RunError::TaskPanicked(_) => "panicked",
         RunError::TimeOverflow => "overflow",
         RunError::TooManyTasks => "tasks",
         RunError::NoMemory => "nomemory",

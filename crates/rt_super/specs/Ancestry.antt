@@ -1,5 +1,5 @@
 -- The record of a tree: the nodes ever made, and the ends that were asked for. Who has ended is looked up by ancestry.
-use Rattle.std.specs.Prelude.{ℕ, Bool, true, false, not, ◌||◌, ◌==◌, if◌then◌else◌, List, [], ◌∷◌, ◌++◌, map, filter, filter_map, find, drop, Option, Some, None, is_some, option_and_then}
+use Rattle.std.specs.Prelude.{◌≡◌, ℕ, Bool, true, false, not, ◌||◌, ◌==◌, if◌then◌else◌, List, [], ◌∷◌, ◌++◌, map, filter, filter_map, find, drop, Option, Some, None, is_some, option_and_then}
 use Rattle.std.specs.List.{list_any}
 use Rattle.std.specs.Option.{option_map_or}
 
@@ -78,6 +78,10 @@ was_born_ended r n = option_map_or (λ x. x.born_ended) (node_at r n) false
 -- the node was born ended, or it or an ancestor stands in the list of ends
 abbrev pub is_ended : TreeRecord → ℕ → Bool
 is_ended r n = was_born_ended r n || list_any (λ e. stands_in (subtree (links r) e) n) r.ends
+
+-- every node is ended
+unfoldable pub AreEnded : TreeRecord → Type 0
+AreEnded r = (n : ℕ) → is_known r n ≡ true → is_ended r n ≡ true
 
 -- the nodes that an end of this one ends: those of its subtree that weren't ended, in preorder
 abbrev pub newly_ended : TreeRecord → ℕ → List ℕ

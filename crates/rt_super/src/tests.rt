@@ -23,6 +23,9 @@ fn surface(rt: HostRuntime) -> Result<(), Fail> {
     assert!(rt; tree.is_ended(child) && tree.lives(child));
     tree.release(child);
     assert!(rt; !tree.is_ended(child) && !tree.lives(child) && tree.has_ended(child));
+    assert!(rt; !tree.is_over());
+    tree.end(root);
+    assert!(rt; tree.is_over() && tree.is_ended(root));
     surface_of_alarms(&rt, rt.alloc())?;
     surface_of_slots(&rt, rt.alloc())
 }
@@ -40,6 +43,7 @@ fn surface_of_alarms(rt: &impl Abort, alloc: Global) -> Result<(), Fail> {
     assert_eq!(rt; alarms.pop_due(30), Some((alarm, 2)));
     let next = alarms.set(40, NOBODY)?;
     assert_eq!(rt; alarms.len(), 1);
+    assert_eq!(rt; alarms.count(), 2);
     assert_eq!(rt; alarms.pop_due(40), Some((next, NOBODY)));
     let last = alarms.set(50, 1)?;
     alarms.clear();

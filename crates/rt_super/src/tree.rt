@@ -1,6 +1,6 @@
 // Which contexts end with which.
 ghost use Rattle.std.specs.Prelude.{◌≡◌, ℕ, ◌||◌, ◌==◌, ◌⊎◌, ◌<◌, ◌≤◌, ◌↔◌, ◌&&◌, [], length, slice_get, Err, None, IfOk, IfErr, OnErr, OnOk, true, false, vec_capacity};
-ghost use Rattle.rt_super.specs.Ancestry.{first_record, is_known, is_live, is_ended, live_task, with_new, with_child, with_task, with_release, with_end, with_flag_taken};
+ghost use Rattle.rt_super.specs.Ancestry.{first_record, is_known, is_live, is_ended, AreEnded, live_task, with_new, with_child, with_task, with_release, with_end, with_flag_taken};
 ghost use Rattle.rt_super.specs.Inside.{parents, states, children_lists, adopted};
 ghost use Rattle.std.specs.Option.{ForSome};
 ghost use Rattle.std.specs.VecDeque.{deque_capacity};
@@ -94,6 +94,16 @@ impl Tree {
         }
     }
 
+    /// Whether the first node was ended, and so every node.
+    pub fn is_over(&self) -> bool
+        ensures first { result ≡ is_ended self.now 0 }
+        ensures all { result ≡ true → AreEnded self.now }
+    {
+        let over = self.has_ended(0);
+        let _ = &self.ended;
+        over
+    }
+
     /// Makes a node below a live one, and answers its number and whether its parent is ended; then
     /// the child is born ended, and stands below nothing.
     ///
@@ -101,6 +111,7 @@ impl Tree {
     pub fn child(&mut self, parent: u64) -> Result<(u64, bool), Error>
         ensures flag { IfOk result (λ made. made.1 ≡ is_ended self.old parent) }
         ensures made { IfOk result (λ made. self.new ≡ with_child self.old made.0 parent) }
+        ensures numbered { IfOk result (λ made. made.0 ≡ length self.old.nodes) }
         ensures fresh { IfOk result (λ made. is_known self.old made.0 ≡ false) }
         ensures born { IfOk result (λ made. (n : ℕ) → is_ended self.new n ≡ (is_ended self.old n || (made.0 == n && made.1))) }
         ensures free { IfOk result (λ made. live_task self.new made.0 ≡ None) }
@@ -151,7 +162,7 @@ impl Tree {
     pub fn end(&mut self, node: u64)
         ensures ended { self.new ≡ with_end self.old node }
         ensures again { is_ended self.old node ≡ true → self.new.flags ≡ self.old.flags }
-        ensures all { node ≡ 0 → (n : ℕ) → is_known self.new n ≡ true → is_ended self.new n ≡ true }
+        ensures all { node ≡ 0 → AreEnded self.new }
     {
         self.history = History::after(&self.history, &Change::Ended(node));
         if node < self.nodes.len() as u64 {

@@ -2,3 +2,9 @@ pub mod Members
 pub mod Permutations
 pub mod Prefixes
 pub mod Quiet
+pub mod Tables
+pub mod Ended
+pub mod Walks
+pub mod Placed
+pub mod Rows
+pub mod Rising

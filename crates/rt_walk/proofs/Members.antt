@@ -1,5 +1,5 @@
 -- Whether a number is in a list, and the front of a list.
-use Rattle.std.proofs.Common.{◌≡◌, ◌<◌, ◌≤◌, ◌+◌, ℕ, zero, suc, Some, None, List, [], ◌∷◌, refl, arith, drop, take, length, get_or, nat_eq}
+use Rattle.std.proofs.Common.{◌≡◌, ◌<◌, ◌≤◌, ◌+◌, ℕ, zero, suc, Some, None, List, [], ◌∷◌, refl, sym, arith, drop, take, length, get_or, nat_eq}
 use Rattle.std.specs.List.{list_any}
 use Rattle.std.proofs.lemmas.List.{drop-drop}
 use Rattle.rt_model.specs.Lists.{has_number, those}
@@ -30,7 +30,16 @@ front-at i xs ys d e h = rw (← e) (front-there i xs d h)
 pub front-past : (i : ℕ) (xs ys : List ℕ) → drop i xs ≡ ys → length xs ≤ i → take 1 ys ≡ []
 front-past i xs ys e h = rw (← e) (front-gone i xs h)
 
-pub ruleset number_laws = (list_any-number, drop-further, front-at, front-past)
+pub drop-next : (i : ℕ) (xs : List ℕ) → drop (i + 1) xs ≡ drop 1 (drop i xs)
+drop-next i xs = sym (drop-drop 1 i xs)
+
+pub drop-none : (i : ℕ) (xs : List ℕ) → length xs ≤ i → drop i xs ≡ drop 1 (drop i xs)
+drop-none zero [] h = refl
+drop-none (suc i) [] h = refl
+drop-none zero (x ∷ xs) h = absurd (omega arith)
+drop-none (suc i) (x ∷ xs) h = drop-none i xs (omega arith)
+
+pub ruleset number_laws = (list_any-number, drop-next, drop-none, drop-further, front-at, front-past)
 
 pub front-none : (xs : List ℕ) → those None ≡ take 1 xs → xs ≡ []
 front-none [] e = refl

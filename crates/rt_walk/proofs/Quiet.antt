@@ -1,21 +1,47 @@
 -- The calls under way make no difference to what may come, and none to what is kept.
-use Rattle.std.proofs.Common.{◌≡◌, ◌↔◌, ℕ, Bool, IsTrue, refl, ap}
+use Rattle.std.proofs.Common.{◌≡◌, ◌↔◌, ℕ, Bool, true, false, IsTrue, refl, ap, not, leb, ◌-◌, ◌^◌}
+use Rattle.rt_base.specs.declared.error.Error.{Error}
 use Rattle.rt_audit.specs.declared.answer.AnswerKind.{AnswerKind}
-use Rattle.rt_audit.specs.declared.answer.AnswerKind.TheVariants.{Pending, Ready, NoMemory, Ended}
+use Rattle.rt_audit.specs.declared.answer.AnswerKind.TheVariants.{Pending, Ready, Panicked, Stopped, NoMemory, Ended}
 use Rattle.rt_audit.specs.declared.call.Call.{Call}
-use Rattle.rt_audit.specs.declared.call.Call.TheVariants.{CloseNode, Wake as WakeCall, SleepPoll}
+use Rattle.rt_audit.specs.declared.call.Call.TheVariants.{Abort, AbortTask, Child, CloseNode, GiveUp, Join, Spawn, Wake as WakeCall, SleepPoll}
 use Rattle.rt_audit.specs.declared.reply.CallReply.{CallReply}
-use Rattle.rt_audit.specs.declared.reply.CallReply.TheVariants.{Done, PendingAt, Ready as IsReady, Refused}
+use Rattle.rt_audit.specs.declared.reply.CallReply.TheVariants.{Closed, Done, NodeAt, PendingAt, Ready as IsReady, Refused, TaskAt}
 use Rattle.rt_audit.specs.declared.entry.Entry.{Entry}
-use Rattle.rt_audit.specs.declared.entry.Entry.TheVariants.{Call as CallEntry, Wake, Draw, Round, Answer, Cleanup}
-use Rattle.rt_model.specs.State.{State, Phase, Making, Between, Visiting, Turning, Cleaning}
+use Rattle.rt_audit.specs.declared.entry.Entry.TheVariants.{Call as CallEntry, Event, Wake, Draw, NodeEnd, Round, Answer, Cleanup}
+use Rattle.rt_super.specs.Ancestry.{is_ended, is_live}
+use Rattle.rt_model.specs.State.{State, Phase, Making, Between, Entered, Visiting, Turning}
 use Rattle.rt_model.specs.Causes.{cause_at}
-use Rattle.rt_model.specs.Effects.{after, phase_after, owed_after}
-use Rattle.rt_model.specs.Rules.{Answers, May, MayAnswer, MayRound}
+use Rattle.rt_model.specs.Effects.{after, cleans, due_node, entered, is_closing, marks_after, nodes_after, owed_after, panicked_after, phase_after, results_after}
+use Rattle.rt_model.specs.Rules.{Answers, ChildAnswers, May, MayAnswer, MayRound, SpawnAnswers, Unless, is_free}
 use Rattle.rt_walk.specs.Quiet.{quiet}
 
+unless-same : (b : Bool) (e : Error) (f g : CallReply → Type 0) (r : CallReply) → f r ≡ g r → Unless b e f r ≡ Unless b e g r
+unless-same true e f g r h = refl
+unless-same false e f g r h = h
+
+child-quiet : (s : State) (node : ℕ) (label : _) (r : CallReply) → ChildAnswers s node label r ≡ ChildAnswers (quiet s) node label r
+child-quiet s node label (NodeAt number ended) = refl
+child-quiet s node label (Refused error) = refl
+child-quiet s node label _ = refl
+
+spawn-quiet : (s : State) (node : ℕ) (r : CallReply) → SpawnAnswers s node r ≡ SpawnAnswers (quiet s) node r
+spawn-quiet s node (TaskAt task number) = refl
+spawn-quiet s node Closed = refl
+spawn-quiet s node _ = refl
+
 answers-quiet : (s : State) (call : Call) (reply : CallReply) → Answers s call reply ≡ Answers (quiet s) call reply
+answers-quiet s (Child node label) reply =
+    unless-same (not (is_live s.nodes node)) _ (ChildAnswers s node label) (ChildAnswers (quiet s) node label) reply (child-quiet s node label reply)
 answers-quiet s (CloseNode node) Done = refl
+answers-quiet s (Spawn node) reply =
+    unless-same (not (is_free s.nodes node)) _ _ _ reply
+    (unless-same (leb (2 ^ 64 - 1) s.numbers.next) _ (SpawnAnswers s node) (SpawnAnswers (quiet s) node) reply (spawn-quiet s node reply))
+answers-quiet s (Abort task) Done = refl
+answers-quiet s (AbortTask task) Done = refl
+answers-quiet s (AbortTask task) (Refused error) = refl
+answers-quiet s (Join task) reply = refl
+answers-quiet s (GiveUp task) Done = refl
 answers-quiet s (WakeCall task) Done = refl
 answers-quiet s (WakeCall task) (Refused error) = refl
 answers-quiet s (SleepPoll due) IsReady = refl
@@ -25,9 +51,10 @@ answers-quiet s _ _ = refl
 answer-quiet : (s : State) (task : ℕ) (kind : AnswerKind) → MayAnswer s task kind ≡ MayAnswer (quiet s) task kind
 answer-quiet s task Pending = refl
 answer-quiet s task Ready = refl
+answer-quiet s task Panicked = refl
+answer-quiet s task Stopped = refl
 answer-quiet s task NoMemory = refl
 answer-quiet s task Ended = refl
-answer-quiet s task _ = refl
 
 round-quiet : (p : Phase) (s : State) → MayRound p s ≡ MayRound p (quiet s)
 round-quiet Between s = refl
@@ -49,16 +76,54 @@ cause-quiet (Visiting left) s = refl
 cause-quiet Turning s = refl
 cause-quiet _ s = refl
 
+entered-quiet : (p : Phase) (s : State) → entered s p ≡ entered (quiet s) p
+entered-quiet (Entered task left) s = refl
+entered-quiet _ s = refl
+
 phase-quiet : (s : State) (e : Entry) → phase_after s e ≡ phase_after (quiet s) e
-phase-quiet s Cleanup = ap Cleaning (cause-quiet s.phase s)
+phase-quiet s Cleanup = ap (cleans (is_ended s.nodes 0)) (cause-quiet s.phase s)
+phase-quiet s (Event label fields) = entered-quiet s.phase s
+phase-quiet s (Answer task Pending) = refl
+phase-quiet s (Answer task Ready) = refl
+phase-quiet s (Answer task Panicked) = refl
+phase-quiet s (Answer task Stopped) = refl
+phase-quiet s (Answer task NoMemory) = refl
+phase-quiet s (Answer task Ended) = refl
 phase-quiet s _ = refl
 
+panicked-quiet : (s : State) (e : Entry) → panicked_after s e ≡ panicked_after (quiet s) e
+panicked-quiet s (Answer task Ended) = refl
+panicked-quiet s (Answer task _) = refl
+panicked-quiet s _ = refl
+
+nodes-quiet : (s : State) (e : Entry) → nodes_after s e ≡ nodes_after (quiet s) e
+nodes-quiet s _ = refl
+
+marks-quiet : (s : State) (e : Entry) → marks_after s e ≡ marks_after (quiet s) e
+marks-quiet s (Answer task Pending) = refl
+marks-quiet s (Answer task Ended) = refl
+marks-quiet s (Answer task _) = refl
+marks-quiet s _ = refl
+
+results-quiet : (s : State) (e : Entry) → results_after s e ≡ results_after (quiet s) e
+results-quiet s (Answer task Ended) = refl
+results-quiet s (Answer task _) = refl
+results-quiet s _ = refl
+
+due-quiet : (b : Bool) (s : State) (node : ℕ) → due_node b s node ≡ due_node b (quiet s) node
+due-quiet true s node = refl
+due-quiet false s node = refl
+
 owed-quiet : (s : State) (e : Entry) → owed_after s e ≡ owed_after (quiet s) e
+owed-quiet s (Answer task Ended) = refl
+owed-quiet s (Answer task _) = refl
+owed-quiet s (NodeEnd node) = due-quiet (is_closing s.phase) s node
 owed-quiet s _ = refl
 
 after-quiet : (s : State) (e : Entry) → quiet (after s e) ≡ quiet (after (quiet s) e)
 unfolding after
-after-quiet s e = rw (phase-quiet s e, owed-quiet s e) refl
+after-quiet s e =
+    rw (phase-quiet s e, panicked-quiet s e, nodes-quiet s e, marks-quiet s e, results-quiet s e, owed-quiet s e) refl
 
 pub may-states : (r : Bool) (w s : State) (e : Entry) → quiet s ≡ w → (IsTrue r ↔ May w e) → IsTrue r ↔ May s e
 may-states r w s e is h = rw (may-quiet s e, is) h

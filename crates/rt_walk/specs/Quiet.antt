@@ -9,11 +9,16 @@ quiet s = record {
   phase = s.phase;
   numbers = s.numbers;
   root = s.root;
+  root_left = s.root_left;
+  panicked = s.panicked;
   running = s.running;
   ready = s.ready;
   draws = s.draws;
   alarms = s.alarms;
   nodes = s.nodes;
+  labels = s.labels;
+  marks = s.marks;
+  results = s.results;
   owed = s.owed;
   turns = [];
 }

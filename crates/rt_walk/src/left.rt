@@ -1,9 +1,10 @@
-//! The numbers that are left of a round.
+//! The numbers that are left of a round, or that are to be woken.
 
-ghost use Rattle.std.specs.Prelude.{◌≡◌, [], IfOk, drop};
+ghost use Rattle.std.specs.Prelude.{◌≡◌, [], IfOk, drop, take};
+ghost use Rattle.rt_model.specs.Lists.{those};
 ghost use Rattle.rt_model.specs.Causes.{from_running};
 
-use crate::numbers::idle_front;
+use crate::running::Running;
 use rt_base::NoMemory;
 use std::alloc::Global;
 use std::marker::Model;
@@ -46,6 +47,42 @@ impl Left {
         })
     }
 
+    /// These numbers.
+    pub fn from_vec(numbers: Vec<u64>) -> Left
+        ensures { result ≡ numbers.items }
+    {
+        Left { numbers, passed: 0 }
+    }
+
+    /// One number, or none.
+    pub fn of_one(alloc: Global, number: Option<u64>) -> Result<Left, NoMemory>
+        ensures { IfOk result (λ left. left ≡ those number) }
+    {
+        let mut numbers = Vec::new(alloc);
+        if let Some(number) = number {
+            numbers.push(number)?;
+        }
+        Ok(Left::from_vec(numbers))
+    }
+
+    /// The first number.
+    #[tactic(auto, using(crate::proofs::Members::number_laws))]
+    pub fn first(&self) -> Option<u64>
+        ensures { those result ≡ take 1 self.now }
+    {
+        self.as_slice().first().copied()
+    }
+
+    /// Passes over the first number.
+    #[tactic(auto, using(crate::proofs::Members::number_laws))]
+    pub fn pass_first(&mut self)
+        ensures { self.new ≡ drop 1 self.old }
+    {
+        if self.passed < self.numbers.len() {
+            self.passed += 1;
+        }
+    }
+
     /// The numbers, borrowed.
     pub fn as_slice(&self) -> &[u64]
         ensures { result.now ≡ self.now }
@@ -55,10 +92,10 @@ impl Left {
 
     /// Passes over the numbers that don't run, and over the first that does.
     #[tactic(auto, using(crate::proofs::Members::number_laws))]
-    pub fn pass(&mut self, running: &[u64])
+    pub fn pass(&mut self, running: &Running)
         ensures { self.new ≡ drop 1 (from_running running.now self.old) }
     {
-        let idle = idle_front(running, self.as_slice());
+        let idle = running.idle_front(self.as_slice());
         self.passed += idle;
         if self.passed < self.numbers.len() {
             self.passed += 1;

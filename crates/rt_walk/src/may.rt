@@ -3,28 +3,30 @@
 ghost use Rattle.std.specs.Prelude.{◌≡◌, ◌↔◌, [], IfOk, OnErr, IsTrue, List, ℕ, true};
 ghost use Rattle.std.specs.Int.{to_be_bytes, w128};
 ghost use Rattle.rt_audit.specs.declared.entry.Entry.TheVariants.{Start, Event, Root, Round, Visit, Answer, NodeEnd, Advance, Skip, Fire, Crash, Finish};
-ghost use Rattle.rt_model.specs.State.{Polling, State};
+ghost use Rattle.rt_model.specs.State.{Halted, Polling, State};
 ghost use Rattle.rt_model.specs.Causes.{ends_next};
 ghost use Rattle.rt_model.specs.Effects.{left_of};
 ghost use Rattle.rt_model.specs.Events.{task_fields};
-ghost use Rattle.rt_model.specs.Rules.{Answers, IsEndedNext, May, MayAnswer, MayCall, MayFree, MayRound};
+ghost use Rattle.rt_model.specs.Rules.{IsEndedNext, May, MayAnswer, MayCall, MayFree, MayRound};
 ghost use Rattle.rt_walk.specs.Quiet.{quiet};
+ghost use Rattle.rt_walk.specs.Memory.{TakesMemory};
 
 use crate::Walker;
-use crate::numbers::{ends_next, first_running, is_permutation};
+use crate::numbers::is_permutation;
 use crate::stage::Stage;
-use rt_audit::{AnswerKind, Call, CallReply, Entry, FinishCause};
-use rt_base::{Choice, Error, Items, MAX_TIME, Nanos, NoMemory, Text};
+use rt_audit::{AnswerKind, Entry, FinishCause};
+use rt_base::{Choice, Items, MAX_TIME, Nanos, NoMemory, Text};
 
 impl Walker {
-    /// Whether the entry may come next. It takes memory where a round's order is compared with the ready list.
+    /// Whether the entry may come next. It takes memory where a round's order is compared with the ready list, and where a
+    /// child gets a label.
     #[tactic(auto, using(crate::proofs::Quiet::quiet_laws))]
     pub fn may(&self, entry: &Entry) -> Result<bool, NoMemory>
         ensures here { IfOk result (λ may. IsTrue may ↔ May self.now entry.now) }
         ensures alike { IfOk result (λ may. (s : State) → quiet s ≡ self.now → (IsTrue may ↔ May s entry.now)) }
-        ensures err { OnErr result ((order : List ℕ) × (entry.now ≡ Round order)) }
+        ensures err { OnErr result (TakesMemory entry.now) }
     {
-        match self.owed {
+        match self.owed.first() {
             // the wakes of an event come first
             Some(owed) => Ok(matches!(entry, Entry::Wake { task } if *task == owed)),
             None => self.may_unowed(entry),
@@ -33,7 +35,7 @@ impl Walker {
 
     fn may_unowed(&self, entry: &Entry) -> Result<bool, NoMemory>
         ensures ok { IfOk result (λ may. IsTrue may ↔ MayFree self.now entry.now) }
-        ensures err { OnErr result ((order : List ℕ) × (entry.now ≡ Round order)) }
+        ensures err { OnErr result (TakesMemory entry.now) }
     {
         Ok(match entry {
             Entry::Start {
@@ -42,7 +44,7 @@ impl Walker {
                 deadline,
                 cycle,
             } => self.may_start(*next, *now, *deadline, *cycle),
-            Entry::Call { by, call, reply } => self.may_call(*by) && self.answers(call, reply),
+            Entry::Call { by, call, reply } => self.may_call(*by) && self.answers(call, reply)?,
             Entry::Event { label, fields } => self.may_event(label, fields),
             Entry::Wake { .. } => false,
             Entry::Draw { .. } => self.may_round(),
@@ -100,25 +102,7 @@ impl Walker {
     fn ends_next(&self) -> Option<u64>
         ensures { result ≡ ends_next self.now.running self.now.root }
     {
-        ends_next(self.running.as_slice(), self.root)
-    }
-
-    /// Whether the call may have this reply.
-    fn answers(&self, call: &Call, reply: &CallReply) -> bool
-        ensures { IsTrue result ↔ Answers self.now call.now reply.now }
-    {
-        match (call, reply) {
-            (Call::CloseNode { node }, CallReply::Done) => self.nodes.lives(*node),
-            (Call::Wake { task }, CallReply::Done) => self.was_given(*task),
-            (Call::Wake { task }, CallReply::Refused { error }) => {
-                matches!(error.error(), Error::UnknownToken) && !self.was_given(*task)
-            }
-            (Call::SleepPoll { due }, CallReply::Ready) => *due <= self.time,
-            (Call::SleepPoll { due }, CallReply::PendingAt { alarm }) => {
-                self.time < *due && *due <= MAX_TIME && self.alarms.may_tell(*due, *alarm)
-            }
-            _ => false,
-        }
+        self.running.ends_next(self.root)
     }
 
     fn may_event(&self, label: &Text, fields: &Items<Items<u8>>) -> bool
@@ -126,7 +110,8 @@ impl Walker {
     {
         match &self.stage {
             Stage::Entered { task, .. } => {
-                label.as_str() == "process_task" && are_task_fields(fields.as_slice(), *task)
+                label.as_str() == "process_task"
+                    && are_task_fields(fields.as_slice(), *task, self.task_label(*task))
             }
             _ => false,
         }
@@ -154,9 +139,7 @@ impl Walker {
         ensures { IsTrue result ↔ MayFree self.now (Visit task) }
     {
         match &self.stage {
-            Stage::Visiting { left } => {
-                first_running(self.running.as_slice(), left.as_slice()) == Some(task)
-            }
+            Stage::Visiting { left } => { self.running.first_of(left.as_slice()) == Some(task) }
             _ => false,
         }
     }
@@ -165,9 +148,10 @@ impl Walker {
         ensures { IsTrue result ↔ MayFree self.now (Answer task kind) }
     {
         match kind {
-            AnswerKind::Pending | AnswerKind::Ready | AnswerKind::NoMemory => self.polls(task),
+            AnswerKind::Pending | AnswerKind::Ready | AnswerKind::Panicked | AnswerKind::NoMemory =>
+                self.polls(task),
+            AnswerKind::Stopped => self.is_halted(task),
             AnswerKind::Ended => self.may_end(task),
-            AnswerKind::Panicked | AnswerKind::Stopped => false,
         }
     }
 
@@ -177,6 +161,16 @@ impl Walker {
     {
         match &self.stage {
             Stage::Polling { task: polled, .. } => *polled == task,
+            _ => false,
+        }
+    }
+
+    /// Whether this task is visited and not polled.
+    fn is_halted(&self, task: u64) -> bool
+        ensures { IsTrue result ↔ (self.now.phase ≡ Halted task) }
+    {
+        match &self.stage {
+            Stage::Halted { task: halted } => *halted == task,
             _ => false,
         }
     }
@@ -195,7 +189,14 @@ impl Walker {
     fn may_end_node(&self, node: u64) -> bool
         ensures { IsTrue result ↔ MayFree self.now (NodeEnd node) }
     {
-        node == 0 && matches!(self.stage, Stage::Cleaning { .. })
+        match &self.stage {
+            Stage::Leaving { task, .. } => match self.marks.get(*task) {
+                Some(mark) => mark.node == node,
+                None => false,
+            },
+            Stage::Cleaning { .. } => node == 0,
+            _ => false,
+        }
     }
 
     fn may_advance(&self, now: Nanos) -> bool
@@ -203,7 +204,7 @@ impl Walker {
     {
         match &self.stage {
             Stage::Visiting { left } => {
-                first_running(self.running.as_slice(), left.as_slice()).is_none()
+                self.running.first_of(left.as_slice()).is_none()
                     && self.time.checked_add(self.begin.cycle) == Some(now)
                     && now <= MAX_TIME
             }
@@ -226,7 +227,9 @@ impl Walker {
     fn may_crash(&self, choices: &Items<Choice>) -> bool
         ensures { IsTrue result ↔ MayFree self.now (Crash choices.now) }
     {
-        self.stage.is_closing() && self.running.is_empty() && choices.as_slice().is_empty()
+        matches!(self.stage, Stage::Closing { .. })
+            && self.running.is_empty()
+            && choices.as_slice().is_empty()
     }
 
     fn may_finish(&self, cause: FinishCause) -> bool
@@ -242,11 +245,11 @@ impl Walker {
 }
 
 /// Whether these are the fields of the event of a visit.
-fn are_task_fields(fields: &[Items<u8>], task: u64) -> bool
-    ensures { IsTrue result ↔ (fields.now ≡ task_fields task []) }
+fn are_task_fields(fields: &[Items<u8>], task: u64, label: &str) -> bool
+    ensures { IsTrue result ↔ (fields.now ≡ task_fields task label.now) }
 {
     match fields {
-        [number, label] => is_number(number.as_slice(), task) && label.as_slice().is_empty(),
+        [number, told] => { is_number(number.as_slice(), task) && is_told(told.as_slice(), label) }
         _ => false,
     }
 }
@@ -256,4 +259,11 @@ fn is_number(bytes: &[u8], task: u64) -> bool
     ensures { IsTrue result ↔ (bytes.now ≡ to_be_bytes w128 task) }
 {
     bytes == (task as u128).to_be_bytes().as_slice()
+}
+
+/// Whether these are the bytes of a label.
+fn is_told(bytes: &[u8], label: &str) -> bool
+    ensures { IsTrue result ↔ (bytes.now ≡ label.now) }
+{
+    bytes == label.as_bytes()
 }

@@ -1,12 +1,13 @@
 //! Where a run stands.
 
 ghost use Rattle.std.specs.Prelude.{◌≡◌, IfOk, ◌↔◌, IsTrue};
-ghost use Rattle.rt_model.specs.Effects.{left_of, entered, ended, answered, cleaned, cause_of, is_closing};
+ghost use Rattle.rt_model.specs.Effects.{left_of, entered_by, ended, ends_in_panic, finished, left_pending, leaving, node_ended, cleans, cause_of, is_closing};
 ghost use Rattle.rt_model.specs.Rules.{MayClose};
 ghost use Rattle.rt_walk.specs.Stage.{phase_of};
 
 use crate::left::Left;
-use rt_audit::{AnswerKind, FinishCause};
+use rt_audit::FinishCause;
+use rt_model::Outcome;
 use std::alloc::Global;
 
 /// Where a run stands, with what is left of a round under way, or the cause that it has reached.
@@ -15,16 +16,46 @@ pub enum Stage {
     Blank,
     Making,
     Between,
-    Visiting { left: Left },
-    Entered { task: u64, left: Left },
-    Polling { task: u64, left: Left },
-    Ending { task: u64, left: Left },
+    Visiting {
+        left: Left,
+    },
+    Entered {
+        task: u64,
+        left: Left,
+    },
+    Polling {
+        task: u64,
+        left: Left,
+    },
+    Halted {
+        task: u64,
+    },
+    Ending {
+        task: u64,
+        result: Option<Outcome>,
+        left: Left,
+    },
+    Leaving {
+        task: u64,
+        result: Option<Outcome>,
+        left: Left,
+    },
     Turning,
-    Over { cause: FinishCause },
-    Cleaning { cause: Option<FinishCause> },
-    Closing { cause: Option<FinishCause> },
-    Crashed { cause: Option<FinishCause> },
-    Finished { cause: FinishCause },
+    Over {
+        cause: FinishCause,
+    },
+    Cleaning {
+        cause: Option<FinishCause>,
+    },
+    Closing {
+        cause: Option<FinishCause>,
+    },
+    Crashed {
+        cause: Option<FinishCause>,
+    },
+    Finished {
+        cause: FinishCause,
+    },
 }
 
 impl Stage {
@@ -37,67 +68,118 @@ impl Stage {
             Stage::Entered { left, .. } => left,
             Stage::Polling { left, .. } => left,
             Stage::Ending { left, .. } => left,
+            Stage::Leaving { left, .. } => left,
             _ => Left::new(alloc),
         }
     }
 
-    /// Behind the event of a visit.
-    pub fn into_entered(self) -> Stage
-        ensures { phase_of result ≡ entered (phase_of self) }
+    /// Behind the event of a visit: the root isn't polled where a panic is kept, and a task that is flagged ends unpolled.
+    pub fn after_event(halts: bool, flagged: bool, task: u64, left: Left) -> Stage
+        ensures { phase_of result ≡ entered_by halts flagged task left }
     {
-        match self {
-            Stage::Entered { task, left } => Stage::Polling { task, left },
-            stage => stage,
-        }
-    }
-
-    /// Behind an end, which leaves its visit if it was within one.
-    fn into_ended(self) -> Stage
-        ensures { phase_of result ≡ ended (phase_of self) }
-    {
-        match self {
-            Stage::Ending { left, .. } => Stage::Visiting { left },
-            stage => stage,
-        }
-    }
-
-    /// Behind the answer of a visit, or of an end.
-    pub fn into_answered(
-        self,
-        alloc: Global,
-        root: Option<u64>,
-        task: u64,
-        kind: AnswerKind,
-    ) -> Stage
-        ensures { phase_of result ≡ answered root (phase_of self) task kind }
-    {
-        match kind {
-            AnswerKind::Pending => Stage::Visiting {
-                left: self.into_left(alloc),
-            },
-            AnswerKind::Ready if root == Some(task) => Stage::Over {
-                cause: FinishCause::Completed,
-            },
-            AnswerKind::Ready => Stage::Ending {
+        if halts {
+            Stage::Halted { task }
+        } else if flagged {
+            Stage::Ending {
                 task,
-                left: self.into_left(alloc),
-            },
-            AnswerKind::NoMemory => Stage::Over {
-                cause: FinishCause::NoMemory,
-            },
-            AnswerKind::Ended => self.into_ended(),
-            AnswerKind::Panicked | AnswerKind::Stopped => self,
+                result: None,
+                left,
+            }
+        } else {
+            Stage::Polling { task, left }
         }
     }
 
-    /// Behind the end of node 0 in a cleanup.
-    pub fn into_cleaned(self) -> Stage
-        ensures { phase_of result ≡ cleaned (phase_of self) }
+    /// Behind a pending answer: a task that was flagged ends.
+    pub fn after_pending(flagged: bool, task: u64, left: Left) -> Stage
+        ensures { phase_of result ≡ left_pending flagged task left }
+    {
+        if flagged {
+            Stage::Ending {
+                task,
+                result: None,
+                left,
+            }
+        } else {
+            Stage::Visiting { left }
+        }
+    }
+
+    /// Behind the last answer of a task: the root's ends the rounds for this cause, and another ends with this result.
+    pub fn after_last(
+        is_root: bool,
+        cause: FinishCause,
+        outcome: Outcome,
+        task: u64,
+        left: Left,
+    ) -> Stage
+        ensures { phase_of result ≡ finished is_root cause outcome task left }
+    {
+        if is_root {
+            Stage::Over { cause }
+        } else {
+            Stage::Ending {
+                task,
+                result: Some(outcome),
+                left,
+            }
+        }
+    }
+
+    /// Behind an end, which leaves its visit where no node ends behind it, if it was within one.
+    pub fn into_ended(self, settles: bool) -> Stage
+        ensures { phase_of result ≡ ended settles (phase_of self) }
     {
         match self {
+            Stage::Ending { left, .. } if settles => Stage::Visiting { left },
+            Stage::Ending { task, result, left } => Stage::Leaving { task, result, left },
+            stage => stage,
+        }
+    }
+
+    /// Behind the end of a node.
+    pub fn into_node_ended(self) -> Stage
+        ensures { phase_of result ≡ node_ended (phase_of self) }
+    {
+        match self {
+            Stage::Leaving { left, .. } => Stage::Visiting { left },
             Stage::Cleaning { cause } => Stage::Closing { cause },
             stage => stage,
         }
+    }
+
+    /// Behind the beginning of a cleanup, which ends node 0 where that hasn't ended.
+    pub fn cleaned(ended: bool, cause: Option<FinishCause>) -> Stage
+        ensures { phase_of result ≡ cleans ended cause }
+    {
+        if ended {
+            Stage::Closing { cause }
+        } else {
+            Stage::Cleaning { cause }
+        }
+    }
+
+    /// Who leaves the run with the end of its node.
+    pub fn leaving(&self) -> Option<u64>
+        ensures { result ≡ leaving (phase_of self.now) }
+    {
+        match self {
+            Stage::Leaving { task, .. } => Some(*task),
+            _ => None,
+        }
+    }
+
+    /// Whether a task ends that reported a panic.
+    pub fn ends_in_panic(&self) -> bool
+        ensures { result ≡ ends_in_panic (phase_of self.now) }
+    {
+        matches!(
+            self,
+            Stage::Ending {
+                result: Some(Outcome::Exited),
+                ..
+            }
+        )
     }
 
     /// The cause that a cleanup keeps.
@@ -111,11 +193,11 @@ impl Stage {
         }
     }
 
-    /// Whether the tasks end one by one.
+    /// Whether a cleanup has begun and the store hasn't crashed.
     pub fn is_closing(&self) -> bool
         ensures { result ≡ is_closing (phase_of self.now) }
     {
-        matches!(self, Stage::Closing { .. })
+        matches!(self, Stage::Cleaning { .. } | Stage::Closing { .. })
     }
 
     /// Whether a cleanup may begin.

@@ -1,24 +1,31 @@
 //! What an entry does.
 
-ghost use Rattle.std.specs.Prelude.{◌≡◌, OnOk, ℕ, List, Option};
+ghost use Rattle.std.specs.Prelude.{◌≡◌, ◌++◌, [], IfOk, OnOk, ℕ, List, Option};
 ghost use Rattle.rt_audit.specs.declared.entry.Entry.TheVariants.{Start, Call as CallEntry, Event, Wake, Draw, Root, Round, Visit, Answer, NodeEnd, Advance, Skip, Fire, Cleanup, Crash, Finish};
 ghost use Rattle.rt_base.specs.declared.choice.Choice.{Choice};
-ghost use Rattle.rt_model.specs.State.{State};
-ghost use Rattle.rt_model.specs.Effects.{after};
+ghost use Rattle.rt_model.specs.Lists.{is_some_number};
+ghost use Rattle.rt_model.specs.State.{State, Blank, Over};
+ghost use Rattle.rt_model.specs.Effects.{after, due_answered, due_panic, finished, left_of};
 ghost use Rattle.rt_walk.specs.Quiet.{quiet};
 
 use crate::Walker;
+use crate::called::{
+    add_due_called, call_alarms, call_labels, call_marks, call_nodes, call_ready, call_results,
+    call_running,
+};
 use crate::left::Left;
-use crate::numbers::{add_number, remove_number};
+use crate::marks::{self, flag_all, is_flagged, remove_if, remove_left};
+use crate::results::{add_due_ended, add_due_left, end_result, leave_result};
 use crate::stage::Stage;
 use rt_audit::{AnswerKind, Call, CallReply, Entry, FinishCause};
 use rt_base::{Nanos, NoMemory};
+use rt_model::Outcome;
 use std::mem;
 
 #[tactic(auto, unfolding(rt_model::specs::Effects::after))]
 impl Walker {
-    /// Takes an entry in. It answers `NoMemory` also where no number is left for a further alarm, and for a sleep of the
-    /// task `u64::MAX`, which is no task's number. After that answer nothing is known of the walker any more.
+    /// Takes an entry in. It answers `NoMemory` also where no number is left for a further alarm, for a sleep of the task
+    /// `u64::MAX`, which is no task's number, and for a task or a node whose number was given before. After that answer nothing is known of the walker any more.
     #[tactic(auto, using(crate::proofs::Quiet::quiet_laws), unfolding(rt_model::specs::Effects::after))]
     pub fn step(&mut self, entry: &Entry) -> Result<(), NoMemory>
         ensures here { OnOk result (self.new ≡ quiet (after self.old entry.now)) }
@@ -33,11 +40,11 @@ impl Walker {
             Entry::Root { task } => self.take_root(*task)?,
             Entry::Round { order } => self.round(order.as_slice())?,
             Entry::Visit { task } => self.visit(*task),
-            Entry::Answer { task, kind } => self.answer(*task, *kind),
-            Entry::NodeEnd { node } => self.end_node(*node),
+            Entry::Answer { task, kind } => self.answer(*task, *kind)?,
+            Entry::NodeEnd { node } => self.end_node(*node)?,
             Entry::Advance { now } => self.advance(*now),
             Entry::Skip { now } => self.skip(*now),
-            Entry::Fire { .. } => self.fire(),
+            Entry::Fire { .. } => self.fire()?,
             Entry::Cleanup => self.clean_up(),
             Entry::Crash { .. } => self.crash(),
             Entry::Finish { cause } => self.finish(*cause),
@@ -49,23 +56,33 @@ impl Walker {
         ensures { (next now : ℕ) (deadline : Option ℕ) (cycle : ℕ) → self.new ≡ quiet (after self.old (Start next now deadline cycle)) }
     {
         self.stage = Stage::Making;
-        self.owed = None;
+        self.owe_nobody();
+    }
+
+    /// Nobody is to be woken.
+    fn owe_nobody(&mut self)
+        ensures { self.new ≡ record self.old { owed = [] } }
+    {
+        self.owed = Left::new(self.allocator());
     }
 
     fn call(&mut self, by: Option<u64>, call: &Call, reply: &CallReply) -> Result<(), NoMemory>
         ensures { OnOk result (self.new ≡ quiet (after self.old (CallEntry by call.now reply.now))) }
     {
-        self.owed = match (call, reply) {
-            (Call::Wake { task }, CallReply::Done) if !self.stage.is_closing() => Some(*task),
-            _ => None,
-        };
-        match (call, reply) {
-            (Call::CloseNode { node }, CallReply::Done) => self.nodes.release(*node),
-            (Call::SleepPoll { due }, CallReply::PendingAt { alarm }) => {
-                self.alarms.sleep(by, *due, *alarm)?;
-            }
-            _ => {}
+        let alloc = self.allocator();
+        let mut due = Vec::new(alloc);
+        add_due_called(self.stage.is_closing(), &self.marks, call, reply, &mut due)?;
+        if let (Call::Spawn { .. }, CallReply::TaskAt { task, .. }) = (call, reply) {
+            self.next = *task as u128 + 1;
         }
+        call_running(&mut self.running, call, reply)?;
+        call_ready(&mut self.ready, call, reply)?;
+        call_alarms(&mut self.alarms, by, call, reply)?;
+        call_nodes(&mut self.nodes, call, reply)?;
+        call_labels(alloc, &mut self.labels, call, reply)?;
+        call_marks(&mut self.marks, call, reply)?;
+        call_results(&mut self.results, by, call, reply)?;
+        self.owed = Left::from_vec(due);
         Ok(())
     }
 
@@ -73,7 +90,7 @@ impl Walker {
         ensures { OnOk result (self.new ≡ quiet (after self.old (Wake task))) }
     {
         self.ready.push(task)?;
-        self.owed = None;
+        self.owed.pass_first();
         Ok(())
     }
 
@@ -81,19 +98,19 @@ impl Walker {
         ensures { OnOk result (self.new ≡ quiet (after self.old (Draw value))) }
     {
         self.draws.push(value)?;
-        self.owed = None;
+        self.owe_nobody();
         Ok(())
     }
 
     fn take_root(&mut self, task: u64) -> Result<(), NoMemory>
         ensures { OnOk result (self.new ≡ quiet (after self.old (Root task))) }
     {
-        add_number(&mut self.running, task)?;
+        self.running.add(task)?;
         self.ready.push(task)?;
         self.next = task as u128 + 1;
         self.root = Some(task);
         self.stage = Stage::Between;
-        self.owed = None;
+        self.owe_nobody();
         Ok(())
     }
 
@@ -104,46 +121,147 @@ impl Walker {
         self.ready.clear();
         self.draws.clear();
         self.stage = Stage::Visiting { left };
-        self.owed = None;
+        self.owe_nobody();
         Ok(())
     }
 
-    fn end_node(&mut self, node: u64)
-        ensures { self.new ≡ quiet (after self.old (NodeEnd node)) }
+    fn end_node(&mut self, node: u64) -> Result<(), NoMemory>
+        ensures { OnOk result (self.new ≡ quiet (after self.old (NodeEnd node))) }
     {
-        self.nodes.end(node);
-        self.stage = mem::replace(&mut self.stage, Stage::Blank).into_cleaned();
-        self.owed = None;
+        let mut due = Vec::new(self.allocator());
+        let flagged = self.nodes.end(node)?;
+        flag_all(&mut self.marks, flagged.as_slice(), &mut due)?;
+        add_due_left(&self.stage, &self.results, &mut due)?;
+        if self.stage.is_closing() {
+            due.clear();
+        }
+        leave_result(&self.stage, &mut self.results);
+        remove_left(&mut self.marks, self.stage.leaving());
+        self.stage = mem::replace(&mut self.stage, Stage::Blank).into_node_ended();
+        self.owed = Left::from_vec(due);
+        Ok(())
     }
 
     fn enter(&mut self)
         ensures { (label : List ℕ) (fields : List (List ℕ)) → self.new ≡ quiet (after self.old (Event label fields)) }
     {
-        self.stage = mem::replace(&mut self.stage, Stage::Blank).into_entered();
-        self.owed = None;
+        self.stage = match mem::replace(&mut self.stage, Stage::Blank) {
+            Stage::Entered { task, left } => {
+                let halts = self.root == Some(task) && self.panicked;
+                Stage::after_event(halts, is_flagged(&self.marks, task), task, left)
+            }
+            stage => stage,
+        };
+        self.owe_nobody();
     }
 
     fn visit(&mut self, task: u64)
         ensures { self.new ≡ quiet (after self.old (Visit task)) }
     {
-        let alloc = self.allocator();
-        let mut left = mem::replace(&mut self.stage, Stage::Blank).into_left(alloc);
-        left.pass(self.running.as_slice());
+        let mut left = self.take_left();
+        left.pass(&self.running);
         self.stage = Stage::Entered { task, left };
-        self.owed = None;
+        self.owe_nobody();
     }
 
-    fn answer(&mut self, task: u64, kind: AnswerKind)
-        ensures { self.new ≡ quiet (after self.old (Answer task kind)) }
+    /// Takes what is left of the round under way out.
+    fn take_left(&mut self) -> Left
+        ensures left { result ≡ left_of self.old.phase }
+        ensures rest { self.new ≡ record self.old { phase = Blank } }
     {
-        if matches!(kind, AnswerKind::Ended) {
-            remove_number(&mut self.running, task);
-        }
         let alloc = self.allocator();
-        self.stage = mem::replace(&mut self.stage, Stage::Blank).into_answered(
-            alloc, self.root, task, kind,
-        );
-        self.owed = None;
+        mem::replace(&mut self.stage, Stage::Blank).into_left(alloc)
+    }
+
+    fn answer(&mut self, task: u64, kind: AnswerKind) -> Result<(), NoMemory>
+        ensures { OnOk result (self.new ≡ quiet (after self.old (Answer task kind))) }
+    {
+        match kind {
+            AnswerKind::Pending => self.leave_pending(task),
+            AnswerKind::Ready => self.finish_task(task, FinishCause::Completed, Outcome::There),
+            AnswerKind::Panicked => {
+                self.finish_task(task, FinishCause::TaskPanicked, Outcome::Exited);
+            }
+            AnswerKind::Stopped => self.go_over(FinishCause::TaskPanicked),
+            AnswerKind::NoMemory => self.go_over(FinishCause::NoMemory),
+            AnswerKind::Ended => self.end_task(task)?,
+        }
+        Ok(())
+    }
+
+    /// A task is left pending. One that was flagged ends.
+    fn leave_pending(&mut self, task: u64)
+        ensures { self.new ≡ quiet (after self.old (Answer task AnswerKind.Pending)) }
+    {
+        self.root_left = self.root == Some(task) || self.root_left;
+        let flagged = is_flagged(&self.marks, task);
+        marks::leave(&mut self.marks, task);
+        let left = self.take_left();
+        self.stage = Stage::after_pending(flagged, task, left);
+        self.owe_nobody();
+    }
+
+    /// A task has finished so.
+    fn finish_task(&mut self, task: u64, cause: FinishCause, outcome: Outcome)
+        ensures { self.new ≡ record self.old { phase = finished (is_some_number task self.old.root) cause outcome task (left_of self.old.phase); owed = []; turns = [] } }
+    {
+        let left = self.take_left();
+        self.stage = Stage::after_last(self.root == Some(task), cause, outcome, task, left);
+        self.owe_nobody();
+    }
+
+    /// The rounds end for this cause.
+    fn go_over(&mut self, cause: FinishCause)
+        ensures { self.new ≡ record self.old { phase = Over cause; owed = []; turns = [] } }
+    {
+        self.stage = Stage::Over { cause };
+        self.owe_nobody();
+    }
+
+    /// The state of a task is ended.
+    fn end_task(&mut self, task: u64) -> Result<(), NoMemory>
+        ensures { OnOk result (self.new ≡ quiet (after self.old (Answer task AnswerKind.Ended))) }
+    {
+        let settles = self.is_settled(task);
+        let due = self.due_at_end(task)?;
+        self.panicked = self.panicked || (self.stage.ends_in_panic() && !self.begin.catch);
+        self.running.remove(task);
+        marks::release(&mut self.nodes, &self.marks, task);
+        remove_if(settles, &mut self.marks, task);
+        end_result(&self.stage, settles, &mut self.results, task);
+        self.stage = mem::replace(&mut self.stage, Stage::Blank).into_ended(settles);
+        self.owed = Left::from_vec(due);
+        Ok(())
+    }
+
+    /// Whom the end of a task must wake: for a panic that is kept now the root, and then who waits for the result.
+    fn due_at_end(&self, task: u64) -> Result<Vec<u64>, NoMemory>
+        ensures { IfOk result (λ due. due.items ≡ due_answered self.now task AnswerKind.Ended) }
+    {
+        let mut due = Vec::new(self.allocator());
+        self.add_due_panic(&mut due)?;
+        add_due_ended(
+            &self.stage,
+            self.is_settled(task),
+            &self.results,
+            task,
+            &mut due,
+        )?;
+        Ok(due)
+    }
+
+    /// Adds the root, where a panic is kept now and the root was left pending once.
+    fn add_due_panic(&self, due: &mut Vec<u64>) -> Result<(), NoMemory>
+        ensures { OnOk result (due.new.items ≡ due.old.items ++ due_panic self.now) }
+    {
+        let keeps = self.root_left
+            && !self.panicked
+            && self.stage.ends_in_panic()
+            && !self.begin.catch;
+        if keeps && let Some(root) = self.root {
+            due.push(root)?;
+        }
+        Ok(())
     }
 
     fn advance(&mut self, now: Nanos)
@@ -151,31 +269,30 @@ impl Walker {
     {
         self.time = now;
         self.stage = Stage::Turning;
-        self.owed = None;
+        self.owe_nobody();
     }
 
     fn skip(&mut self, now: Nanos)
         ensures { self.new ≡ quiet (after self.old (Skip now)) }
     {
         self.time = now;
-        self.owed = None;
+        self.owe_nobody();
     }
 
-    fn fire(&mut self)
-        ensures { (alarm : ℕ) → self.new ≡ quiet (after self.old (Fire alarm)) }
+    fn fire(&mut self) -> Result<(), NoMemory>
+        ensures { OnOk result ((alarm : ℕ) → self.new ≡ quiet (after self.old (Fire alarm))) }
     {
-        self.owed = self.alarms.pop();
+        self.owed = Left::of_one(self.allocator(), self.alarms.pop())?;
+        Ok(())
     }
 
     fn clean_up(&mut self)
         ensures { self.new ≡ quiet (after self.old Cleanup) }
     {
-        self.stage = Stage::Cleaning {
-            cause: self.reached(),
-        };
+        self.stage = Stage::cleaned(self.nodes.is_ended(0), self.reached());
         self.ready.clear();
         self.alarms.clear();
-        self.owed = None;
+        self.owe_nobody();
     }
 
     fn crash(&mut self)
@@ -184,13 +301,13 @@ impl Walker {
         self.stage = Stage::Crashed {
             cause: self.stage.kept_cause(),
         };
-        self.owed = None;
+        self.owe_nobody();
     }
 
     fn finish(&mut self, cause: FinishCause)
         ensures { self.new ≡ quiet (after self.old (Finish cause)) }
     {
         self.stage = Stage::Finished { cause };
-        self.owed = None;
+        self.owe_nobody();
     }
 }

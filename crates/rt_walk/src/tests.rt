@@ -200,6 +200,7 @@ const BEGIN: Begin = Begin {
     cycle: 1_000_000,
     deadline: None,
     first: 0,
+    catch: false,
 };
 
 /// With a deadline at ten milliseconds.
@@ -208,6 +209,7 @@ const TIMED: Begin = Begin {
     cycle: 1_000_000,
     deadline: Some(10_000_000),
     first: 0,
+    catch: false,
 };
 
 /// What another start fixes.
@@ -217,6 +219,7 @@ fn begin(first: u64, start: Nanos, cycle: Nanos, deadline: Option<Nanos>) -> Beg
         cycle,
         deadline,
         first,
+        catch: false,
     }
 }
 
@@ -448,9 +451,9 @@ fn damaged_visits(rt: HostRuntime) -> Result<(), Fail> {
             5,
         ),
         (
-            "a panic",
+            "a stop without a panic",
             5,
-            Damage::Instead(Line::Answer(0, AnswerKind::Panicked)),
+            Damage::Instead(Line::Answer(0, AnswerKind::Stopped)),
             5,
         ),
     ];
@@ -750,101 +753,68 @@ fn damaged_wakes(rt: HostRuntime) -> Result<(), Fail> {
     Ok(())
 }
 
-/// A walker behind these lines, whether they may come or not.
-fn behind(alloc: Global, lines: &[Line]) -> Result<Walker, NoMemory> {
-    let mut walker = Walker::new(alloc, BEGIN)?;
-    for line in lines {
-        walker.step(&entry(alloc, *line)?)?;
-    }
-    Ok(walker)
-}
-
-/// A root, and a task before it that is ready at its visit. No run has a second task yet: the second root is unlawful,
-/// and takes the place of the first.
-const ENDING: [Line; 7] = [
-    Line::Start(BEGIN),
-    Line::Root(0),
-    Line::Root(1),
-    Line::Round(&[0, 1]),
-    Line::Visit(0),
-    Line::Event(0),
-    Line::Answer(0, AnswerKind::Ready),
-];
-
-#[test]
-fn ends_within_its_visit(rt: HostRuntime) -> Result<(), Fail> {
-    let alloc = rt.alloc();
-    let walker = behind(alloc, &ENDING)?;
-    for (line, may) in [
-        (Line::WakeDone(1), true),
-        (Line::Sleeps(0, 0), true),
-        (Line::Sleeps(1, 0), false),
-        (Line::WakeByNobody(1), false),
-        (Line::Answer(0, AnswerKind::Ended), true),
-        (Line::Answer(1, AnswerKind::Ended), false),
-        (Line::Answer(0, AnswerKind::Ready), false),
-        (Line::Visit(1), false),
-        (Line::Cleanup, false),
-    ] {
-        assert_eq!(rt; walker.may(&entry(alloc, line)?)?, may);
-    }
-    Ok(())
-}
-
-#[test]
-fn goes_on_with_the_round_after_an_end(rt: HostRuntime) -> Result<(), Fail> {
-    let alloc = rt.alloc();
-    let mut walker = behind(alloc, &ENDING)?;
-    walker.step(&entry(alloc, Line::Answer(0, AnswerKind::Ended))?)?;
-    for (line, may) in [
-        (Line::Visit(1), true),
-        (Line::Visit(0), false),
-        (Line::Sleeps(0, 0), false),
-        (Line::Answer(0, AnswerKind::Ended), false),
-        (Line::Advance(1_000_000), false),
-        (Line::Cleanup, true),
-    ] {
-        assert_eq!(rt; walker.may(&entry(alloc, line)?)?, may);
-    }
-    Ok(())
-}
-
-/// A run behind another goes by the next beginning, from its own state: its root has its own number, and no alarm of the
-/// run before is set.
+/// A run behind a completed one goes by the next beginning, from its own state: its root has its own number, and no alarm
+/// of the run before is set.
 #[test]
 fn several_runs(rt: HostRuntime) -> Result<(), Fail> {
+    let alloc = rt.alloc();
+    let lines = three_runs(alloc)?;
+    for (later, missing, first) in [
+        ([BEGIN, TIMED], lines.len(), None),
+        ([TIMED, TIMED], lines.len(), Some(12)),
+        ([BEGIN, BEGIN], lines.len(), Some(34)),
+        // the end of the first run, its finish and that of the second, the second start and the third
+        ([BEGIN, TIMED], 10, Some(10)),
+        ([BEGIN, TIMED], 11, Some(11)),
+        ([BEGIN, TIMED], 33, Some(33)),
+        ([BEGIN, TIMED], 12, Some(12)),
+        ([BEGIN, TIMED], 34, Some(34)),
+    ] {
+        let lines = damaged(alloc, lines.as_slice(), missing, Damage::Missing)?;
+        assert_eq!(rt;
+            first_of_runs(alloc, BEGIN, &later, lines.as_slice())?,
+            first
+        );
+    }
+    Ok(())
+}
+
+/// Two runs that complete, and one that doesn't.
+fn three_runs(alloc: Global) -> Result<Vec<Line>, NoMemory> {
+    let mut lines = READY.to_vec(alloc)?;
+    for line in SLEEP {
+        lines.push(line)?;
+    }
+    for line in LATE {
+        lines.push(line)?;
+    }
+    Ok(lines)
+}
+
+/// A third run that nothing begins, and a beginning that no run has.
+#[test]
+fn as_many_runs_as_beginnings(rt: HostRuntime) -> Result<(), Fail> {
+    let alloc = rt.alloc();
+    let lines = three_runs(alloc)?;
+    assert_eq!(rt;
+        first_of_runs(alloc, BEGIN, &[BEGIN], lines.as_slice())?,
+        Some(34)
+    );
+    assert_eq!(rt; first_of_runs(alloc, BEGIN, &[TIMED], &READY)?, None);
+    Ok(())
+}
+
+#[test]
+fn no_run_behind_one_that_failed(rt: HostRuntime) -> Result<(), Fail> {
     let alloc = rt.alloc();
     let mut lines = LATE.to_vec(alloc)?;
     for line in READY {
         lines.push(line)?;
     }
-    for line in STALL {
-        lines.push(line)?;
-    }
-    let all = LATE.len() + READY.len() + STALL.len();
-    for (later, missing, first) in [
-        ([BEGIN, BEGIN], all, None),
-        ([TIMED, BEGIN], all, Some(15)),
-        ([BEGIN, TIMED], all, Some(27)),
-        // the end of the first run, its finish and that of the second, the second start and the third
-        ([BEGIN, BEGIN], 13, Some(13)),
-        ([BEGIN, BEGIN], 14, Some(14)),
-        ([BEGIN, BEGIN], 26, Some(26)),
-        ([BEGIN, BEGIN], 15, Some(15)),
-        ([BEGIN, BEGIN], 27, Some(27)),
-    ] {
-        let lines = damaged(alloc, lines.as_slice(), missing, Damage::Missing)?;
-        assert_eq!(rt;
-            first_of_runs(alloc, TIMED, &later, lines.as_slice())?,
-            first
-        );
-    }
-    // a third run that nothing begins, and a beginning that no run has
     assert_eq!(rt;
         first_of_runs(alloc, TIMED, &[BEGIN], lines.as_slice())?,
-        Some(27)
+        Some(15)
     );
-    assert_eq!(rt; first_of_runs(alloc, BEGIN, &[TIMED], &READY)?, None);
     Ok(())
 }
 

@@ -6,17 +6,21 @@ ghost use Rattle.rt_model.specs.Alarms.{fires, skip_to};
 ghost use Rattle.rt_model.specs.Lists.{is_nil};
 ghost use Rattle.rt_model.specs.Causes.{from_running, is_late, overflows, reached, turning_cause, where_true};
 ghost use Rattle.rt_model.specs.Rules.{May, WasGiven};
-ghost use Rattle.rt_model.specs.Effects.{after};
+ghost use Rattle.rt_model.specs.Effects.{after, is_settled, label_at, task_label};
 ghost use Rattle.rt_model.specs.Runs.{renews};
 ghost use Rattle.rt_walk.specs.Quiet.{quiet};
 
-use crate::numbers::first_running;
+use crate::called::label_at;
+use crate::left::Left;
+use crate::marks::is_ended_at;
+use crate::nodes::Nodes;
+use crate::running::Running;
 use crate::stage::Stage;
+use crate::table::Table;
 use crate::told_alarms::ToldAlarms;
 use rt_audit::{Entry, FinishCause};
-use rt_base::{MAX_TIME, Nanos, NoMemory};
-use rt_model::Begin;
-use rt_super::Tree;
+use rt_base::{MAX_TIME, Nanos, NoMemory, Text};
+use rt_model::{Begin, Mark, TaskResult};
 use std::alloc::Global;
 use std::marker::Model;
 
@@ -29,23 +33,27 @@ pub struct Walker {
     // wide enough for the number behind the last one
     pub(crate) next: u128,
     pub(crate) root: Option<u64>,
-    pub(crate) running: Vec<u64>,
+    pub(crate) root_left: bool,
+    pub(crate) panicked: bool,
+    pub(crate) running: Running,
     pub(crate) ready: Vec<u64>,
     pub(crate) draws: Vec<u64>,
     pub(crate) alarms: ToldAlarms,
-    pub(crate) nodes: Tree,
-    pub(crate) owed: Option<u64>,
+    pub(crate) nodes: Nodes,
+    pub(crate) labels: Table<Text>,
+    pub(crate) marks: Table<Mark>,
+    pub(crate) results: Table<TaskResult>,
+    pub(crate) owed: Left,
 }
 
 impl Model for Walker {
     ghost use Rattle.std.specs.Prelude.{[]};
-    ghost use Rattle.rt_model.specs.Lists.{those};
     ghost use Rattle.rt_model.specs.State.{State};
     ghost use Rattle.rt_walk.specs.Stage.{phase_of};
 
     ghost Value = { State };
 
-    ghost view = { λ w. record { clock = record { time = w.time; fixed = w.begin }; phase = phase_of w.stage; numbers = record { first = w.begin.first; next = w.next }; root = w.root; running = w.running.items; ready = w.ready.items; draws = w.draws.items; alarms = w.alarms; nodes = w.nodes; owed = those w.owed; turns = [] } };
+    ghost view = { λ w. record { clock = record { time = w.time; fixed = w.begin }; phase = phase_of w.stage; numbers = record { first = w.begin.first; next = w.next }; root = w.root; root_left = w.root_left; panicked = w.panicked; running = w.running; ready = w.ready.items; draws = w.draws.items; alarms = w.alarms; nodes = w.nodes; labels = w.labels; marks = w.marks; results = w.results; owed = w.owed; turns = [] } };
 }
 
 #[tactic(auto, unfolding(rt_model::specs::Effects::after, rt_model::specs::State::begun))]
@@ -55,18 +63,25 @@ impl Walker {
     pub fn new(alloc: Global, begin: Begin) -> Result<Walker, NoMemory>
         ensures { IfOk result (λ walker. walker ≡ begun begin) }
     {
+        let mut labels = Table::new(alloc);
+        labels.push(0, Text::of(String::new(alloc)))?;
         Ok(Walker {
             begin,
             time: begin.start,
             stage: Stage::Blank,
             next: begin.first as u128,
             root: None,
-            running: Vec::new(alloc),
+            root_left: false,
+            panicked: false,
+            running: Running::new(alloc),
             ready: Vec::new(alloc),
             draws: Vec::new(alloc),
             alarms: ToldAlarms::new(alloc),
-            nodes: Tree::new(alloc)?,
-            owed: None,
+            nodes: Nodes::new(alloc)?,
+            labels,
+            marks: Table::new(alloc),
+            results: Table::new(alloc),
+            owed: Left::new(alloc),
         })
     }
 
@@ -75,13 +90,18 @@ impl Walker {
         *self.ready.allocator()
     }
 
-    /// Whether the entry starts a further run, behind a finished one.
+    /// Whether the entry starts a further run, behind a completed one.
     pub(crate) fn renews(&self, entry: &Entry) -> bool
         ensures { result ≡ renews entry.now self.now.phase }
     {
         matches!(
             (entry, &self.stage),
-            (Entry::Start { .. }, Stage::Finished { .. })
+            (
+                Entry::Start { .. },
+                Stage::Finished {
+                    cause: FinishCause::Completed
+                }
+            )
         )
     }
 
@@ -127,12 +147,36 @@ impl Walker {
         self.begin.first <= task && (task as u128) < self.next
     }
 
+    /// Whether no node ends behind the end of this task.
+    pub(crate) fn is_settled(&self, task: u64) -> bool
+        ensures { result ≡ is_settled self.now task }
+    {
+        self.stage.is_closing() || is_ended_at(&self.nodes, &self.marks, task)
+    }
+
+    /// The label of a node.
+    pub(crate) fn label_at(&self, node: u64) -> &str
+        ensures { result.now ≡ label_at self.now.labels node }
+    {
+        label_at(&self.labels, node)
+    }
+
+    /// The label of a task, which is its node's. The root's is empty.
+    pub(crate) fn task_label(&self, task: u64) -> &str
+        ensures { result.now ≡ task_label self.now task }
+    {
+        match self.marks.get(task) {
+            Some(mark) => self.label_at(mark.node),
+            None => "",
+        }
+    }
+
     /// The cause that is reached where these numbers are left of a round.
     #[tactic(auto, using(crate::proofs::Members::front_laws))]
     fn round_cause(&self, left: &[u64]) -> Option<FinishCause>
         ensures { result ≡ where_true (is_nil (from_running self.now.running left.now) && overflows self.now.clock) FinishCause.TimeOverflow }
     {
-        let is_over = first_running(self.running.as_slice(), left).is_none();
+        let is_over = self.running.first_of(left).is_none();
         if is_over && self.overflows() {
             Some(FinishCause::TimeOverflow)
         } else {

@@ -1,5 +1,9 @@
+pub mod Texts
+pub mod Walked
 pub mod Places
 pub mod Seats
 pub mod Follows
+pub mod Coming
+pub mod Calling
 pub mod Running
-pub mod Walked
+pub mod Ending

@@ -3,7 +3,8 @@ use Rattle.std.proofs.Common.{◌≡◌, ◌≤◌, ◌<◌, ◌+◌, ℕ, zero,
 use Rattle.std.specs.Option.{option_eq}
 use Rattle.std.proofs.lemmas.Bool.{false≢true}
 use Rattle.rt_model.specs.Lists.{is_some_number}
-use Rattle.rt_model.specs.Tied.{find, without, with_task}
+use Rattle.rt_model.specs.Lists.{find, without}
+use Rattle.rt_model.specs.Turns.{with_task}
 use Rattle.rt_model.specs.Causes.{ends_next}
 use Rattle.rt_machine.proofs.Counts.{ends-runs, ends-none}
 use Rattle.rt_world.specs.Seats.{seats_from, numbers_of, ArePassed}
@@ -102,4 +103,16 @@ empty-last n [] a h = cc
 empty-last n (None ∷ ps) a h = empty-last (n + 1) ps a h
 empty-last n (Some b ∷ ps) a h = cc
 
-pub ruleset place_laws = (find-below, find-place, without-none, without-place, with-place, with-next)
+-- a number that nobody has
+pub with-none : {A : Type 0} → (n : ℕ) (ps : List (Option A)) → seats_from n (ps ++ None ∷ []) ≡ seats_from n ps
+with-none n [] = refl
+with-none n (None ∷ ps) = with-none (n + 1) ps
+with-none n (Some a ∷ ps) = grind (arith, with-none (n + 1) ps)
+
+-- whoever is taken out is gone
+pub without-gone : {A : Type 0} → (k n : ℕ) (ps : List (Option A)) → find k (without k (seats_from n ps)) ≡ None
+without-gone k n [] = refl
+without-gone k n (None ∷ ps) = without-gone k (n + 1) ps
+without-gone k n (Some a ∷ ps) = grind (arith, without-gone k (n + 1) ps, find-below k (n + 1) ps)
+
+pub ruleset place_laws = (with-none, without-gone, find-below, find-place, without-none, without-place, with-place, with-next)

@@ -5,7 +5,6 @@ use Rattle.rt_machine.specs.Steps.{Turns}
 use Rattle.rt_world.specs.World.{World}
 use Rattle.rt_world.specs.Visits.{Passes}
 use Rattle.rt_world.specs.Rounds.{Runs}
-use Rattle.rt_world.specs.Ends.{Ends}
 
 module _ {A O G : Type 0} (a b c : World A O G) where
   pub runs-runs : Runs a b → Runs b c → Runs a c

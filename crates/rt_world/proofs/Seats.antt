@@ -3,8 +3,13 @@ use Rattle.std.proofs.Common.{◌≡◌, ◌≤◌, ◌<◌, ◌+◌, ℕ, List,
 use Rattle.rt_model.specs.Lists.{has_number, with_number, without_number}
 use Rattle.rt_model.specs.Causes.{from_running, ends_next}
 use Rattle.rt_machine.proofs.Counts.{ends-runs}
-use Rattle.rt_model.specs.Tied.{find, without, with_task}
-use Rattle.rt_world.specs.Seats.{numbers_of, AreRising}
+use Rattle.rt_model.specs.Lists.{find, without}
+use Rattle.rt_model.specs.Turns.{with_task}
+use Rattle.std.proofs.Common.{Bool}
+use Rattle.rt_model.specs.State.{Phase}
+use Rattle.rt_model.specs.Effects.{is_closing}
+use Rattle.rt_world.specs.Calls.{Grows}
+use Rattle.rt_world.specs.Seats.{numbers_of, seated, OutRuns, AreRising}
 
 pub numbers-without : {A : Type 0} → (k : ℕ) (ts : List (ℕ × A)) → numbers_of (without k ts) ≡ without_number k (numbers_of ts)
 numbers-without k [] = refl
@@ -53,6 +58,53 @@ pub put-back : (k n m : ℕ) (ns : List ℕ) → AreRising n ns m → has_number
 put-back k n m [] s h = cc
 put-back k n m (j ∷ ns) s h = grind (arith, put-back k (j + 1) m ns s.1, put-front k (j + 1) m ns, rising-has k (j + 1) m ns s.1)
 
+-- the next number is added
+pub rising-more : (n m : ℕ) (ns : List ℕ) → AreRising n ns m → AreRising n (with_number m ns) (m + 1)
+rising-more n m [] s = (s, omega arith)
+rising-more n m (j ∷ ns) s = grind (arith, rising-more (j + 1) m ns s.1, rising-fits (j + 1) m ns s.1)
+
+last-in : (n m : ℕ) (ns : List ℕ) → AreRising n ns m → with_number m ns ≡ ns ++ m ∷ []
+last-in n m [] s = refl
+last-in n m (j ∷ ns) s = grind (arith, last-in (j + 1) m ns s.1, rising-fits (j + 1) m ns s.1)
+
+without-last : (t m : ℕ) (ns : List ℕ) → has_number t ns ≡ true → without_number t (ns ++ m ∷ []) ≡ without_number t ns ++ m ∷ []
+without-last t m [] h = cc
+without-last t m (j ∷ ns) h = grind (arith, without-last t m ns)
+
+-- a number more, while one is out
+pub seated-more : (n m : ℕ) (out : Option ℕ) (ns : List ℕ) → AreRising n ns m → OutRuns out ns → seated out (with_number m ns) ≡ with_number m (seated out ns)
+seated-more n m None ns s runs = refl
+seated-more n m (Some t) ns s runs =
+    rw (last-in n m ns s, last-in n m (without_number t ns) (rising-without t n m ns s)) (without-last t m ns runs)
+
+has-more : (t m : ℕ) (ns : List ℕ) → has_number t ns ≡ true → has_number t (with_number m ns) ≡ true
+has-more t m [] h = cc
+has-more t m (j ∷ ns) h = grind (arith, has-more t m ns)
+
+pub runs-more : (m : ℕ) (out : Option ℕ) (ns : List ℕ) → OutRuns out ns → OutRuns out (with_number m ns)
+runs-more m None ns runs = tt
+runs-more m (Some t) ns runs = has-more t m ns runs
+
+pub grows-more : (phase : Phase) (m : ℕ) (ns : List ℕ) → is_closing phase ≡ false → Grows phase ns (with_number m ns)
+unfolding Grows
+grows-more phase m ns going = (λ closing. absurd (both (is_closing phase) closing going), λ task runs. has-more task m ns runs)
+  where
+    both : (b : Bool) → b ≡ true → b ≡ false → ⊥
+    both true h k = cc
+    both false h k = cc
+
+-- in a cleanup nobody is added
+pub grows-closing : (phase : Phase) (old new : List ℕ) → Grows phase old new → is_closing phase ≡ true → new ≡ old
+unfolding Grows
+grows-closing phase old new grows closing = grows.0 closing
+
+pub not-closing : (b : Bool) → (b ≡ true → ⊥) → b ≡ false
+not-closing true h = absurd (h refl)
+not-closing false h = refl
+
+pub some-none : {V : Type 0} {v : V} → Some v ≡ None → ⊥
+some-none e = cc
+
 -- where no number has a place, none is in
 pub rising-none : (n m : ℕ) (ns : List ℕ) → AreRising n ns m → m ≡ n → ns ≡ []
 rising-none n m [] s h = refl
@@ -82,6 +134,6 @@ pub has-last : (k : ℕ) (ns : List ℕ) → has_number k (ns ++ k ∷ []) ≡ t
 has-last k [] = rw (eq-eqb k k refl) refl
 has-last k (n ∷ ns) = grind (arith, has-last k ns)
 
-pub ruleset seat_laws = (numbers-none, ends-found, find-some, numbers-without, numbers-with, find-none, find-gone, put-back, rising-without, rising-gone, rising-has, rising-none, runs-next)
+pub ruleset seat_laws = (rising-more, numbers-none, ends-found, find-some, numbers-without, numbers-with, find-none, find-gone, put-back, rising-without, rising-gone, rising-has, rising-none, runs-next)
 
-pub ruleset closing_laws = (has-last)
+pub ruleset closing_laws = (has-last, grows-closing)

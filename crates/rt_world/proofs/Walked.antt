@@ -2,25 +2,26 @@
 use Rattle.std.proofs.Common.{◌≡◌, ◌⊎◌, inl, inr, ℕ, Bool, List, [], ◌∷◌, ◌++◌, refl, sym, ap, ◌∙◌, Option, Some, None, Result, Ok, Err, true, false, append_assoc, arith, is_some, OnOk, OnErr, IfOk, IfErr}
 use Rattle.std.proofs.lemmas.List.{append-nil}
 use Rattle.rt_base.specs.declared.error.Error.{Error}
-use Rattle.rt_base.specs.declared.error.Error.TheVariants.{NoMemory as OutOf, UnknownToken}
+use Rattle.rt_base.specs.declared.error.Error.TheVariants.{NoMemory as OutOf}
 use Rattle.rt_base.specs.declared.no_memory.NoMemory.{NoMemory as OutOfMemory}
 use Rattle.rt_audit.specs.declared.call.Call.{Call}
-use Rattle.rt_audit.specs.declared.call.Call.TheVariants.{CloseNode, SleepPoll, Wake}
+use Rattle.rt_audit.specs.declared.call.Call.TheVariants.{Child, AbortTask, Wake, Join}
 use Rattle.rt_audit.specs.declared.reply.CallReply.{CallReply}
-use Rattle.rt_audit.specs.declared.reply.CallReply.TheVariants.{Done, Refused}
+use Rattle.rt_audit.specs.declared.reply.CallReply.TheVariants.{Done, NodeAt, Pending, Ready, Refused}
 use Rattle.rt_super.specs.Alarms.{AlarmList}
-use Rattle.rt_super.specs.Ancestry.{is_live}
 use Rattle.rt_model.specs.declared.answer.Answer.{Answer}
 use Rattle.rt_model.specs.declared.answer.Answer.TheVariants.{NoMemory}
-use Rattle.rt_model.specs.State.{Stood, Turn, stood_in}
+use Rattle.rt_model.specs.State.{Phase, Making, Polling, Ending, Closing, Stood, Turn, stood_in}
+use Rattle.rt_model.specs.Causes.{ends_next}
+use Rattle.rt_model.specs.Rules.{CallsAt, MayCall}
 use Rattle.rt_model.specs.Alarms.{alarm_of}
-use Rattle.rt_model.specs.Turns.{Ask, Heard, Plainly, Sleeping, Plain, Held, Asks, IsOwn}
+use Rattle.rt_model.specs.Turns.{Frees, Ask, Heard, Plainly, Sleeping, Spawning, Plain, Handed, Held, Asks, IsOwn, IsPlain, FreesOne, call_of, heard_of, moved, has_place}
 use Rattle.rt_model.specs.Walk.{Step, Last, Does, Spends, Gives, Walks, Fronts, Lacks, Stops, Breaks, then, followed_by, stood_before}
-use Rattle.rt_model.proofs.Walks.{walks-then, fronts-then, stops-then, stops-first}
-use Rattle.rt_machine.specs.Calls.{turn_in, marked, sleep_reply, slept_number}
+use Rattle.rt_model.proofs.Walks.{walks-then, fronts-then, stops-then, stops-first, frees-append, frees-moved}
+use Rattle.rt_machine.specs.Calls.{turn_in, marked, sleep_reply, slept_number, spawn_reply}
 use Rattle.rt_world.specs.World.{World}
-use Rattle.rt_world.specs.Calls.{Stays, Kept, Made, Closed, WakeRefused, lacking}
-use Rattle.rt_world.specs.Walked.{Broke, EndsWith, Turned, Walked, Spent, Polled, answered_by, Rooted, root_by, Goes, Called, wake_reply, sleep_told, Spends as MaySpend, Closes, Leads}
+use Rattle.rt_world.specs.Calls.{Stays, Grows, Kept, Made, IsRefused, SpentBy, Joined, lacking}
+use Rattle.rt_world.specs.Walked.{Broke, EndsWith, Turned, Walked, Spent, Polled, answered_by, Rooted, root_by, Goes, Called, reads, Reads, wake_told, sleep_told, child_told, spawn_told, join_told, Spends as MaySpend, Closes, Leads}
 
 stood-more : (ts us : List Turn) (n0 n1 n2 : Stood) → stood_before us n2 ≡ n1 → stood_before ts n1 ≡ n0 → stood_before (ts ++ us) n2 ≡ n0
 stood-more [] us n0 n1 n2 h k = h ∙ k
@@ -72,6 +73,7 @@ module _ {A L O R M Q G : Type 0} (old mid new : World A O G) (first : Step A L 
     more = one.more ++ two.more;
     turns = two.turns ∙ ap (λ xs. xs ++ two.more) one.turns ∙ append_assoc old.told.state.turns one.more two.more;
     stood = stood-more one.more two.more _ _ _ two.stood one.stood;
+    frees = frees-append one.more two.more old.held mid.held new.held one.frees two.frees;
     marked = λ made o. two.marked made (one.marked made o);
     ends = λ n. turned-ends (one.ends (unmarked mid.lacked new.lacked two.marked n)) given (two.ends n);
     broke = λ made o n. turned-broke made o n mid.lacked refl;
@@ -84,15 +86,20 @@ own-alarm : (time : ℕ) (alarms : AlarmList) (due : ℕ) (alarm told : Option �
 own-alarm time alarms due alarm None h = tt
 own-alarm time alarms due alarm (Some n) h = some-own time alarms due alarm n h
 
+has-none : (b : Bool) → b ≡ true → b ≡ false → ⊥
+has-none true h k = cc
+has-none false h k = cc
+
 module _ {A L O R G : Type 0} (old mid new : World A O G) (given : Option (R × L)) where
   -- a turn more in front
-  turned-before : (t : Turn) (step next : Step A L O R) → mid.told.state.turns ≡ old.told.state.turns ++ t ∷ [] → mid.held ≡ old.held → mid.lacked ≡ old.lacked → t.stood ≡ stood_in old.told.state → ((us : List Turn) (stood : Stood) (end : Held A O) (given : Option (R × L)) → EndsWith next old.held us stood given end → EndsWith step old.held (t ∷ us) stood given end) → ((front : List Turn) (stood : Stood) → Stops next old.held front stood → Stops step old.held (t ∷ front) stood) → Turned next mid new given → Turned step old new given
-  turned-before t step next is held lacked stood walk front two = record {
+  turned-before : (t : Turn) (step next : Step A L O R) → mid.told.state.turns ≡ old.told.state.turns ++ t ∷ [] → FreesOne old.held t.call t.reply mid.held → mid.lacked ≡ old.lacked → t.stood ≡ stood_in old.told.state → ((us : List Turn) (stood : Stood) (end : Held A O) (given : Option (R × L)) → EndsWith next mid.held us stood given end → EndsWith step old.held (t ∷ us) stood given end) → ((front : List Turn) (stood : Stood) → Stops next mid.held front stood → Stops step old.held (t ∷ front) stood) → Turned next mid new given → Turned step old new given
+  turned-before t step next is frees lacked stood walk front two = record {
     more = t ∷ two.more;
     turns = two.turns ∙ ap (λ ts. ts ++ two.more) is ∙ append_assoc old.told.state.turns (t ∷ []) two.more;
     stood = stood;
+    frees = (mid.held, frees, two.frees);
     marked = λ made o. two.marked made (lacked ∙ o);
-    ends = λ n. walk two.more (stood_in new.told.state) new.held given (rw (← held) (two.ends n));
+    ends = λ n. walk two.more (stood_in new.told.state) new.held given (two.ends n);
     broke = λ made o n.
         let k = two.broke made (lacked ∙ o) n in
         record {
@@ -100,62 +107,71 @@ module _ {A L O R G : Type 0} (old mid new : World A O G) (given : Option (R × 
           rest = k.rest;
           are = ap (λ xs. t ∷ xs) k.are;
           before = k.before ∙ ap (λ ts. ts ++ k.front) is ∙ append_assoc old.told.state.turns (t ∷ []) k.front;
-          walks = front k.front (stood_before k.rest (stood_in new.told.state)) (rw (← held) k.walks);
+          walks = front k.front (stood_before k.rest (stood_in new.told.state)) k.walks;
         };
   }
 
-  does-ends : (t : Turn) (ask : Ask A O) (on : Heard O → Step A L O R) (asks : Asks ask t) (us : List Turn) (stood : Stood) (end : Held A O) (given : Option (R × L)) → EndsWith (on (Plain t.reply)) old.held us stood given end → EndsWith (Does ask on) old.held (t ∷ us) stood given end
-  does-ends t ask on asks us stood end None w = (asks, w)
-  does-ends t ask on asks us stood end (Some g) w = (asks, w)
+  module _ (t : Turn) (ask : Ask A O) (asks : Asks ask t) (is : mid.held ≡ moved old.held ask t) where
+    does-ends : (on : Heard O → Step A L O R) (us : List Turn) (stood : Stood) (end : Held A O) (given : Option (R × L)) → EndsWith (on (heard_of old.held t)) mid.held us stood given end → EndsWith (Does ask on) old.held (t ∷ us) stood given end
+    does-ends on us stood end None w = (asks, rw (← is) w)
+    does-ends on us stood end (Some g) w = (asks, rw (← is) w)
 
-  turned-does : (t : Turn) (ask : Ask A O) (on : Heard O → Step A L O R) → mid.told.state.turns ≡ old.told.state.turns ++ t ∷ [] → mid.held ≡ old.held → mid.lacked ≡ old.lacked → t.stood ≡ stood_in old.told.state → Asks ask t → Turned (on (Plain t.reply)) mid new given → Turned (Does ask on) old new given
-  turned-does t ask on is held lacked stood asks two =
-      turned-before t (Does ask on) (on (Plain t.reply)) is held lacked stood (does-ends t ask on asks) (λ front stood w. (asks, w)) two
+    does-stops : (on : Heard O → Step A L O R) (front : List Turn) (stood : Stood) → Stops (on (heard_of old.held t)) mid.held front stood → Stops (Does ask on) old.held (t ∷ front) stood
+    does-stops on front stood w = (asks, rw (← is) w)
 
-  turned-call : (call : Call) (reply : CallReply) (on : Heard O → Step A L O R) → Made old mid call reply → Turned (on (Plain reply)) mid new given → Turned (Does (Plainly call) on) old new given
-  turned-call call reply on made two =
-      turned-does (turn_in old.told.state call reply) (Plainly call) on made.turns made.held made.lacked refl (refl, tt) two
-
-  turned-sleep : (due : ℕ) (alarm told : Option ℕ) (on : Heard O → Step A L O R) → told ≡ slept_number old.told.state.clock.time old.told.state.alarms due alarm → Made old mid (SleepPoll due) (sleep_reply told) → Turned (on (Plain (sleep_reply told))) mid new given → Turned (Does (Sleeping due alarm) on) old new given
-  turned-sleep due alarm told on is made two =
-      turned-does (turn_in old.told.state (SleepPoll due) (sleep_reply told)) (Sleeping due alarm) on made.turns made.held made.lacked refl (refl, own-alarm old.told.state.clock.time old.told.state.alarms due alarm told is) two
-
-  spent-ends : (t : Turn) (node : ℕ) (next : Step A L O R) → t.call ≡ CloseNode node → t.reply ≡ Done → is_live t.stood.nodes node ≡ true → (us : List Turn) (stood : Stood) (end : Held A O) (given : Option (R × L)) → EndsWith next old.held us stood given end → EndsWith (Spends (Plainly (CloseNode node)) next) old.held (t ∷ us) stood given end
-  spent-ends t node next call reply live us stood end None w = (λ there. (call, reply, w), λ none. cc)
-  spent-ends t node next call reply live us stood end (Some g) w = (λ there. (call, reply, w), λ none. cc)
-
-  turned-spent : (node : ℕ) (next : Step A L O R) → Made old mid (CloseNode node) Done → is_live old.told.state.nodes node ≡ true → Turned next mid new given → Turned (Spends (Plainly (CloseNode node)) next) old new given
-  turned-spent node next made live two =
-      turned-before (turn_in old.told.state (CloseNode node) Done) (Spends (Plainly (CloseNode node)) next) next made.turns made.held made.lacked refl
-      (spent-ends (turn_in old.told.state (CloseNode node) Done) node next refl refl live)
-      (λ front stood w. (λ there. (refl, refl, w), λ none. cc))
+  -- a call, and then what follows from what was heard of it
+  turned-made : (ask : Ask A O) (reply : CallReply) (heard : Heard O) (on : Heard O → Step A L O R) → Made old mid ask reply → Asks ask (turn_in old.told.state (call_of ask) reply) → heard ≡ heard_of old.held (turn_in old.told.state (call_of ask) reply) → Turned (on heard) mid new given → Turned (Does ask on) old new given
+  turned-made ask reply heard on made asks is two =
+      let t = turn_in old.told.state (call_of ask) reply in
+      turned-before t (Does ask on) (on heard) made.turns (rw made.held (frees-moved old.held ask t asks)) made.lacked refl
+      (λ us stood end given w. does-ends t ask asks made.held on us stood end given (rw (← is) w))
+      (λ front stood w. does-stops t ask asks made.held on front stood (rw (← is) w))
       two
 
+  turned-sleep : (due : ℕ) (alarm told : Option ℕ) (on : Heard O → Step A L O R) → told ≡ slept_number old.told.state.clock.time old.told.state.alarms due alarm → Made old mid (Sleeping due alarm) (sleep_reply told) → Turned (on (Plain (sleep_reply told))) mid new given → Turned (Does (Sleeping due alarm) on) old new given
+  turned-sleep due alarm told on is made two =
+      turned-made (Sleeping due alarm) (sleep_reply told) (Plain (sleep_reply told)) on made (refl, own-alarm old.told.state.clock.time old.told.state.alarms due alarm told is) refl two
+
+  -- a call that spends a token
+  module _ (call : Call) (plain : IsPlain call) (made : Made old mid (Plainly call) Done) (there : has_place (stood_in old.told.state) call ≡ true) where
+    spent-ends : (next : Step A L O R) (us : List Turn) (stood : Stood) (end : Held A O) (given : Option (R × L)) → EndsWith next mid.held us stood given end → EndsWith (Spends (Plainly call) next) old.held (turn_in old.told.state call Done ∷ us) stood given end
+    spent-ends next us stood end None w = (λ place. (refl, refl, rw (← made.held) w), λ none. absurd (has-none (has_place (stood_in old.told.state) call) there none))
+    spent-ends next us stood end (Some g) w = (λ place. (refl, refl, rw (← made.held) w), λ none. absurd (has-none (has_place (stood_in old.told.state) call) there none))
+
+    turned-spent : (next : Step A L O R) → Turned next mid new given → Turned (Spends (Plainly call) next) old new given
+    turned-spent next two =
+        let t = turn_in old.told.state call Done in
+        turned-before t (Spends (Plainly call) next) next made.turns (rw made.held (frees-moved old.held (Plainly call) t (refl, plain))) made.lacked refl
+        (λ us stood end given w. spent-ends next us stood end given w)
+        (λ front stood w. (λ place. (refl, refl, rw (← made.held) w), λ none. absurd (has-none (has_place (stood_in old.told.state) call) there none)))
+        two
+
 -- a token that has no place is spent by no call
-walks-gone : {A L O R : Type 0} (ts : List Turn) (stood before : Stood) (q : R) (b : L) (held end : Held A O) (node : ℕ) (next : Step A L O R) → stood_before ts stood ≡ before → is_live before.nodes node ≡ false → Walks next held ts stood q b end → Walks (Spends (Plainly (CloseNode node)) next) held ts stood q b end
-walks-gone [] stood before q b held end node next stands gone w = (rw stands gone, w)
-walks-gone (t ∷ ts) stood before q b held end node next stands gone w = (λ there. cc, λ none. w)
+walks-gone : {A L O R : Type 0} (ts : List Turn) (stood before : Stood) (q : R) (b : L) (held end : Held A O) (call : Call) (next : Step A L O R) → stood_before ts stood ≡ before → has_place before call ≡ false → Walks next held ts stood q b end → Walks (Spends (Plainly call) next) held ts stood q b end
+walks-gone [] stood before q b held end call next stands gone w = (rw stands gone, w)
+walks-gone (t ∷ ts) stood before q b held end call next stands gone w = (λ there. absurd (has-none (has_place t.stood call) there (rw stands gone)), λ none. w)
 
-fronts-gone : {A L O R : Type 0} (ts : List Turn) (stood before : Stood) (held : Held A O) (node : ℕ) (next : Step A L O R) → stood_before ts stood ≡ before → is_live before.nodes node ≡ false → Fronts next held ts → Fronts (Spends (Plainly (CloseNode node)) next) held ts
-fronts-gone [] stood before held node next stands gone w = tt
-fronts-gone (t ∷ ts) stood before held node next stands gone w = (λ there. cc, λ none. w)
+fronts-gone : {A L O R : Type 0} (ts : List Turn) (stood before : Stood) (held : Held A O) (call : Call) (next : Step A L O R) → stood_before ts stood ≡ before → has_place before call ≡ false → Fronts next held ts → Fronts (Spends (Plainly call) next) held ts
+fronts-gone [] stood before held call next stands gone w = tt
+fronts-gone (t ∷ ts) stood before held call next stands gone w = (λ there. absurd (has-none (has_place t.stood call) there (rw stands gone)), λ none. w)
 
-stops-gone : {A L O R : Type 0} (ts : List Turn) (stood before : Stood) (held : Held A O) (node : ℕ) (next : Step A L O R) → stood_before ts stood ≡ before → is_live before.nodes node ≡ false → Stops next held ts stood → Stops (Spends (Plainly (CloseNode node)) next) held ts stood
-stops-gone [] stood before held node next stands gone w = (rw stands gone, w)
-stops-gone (t ∷ ts) stood before held node next stands gone w = (λ there. cc, λ none. w)
+stops-gone : {A L O R : Type 0} (ts : List Turn) (stood before : Stood) (held : Held A O) (call : Call) (next : Step A L O R) → stood_before ts stood ≡ before → has_place before call ≡ false → Stops next held ts stood → Stops (Spends (Plainly call) next) held ts stood
+stops-gone [] stood before held call next stands gone w = (rw stands gone, w)
+stops-gone (t ∷ ts) stood before held call next stands gone w = (λ there. absurd (has-none (has_place t.stood call) there (rw stands gone)), λ none. w)
 
 module _ {A L O R G : Type 0} (old new : World A O G) (given : Option (R × L)) where
-  gone-ends : (us : List Turn) (node : ℕ) (next : Step A L O R) → is_live old.told.state.nodes node ≡ false → stood_before us (stood_in new.told.state) ≡ stood_in old.told.state → (given : Option (R × L)) → EndsWith next old.held us (stood_in new.told.state) given new.held → EndsWith (Spends (Plainly (CloseNode node)) next) old.held us (stood_in new.told.state) given new.held
-  gone-ends us node next gone stood None w = fronts-gone us (stood_in new.told.state) (stood_in old.told.state) old.held node next stood gone w
-  gone-ends us node next gone stood (Some g) w = walks-gone us (stood_in new.told.state) (stood_in old.told.state) g.0 g.1 old.held new.held node next stood gone w
+  gone-ends : (us : List Turn) (call : Call) (next : Step A L O R) → has_place (stood_in old.told.state) call ≡ false → stood_before us (stood_in new.told.state) ≡ stood_in old.told.state → (given : Option (R × L)) → EndsWith next old.held us (stood_in new.told.state) given new.held → EndsWith (Spends (Plainly call) next) old.held us (stood_in new.told.state) given new.held
+  gone-ends us call next gone stood None w = fronts-gone us (stood_in new.told.state) (stood_in old.told.state) old.held call next stood gone w
+  gone-ends us call next gone stood (Some g) w = walks-gone us (stood_in new.told.state) (stood_in old.told.state) g.0 g.1 old.held new.held call next stood gone w
 
-  turned-gone : (node : ℕ) (next : Step A L O R) → is_live old.told.state.nodes node ≡ false → Turned next old new given → Turned (Spends (Plainly (CloseNode node)) next) old new given
-  turned-gone node next gone two = record {
+  turned-gone : (call : Call) (next : Step A L O R) → has_place (stood_in old.told.state) call ≡ false → Turned next old new given → Turned (Spends (Plainly call) next) old new given
+  turned-gone call next gone two = record {
     more = two.more;
     turns = two.turns;
     stood = two.stood;
+    frees = two.frees;
     marked = two.marked;
-    ends = λ n. gone-ends two.more node next gone two.stood given (two.ends n);
+    ends = λ n. gone-ends two.more call next gone two.stood given (two.ends n);
     broke = λ made o n.
         let k = two.broke made o n in
         record {
@@ -163,7 +179,7 @@ module _ {A L O R G : Type 0} (old new : World A O G) (given : Option (R × L)) 
           rest = k.rest;
           are = k.are;
           before = k.before;
-          walks = stops-gone k.front (stood_before k.rest (stood_in new.told.state)) (stood_in old.told.state) old.held node next (sym (stood-both k.front k.rest (stood_in new.told.state)) ∙ sym (ap (λ us. stood_before us (stood_in new.told.state)) k.are) ∙ two.stood) gone k.walks;
+          walks = stops-gone k.front (stood_before k.rest (stood_in new.told.state)) (stood_in old.told.state) old.held call next (sym (stood-both k.front k.rest (stood_in new.told.state)) ∙ sym (ap (λ us. stood_before us (stood_in new.told.state)) k.are) ∙ two.stood) gone k.walks;
         };
   }
 
@@ -173,6 +189,7 @@ turned-none w given step ends = record {
   more = [];
   turns = sym (append-nil w.told.state.turns);
   stood = refl;
+  frees = refl;
   marked = λ made o. o;
   ends = λ n. ends;
   broke = λ made o n. cc;
@@ -187,6 +204,7 @@ turned-lacking w given step lacks = by w.lacked refl
       more = [];
       turns = sym (append-nil w.told.state.turns);
       stood = refl;
+      frees = refl;
       marked = λ made o. cc;
       ends = λ n. let m = rw e at n in absurd (cc);
       broke = λ made o n. record {
@@ -201,6 +219,7 @@ turned-lacking w given step lacks = by w.lacked refl
       more = [];
       turns = sym (append-nil w.told.state.turns);
       stood = refl;
+      frees = refl;
       marked = λ before o. rw e (rw e at o);
       ends = λ n. let m = rw e at n in absurd (cc);
       broke = λ made o n. absurd (cc);
@@ -214,11 +233,13 @@ turned-behind {A = A} {L = L} {O = O} {R = R} {G = G} old mid new given later st
     by None e =
         let m : mid.lacked ≡ Some old.told.state.turns = rw (is, e) refl in
         let told : mid.told ≡ old.told = ap (λ (w : World A O G). w.told) is in
+        let held : mid.held ≡ old.held = ap (λ (w : World A O G). w.held) is in
         let after : new.lacked ≡ Some old.told.state.turns = two.marked old.told.state.turns m in
         record {
           more = two.more;
           turns = rw (← told) two.turns;
           stood = rw (← told) two.stood;
+          frees = rw (← held) two.frees;
           marked = λ made o. absurd (cc);
           ends = λ n. absurd (cc);
           broke = λ made o n. record {
@@ -232,20 +253,22 @@ turned-behind {A = A} {L = L} {O = O} {R = R} {G = G} old mid new given later st
     by (Some before) e =
         let m : mid.lacked ≡ Some before = rw (is, e) refl in
         let told : mid.told ≡ old.told = ap (λ (w : World A O G). w.told) is in
+        let held : mid.held ≡ old.held = ap (λ (w : World A O G). w.held) is in
         let after : new.lacked ≡ Some before = two.marked before m in
         record {
           more = two.more;
           turns = rw (← told) two.turns;
           stood = rw (← told) two.stood;
+          frees = rw (← held) two.frees;
           marked = λ made o. let s : before ≡ made = cc in rw (← s) after;
           ends = λ n. absurd (cc);
           broke = λ made o n. absurd (cc);
         }
 
--- a context that is closed, and then what comes next
-turned-closed : {A L O R G : Type 0} (old mid new : World A O G) (given : Option (R × L)) (node : ℕ) (next : Step A L O R) → Closed old mid node → Turned next mid new given → (place : Bool) → is_live old.told.state.nodes node ≡ place → Turned (Spends (Plainly (CloseNode node)) next) old new given
-turned-closed old mid new given node next closed two true e = turned-spent old mid new given node next (closed.live e) e two
-turned-closed old mid new given node next closed two false e = let same = closed.gone e in turned-gone old new given node next e (rw same at two)
+-- a token that is spent, and then what comes next
+turned-token : {A L O R G : Type 0} (old mid new : World A O G) (given : Option (R × L)) (call : Call) (next : Step A L O R) → IsPlain call → SpentBy old mid call → Turned next mid new given → (place : Bool) → has_place (stood_in old.told.state) call ≡ place → Turned (Spends (Plainly call) next) old new given
+turned-token old mid new given call next plain spent two true e = turned-spent old mid new given call plain (spent.there e) e next two
+turned-token old mid new given call next plain spent two false e = let same = spent.gone e in turned-gone old new given call next e (rw same at two)
 
 -- pollers
 module _ {A L O R M Q G : Type 0} (old mid new : World A O G) (first : Step A L O R) (more : R → L → Step A M O Q) (r : R) (a : L) (q : Q) (b : M) where
@@ -262,20 +285,25 @@ module _ {A O M Q G : Type 0} (old mid new : World A O G) (first : Last A O) (ne
 
 module _ {A L O R G : Type 0} (old mid new : World A O G) (q : R) (b : L) where
   -- a call, and then what follows from its reply
-  pub walked-call : (call : Call) (reply : CallReply) (on : Heard O → Step A L O R) → Made old mid call reply → Walked (on (Plain reply)) mid new q b → Walked (Does (Plainly call) on) old new q b
+  pub walked-wake : (task : ℕ) (reply : CallReply) (on : Heard O → Step A L O R) → Made old mid (Plainly (Wake task)) reply → Walked (on (Plain reply)) mid new q b → Walked (Does (Plainly (Wake task)) on) old new q b
   unfolding Walked
-  walked-call call reply on made two = (turned-call old mid new (Some (q, b)) call reply on made two)
+  walked-wake task reply on made two = (turned-made old mid new (Some (q, b)) (Plainly (Wake task)) reply (Plain reply) on made (refl, tt) refl two)
+
+  -- a result that is polled
+  pub walked-join : (task : ℕ) (reply : CallReply) (heard : Heard O) (on : Heard O → Step A L O R) → Made old mid (Plainly (Join task)) reply → heard ≡ heard_of old.held (turn_in old.told.state (Join task) reply) → Walked (on heard) mid new q b → Walked (Does (Plainly (Join task)) on) old new q b
+  unfolding Walked
+  walked-join task reply heard on made is two = (turned-made old mid new (Some (q, b)) (Plainly (Join task)) reply heard on made (refl, tt) is two)
 
   -- a sleep that is polled
-  pub walked-sleep : (due : ℕ) (alarm told : Option ℕ) (on : Heard O → Step A L O R) → told ≡ slept_number old.told.state.clock.time old.told.state.alarms due alarm → Made old mid (SleepPoll due) (sleep_reply told) → Walked (on (Plain (sleep_reply told))) mid new q b → Walked (Does (Sleeping due alarm) on) old new q b
+  pub walked-sleep : (due : ℕ) (alarm told : Option ℕ) (on : Heard O → Step A L O R) → told ≡ slept_number old.told.state.clock.time old.told.state.alarms due alarm → Made old mid (Sleeping due alarm) (sleep_reply told) → Walked (on (Plain (sleep_reply told))) mid new q b → Walked (Does (Sleeping due alarm) on) old new q b
   unfolding Walked
   walked-sleep due alarm told on is made two = (turned-sleep old mid new (Some (q, b)) due alarm told on is made two)
 
-  -- a context that is closed
-  pub walked-close : (node : ℕ) (next : Step A L O R) → Closed old mid node → Walked next mid new q b → Walked (Spends (Plainly (CloseNode node)) next) old new q b
+  -- a token that is spent
+  pub walked-spend : (call : Call) (next : Step A L O R) → IsPlain call → SpentBy old mid call → Walked next mid new q b → Walked (Spends (Plainly call) next) old new q b
   unfolding Walked
-  walked-close node next closed two =
-      (turned-closed old mid new (Some (q, b)) node next closed two (is_live old.told.state.nodes node) refl)
+  walked-spend call next plain spent two =
+      (turned-token old mid new (Some (q, b)) call next plain spent two (has_place (stood_in old.told.state) call) refl)
 
 module _ {A L O R G : Type 0} (w : World A O G) (q : R) (b : L) where
   -- an answer
@@ -294,9 +322,9 @@ module _ {A O G : Type 0} (old mid new : World A O G) where
   unfolding Spent Walked
   spent-followed first next one two = (walked-followed old mid new first next tt tt one two)
 
-  pub spent-close : (node : ℕ) (next : Last A O) → Closed old mid node → Spent next mid new → Spent (Spends (Plainly (CloseNode node)) next) old new
+  pub spent-spend : (call : Call) (next : Last A O) → IsPlain call → SpentBy old mid call → Spent next mid new → Spent (Spends (Plainly call) next) old new
   unfolding Spent Walked
-  spent-close node next closed two = (walked-close old mid new tt tt node next closed two)
+  spent-spend call next plain spent two = (walked-spend old mid new tt tt call next plain spent two)
 
 pub spent-nothing : {A O G : Type 0} (w : World A O G) → Spent (Gives tt tt) w w
 unfolding Spent Walked
@@ -313,11 +341,16 @@ module _ {A O G : Type 0} (old mid new : World A O G) (answer : Answer O) (left 
   unfolding followed_by Spent Walked
   polled-followed first next one two = polled-then old mid new first (λ answer left. next) tt tt answer left one two
 
-  pub polled-call : (call : Call) (reply : CallReply) (on : Heard O → Step A A O (Answer O)) → Made old mid call reply → Polled (on (Plain reply)) mid new answer left → Polled (Does (Plainly call) on) old new answer left
+  pub polled-wake : (task : ℕ) (reply : CallReply) (on : Heard O → Step A A O (Answer O)) → Made old mid (Plainly (Wake task)) reply → Polled (on (Plain reply)) mid new answer left → Polled (Does (Plainly (Wake task)) on) old new answer left
   unfolding Polled
-  polled-call call reply on made two = (turned-call old mid new (answered_by answer left) call reply on made two)
+  polled-wake task reply on made two = (turned-made old mid new (answered_by answer left) (Plainly (Wake task)) reply (Plain reply) on made (refl, tt) refl two)
 
-  pub polled-sleep : (due : ℕ) (alarm told : Option ℕ) (on : Heard O → Step A A O (Answer O)) → told ≡ slept_number old.told.state.clock.time old.told.state.alarms due alarm → Made old mid (SleepPoll due) (sleep_reply told) → Polled (on (Plain (sleep_reply told))) mid new answer left → Polled (Does (Sleeping due alarm) on) old new answer left
+  pub polled-spend : (call : Call) (next : Step A A O (Answer O)) → IsPlain call → SpentBy old mid call → Polled next mid new answer left → Polled (Spends (Plainly call) next) old new answer left
+  unfolding Polled
+  polled-spend call next plain spent two =
+      (turned-token old mid new (answered_by answer left) call next plain spent two (has_place (stood_in old.told.state) call) refl)
+
+  pub polled-sleep : (due : ℕ) (alarm told : Option ℕ) (on : Heard O → Step A A O (Answer O)) → told ≡ slept_number old.told.state.clock.time old.told.state.alarms due alarm → Made old mid (Sleeping due alarm) (sleep_reply told) → Polled (on (Plain (sleep_reply told))) mid new answer left → Polled (Does (Sleeping due alarm) on) old new answer left
   unfolding Polled
   polled-sleep due alarm told on is made two = (turned-sleep old mid new (answered_by answer left) due alarm told on is made two)
 
@@ -341,15 +374,11 @@ polled-lacking old new step answer left e l = rw e ((turned-lacking old (answere
 
 -- and of a maker
 module _ {A O G : Type 0} (old mid new : World A O G) (result : Result A OutOfMemory) where
-  pub rooted-call : (call : Call) (reply : CallReply) (on : Heard O → Step A A O (Unit {0})) → Made old mid call reply → Rooted (on (Plain reply)) mid new result → Rooted (Does (Plainly call) on) old new result
+  -- a token that is spent
+  pub rooted-spend : (call : Call) (next : Step A A O (Unit {0})) → IsPlain call → SpentBy old mid call → Rooted next mid new result → Rooted (Spends (Plainly call) next) old new result
   unfolding Rooted
-  rooted-call call reply on made two = (turned-call old mid new (root_by result) call reply on made two)
-
-  -- a context that is closed
-  pub rooted-close : (node : ℕ) (next : Step A A O (Unit {0})) → Closes node old mid → Rooted next mid new result → Rooted (Spends (Plainly (CloseNode node)) next) old new result
-  unfolding Rooted
-  rooted-close node next closes two =
-      (turned-closed old mid new (root_by result) node next closes.closed two (is_live old.told.state.nodes node) refl)
+  rooted-spend call next plain spent two =
+      (turned-token old mid new (root_by result) call next plain spent two (has_place (stood_in old.told.state) call) refl)
 
 module _ {A O G : Type 0} (w : World A O G) where
   pub rooted-gives : (made root : A) → made ≡ root → Rooted (Gives tt made) w w (Ok root)
@@ -366,30 +395,63 @@ rooted-lacking old new step result e l = rw e ((turned-lacking old (root_by resu
 
 -- what the calls of the world leave
 module _ {A O G : Type 0} (old new : World A O G) where
-  called-made : (ask : Ask A O) (reply : CallReply) → ((L R : Type 0) (end : World A O G) (given : Option (R × L)) (on : Heard O → Step A L O R) → Turned (on (Plain reply)) new end given → Turned (Does ask on) old end given) → Called ask old new reply
+  called-as : (ask : Ask A O) (heard : Heard O) → ((L R : Type 0) (end : World A O G) (given : Option (R × L)) (on : Heard O → Step A L O R) → Turned (on heard) new end given → Turned (Does ask on) old end given) → Called ask old new heard
   unfolding Polled Spent Rooted
-  called-made ask reply turned = record {
+  called-as ask heard turned = record {
     onward = λ on end given state two. turned A (Answer O) end (answered_by given state) on two;
     ends = λ on end two. turned (Unit {0}) (Unit {0}) end (Some (tt, tt)) on two;
     makes = λ on end root two. turned A (Unit {0}) end (root_by root) on two;
   }
 
-  pub wake-called : (task : ℕ) (result : Result (Unit {0}) Error) → OnOk result (Made old new (Wake task) Done) → IfErr result (λ e. WakeRefused old new task e) → Called (Plainly (Wake task)) old new (wake_reply result)
-  wake-called task (Ok done) made refused =
-      called-made (Plainly (Wake task)) Done (λ L R end given on two. turned-call old new end given (Wake task) Done on made two)
-  wake-called task (Err OutOf) made refused =
-      called-made (Plainly (Wake task)) (Refused OutOf) (λ L R end given on two. turned-behind old new end given given (Does (Plainly (Wake task)) on) (on (Plain (Refused OutOf))) refused tt two)
-  wake-called task (Err UnknownToken) made refused =
-      called-made (Plainly (Wake task)) (Refused UnknownToken) (λ L R end given on two. turned-call old new end given (Wake task) (Refused UnknownToken) on refused.1 two)
-  wake-called task (Err _) made refused = absurd refused
+  -- it was made
+  called-made : (ask : Ask A O) (reply : CallReply) (heard : Heard O) → Made old new ask reply → Asks ask (turn_in old.told.state (call_of ask) reply) → heard ≡ heard_of old.held (turn_in old.told.state (call_of ask) reply) → Called ask old new heard
+  called-made ask reply heard made asks is = called-as ask heard (λ L R end given on two. turned-made old new end given ask reply heard on made asks is two)
 
-  pub sleep-called : (due : ℕ) (alarm : Option ℕ) (result : Result (Option ℕ) OutOfMemory) → IfOk result (λ told. told ≡ slept_number old.told.state.clock.time old.told.state.alarms due alarm) → IfOk result (λ told. Made old new (SleepPoll due) (sleep_reply told)) → OnErr result (new ≡ lacking old) → Called (Sleeping due alarm) old new (sleep_told result)
+  -- it lacked memory
+  called-lacking : (ask : Ask A O) (heard : Heard O) → new ≡ lacking old → Called ask old new heard
+  called-lacking ask heard is = called-as ask heard (λ L R end given on two. turned-behind old new end given given (Does ask on) (on heard) is tt two)
+
+  -- it was refused
+  called-refused : (ask : Ask A O) (error : Error) → ((reply : CallReply) → Asks ask (turn_in old.told.state (call_of ask) (Refused error))) → Plain (Refused error) ≡ heard_of old.held (turn_in old.told.state (call_of ask) (Refused error)) → IsRefused old new ask error → Called ask old new (Plain (Refused error))
+  called-refused ask error asks is (inl lack) = called-lacking ask (Plain (Refused error)) lack.1
+  called-refused ask error asks is (inr made) = called-made ask (Refused error) (Plain (Refused error)) made (asks (Refused error)) is
+
+  pub wake-called : (task : ℕ) (result : Result (Unit {0}) Error) → OnOk result (Made old new (Plainly (Wake task)) Done) → IfErr result (λ e. IsRefused old new (Plainly (Wake task)) e) → Called (Plainly (Wake task)) old new (wake_told result)
+  wake-called task (Ok done) made refused = called-made (Plainly (Wake task)) Done (Plain Done) made (refl, tt) refl
+  wake-called task (Err error) made refused = called-refused (Plainly (Wake task)) error (λ reply. (refl, tt)) refl refused
+
+  pub abort-called : (task : ℕ) (result : Result (Unit {0}) Error) → OnOk result (Made old new (Plainly (AbortTask task)) Done) → IfErr result (λ e. IsRefused old new (Plainly (AbortTask task)) e) → Called (Plainly (AbortTask task)) old new (wake_told result)
+  abort-called task (Ok done) made refused = called-made (Plainly (AbortTask task)) Done (Plain Done) made (refl, tt) refl
+  abort-called task (Err error) made refused = called-refused (Plainly (AbortTask task)) error (λ reply. (refl, tt)) refl refused
+
+  pub child-called : (node : ℕ) (label : List ℕ) (result : Result (ℕ × Bool) Error) → IfOk result (λ made. Made old new (Plainly (Child node label)) (NodeAt made.0 made.1)) → IfErr result (λ e. IsRefused old new (Plainly (Child node label)) e) → Called (Plainly (Child node label)) old new (child_told result)
+  child-called node label (Ok at) made refused = called-made (Plainly (Child node label)) (NodeAt at.0 at.1) (Plain (NodeAt at.0 at.1)) made (refl, tt) refl
+  child-called node label (Err error) made refused = called-refused (Plainly (Child node label)) error (λ reply. (refl, tt)) refl refused
+
+  pub spawn-called : {C : Type 0} (node : ℕ) (made : ℕ → A) (result : Result (Option (ℕ × ℕ)) (Error × C)) → IfOk result (λ at. Made old new (Spawning node made) (spawn_reply at)) → IfErr result (λ back. IsRefused old new (Spawning node made) back.0) → Called (Spawning node made) old new (spawn_told result)
+  spawn-called node made (Ok at) is refused = called-made (Spawning node made) (spawn_reply at) (Plain (spawn_reply at)) is (refl, tt) refl
+  spawn-called node made (Err back) is refused = called-refused (Spawning node made) back.0 (λ reply. (refl, tt)) refl refused
+
+  pub sleep-called : (due : ℕ) (alarm : Option ℕ) (result : Result (Option ℕ) OutOfMemory) → IfOk result (λ told. told ≡ slept_number old.told.state.clock.time old.told.state.alarms due alarm) → IfOk result (λ told. Made old new (Sleeping due alarm) (sleep_reply told)) → OnErr result (new ≡ lacking old) → Called (Sleeping due alarm) old new (sleep_told result)
   sleep-called due alarm (Ok told) is made lacked =
-      called-made (Sleeping due alarm) (sleep_reply told) (λ L R end given on two. turned-sleep old new end given due alarm told on is made two)
-  sleep-called due alarm (Err lack) is made lacked =
-      called-made (Sleeping due alarm) (Refused OutOf) (λ L R end given on two. turned-behind old new end given given (Does (Sleeping due alarm) on) (on (Plain (Refused OutOf))) lacked tt two)
+      called-made (Sleeping due alarm) (sleep_reply told) (Plain (sleep_reply told)) made (refl, own-alarm old.told.state.clock.time old.told.state.alarms due alarm told is) refl
+  sleep-called due alarm (Err lack) is made lacked = called-lacking (Sleeping due alarm) (Plain (Refused OutOf)) lacked
 
-pub ruleset call_laws = (wake-called, sleep-called)
+  pub join-called : (task : ℕ) (result : Result (Option O) Error) → IfOk result (λ value. Joined old new task value) → IfErr result (λ e. IsRefused old new (Plainly (Join task)) e) → Called (Plainly (Join task)) old new (join_told result)
+  join-called task (Ok None) made refused = called-made (Plainly (Join task)) Pending (Plain Pending) made (refl, tt) refl
+  join-called task (Ok (Some value)) made refused = called-made (Plainly (Join task)) Ready (Handed value) made.1 (refl, tt) (rw made.0 refl)
+  join-called task (Err error) made refused = called-refused (Plainly (Join task)) error (λ reply. (refl, tt)) refl refused
+
+pub ruleset call_laws = (wake-called, abort-called, child-called, spawn-called, sleep-called, join-called)
+
+-- what was read of a call
+pub reads-called : {A O G V : Type 0} (ask : Ask A O) (read : Heard O → V) (old new : World A O G) (heard : Heard O) (value : V) → Called ask old new heard → read heard ≡ value → Reads ask read old new value
+unfolding reads
+reads-called ask read old new heard value called is = record {
+  onward = λ on end given state walked. called.onward (λ heard. on (read heard)) end given state (rw is walked);
+  ends = λ on end walked. called.ends (λ heard. on (read heard)) end (rw is walked);
+  makes = λ on end root walked. called.makes (λ heard. on (read heard)) end root (rw is walked);
+}
 
 -- a part from its first call on
 module _ {A L O R G : Type 0} (step : Step A L O R) (old new : World A O G) (given : Option (R × L)) (fresh : old.told.state.turns ≡ []) (two : Turned step old new given) where
@@ -399,6 +461,9 @@ module _ {A L O R G : Type 0} (step : Step A L O R) (old new : World A O G) (giv
   -- it broke off before a call lacked memory
   turned-front : given ≡ None → new.lacked ≡ None → Fronts step old.held new.told.state.turns
   turned-front e long = rw (← turned-all) (rw e at (two.ends long))
+
+  turned-frees : Frees old.held new.told.state.turns new.held
+  turned-frees = rw (← turned-all) two.frees
 
   turned-short : old.lacked ≡ None → (there : Option (List Turn)) → new.lacked ≡ there → is_some new.lacked ≡ true → Breaks step old.held new.told.state.turns (stood_in new.told.state)
   turned-short o None e is = let m = rw e at is in absurd (cc)
@@ -424,6 +489,10 @@ module _ {A O G : Type 0} (old new : World A O G) (step : Last A O) (fresh : old
   unfolding Spent Walked
   spent-short o n w = walked-short old new step tt tt fresh o n w
 
+  pub spent-frees : Spent step old new → Frees old.held new.told.state.turns new.held
+  unfolding Spent
+  spent-frees w = turned-frees step old new (Some (tt, tt)) fresh w
+
 module _ {A O G : Type 0} (old new : World A O G) (step : Step A A O (Answer O)) (answer : Answer O) (left : A) (fresh : old.told.state.turns ≡ []) where
   pub polled-fresh : new.lacked ≡ None → answered_by answer left ≡ Some (answer, left) → Polled step old new answer left → Walks step old.held new.told.state.turns (stood_in new.told.state) answer left new.held
   unfolding Polled
@@ -436,6 +505,10 @@ module _ {A O G : Type 0} (old new : World A O G) (step : Step A A O (Answer O))
   pub polled-broken : new.lacked ≡ None → answered_by answer left ≡ None → Polled step old new answer left → Fronts step old.held new.told.state.turns
   unfolding Polled
   polled-broken long e two = turned-front step old new (answered_by answer left) fresh two e long
+
+  pub polled-frees : Polled step old new answer left → Frees old.held new.told.state.turns new.held
+  unfolding Polled
+  polled-frees two = turned-frees step old new (answered_by answer left) fresh two
 
 module _ {A O G : Type 0} (old new : World A O G) (step : Step A A O (Unit {0})) (fresh : old.told.state.turns ≡ []) where
   pub rooted-fresh : (root : A) → new.lacked ≡ None → Rooted step old new (Ok root) → Walks step old.held new.told.state.turns (stood_in new.told.state) tt root new.held
@@ -455,6 +528,10 @@ module _ {A O G : Type 0} (old new : World A O G) (step : Step A A O (Unit {0}))
   pub rooted-broken : (lack : OutOfMemory) → old.lacked ≡ None → Rooted step old new (Err lack) → Breaks step old.held new.told.state.turns (stood_in new.told.state) ⊎ Fronts step old.held new.told.state.turns
   rooted-broken lack o r = rooted-none lack o new.lacked refl r
 
+  pub rooted-frees : (result : Result A OutOfMemory) → Rooted step old new result → Frees old.held new.told.state.turns new.held
+  unfolding Rooted
+  rooted-frees result two = turned-frees step old new (root_by result) fresh two
+
 -- no call lacked memory
 pub long : {lacked : Option (List Turn)} → false ≡ is_some lacked → lacked ≡ None
 long {lacked = None} e = refl
@@ -472,6 +549,14 @@ pub stays-marked : (old new : Option (List Turn)) (turns : List Turn) → new �
 unfolding Stays
 stays-marked old new turns e = (λ made o. rw (e, o) refl)
 
+pub grows-same : (phase : Phase) (old new : List ℕ) → new ≡ old → Grows phase old new
+unfolding Grows
+grows-same phase old new e = (λ closing. e, λ task runs. rw e runs)
+
+pub grows-grows : (phase : Phase) (a b c : List ℕ) → Grows phase a b → Grows phase b c → Grows phase a c
+unfolding Grows
+grows-grows phase a b c h k = (λ closing. k.0 closing ∙ h.0 closing, λ task runs. k.1 task (h.1 task runs))
+
 -- no call was made
 pub kept-same : {A O G : Type 0} (w : World A O G) → Kept w w
 kept-same w = record {
@@ -481,10 +566,10 @@ kept-same w = record {
   phase = refl;
   clock = refl;
   root = refl;
-  running = refl;
-  held = refl;
+  panic = refl;
   out = refl;
   rng = refl;
+  running = grows-same _ _ _ refl;
   marked = stays-same _ _ refl;
 }
 
@@ -498,12 +583,32 @@ module _ {A O G : Type 0} (a b c : World A O G) where
     phase = k.phase ∙ h.phase;
     clock = k.clock ∙ h.clock;
     root = k.root ∙ h.root;
-    running = k.running ∙ h.running;
-    held = k.held ∙ h.held;
+    panic = k.panic ∙ h.panic;
     out = k.out ∙ h.out;
     rng = k.rng ∙ h.rng;
+    running = grows-grows _ _ _ _ h.running (rw h.phase at k.running);
     marked = stays-stays _ _ _ h.marked k.marked;
   }
+
+-- what is kept over two parts, for who runs and for the mark
+module _ {A O G : Type 0} (a b c : World A O G) where
+  pub grows-kept : Kept a b → Kept b c → Grows a.told.state.phase a.told.state.running c.told.state.running
+  grows-kept h k = (kept-kept a b c h k).running
+
+  pub stays-kept : Kept a b → Kept b c → Stays a.lacked c.lacked
+  stays-kept h k = (kept-kept a b c h k).marked
+
+-- whoever may call may go on calling
+calls-kept : (phase : Phase) (root out : Option ℕ) (old new : List ℕ) → Grows phase old new → CallsAt phase root (ends_next old root) out → CallsAt phase root (ends_next new root) out
+unfolding Grows
+calls-kept (Closing cause) root out old new grows calls = rw (grows.0 refl) calls
+calls-kept Making root out old new grows calls = calls
+calls-kept (Polling task left) root out old new grows calls = calls
+calls-kept (Ending task result left) root out old new grows calls = calls
+calls-kept _ root out old new grows calls = absurd calls
+
+pub calling-kept : {A O G : Type 0} (old new : World A O G) → Kept old new → MayCall old.told.state old.out → MayCall new.told.state new.out
+calling-kept old new k calls = rw (k.phase, k.root, k.out) (calls-kept old.told.state.phase old.told.state.root old.out old.told.state.running new.told.state.running k.running calls)
 
 -- from there on
 module _ {A L O R G : Type 0} (old new : World A O G) (step : Step A L O R) (r : R) (a : L) where
@@ -518,23 +623,30 @@ module _ {A O G : Type 0} (old new : World A O G) (step : Last A O) where
     onward = λ next end given state two. polled-followed old new end given state step next one two;
   }
 
-module _ {A O G : Type 0} (old new : World A O G) (node : ℕ) where
-  pub closes-on : Closed old new node → Closes node old new
-  closes-on one = record { closed = one; ends = λ next end two. spent-close old new end node next one two }
+module _ {A O G : Type 0} (old new : World A O G) (call : Call) where
+  pub closes-on : IsPlain call → SpentBy old new call → Closes call old new
+  closes-on plain one = record {
+    spent = one;
+    ends = λ next end two. spent-spend old new end call next plain one two;
+    onward = λ next end given state two. polled-spend old new end given state call next plain one two;
+    makes = λ next end root two. rooted-spend old new end root call next plain one two;
+  }
 
 -- nothing was walked yet
 pub leads-same : {A O G : Type 0} (step : Step A A O (Answer O)) (w : World A O G) → Leads step step w w
 leads-same step w = record { leads = λ end answer left walked. walked }
 
 -- for pollers, for tasks, and for what closes a context
-pub ruleset poller_laws = (walked-then, walked-followed, walked-call, walked-sleep, walked-close, walked-gives, walked-lacking, spent-followed, spent-close, spent-nothing, kept-same, kept-kept)
+pub ruleset poller_laws = (walked-then, walked-followed, walked-wake, walked-join, walked-sleep, walked-spend, walked-gives, walked-lacking, spent-followed, spent-spend, spent-nothing, stays-same, stays-marked, grows-same, grows-kept, stays-kept, calling-kept)
 
-pub ruleset close_laws = (closes-on, spent-nothing, kept-same, kept-kept)
+pub ruleset close_laws = (closes-on, spent-nothing, stays-same, stays-marked, grows-same, grows-kept, stays-kept, calling-kept)
 
-pub ruleset task_laws = (polled-call, polled-sleep, polled-gives, polled-lacks, polled-lacking, spent-nothing, kept-same, kept-kept)
+pub ruleset task_laws = (polled-wake, polled-sleep, polled-spend, polled-gives, polled-lacks, polled-lacking, spent-nothing, stays-same, stays-marked, grows-same, grows-kept, stays-kept, calling-kept)
 
-pub ruleset maker_laws = (rooted-call, rooted-close, rooted-gives, rooted-lacks, rooted-lacking, kept-same, kept-kept)
+pub ruleset maker_laws = (rooted-spend, rooted-gives, rooted-lacks, rooted-lacking, stays-same, stays-marked, grows-same, grows-kept, stays-kept, calling-kept)
 
-pub ruleset stay_laws = (stays-same, stays-marked)
+pub ruleset read_laws = (reads-called, stays-same, stays-marked, grows-same, grows-kept, stays-kept, calling-kept)
 
-pub ruleset loop_laws = (kept-same, kept-kept, leads-same, polled-gives, polled-lacks)
+pub ruleset stay_laws = (stays-same, stays-marked, grows-same)
+
+pub ruleset loop_laws = (stays-same, stays-marked, grows-same, grows-kept, stays-kept, calling-kept, leads-same, polled-gives, polled-lacks)

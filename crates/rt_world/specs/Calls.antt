@@ -1,22 +1,26 @@
 -- What a call on the world leaves.
-use Rattle.std.specs.Prelude.{◌≡◌, ℕ, List, [], ◌∷◌, ◌++◌, true, false, Option, Some, None}
+use Rattle.std.specs.Prelude.{◌≡◌, ◌⊎◌, ℕ, List, [], ◌∷◌, ◌++◌, true, false, Option, Some, None}
 use Rattle.rt_base.specs.declared.error.Error.{Error}
-use Rattle.rt_base.specs.declared.error.Error.TheVariants.{NoMemory, UnknownToken}
+use Rattle.rt_base.specs.declared.error.Error.TheVariants.{NoMemory}
 use Rattle.rt_audit.specs.declared.call.Call.{Call}
-use Rattle.rt_audit.specs.declared.call.Call.TheVariants.{Wake, CloseNode}
+use Rattle.rt_audit.specs.declared.call.Call.TheVariants.{Join}
 use Rattle.rt_audit.specs.declared.reply.CallReply.{CallReply}
-use Rattle.rt_audit.specs.declared.reply.CallReply.TheVariants.{Done, Refused}
-use Rattle.rt_super.specs.Ancestry.{is_live}
-use Rattle.rt_model.specs.Lists.{has_number}
-use Rattle.rt_model.specs.State.{Turn, stood_in}
+use Rattle.rt_audit.specs.declared.reply.CallReply.TheVariants.{Done, Pending, Ready, Refused}
+use Rattle.rt_model.specs.Lists.{find, has_number}
+use Rattle.rt_model.specs.State.{Phase, Turn, stood_in}
+use Rattle.rt_model.specs.Turns.{Ask, Plainly, call_of, moved_by, has_place}
 use Rattle.rt_model.specs.Effects.{stood_called, is_closing}
-use Rattle.rt_model.specs.Rules.{MayCall, WasGiven}
+use Rattle.rt_model.specs.Rules.{Answers, MayCall}
 use Rattle.rt_machine.specs.Calls.{turn_in, marked}
 use Rattle.rt_world.specs.World.{World}
 
 -- the mark of a call that lacked memory stays
 unfoldable pub Stays : Option (List Turn) → Option (List Turn) → Type 0
 Stays old new = (made : List Turn) → old ≡ Some made → new ≡ Some made
+
+-- whoever runs goes on running. In a cleanup nobody is added
+unfoldable pub Grows : Phase → List ℕ → List ℕ → Type 0
+Grows phase old new = (is_closing phase ≡ true → new ≡ old) × ((task : ℕ) → has_number task old ≡ true → has_number task new ≡ true)
 
 -- what every call leaves as it is
 pub record Kept {A O G : Type 0} (old new : World A O G) : Type 0 where
@@ -26,10 +30,10 @@ pub record Kept {A O G : Type 0} (old new : World A O G) : Type 0 where
   pub phase : new.told.state.phase ≡ old.told.state.phase
   pub clock : new.told.state.clock ≡ old.told.state.clock
   pub root : new.told.state.root ≡ old.told.state.root
-  pub running : new.told.state.running ≡ old.told.state.running
-  pub held : new.held ≡ old.held
+  pub panic : new.panic ≡ old.panic
   pub out : new.out ≡ old.out
   pub rng : new.rng ≡ old.rng
+  pub running : Grows old.told.state.phase old.told.state.running new.told.state.running
   pub marked : Stays old.lacked new.lacked
 
 -- the world is in the poll of this task, which may call it
@@ -38,25 +42,32 @@ pub record IsPolling {A O G : Type 0} (w : World A O G) (task : ℕ) : Type 0 wh
   pub going : is_closing w.told.state.phase ≡ false
   pub calling : MayCall w.told.state w.out
 
--- the call was made, with this reply
-pub record Made {A O G : Type 0} (old new : World A O G) (call : Call) (reply : CallReply) : Type 0 where
-  pub turns : new.told.state.turns ≡ old.told.state.turns ++ turn_in old.told.state call reply ∷ []
-  pub held : new.held ≡ old.held
+-- what was asked was called, with this reply, which it may have
+pub record Made {A O G : Type 0} (old new : World A O G) (ask : Ask A O) (reply : CallReply) : Type 0 where
+  pub answers : Answers old.told.state (call_of ask) reply
+  pub turns : new.told.state.turns ≡ old.told.state.turns ++ turn_in old.told.state (call_of ask) reply ∷ []
+  pub held : new.held ≡ moved_by old.held ask (call_of ask) reply
   pub lacked : new.lacked ≡ old.lacked
-  pub stood : stood_in new.told.state ≡ stood_called (stood_in old.told.state) old.out call reply
+  pub stood : stood_in new.told.state ≡ stood_called (stood_in old.told.state) old.out (call_of ask) reply
 
 -- the call lacked memory, and nothing else has changed
 abbrev pub lacking : {A O G : Type 0} → World A O G → World A O G
 lacking w = record w { lacked = marked w.lacked w.told.state.turns }
 
--- a wake was refused: it lacked memory, or the number was never given
-abbrev pub WakeRefused : {A O G : Type 0} → World A O G → World A O G → ℕ → Error → Type 0
-WakeRefused old new task NoMemory = new ≡ lacking old
-WakeRefused old new task UnknownToken =
-    (WasGiven old.told.state.numbers task → ⊥) × Made old new (Wake task) (Refused UnknownToken)
-WakeRefused old new task _ = ⊥
+-- the call was refused: it lacked memory, or it was made and answered with this error
+abbrev pub IsRefused : {A O G : Type 0} → World A O G → World A O G → Ask A O → Error → Type 0
+IsRefused old new ask error = ((error ≡ NoMemory) × (new ≡ lacking old)) ⊎ Made old new ask (Refused error)
 
--- a context was closed. Where its node isn't live that does nothing, and writes no entry
-pub record Closed {A O G : Type 0} (old new : World A O G) (node : ℕ) : Type 0 where
-  pub live : is_live old.told.state.nodes node ≡ true → Made old new (CloseNode node) Done
-  pub gone : is_live old.told.state.nodes node ≡ false → new ≡ old
+-- the call spends a token: where that isn't there it does nothing, and writes no entry
+pub record SpentBy {A O G : Type 0} (old new : World A O G) (call : Call) : Type 0 where
+  pub there : has_place (stood_in old.told.state) call ≡ true → Made old new (Plainly call) Done
+  pub gone : has_place (stood_in old.told.state) call ≡ false → new ≡ old
+
+-- a result was polled: it isn't there, or this value was handed out
+abbrev pub Joined : {A O G : Type 0} → World A O G → World A O G → ℕ → Option O → Type 0
+Joined old new task None = Made old new (Plainly (Join task)) Pending
+Joined old new task (Some value) = (find task old.held.results ≡ Some value) × Made old new (Plainly (Join task)) Ready
+
+-- what is made of this for a node's number
+abbrev pub IsMadeBy : {A C : Type 0} → (C × ℕ → A → Type 0) → C → (ℕ → A) → Type 0
+IsMadeBy {A = A} post given made = (number : ℕ) (state : A) → post (given, number) state → state ≡ made number

@@ -2,7 +2,7 @@
 use Rattle.std.specs.Prelude.{◌≡◌, ◌⊎◌, Bool, true, false, Option, Some, None}
 use Rattle.rt_model.specs.State.{begun, stood_in}
 use Rattle.rt_model.specs.Effects.{after_all}
-use Rattle.rt_model.specs.Turns.{Held}
+use Rattle.rt_model.specs.Turns.{Held, Frees}
 use Rattle.rt_model.specs.Walk.{Walks, Fronts, Breaks}
 use Rattle.rt_model.specs.Tied.{Steps, Value, nothing, IsTied}
 use Rattle.rt_machine.specs.Told.{Told, own}
@@ -15,7 +15,7 @@ pub record Follows {A O : Type 0} (p : Steps A O) (t : Told) (v : Value A O) : T
 
 -- the values of a world, beside what it doesn't hold itself
 abbrev pub value_of : {A O G : Type 0} → World A O G → Option O → Option A → Bool → Value A O
-value_of w output unmade whole = record { held = w.held; output = output; unmade = unmade; whole = whole }
+value_of w output unmade whole = record { held = w.held; output = output; panic = w.panic; unmade = unmade; whole = whole }
 
 -- a root was made and not taken in
 abbrev pub AgreesWith : {A O G : Type 0} → Steps A O → Bool → World A O G → Option O → Option A → Type 0
@@ -35,7 +35,7 @@ still false whole = whole
 
 -- the values before the maker's calls
 abbrev pub unmade_of : {A O : Type 0} → Held A O → Value A O
-unmade_of before = record { held = before; output = None; unmade = None; whole = true }
+unmade_of before = record { held = before; output = None; panic = None; unmade = None; whole = true }
 
 -- the maker has made its calls, and then this root
 pub record IsMade {A O G : Type 0} (p : Steps A O) (w : World A O G) (root : A) : Type 0 where
@@ -43,13 +43,15 @@ pub record IsMade {A O G : Type 0} (p : Steps A O) (w : World A O G) (root : A) 
   pub follows : Follows p w.told (unmade_of before)
   pub walks : Walks (p.first w.told.state.clock.time) before w.told.state.turns (stood_in w.told.state) tt root w.held
 
--- the maker has lacked memory
-pub record IsUnmade {A O G : Type 0} (p : Steps A O) (w : World A O G) : Type 0 where
-  pub follows : Follows p w.told (unmade_of w.held)
-  pub breaks : Breaks (p.first w.told.state.clock.time) w.held w.told.state.turns (stood_in w.told.state) ⊎ Fronts (p.first w.told.state.clock.time) w.held w.told.state.turns
+-- the maker has lacked memory, or said so itself
+pub record IsUnmade {A O G : Type 0} (p : Steps A O) (w : World A O G) (unmade : Option A) : Type 0 where
+  pub before : Held A O
+  pub follows : Follows p w.told (unmade_of before)
+  pub breaks : Breaks (p.first w.told.state.clock.time) before w.told.state.turns (stood_in w.told.state) ⊎ (Fronts (p.first w.told.state.clock.time) before w.told.state.turns × (unmade ≡ None))
+  pub frees : Frees before w.told.state.turns w.held
 
 -- what a maker made that lacked memory is free
 abbrev pub MakingAgrees : {A O G : Type 0} → Steps A O → Bool → World A O G → Option A → Type 0
 MakingAgrees p true w (Some root) = IsMade p w root
 MakingAgrees p true w None = ⊥
-MakingAgrees p false w unmade = IsUnmade p w
+MakingAgrees p false w unmade = IsUnmade p w unmade

@@ -1,8 +1,8 @@
 pub mod World
 pub mod Calls
 pub mod Walked
-pub mod Seats
 pub mod Follows
+pub mod Seats
 pub mod Visits
-pub mod Rounds
 pub mod Ends
+pub mod Rounds

@@ -1,14 +1,14 @@
 -- What the rounds of a run leave.
 use Rattle.std.specs.Prelude.{◌≡◌, ◌⊎◌, true, Some, None, Result, Ok, Err}
+use Rattle.rt_audit.specs.declared.finish.FinishCause.{FinishCause}
 use Rattle.rt_audit.specs.declared.finish.FinishCause.TheVariants.{Completed}
 use Rattle.rt_model.specs.State.{State, Between, Turning, Over}
 use Rattle.rt_model.specs.Rules.{MayRound}
 use Rattle.rt_model.specs.Tied.{Steps}
-use Rattle.rt_world.specs.World.{World}
 use Rattle.rt_machine.specs.Steps.{StandsFor}
-use Rattle.rt_world.specs.Follows.{Agrees, AgreesAtLeast}
-use Rattle.rt_machine.specs.declared.run_error.RunError.{RunError}
-use Rattle.rt_machine.specs.declared.run_error.RunError.TheVariants.{NoMemory as IsNoMemory}
+use Rattle.rt_world.specs.World.{World}
+use Rattle.rt_world.specs.Follows.{Agrees}
+use Rattle.rt_world.specs.Visits.{CauseAgrees}
 
 -- what rounds and clock steps leave as it is
 pub record Runs {A O G : Type 0} (old new : World A O G) : Type 0 where
@@ -24,11 +24,10 @@ abbrev pub StandsBetween : State → Type 0
 StandsBetween s = (s.phase ≡ Between) ⊎ ((s.phase ≡ Turning) × MayRound Turning s)
 
 -- where the run stands when its rounds have ended
-abbrev pub EndStands : {O : Type 0} → State → Result O RunError → Type 0
+abbrev pub EndStands : {O : Type 0} → State → Result O FinishCause → Type 0
 EndStands s (Ok output) = s.phase ≡ Over Completed
-EndStands s (Err error) = StandsFor s error
+EndStands s (Err cause) = StandsFor s cause
 
-abbrev pub EndAgrees : {A O G : Type 0} → Steps A O → World A O G → Result O RunError → Type 0
+abbrev pub EndAgrees : {A O G : Type 0} → Steps A O → World A O G → Result O FinishCause → Type 0
 EndAgrees p w (Ok output) = Agrees p true w (Some output)
-EndAgrees p w (Err IsNoMemory) = AgreesAtLeast p w None
-EndAgrees p w (Err error) = Agrees p true w None
+EndAgrees p w (Err cause) = CauseAgrees p w cause

@@ -1,7 +1,9 @@
 -- The tasks whose states are in.
 use Rattle.std.specs.Prelude.{◌≡◌, ◌≤◌, ◌<◌, ◌+◌, ◌^◌, ℕ, List, [], ◌∷◌, true, Option, Some, None, map, is_some, get_or, length}
-use Rattle.rt_model.specs.Lists.{has_number, without_number}
-use Rattle.rt_model.specs.State.{Phase, Making}
+use Rattle.rt_model.specs.declared.result.Outcome.TheVariants.{There}
+use Rattle.rt_model.specs.declared.result.TaskResult.{TaskResult}
+use Rattle.rt_model.specs.Lists.{find, has_number, without_number}
+use Rattle.rt_model.specs.State.{Phase, Ending, State}
 
 -- a list, the first number that has a place, the next that will have one, and how many more have room
 pub record Roomed (V : Type 0) : Type 0 where
@@ -43,9 +45,26 @@ abbrev pub OutRuns : Option ℕ → List ℕ → Type 0
 OutRuns None running = Unit {0}
 OutRuns (Some task) running = has_number task running ≡ true
 
--- the tasks that are in are the running ones but the one that is out, and each of these has its place. Before the root comes no number has one
-pub record AreSeated {A : Type 0} (tasks : Roomed (ℕ × A)) (out : Option ℕ) (running : List ℕ) (phase : Phase) : Type 0 where
-  pub numbers : numbers_of tasks.items ≡ seated out running
-  pub rising : AreRising tasks.first running tasks.next
-  pub runs : OutRuns out running
-  pub making : phase ≡ Making → tasks.next ≡ tasks.first
+-- each result that is there has its value
+unfoldable pub AreThere : {O : Type 0} → List (ℕ × TaskResult) → List (ℕ × O) → Type 0
+AreThere results outputs = (task : ℕ) (r : TaskResult) → find task results ≡ Some r → r.outcome ≡ There → is_some (find task outputs) ≡ true
+
+-- and so has that of a task that ends with one, if it wasn't given up
+unfoldable pub IsComing : {O : Type 0} → Phase → List (ℕ × TaskResult) → List (ℕ × O) → Type 0
+IsComing phase results outputs = (task : ℕ) (left : List ℕ) → phase ≡ Ending task (Some There) left → is_some (find task results) ≡ true → is_some (find task outputs) ≡ true
+
+-- no running task has a result yet
+unfoldable pub AreOpen : List ℕ → List (ℕ × TaskResult) → Type 0
+AreOpen running results = (task : ℕ) (r : TaskResult) → has_number task running ≡ true → find task results ≡ Some r → r.outcome ≡ There → ⊥
+
+-- the tasks that are in are the running ones but the one that is out, each of these has its place, and each result that is there its value
+pub record AreSeated {A O : Type 0} (tasks : Roomed (ℕ × A)) (outputs : Roomed (ℕ × O)) (out : Option ℕ) (s : State) : Type 0 where
+  pub numbers : numbers_of tasks.items ≡ seated out s.running
+  pub rising : AreRising tasks.first s.running tasks.next
+  pub runs : OutRuns out s.running
+  pub next : tasks.next ≡ s.numbers.next
+  pub first : outputs.first ≡ tasks.first
+  pub last : outputs.next ≡ tasks.next
+  pub there : AreThere s.results outputs.items
+  pub coming : IsComing s.phase s.results outputs.items
+  pub unset : AreOpen s.running s.results

@@ -1,21 +1,20 @@
 -- How far steps were walked between two worlds.
-use Rattle.std.specs.Prelude.{◌≡◌, ◌++◌, ℕ, List, Option, Some, None, true, is_some, Result, Ok, Err}
+use Rattle.std.specs.Prelude.{◌≡◌, ◌++◌, ℕ, List, Bool, Option, Some, None, true, is_some, Result, Ok, Err}
 use Rattle.rt_base.specs.declared.error.Error.{Error}
 use Rattle.rt_base.specs.declared.error.Error.TheVariants.{NoMemory as LacksMemory}
 use Rattle.rt_base.specs.declared.no_memory.NoMemory.{NoMemory as OutOfMemory}
 use Rattle.rt_base.specs.declared.poll.Poll.{Poll}
 use Rattle.rt_base.specs.declared.poll.Poll.TheVariants.{Ready as IsReady}
-use Rattle.rt_audit.specs.declared.call.Call.TheVariants.{CloseNode}
-use Rattle.rt_audit.specs.declared.reply.CallReply.{CallReply}
-use Rattle.rt_audit.specs.declared.reply.CallReply.TheVariants.{Done, Refused}
+use Rattle.rt_audit.specs.declared.call.Call.{Call}
+use Rattle.rt_audit.specs.declared.reply.CallReply.TheVariants.{Done, NodeAt, Pending, Refused}
 use Rattle.rt_model.specs.declared.answer.Answer.{Answer}
 use Rattle.rt_model.specs.declared.answer.Answer.TheVariants.{NoMemory}
 use Rattle.rt_model.specs.State.{Turn, Stood, stood_in}
-use Rattle.rt_model.specs.Turns.{Ask, Heard, Plain, Plainly, Held}
+use Rattle.rt_model.specs.Turns.{Ask, Heard, Plain, Handed, Plainly, Held, Frees}
 use Rattle.rt_model.specs.Walk.{Step, Last, Does, Spends as IsSpent, Walks, Fronts, Stops, then, followed_by, stood_before}
-use Rattle.rt_machine.specs.Calls.{sleep_reply}
+use Rattle.rt_machine.specs.Calls.{sleep_reply, spawn_reply}
 use Rattle.rt_world.specs.World.{World}
-use Rattle.rt_world.specs.Calls.{Closed}
+use Rattle.rt_world.specs.Calls.{SpentBy}
 
 -- a call lacked memory behind these turns: those among the further ones are a front of the walk
 pub record Broke {A L O R : Type 0} (step : Step A L O R) (held : Held A O) (past made more : List Turn) (stood : Stood) : Type 0 where
@@ -35,6 +34,7 @@ pub record Turned {A L O R G : Type 0} (step : Step A L O R) (old new : World A 
   pub more : List Turn
   pub turns : new.told.state.turns ≡ old.told.state.turns ++ more
   pub stood : stood_before more (stood_in new.told.state) ≡ stood_in old.told.state
+  pub frees : Frees old.held more new.held
   pub marked : (made : List Turn) → old.lacked ≡ Some made → new.lacked ≡ Some made
   pub ends : new.lacked ≡ None → EndsWith step old.held more (stood_in new.told.state) given new.held
   pub broke : (made : List Turn) → old.lacked ≡ None → new.lacked ≡ Some made → Broke step old.held old.told.state.turns made more (stood_in new.told.state)
@@ -70,21 +70,48 @@ pub record Goes {A L O R G : Type 0} (step : Step A L O R) (old new : World A O 
   pub walked : Walked step old new answer left
   pub onward : (more : R → L → Step A A O (Answer O)) (end : World A O G) (given : Answer O) (state : A) → Polled (more answer left) new end given state → Polled (then step more) old end given state
 
--- what a call leaves: whoever goes on from its reply has made it and walked the rest, in a poll, an end or a maker. Where it lacked
--- memory, what follows is free
-pub record Called {A O G : Type 0} (ask : Ask A O) (old new : World A O G) (reply : CallReply) : Type 0 where
-  pub onward : (on : Heard O → Step A A O (Answer O)) (end : World A O G) (given : Answer O) (state : A) → Polled (on (Plain reply)) new end given state → Polled (Does ask on) old end given state
-  pub ends : (on : Heard O → Last A O) (end : World A O G) → Spent (on (Plain reply)) new end → Spent (Does ask on) old end
-  pub makes : (on : Heard O → Step A A O (Unit {0})) (end : World A O G) (root : Result A OutOfMemory) → Rooted (on (Plain reply)) new end root → Rooted (Does ask on) old end root
+-- what a call leaves: whoever goes on from what was heard of it has made it and walked the rest, in a poll, an end or a maker. Where
+-- it lacked memory, what follows is free
+pub record Called {A O G : Type 0} (ask : Ask A O) (old new : World A O G) (heard : Heard O) : Type 0 where
+  pub onward : (on : Heard O → Step A A O (Answer O)) (end : World A O G) (given : Answer O) (state : A) → Polled (on heard) new end given state → Polled (Does ask on) old end given state
+  pub ends : (on : Heard O → Last A O) (end : World A O G) → Spent (on heard) new end → Spent (Does ask on) old end
+  pub makes : (on : Heard O → Step A A O (Unit {0})) (end : World A O G) (root : Result A OutOfMemory) → Rooted (on heard) new end root → Rooted (Does ask on) old end root
 
--- what is told of a wake, and of a poll of a sleep
-abbrev pub wake_reply : Result (Unit {0}) Error → CallReply
-wake_reply (Ok done) = Done
-wake_reply (Err error) = Refused error
+-- a call, and what follows from what is read of what was heard of it
+unfoldable pub reads : {A L O R V : Type 0} → Ask A O → (Heard O → V) → (V → Step A L O R) → Step A L O R
+reads ask read on = Does ask (λ heard. on (read heard))
 
-abbrev pub sleep_told : Result (Option ℕ) OutOfMemory → CallReply
-sleep_told (Ok told) = sleep_reply told
-sleep_told (Err lack) = Refused LacksMemory
+-- what a call leaves of which this was read
+pub record Reads {A O G V : Type 0} (ask : Ask A O) (read : Heard O → V) (old new : World A O G) (value : V) : Type 0 where
+  pub onward : (on : V → Step A A O (Answer O)) (end : World A O G) (given : Answer O) (state : A) → Polled (on value) new end given state → Polled (reads ask read on) old end given state
+  pub ends : (on : V → Last A O) (end : World A O G) → Spent (on value) new end → Spent (reads ask read on) old end
+  pub makes : (on : V → Step A A O (Unit {0})) (end : World A O G) (root : Result A OutOfMemory) → Rooted (on value) new end root → Rooted (reads ask read on) old end root
+
+-- what is told of the calls
+abbrev pub wake_told : {O : Type 0} → Result (Unit {0}) Error → Heard O
+wake_told (Ok done) = Plain Done
+wake_told (Err error) = Plain (Refused error)
+
+abbrev pub sleep_told : {O : Type 0} → Result (Option ℕ) OutOfMemory → Heard O
+sleep_told (Ok told) = Plain (sleep_reply told)
+sleep_told (Err lack) = Plain (Refused LacksMemory)
+
+abbrev pub child_told : {O : Type 0} → Result (ℕ × Bool) Error → Heard O
+child_told (Ok made) = Plain (NodeAt made.0 made.1)
+child_told (Err error) = Plain (Refused error)
+
+abbrev pub spawn_told : {C O : Type 0} → Result (Option (ℕ × ℕ)) (Error × C) → Heard O
+spawn_told (Ok at) = Plain (spawn_reply at)
+spawn_told (Err back) = Plain (Refused back.0)
+
+-- a poll of a result hands out what is there
+abbrev pub value_told : {O : Type 0} → Option O → Heard O
+value_told None = Plain Pending
+value_told (Some value) = Handed value
+
+abbrev pub join_told : {O : Type 0} → Result (Option O) Error → Heard O
+join_told (Ok value) = value_told value
+join_told (Err error) = Plain (Refused error)
 
 -- a poller that lacked memory itself answers so
 abbrev pub SaysLack : {A O G V : Type 0} → World A O G → World A O G → Poll (Result V Error) → Type 0
@@ -96,10 +123,12 @@ pub record Spends {A O G : Type 0} (step : Last A O) (old new : World A O G) : T
   pub ends : (next : Last A O) (end : World A O G) → Spent next new end → Spent (followed_by step next) old end
   pub onward : (next : Step A A O (Answer O)) (end : World A O G) (given : Answer O) (state : A) → Polled next new end given state → Polled (followed_by step next) old end given state
 
--- the same of a context that is closed
-pub record Closes {A O G : Type 0} (node : ℕ) (old new : World A O G) : Type 0 where
-  pub closed : Closed old new node
-  pub ends : (next : Last A O) (end : World A O G) → Spent next new end → Spent (IsSpent (Plainly (CloseNode node)) next) old end
+-- the same of a call that spends a token
+pub record Closes {A O G : Type 0} (call : Call) (old new : World A O G) : Type 0 where
+  pub spent : SpentBy old new call
+  pub ends : (next : Last A O) (end : World A O G) → Spent next new end → Spent (IsSpent (Plainly call) next) old end
+  pub onward : (next : Step A A O (Answer O)) (end : World A O G) (given : Answer O) (state : A) → Polled next new end given state → Polled (IsSpent (Plainly call) next) old end given state
+  pub makes : (next : Step A A O (Unit {0})) (end : World A O G) (root : Result A OutOfMemory) → Rooted next new end root → Rooted (IsSpent (Plainly call) next) old end root
 
 -- the steps of a poll were walked up to where they go on as others do: whoever walks those from here has walked these
 pub record Leads {A O G : Type 0} (step other : Step A A O (Answer O)) (old new : World A O G) : Type 0 where

@@ -5,10 +5,11 @@ use Rattle.rt_model.specs.Turns.{Held}
 use Rattle.rt_machine.specs.Told.{Told}
 
 -- what its journal tells; the turns that were made before a call of the part under way lacked memory, if one did; the values that it
--- holds; whose state is out; and its generator
+-- holds; the text of a panic that is kept; whose state is out; and its generator
 pub record World (A O G : Type 0) : Type 0 where
   pub told : Told
   pub lacked : Option (List Turn)
   pub held : Held A O
+  pub panic : Option (List ℕ)
   pub out : Option ℕ
   pub rng : G

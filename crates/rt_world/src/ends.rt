@@ -47,14 +47,14 @@ impl<T, O, G> World<T, O, G> {
         ensures clock { self.new.told.state.clock ≡ self.old.told.state.clock }
         ensures root { self.new.told.state.root ≡ self.old.told.state.root }
         ensures rng { self.new.rng ≡ self.old.rng }
-        ensures agrees { (p : Steps T O) (whole : Bool) (unmade : Option T) → MakingAgrees p whole self.old unmade → AgreesWith p whole self.new None unmade }
+        ensures agrees { (p : Steps T O) (whole : Bool) (unmade : Option T) → self.old.panic ≡ None → MakingAgrees p whole self.old unmade → AgreesWith p whole self.new None unmade }
     {
         self.machine.take_short();
         self.machine.cleanup();
     }
 
     /// The crash of the store.
-    #[tactic(auto, unfolding(rt_model::specs::Effects::after))]
+    #[tactic(auto, using(crate::proofs::Coming::coming_laws), unfolding(rt_model::specs::Effects::after))]
     fn crash(&mut self)
         requires { MayCrash self.old.told.state.phase self.old.told.state.running }
         ensures { self.new ≡ record self.old { told = pushed self.old.told (Entry.Crash []) } }
@@ -63,7 +63,7 @@ impl<T, O, G> World<T, O, G> {
     }
 
     /// The cause, behind the crash.
-    #[tactic(auto, unfolding(rt_model::specs::Effects::after))]
+    #[tactic(auto, using(crate::proofs::Coming::coming_laws), unfolding(rt_model::specs::Effects::after))]
     fn finish(&mut self, cause: FinishCause)
         requires { MayFinish self.old.told.state.phase cause }
         ensures phase { self.new.told.state.phase ≡ Finished cause }
@@ -90,7 +90,7 @@ impl<T, O, G> World<T, O, G> {
 
 impl<T: Task, G: Rng> World<T, T::Output, G> {
     /// Ends the state of the next task, if one is left. Answers whether its end lacked memory.
-    #[tactic(auto, using(rt_machine::proofs::Counts::count_laws), unfolding(rt_model::specs::Effects::after))]
+    #[tactic(auto, using(rt_machine::proofs::Counts::count_laws, crate::proofs::Seats::closing_laws), unfolding(rt_model::specs::Effects::after))]
     fn end_task(&mut self) -> Option<bool>
         requires { IsClosing self.old }
         ensures ends { Ends self.old self.new }
@@ -99,7 +99,7 @@ impl<T: Task, G: Rng> World<T, T::Output, G> {
         ensures agrees { (first : First T T.Output) (whole : Bool) (output : Option T.Output) (unmade : Option T) → AgreesWith (with_first T.steps first) whole self.old output unmade → AgreesWith (with_first T.steps first) (unless result whole) self.new output unmade }
     {
         let task = self.ends_next()?;
-        let state = self.take_ending(task);
+        let state = self.take_state(task);
         state.end(self);
         self.facts();
         let lacked = self.take_short();
@@ -147,7 +147,7 @@ impl<T: Task, G: Rng> World<T, T::Output, G> {
     }
 
     /// Ends the state of a root that was not taken in, and writes the crash. Answers whether its end lacked memory.
-    #[tactic(auto, unfolding(rt_model::specs::Effects::after))]
+    #[tactic(auto, using(crate::proofs::Seats::closing_laws), unfolding(rt_model::specs::Effects::after))]
     fn crash_unmade(&mut self, unmade: T) -> bool
         requires closing { IsClosing self.old }
         requires running { self.old.told.state.running ≡ [] }
@@ -174,6 +174,7 @@ impl<T: Task, G: Rng> World<T, T::Output, G> {
         requires makes { Makes unmade cause }
         requires making { self.old.told.state.phase ≡ Making }
         requires root { self.old.told.state.root ≡ None }
+        requires calm { self.old.panic ≡ None }
         requires none_out { self.old.out ≡ None }
         ensures phase { self.new.told.state.phase ≡ Finished result }
         ensures seals { Seals self.old self.new }

@@ -1,11 +1,13 @@
 //! The world of a run: its machine, its tasks and their calls, and the rounds, clock steps and cleanup that run them.
 #![tactic(auto)]
 
+mod calls;
 mod cx;
 mod ends;
 mod outcome;
 mod poller;
 mod rounds;
+mod spawning;
 mod task;
 mod tasks;
 #[cfg(test)]
@@ -16,7 +18,7 @@ mod world;
 pub use cx::Cx;
 pub use outcome::Outcome;
 pub use poller::Poller;
-pub use rt_machine::RunError;
 pub use rt_model::{Answer, Begin};
 pub use task::Task;
+pub use tasks::Tasks;
 pub use world::{World, WorldOf};

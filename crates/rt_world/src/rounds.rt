@@ -10,15 +10,16 @@ ghost use Rattle.rt_world.specs.Follows.{Agrees};
 ghost use Rattle.rt_world.specs.Rounds.{Runs, StandsBetween, EndStands, EndAgrees};
 ghost use Rattle.rt_world.specs.Visits.{RoundStands, AgreesAfter};
 
-use crate::{RunError, Task, World};
+use crate::{Task, World};
 use rand_core::Rng;
-use rt_base::{MAX_TIME, NoMemory};
+use rt_audit::FinishCause;
+use rt_base::MAX_TIME;
 
 impl<T, O, G> World<T, O, G> {
     /// Moves time on by a cycle after a round, and then to where somebody is ready. Answers the cause that the run has
     /// reached, where it ends there.
     #[tactic(auto, using(crate::proofs::Running::run_laws))]
-    pub fn clock_step(&mut self) -> Result<(), RunError>
+    pub fn clock_step(&mut self) -> Result<(), FinishCause>
         requires phase { self.old.told.state.phase ≡ Visiting (left_of self.old.told.state.phase) }
         requires round { from_running self.old.told.state.running (left_of self.old.told.state.phase) ≡ [] }
         ensures turns { Turns self.old.told self.new.told }
@@ -36,7 +37,7 @@ impl<T: Task, G: Rng> World<T, T::Output, G> {
     /// A round: the ready list is drained, and its numbers are visited in the order of the round's entry, which is put
     /// into `order`. Answers the root's output, once it has one.
     #[tactic(auto, using(crate::proofs::Running::run_laws), unfolding(rt_model::specs::Effects::after))]
-    pub fn round(&mut self, order: &mut Vec<u64>) -> Result<Option<T::Output>, NoMemory>
+    pub fn round(&mut self, order: &mut Vec<u64>) -> Result<Option<T::Output>, FinishCause>
         requires between { StandsBetween self.old.told.state }
         requires early { is_late self.old.told.state.clock ≡ false }
         requires none_out { self.old.out ≡ None }
@@ -47,14 +48,16 @@ impl<T: Task, G: Rng> World<T, T::Output, G> {
         ensures unmarked { OnOk result (self.new.lacked ≡ None) }
         ensures agrees { (first : First T T.Output) → Agrees (with_first T.steps first) true self.old None → AgreesAfter (with_first T.steps first) self.new result }
     {
-        self.drain(order)?;
+        let Ok(()) = self.drain(order) else {
+            return Err(FinishCause::NoMemory);
+        };
         self.visit_all(order.as_slice())
     }
 
     /// Rounds and clock steps by turns, until the run has reached a cause to end. Answers the root's output, or that
     /// cause.
     #[tactic(auto, using(crate::proofs::Running::run_laws))]
-    pub fn run_rounds(&mut self) -> Result<T::Output, RunError>
+    pub fn run_rounds(&mut self) -> Result<T::Output, FinishCause>
         requires phase { self.old.told.state.phase ≡ Between }
         requires none_out { self.old.out ≡ None }
         requires unmarked { self.old.lacked ≡ None }
@@ -66,12 +69,10 @@ impl<T: Task, G: Rng> World<T, T::Output, G> {
         let mut order = Vec::new(self.allocator());
         loop {
             if self.is_late() {
-                return Err(RunError::Timeout);
+                return Err(FinishCause::Timeout);
             }
-            match self.round(&mut order) {
-                Ok(None) => {}
-                Ok(Some(output)) => return Ok(output),
-                Err(NoMemory) => return Err(RunError::NoMemory),
+            if let Some(output) = self.round(&mut order)? {
+                return Ok(output);
             }
             self.clock_step()?;
         }

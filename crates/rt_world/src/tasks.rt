@@ -1,8 +1,9 @@
 //! The states of the tasks, in places by number.
 
-ghost use Rattle.std.specs.Prelude.{◌≡◌, ◌≤◌, ◌<◌, ◌+◌, ◌^◌, [], None, OnOk, is_some};
+ghost use Rattle.std.specs.Prelude.{◌≡◌, ◌≤◌, ◌<◌, ◌+◌, ◌^◌, [], None, OnOk, IfSome, IfNone, is_some};
 ghost use Rattle.rt_model.specs.Causes.{ends_next};
-ghost use Rattle.rt_model.specs.Tied.{find, without, with_task};
+ghost use Rattle.rt_model.specs.Lists.{find, without};
+ghost use Rattle.rt_model.specs.Turns.{with_task};
 ghost use Rattle.rt_world.specs.Seats.{numbers_of};
 
 use rt_base::NoMemory;
@@ -11,6 +12,7 @@ use std::marker::Model;
 use std::mem;
 
 /// The states of the tasks. The one with the number `first + i` has place `i`, also while it is out.
+#[derive(Drop)]
 pub struct Tasks<T> {
     first: u64,
     places: Vec<Option<T>>,
@@ -32,28 +34,18 @@ impl<T> Model for Tasks<T> {
 
 #[tactic(auto, using(crate::proofs::Places::place_laws))]
 impl<T> Tasks<T> {
-    /// No task.
-    pub fn new(alloc: Global) -> Self
+    /// No task, up to this number.
+    pub fn new(alloc: Global, first: u64) -> Self
         ensures items { result.items ≡ [] }
-        ensures next { result.next ≡ result.first }
+        ensures first { result.first ≡ first }
+        ensures next { result.next ≡ first }
     {
         Tasks {
-            first: 0,
+            first,
             places: Vec::new(alloc),
             ended: 0,
             last: None,
         }
-    }
-
-    /// Fixes the number of the first task.
-    pub fn begin_at(&mut self, first: u64)
-        requires { self.old.next ≡ self.old.first }
-        ensures items { self.new.items ≡ [] }
-        ensures first { self.new.first ≡ first }
-        ensures next { self.new.next ≡ first }
-        ensures spare { self.new.spare ≡ self.old.spare }
-    {
-        self.first = first;
     }
 
     /// Takes room for so many more.
@@ -80,6 +72,26 @@ impl<T> Tasks<T> {
         self.places.push_reserved(Some(state));
     }
 
+    /// Passes the next number over.
+    pub fn skip(&mut self)
+        requires room { 0 < self.old.spare }
+        requires number { self.old.next < 2 ^ 64 }
+        ensures items { self.new.items ≡ self.old.items }
+        ensures first { self.new.first ≡ self.old.first }
+        ensures next { self.new.next ≡ self.old.next + 1 }
+        ensures spare { self.new.spare + 1 ≡ self.old.spare }
+    {
+        self.places.push_reserved(None);
+    }
+
+    /// The next number that gets a place. The greatest number has none.
+    pub fn next(&self) -> Option<u64>
+        ensures next { IfSome result (λ next. next ≡ self.now.next) }
+        ensures none { IfNone result (self.now.next ≡ 2 ^ 64) }
+    {
+        self.first.checked_add(self.places.len() as u64)
+    }
+
     /// Whether the state of a task is in.
     pub fn has(&self, task: u64) -> bool
         ensures { result ≡ is_some (find task self.now.items) }
@@ -93,7 +105,9 @@ impl<T> Tasks<T> {
     /// Takes the state of a task out.
     pub fn take(&mut self, task: u64) -> Option<T>
         ensures state { result ≡ find task self.old.items }
+        ensures place { IfSome result (λ state. (self.old.first ≤ task) × (task < self.old.next)) }
         ensures items { self.new.items ≡ without task self.old.items }
+        ensures gone { find task (without task self.old.items) ≡ None }
         ensures first { self.new.first ≡ self.old.first }
         ensures next { self.new.next ≡ self.old.next }
         ensures spare { self.new.spare ≡ self.old.spare }
@@ -118,6 +132,21 @@ impl<T> Tasks<T> {
             Some(_) => unreachable!(),
         }
         self.ended = self.ended.min(place);
+    }
+
+    /// Lets the state of a task go, if it is in, and puts another in its place.
+    pub fn replace(&mut self, task: u64, state: T)
+    where
+        T: Drop,
+        requires first { self.old.first ≤ task }
+        requires next { task < self.old.next }
+        ensures items { self.new.items ≡ with_task task state (without task self.old.items) }
+        ensures first { self.new.first ≡ self.old.first }
+        ensures next { self.new.next ≡ self.old.next }
+        ensures spare { self.new.spare ≡ self.old.spare }
+    {
+        let _before = self.take(task);
+        self.put(task, state);
     }
 
     /// The number of the task that a cleanup ends next: the first, the root last.

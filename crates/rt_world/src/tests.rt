@@ -80,7 +80,7 @@ struct Came {
 fn taken_apart(world: WorldOf<Probe, Zeros>, output: Option<u64>, cause: FinishCause) -> Came
     requires { world.held.tasks ≡ [] }
 {
-    let (journal, _) = world.into_parts();
+    let (journal, _, _) = world.into_parts();
     Came {
         output,
         cause,
@@ -101,8 +101,8 @@ fn run_root(mut world: WorldOf<Probe, Zeros>) -> Came
             let cause = world.cleanup(FinishCause::Completed);
             taken_apart(world, Some(output), cause)
         }
-        Err(error) => {
-            let cause = world.cleanup(error.cause());
+        Err(cause) => {
+            let cause = world.cleanup(cause);
             taken_apart(world, None, cause)
         }
     }
@@ -116,6 +116,7 @@ fn run(alloc: Global, taken_in: bool) -> Result<Came, NoMemory> {
         cycle: 1_000_000,
         deadline: None,
         first: 0,
+        catch: false,
     };
     let Ok(mut world) = WorldOf::<Probe, Zeros>::begin(alloc, Journal::new(alloc), begin, Zeros)
     else {
@@ -142,6 +143,7 @@ fn answers_calls(alloc: Global) -> Result<bool, NoMemory> {
         cycle: 1_000_000,
         deadline: None,
         first: 0,
+        catch: false,
     };
     let Ok(mut world) = WorldOf::<Probe, Zeros>::begin(alloc, Journal::new(alloc), begin, Zeros)
     else {

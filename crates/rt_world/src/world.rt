@@ -1,30 +1,27 @@
 //! The world of a run, and the calls of its tasks.
 
-ghost use Rattle.std.specs.Prelude.{ℕ, ◌≡◌, ◌≢◌, ◌≤◌, ◌<◌, ◌∷◌, ◌^◌, ◌-◌, ◌++◌, [], IfOk, IfErr, OnErr, OnOk, IfSome, IfNone, IsTrue, is_some, drop, ◌↔◌, None, Some, true, false};
-ghost use Rattle.rt_audit.specs.declared.call.Call.TheVariants.{CloseNode, Wake as WakeCall, SleepPoll};
-ghost use Rattle.rt_audit.specs.declared.reply.CallReply.TheVariants.{Done};
-ghost use Rattle.rt_model.specs.Lists.{has_number};
-ghost use Rattle.rt_model.specs.State.{begun, Making, Visiting, Polling, Closing};
+ghost use Rattle.std.specs.Prelude.{ℕ, ◌≡◌, ◌≢◌, ◌≤◌, ◌<◌, ◌∷◌, ◌^◌, ◌-◌, ◌++◌, ◌&&◌, [], IfOk, IfErr, OnErr, OnOk, IfSome, IfNone, IsTrue, is_some, drop, ◌↔◌, None, Some, true, false};
+ghost use Rattle.rt_model.specs.Lists.{find, has_number, is_some_number};
+ghost use Rattle.rt_model.specs.State.{begun, Making, Visiting, Ending, Closing};
 ghost use Rattle.rt_model.specs.Causes.{is_late, from_running, ends_next};
-ghost use Rattle.rt_model.specs.Effects.{after_all, left_of, cause_of};
+ghost use Rattle.rt_model.specs.Effects.{after_all, is_closing, left_of, cause_of, task_label};
 ghost use Rattle.rt_model.specs.Events.{process_task, task_fields};
-ghost use Rattle.rt_model.specs.Rules.{IsLawful, AreDrawn, MayAnswer, MayCall, MayRound, WasGiven};
-ghost use Rattle.rt_model.specs.Tied.{Steps, Value, find, taken, put};
-ghost use Rattle.rt_model.specs.Turns.{Plainly, Sleeping};
+ghost use Rattle.rt_model.specs.Marks.{is_flagged};
+ghost use Rattle.rt_model.specs.Rules.{IsLawful, AreDrawn, MayAnswer, MayCall, MayRound};
+ghost use Rattle.rt_model.specs.Tied.{Steps, Value, taken};
+ghost use Rattle.rt_model.specs.Turns.{put};
+ghost use Rattle.rt_machine.specs.Ends.{Calmly, Visited, open_in};
 ghost use Rattle.rt_machine.specs.Told.{Told, AreCalls, fresh, pushed, own};
-ghost use Rattle.rt_machine.specs.Calls.{sleep_reply, slept_number};
-ghost use Rattle.rt_world.specs.Calls.{Kept, Made, Closed, WakeRefused, lacking};
 ghost use Rattle.rt_world.specs.Follows.{Follows, Agrees, IsMade};
-ghost use Rattle.rt_world.specs.Walked.{Called, wake_reply, sleep_told};
 
 use crate::Outcome;
 use crate::tasks::Tasks;
 use rt_audit::{AnswerKind, Entry, Journal};
-use rt_base::{Error, MAX_TIME, Nanos, NoMemory};
+use rt_base::{MAX_TIME, Nanos, NoMemory, Text};
 use rt_machine::Machine;
 use rt_model::Begin;
 use std::alloc::Global;
-use std::marker::{Model, PhantomData};
+use std::marker::Model;
 
 /// The world of tasks of this type.
 pub type WorldOf<T, G> = World<T, <T as Outcome>::Output, G>;
@@ -32,28 +29,28 @@ pub type WorldOf<T, G> = World<T, <T as Outcome>::Output, G>;
 /// A run under way, with its tasks.
 ///
 /// Contracts see what its journal tells, after which turns a call lacked memory, if one did, the values that it holds,
-/// whose state is out because it is polled or ended, and its generator.
+/// the text of a panic that is kept, whose state is out because it is polled or ended, and its generator.
 pub struct World<T, O, G> {
     pub(crate) machine: Machine,
     pub(crate) tasks: Tasks<T>,
+    pub(crate) outputs: Tasks<O>,
+    pub(crate) panic: Option<Text>,
     pub(crate) out: Option<u64>,
-    output: PhantomData<O>,
     rng: G,
 }
 
 impl<T, O, G> Model for World<T, O, G> {
-    ghost use Rattle.std.specs.Prelude.{[]};
     ghost use Rattle.rt_world.specs.World.{World};
     ghost use Rattle.rt_world.specs.Seats.{AreSeated};
 
     ghost Value = { World T O G };
 
-    ghost view = { λ w. record { told = w.machine.told; lacked = w.machine.lacked; held = record { tasks = w.tasks.items; results = [] }; out = w.out; rng = w.rng } };
+    ghost view = { λ w. record { told = w.machine.told; lacked = w.machine.lacked; held = record { tasks = w.tasks.items; results = w.outputs.items }; panic = w.panic; out = w.out; rng = w.rng } };
 
-    ghost invariant = { λ w. AreSeated w.tasks w.out w.machine.told.state.running w.machine.told.state.phase };
+    ghost invariant = { λ w. AreSeated w.tasks w.outputs w.out w.machine.told.state };
 }
 
-#[tactic(auto, using(crate::proofs::Seats::seat_laws, crate::proofs::Walked::stay_laws, rt_machine::proofs::Counts::count_laws), unfolding(rt_model::specs::Effects::after))]
+#[tactic(auto, using(crate::proofs::Seats::seat_laws, crate::proofs::Coming::coming_laws, rt_machine::proofs::Counts::count_laws), unfolding(rt_model::specs::Effects::after))]
 impl<T, O, G> World<T, O, G> {
     /// The time, in nanoseconds since the epoch. It is fixed for a whole visit.
     pub fn now(&self) -> Nanos
@@ -63,49 +60,6 @@ impl<T, O, G> World<T, O, G> {
         self.machine.time()
     }
 
-    /// Closes the context of a node. It takes no memory. Where the node isn't live it does nothing, and writes no entry.
-    pub fn close_node(&mut self, node: u64)
-        requires { MayCall self.old.told.state self.old.out }
-        ensures kept { Kept self.old self.new }
-        ensures closed { Closed self.old self.new node }
-        ensures lacked { self.new.lacked ≡ self.old.lacked }
-    {
-        self.machine.close_node(self.out, node)
-    }
-
-    /// Queues a task without another test. `UnknownToken` exactly where the number was never given in this run. It
-    /// takes memory.
-    #[tactic(auto, using(crate::proofs::Walked::call_laws, crate::proofs::Seats::seat_laws, crate::proofs::Walked::stay_laws, rt_machine::proofs::Counts::count_laws), unfolding(rt_model::specs::Effects::after))]
-    pub fn wake(&mut self, task: u64) -> Result<(), Error>
-        requires { MayCall self.old.told.state self.old.out }
-        ensures kept { Kept self.old self.new }
-        ensures given { OnOk result (WasGiven self.old.told.state.numbers task) }
-        ensures ok { OnOk result (Made self.old self.new (WakeCall task) Done) }
-        ensures err { IfErr result (λ e. WakeRefused self.old self.new task e) }
-        ensures called { Called (Plainly (WakeCall task)) self.old self.new (wake_reply result) }
-    {
-        self.machine.wake(self.out, task)
-    }
-
-    /// Polls a sleep that is over at `due`, in nanoseconds since the epoch. `alarm` is the number of this sleep's
-    /// alarm, and counts only where that alarm is still set for `due`. Answers the number of the alarm that will wake
-    /// the task, or none where the sleep is over. It takes memory.
-    #[tactic(auto, using(crate::proofs::Walked::call_laws, crate::proofs::Seats::seat_laws, crate::proofs::Walked::stay_laws, rt_machine::proofs::Counts::count_laws), unfolding(rt_model::specs::Effects::after))]
-    pub fn sleep_poll(&mut self, due: Nanos, alarm: Option<u64>) -> Result<Option<u64>, NoMemory>
-        requires calling { MayCall self.old.told.state self.old.out }
-        requires due { due ≤ MAX_TIME }
-        ensures kept { Kept self.old self.new }
-        ensures told { IfOk result (λ told. told ≡ slept_number self.old.told.state.clock.time self.old.told.state.alarms due alarm) }
-        ensures ok { IfOk result (λ told. Made self.old self.new (SleepPoll due) (sleep_reply told)) }
-        ensures err { OnErr result (self.new ≡ lacking self.old) }
-        ensures called { Called (Sleeping due alarm) self.old self.new (sleep_told result) }
-    {
-        self.machine.sleep_poll(self.out, due, alarm)
-    }
-}
-
-#[tactic(auto, using(crate::proofs::Seats::seat_laws, rt_machine::proofs::Counts::count_laws), unfolding(rt_model::specs::Effects::after))]
-impl<T, O, G> World<T, O, G> {
     /// Begins a run after the entries of earlier ones. Without room for its start it gives all back.
     pub fn begin(
         alloc: Global,
@@ -114,7 +68,7 @@ impl<T, O, G> World<T, O, G> {
         rng: G,
     ) -> Result<World<T, O, G>, (Journal, G)>
         requires { begin.start ≤ MAX_TIME }
-        ensures ok { IfOk result (λ w. w ≡ record { told = pushed (fresh begin journal.entries) (Entry.Start begin.first begin.start begin.deadline begin.cycle); lacked = None; held = record { tasks = []; results = [] }; out = None; rng = rng }) }
+        ensures ok { IfOk result (λ w. w ≡ record { told = pushed (fresh begin journal.entries) (Entry.Start begin.first begin.start begin.deadline begin.cycle); lacked = None; held = record { tasks = []; results = [] }; panic = None; out = None; rng = rng }) }
         ensures err { IfErr result (λ back. (back.0.entries ≡ journal.entries) × (back.1 ≡ rng)) }
         ensures agrees { IfOk result (λ w. (p : Steps T O) → Agrees p true w None) }
     {
@@ -122,29 +76,13 @@ impl<T, O, G> World<T, O, G> {
             Err(journal) => Err((journal, rng)),
             Ok(machine) => Ok(World {
                 machine,
-                tasks: Tasks::new(alloc),
+                tasks: Tasks::new(alloc, begin.first),
+                outputs: Tasks::new(alloc, begin.first),
+                panic: None,
                 out: None,
-                output: PhantomData,
                 rng,
             }),
         }
-    }
-
-    /// The journal of a finished run, and its generator.
-    pub fn into_parts(self) -> (Journal, G)
-        requires { self.held.tasks ≡ [] }
-        ensures entries { result.0.entries ≡ self.told.given ++ own self.told }
-        ensures rng { result.1 ≡ self.rng }
-    {
-        let World {
-            machine,
-            tasks,
-            out: _,
-            output: _,
-            rng,
-        } = self;
-        tasks.destroy_empty();
-        (machine.into_journal(), rng)
     }
 
     /// Whether a call of the part under way lacked memory.
@@ -192,7 +130,7 @@ impl<T, O, G> World<T, O, G> {
         ensures number { IfOk result (λ task. task ≡ self.old.told.state.numbers.next) }
         ensures ok { IfOk result (λ task. self.new ≡ record self.old { told = pushed self.old.told (Entry.Root task); held = put task root self.old.held }) }
         ensures err { IfErr result (λ back. (back ≡ root) × (self.new ≡ self.old)) }
-        ensures agrees { (p : Steps T O) → IsMade p self.old root → OnOk result (Agrees p true self.new None) }
+        ensures agrees { (p : Steps T O) → self.old.panic ≡ None → IsMade p self.old root → OnOk result (Agrees p true self.new None) }
     {
         match self.seat_root(root) {
             Ok(task) => Ok(task),
@@ -209,34 +147,63 @@ impl<T, O, G> World<T, O, G> {
         ensures ok { IfOk result (λ task. self.new ≡ record self.old { told = pushed self.old.told (Entry.Root task); held = put task root self.old.held }) }
         ensures err { IfErr result (λ back. (back ≡ root) × (self.new ≡ self.old)) }
     {
-        if self.tasks.reserve(1).is_err() {
+        if self.tasks.reserve(1).is_err() || self.outputs.reserve(1).is_err() {
             return Err(root);
         }
+        self.machine.facts();
         match self.machine.register_root() {
             Err(_) => Err(root),
             Ok(task) => {
-                self.tasks.begin_at(task);
                 self.tasks.add(root);
+                self.outputs.skip();
                 Ok(task)
             }
         }
     }
 
-    /// Begins a visit, and takes the state of its task out.
-    pub(crate) fn enter(&mut self, task: u64) -> Result<T, NoMemory>
+    /// Begins a visit.
+    pub(crate) fn enter(&mut self, task: u64) -> Result<(), NoMemory>
         requires phase { self.old.told.state.phase ≡ Visiting (left_of self.old.told.state.phase) }
         requires next { from_running self.old.told.state.running (left_of self.old.told.state.phase) ≡ task ∷ drop 1 (from_running self.old.told.state.running (left_of self.old.told.state.phase)) }
-        requires none_out { self.old.out ≡ None }
-        ensures state { IfOk result (λ state. find task self.old.held.tasks ≡ Some state) }
         ensures runs { has_number task self.old.told.state.running ≡ true }
-        ensures ok { OnOk result (self.new ≡ record self.old { told = pushed (pushed self.old.told (Entry.Visit task)) (Entry.Event process_task (task_fields task [])); held = taken task self.old.held; out = Some task }) }
+        ensures ok { OnOk result (self.new ≡ record self.old { told = pushed (pushed self.old.told (Entry.Visit task)) (Entry.Event process_task (task_fields task (task_label self.old.told.state task))) }) }
         ensures err { OnErr result (self.new ≡ self.old) }
     {
-        self.machine.visit(task)?;
+        self.machine.visit(task)
+    }
+
+    /// Whether the root is to be stopped at its visit, since a panic is kept.
+    pub(crate) fn is_stopped(&self, task: u64) -> bool
+        ensures { result ≡ (is_some_number task self.now.told.state.root && self.now.told.state.panicked) }
+    {
+        self.machine.is_stopped(task)
+    }
+
+    /// Whether a task is flagged, and so ends at its visit.
+    pub(crate) fn is_flagged(&self, task: u64) -> bool
+        ensures { result ≡ is_flagged (find task self.now.told.state.marks) }
+    {
+        self.machine.is_flagged(task)
+    }
+
+    /// Whether a task is the root.
+    pub(crate) fn is_root(&self, task: u64) -> bool
+        ensures { result ≡ is_some_number task self.now.told.state.root }
+    {
+        self.machine.root() == Some(task)
+    }
+
+    /// Takes the state of a running task out.
+    pub(crate) fn take_state(&mut self, task: u64) -> T
+        requires runs { has_number task self.old.told.state.running ≡ true }
+        requires none_out { self.old.out ≡ None }
+        ensures state { find task self.old.held.tasks ≡ Some result }
+        ensures rest { self.new ≡ record self.old { held = taken task self.old.held; out = Some task } }
+    {
         match self.tasks.take(task) {
             Some(state) => {
                 self.out = Some(task);
-                Ok(state)
+                state
             }
             None => unreachable!(),
         }
@@ -244,11 +211,10 @@ impl<T, O, G> World<T, O, G> {
 
     /// Ends the poll of a visit, and puts the state of its task back.
     pub(crate) fn answer(&mut self, task: u64, state: T, kind: AnswerKind)
-        requires phase { self.old.told.state.phase ≡ Polling task (left_of self.old.told.state.phase) }
         requires may { MayAnswer self.old.told.state task kind }
         requires kind { kind ≢ AnswerKind.Ended }
+        requires ready { kind ≢ AnswerKind.Ready }
         requires out { self.old.out ≡ Some task }
-        requires runs { has_number task self.old.told.state.running ≡ true }
         ensures { self.new ≡ record self.old { told = pushed self.old.told (Entry.Answer task kind); held = put task state self.old.held; out = None } }
     {
         self.machine.answer(task, kind);
@@ -282,23 +248,6 @@ impl<T, O, G> World<T, O, G> {
         self.tasks.ends_next(self.machine.root())
     }
 
-    /// Takes its state out.
-    pub(crate) fn take_ending(&mut self, task: u64) -> T
-        requires runs { has_number task self.old.told.state.running ≡ true }
-        requires next { ends_next self.old.told.state.running self.old.told.state.root ≡ Some task }
-        requires none_out { self.old.out ≡ None }
-        ensures state { find task self.old.held.tasks ≡ Some result }
-        ensures rest { self.new ≡ record self.old { held = taken task self.old.held; out = Some task } }
-    {
-        match self.tasks.take(task) {
-            Some(state) => {
-                self.out = Some(task);
-                state
-            }
-            None => unreachable!(),
-        }
-    }
-
     /// Says that the state of a task is ended, in the cleanup.
     pub(crate) fn task_ended(&mut self, task: u64)
         requires phase { self.old.told.state.phase ≡ Closing (cause_of self.old.told.state.phase) }
@@ -311,16 +260,37 @@ impl<T, O, G> World<T, O, G> {
     }
 
     /// What is known of each world: its entries are lawful, each round's order is the ready list as it stood, and its
-    /// state is what they tell. Calls move no value beside those that the world holds. Only the root runs.
+    /// state is what they tell.
     pub fn facts(&self)
         ensures lawful { IsLawful (begun self.now.told.begin) (own self.now.told) }
         ensures drawn { AreDrawn (begun self.now.told.begin) (own self.now.told) }
         ensures state { self.now.told.state ≡ after_all (begun self.now.told.begin) (own self.now.told) }
         ensures calls { AreCalls self.now.told.calls }
-        ensures rooted { (task : ℕ) → has_number task self.now.told.state.running ≡ true → self.now.told.state.root ≡ Some task }
+        ensures runs { IfSome self.now.out (λ task. has_number task self.now.told.state.running ≡ true) }
         ensures none { self.now.out ≡ None → self.now.told.state.running ≡ [] → self.now.held.tasks ≡ [] }
         ensures follows { (p : Steps T O) (t : Told) (v : Value T O) → Follows p t v → t.calls ≡ [] → self.now.told.begin ≡ t.begin → self.now.told.past ≡ t.past → Follows p self.now.told v }
     {
         self.machine.facts()
+    }
+}
+
+impl<T, O: Drop, G> World<T, O, G> {
+    /// The journal of a finished run, its generator, and the text of a panic that is kept.
+    pub fn into_parts(self) -> (Journal, G, Option<Text>)
+        requires { self.held.tasks ≡ [] }
+        ensures entries { result.0.entries ≡ self.told.given ++ own self.told }
+        ensures rng { result.1 ≡ self.rng }
+        ensures panic { result.2 ≡ self.panic }
+    {
+        let World {
+            machine,
+            tasks,
+            outputs: _,
+            panic,
+            out: _,
+            rng,
+        } = self;
+        tasks.destroy_empty();
+        (machine.into_journal(), rng, panic)
     }
 }

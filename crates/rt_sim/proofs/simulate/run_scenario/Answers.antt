@@ -1,8 +1,7 @@
 use Rattle.std.proofs.Common.{rules, ◌≡◌, ◌≢◌, ap, refl, inl, inr}
 use Rattle.rt_sim.specs.declared.outcome.RunResult.TheVariants.{Ok, Failed}
 use Rattle.rt_audit.specs.Journal.{last_time}
-use Rattle.rt_machine.specs.Failures.{finish_of}
-use Rattle.rt_machine.specs.declared.run_error.RunError.TheVariants.{NoMemory}
+use Rattle.rt_core.specs.declared.run_error.RunError.TheVariants.{NoMemory}
 use Rattle.rt_sim.specs.Ran.{root_steps, starting, Halts, Simulates}
 use Rattle.rt_sim.specs.Asked.{Reports}
 use Rattle.rt_sim.specs.Report.{reports_text}
@@ -31,7 +30,7 @@ returns-then-eq-clause-ends g c =
     let maker = c.new-maker.result in
     let failure = c.in-Err.failure in
     let lacked : failure.cause ≡ NoMemory = (search rules) in
-    let lacks = rw (ap finish_of lacked) at (fails-from (root_steps maker) c.in-Ok-new.runner (starting s.timeout) (search rules) failure.journal.entries (finish_of failure.cause) c.in-Err.ensures.failure) in
+    let lacks = rw lacked at (fails-from (root_steps maker) c.in-Ok-new.runner (starting s.timeout) (search rules) failure.journal.entries failure.cause c.in-Err.ensures.failure) in
     let halts : Halts s s.root (starting s.timeout) failure.journal.entries = record {
       script = script;
       maker = maker;
@@ -53,5 +52,5 @@ returns-clause-ends g c =
     let o = c.report_run-in-Err.result in
     let makes = makes-taken s c.into_inner-scripts.result.items script maker c.into_inner-scripts.ensures (search rules) c.swap_remove-script.ensures.value (search rules) in
     let other : failure.cause ≢ NoMemory = (search rules) in
-    let is = reported s script maker (Failed failure.cause) (last_time entries) entries run (search rules) makes (other, refl, fails-from (root_steps maker) c.in-Ok-new.runner (starting s.timeout) (search rules) entries (finish_of failure.cause) c.in-Err.ensures.failure) (draws-from (root_steps maker) c.in-Ok-new.runner (starting s.timeout) (search rules) entries c.in-Err.ensures.orders) in
+    let is = reported s script maker (Failed failure.cause) (last_time entries) entries run (search rules) makes (other, refl, fails-from (root_steps maker) c.in-Ok-new.runner (starting s.timeout) (search rules) entries failure.cause c.in-Err.ensures.failure) (draws-from (root_steps maker) c.in-Ok-new.runner (starting s.timeout) (search rules) entries c.in-Err.ensures.orders) in
     inl (ends_as (Reports run entries) (Simulates s) (reports_text o.runs o.journal.entries) o (held c.args.sink.now) (held c.report_run-in-Err.new.sink) (λ status reports. simulates s run entries (record o { status = status }) is reports) (search rules))

@@ -1,11 +1,11 @@
-use Rattle.std.proofs.Common.{◌≡◌, ◌++◌, ◌∙◌, ap, refl, sym, List}
+use Rattle.std.proofs.Common.{◌≡◌, ◌++◌, ◌∙◌, ap, refl, List}
 use Rattle.rt_audit.specs.declared.entry.Entry.{Entry}
 use Rattle.rt_model.specs.State.{begun}
 use Rattle.rt_model.specs.Effects.{after}
 use Rattle.rt_model.specs.Tied.{with_first, Steps}
 use Rattle.rt_machine.specs.Told.{own}
 use Rattle.rt_world.specs.World.{World}
-use Rattle.rt_core.proofs.Outcomes.{completes, failed_by, only_memory}
+use Rattle.rt_core.proofs.Outcomes.{completes, failed_by, has_text, only_memory}
 use Rattle.rt_core.proofs.runner.Runner.start_and_recover.Goals as goal
 
 pub run_maker-outcome-requires-clause-root : goal.run_maker-outcome-requires-clause-root
@@ -35,14 +35,14 @@ returns-in-Err-outcome-clause-failure g c =
     rw (← c.self.view_is) (record {
       entries = own w.told;
       extends = c.into_parts-journal.ensures.entries ∙ ap (λ (ys : List Entry). ys ++ own w.told) given;
-      failed = failed_by p c.self.inside.begin w (rw begin at c.facts.ensures.lawful) (rw begin at c.facts.ensures.state) begin c.in-Err-outcome.cause c.in-Err-outcome.ensures.leaves.phase (c.in-Err-outcome.ensures.agrees (c.in-Ok.ensures.agrees p));
+      failed = failed_by p c.self.inside.begin w (rw begin at c.facts.ensures.lawful) (rw begin at c.facts.ensures.state) begin c.error_of.result c.in-Err-outcome.cause c.error_of.ensures.cause (rw c.into_parts-journal.ensures.panic at c.error_of.ensures.text) c.in-Err-outcome.ensures.leaves.phase (c.in-Err-outcome.ensures.agrees (c.in-Ok.ensures.agrees p));
     })
 
 pub returns-in-Err-outcome-clause-complete : goal.returns-in-Err-outcome-clause-complete
 returns-in-Err-outcome-clause-complete g c v =
     let p : Steps g.row.T.Denot g.row.T-Output.Denot = with_first g.T.Task.steps (g.M.RootMaker.first c.args.maker) in
     let f = returns-in-Err-outcome-clause-failure g c in
-    only_memory p c.args.self.begin f.entries c.in-Err-outcome.cause v f.failed
+    only_memory p c.args.self.begin f.entries c.error_of.result v f.failed
 
 pub returns-in-Ok-outcome-clause-orders : goal.returns-in-Ok-outcome-clause-orders
 unfolding after begun
@@ -67,3 +67,12 @@ returns-in-Err-outcome-clause-orders g c =
       extends = c.into_parts-journal.ensures.entries ∙ ap (λ (ys : List Entry). ys ++ own w.told) given;
       drawn = rw begin at c.facts.ensures.drawn;
     })
+
+pub error_of-requires-clause-text : goal.error_of-requires-clause-text
+unfolding after begun
+error_of-requires-clause-text g c panicked =
+    let p : Steps g.row.T.Denot g.row.T-Output.Denot = with_first g.T.Task.steps (g.M.RootMaker.first c.args.maker) in
+    let w : World g.row.T.Denot g.row.T-Output.Denot g.row.G.Denot = c.run_maker-outcome.new.world in
+    let begin : w.told.begin ≡ c.self.inside.begin = c.run_maker-outcome.ensures.leaves.begin ∙ ap (λ (u : World g.row.T.Denot g.row.T-Output.Denot g.row.G.Denot). u.told.begin) c.in-Ok.ensures.ok in
+    rw c.into_parts-journal.ensures.panic
+    (has_text p c.self.inside.begin w (rw begin at c.facts.ensures.lawful) (rw begin at c.facts.ensures.state) begin c.in-Err-outcome.cause c.in-Err-outcome.ensures.leaves.phase (c.in-Err-outcome.ensures.agrees (c.in-Ok.ensures.agrees p)) panicked)

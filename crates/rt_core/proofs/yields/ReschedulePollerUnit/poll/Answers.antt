@@ -1,8 +1,5 @@
-use Rattle.std.proofs.Common.{◌≡◌, sym}
-use Rattle.rt_base.specs.declared.error.Error.{Error}
-use Rattle.rt_base.specs.declared.error.Error.TheVariants.{NoMemory, UnknownToken}
 use Rattle.rt_core.specs.Pollers.{reschedule_polls}
-use Rattle.rt_world.proofs.Walked.{walked-call, walked-gives, walked-lacking, goes-on}
+use Rattle.rt_world.proofs.Walked.{walked-wake, walked-gives, goes-on}
 use Rattle.rt_core.proofs.Requeue.{walked-refused}
 use Rattle.rt_core.proofs.yields.ReschedulePollerUnit.poll.Goals as goal
 
@@ -12,7 +9,7 @@ returns-then-self-clause-steps g c = goes-on _ _ _ _ _ (rw c.if-self.true (walke
 
 pub returns-in-Ok-clause-steps : goal.returns-in-Ok-clause-steps
 unfolding reschedule_polls
-returns-in-Ok-clause-steps g c = goes-on _ _ _ _ _ (rw (c.if-self.false, ← c.task.ensures) (walked-call _ _ _ _ _ _ _ _ c.in-Ok.ensures.ok (walked-gives _ _ _)))
+returns-in-Ok-clause-steps g c = goes-on _ _ _ _ _ (rw (c.if-self.false, ← c.task.ensures) (walked-wake _ _ _ _ _ _ _ _ c.in-Ok.ensures.ok (walked-gives _ _ _)))
 
 pub returns-in-Err-clause-steps : goal.returns-in-Err-clause-steps
 unfolding reschedule_polls

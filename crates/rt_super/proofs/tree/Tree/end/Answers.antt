@@ -1,7 +1,7 @@
 use Rattle.std.proofs.Common.{◌≡◌, ◌<◌, ◌++◌, ◌∙◌, List, Bool, true, refl, subst, length, arith}
 use Rattle.std.specs.Vec.{with_items}
 use Rattle.std.proofs.lemmas.List.{with_items_is, length-map}
-use Rattle.rt_super.specs.Ancestry.{subtree, stands_in}
+use Rattle.rt_super.specs.Ancestry.{subtree, stands_in, AreEnded}
 use Rattle.rt_super.specs.Ending.{fresh_tasks}
 use Rattle.rt_super.specs.Inside.{parents, placed, is_marked}
 use Rattle.rt_super.proofs.Records.{record_end, record_end_past, known_within}
@@ -36,6 +36,7 @@ pub returns-then-node-len-clause-again : goal.returns-then-node-len-clause-again
 returns-then-node-len-clause-again c = λ on. rw (c.after-self-inside.ensures, ← c.self.view_is) (end_again _ _ _ _ _ _ c.self.invariant.sound c.self.invariant.right c.args.node (rw (← c.self.view_is) at on))
 
 pub returns-then-node-len-clause-all : goal.returns-then-node-len-clause-all
+unfolding AreEnded
 returns-then-node-len-clause-all c = λ first m known.
     let whole = invariant_of-self c in
     let after : (with_items c.self.inside.ended c.end_subtree.new.ended).items ≡ c.end_subtree.new.ended = with_items_is c.self.inside.ended c.end_subtree.new.ended (omega (arith, c.deref_mut.ensures.len)) in
@@ -43,3 +44,10 @@ returns-then-node-len-clause-all c = λ first m known.
     let root : is_marked (with_items c.self.inside.ended c.end_subtree.new.ended).items 0 ≡ true = rw after (c.end_subtree.ensures.marks 0 ∙ or_right _ _ here) in
     let within : m < length (parents c.self.inside.nodes.items) = omega (arith, known_within _ _ _ _ _ whole.right m known, count_states c.self.inside.nodes.items, length-map c.self.inside.nodes.items (λ x. x.parent)) in
     whole.right.ended m ∙ all_marked _ _ _ whole.sound root m within
+
+pub returns-else-node-len-clause-all : goal.returns-else-node-len-clause-all
+unfolding AreEnded
+returns-else-node-len-clause-all c = λ first m known.
+    let whole = invariant_of-self-else-node-len c in
+    let within = known_within _ _ _ _ _ whole.right m known in
+    absurd (omega (arith, within, first, c.if-node-len.false, c.len.ensures, count_states c.self.inside.nodes.items, length-map c.self.inside.nodes.items (λ x. x.parent)))

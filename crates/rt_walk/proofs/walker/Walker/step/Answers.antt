@@ -13,14 +13,14 @@ returns-in-Event-clause-here c = rw c.in-Event.is (c.enter.ensures c.in-Event.la
 pub returns-in-Event-clause-alike : goal.returns-in-Event-clause-alike
 returns-in-Event-clause-alike c s = after-states _ _ s _ (returns-in-Event-clause-here c)
 
-pub returns-in-Fire-clause-here : goal.returns-in-Fire-clause-here
-returns-in-Fire-clause-here c = rw c.in-Fire.is (c.fire.ensures c.in-Fire.alarm)
-
-pub returns-in-Fire-clause-alike : goal.returns-in-Fire-clause-alike
-returns-in-Fire-clause-alike c s = after-states _ _ s _ (returns-in-Fire-clause-here c)
-
 pub returns-in-Crash-clause-here : goal.returns-in-Crash-clause-here
 returns-in-Crash-clause-here c = rw c.in-Crash.is (c.crash.ensures c.in-Crash.choices)
 
 pub returns-in-Crash-clause-alike : goal.returns-in-Crash-clause-alike
 returns-in-Crash-clause-alike c s = after-states _ _ s _ (returns-in-Crash-clause-here c)
+
+pub returns-in_ok-fire-in-Fire-clause-here : goal.returns-in_ok-fire-in-Fire-clause-here
+returns-in_ok-fire-in-Fire-clause-here c = rw c.in-Fire.is (c.in_ok-fire-in-Fire.ensures c.in-Fire.alarm)
+
+pub returns-in_ok-fire-in-Fire-clause-alike : goal.returns-in_ok-fire-in-Fire-clause-alike
+returns-in_ok-fire-in-Fire-clause-alike c s = after-states _ _ s _ (returns-in_ok-fire-in-Fire-clause-here c)

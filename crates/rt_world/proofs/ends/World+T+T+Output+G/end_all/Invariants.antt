@@ -1,4 +1,4 @@
-use Rattle.std.proofs.Common.{ℕ, Bool, Option, length}
+use Rattle.std.proofs.Common.{Bool, Option, length}
 use Rattle.rt_model.specs.Tied.{First, with_first}
 use Rattle.rt_world.specs.Follows.{AgreesWith, still}
 use Rattle.rt_world.specs.Ends.{Ends}

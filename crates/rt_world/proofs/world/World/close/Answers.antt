@@ -1,7 +1,13 @@
 use Rattle.std.proofs.Common.{refl}
+use Rattle.rt_world.proofs.Ending.{closed-seated}
 use Rattle.rt_world.proofs.Follows.{follows-closed}
 use Rattle.rt_world.proofs.world.World.close.Goals as goal
 
 pub returns-clause-agrees : goal.returns-clause-agrees
 returns-clause-agrees g c p whole output f =
     follows-closed p c.self.inside.machine.told c.cleanup.new.self.told _ (rw (c.cleanup.ensures, c.take_short.ensures.gone) refl) (rw (← c.self.view_is) at c.requires.phase.made) (rw (← c.self.view_is) at f)
+
+pub invariant_of-self : goal.invariant_of-self
+invariant_of-self g c =
+    let w = c.self.inside in
+    closed-seated w.tasks w.outputs w.out w.machine c.cleanup.new.self (rw (c.cleanup.ensures, c.take_short.ensures.gone) refl) c.self.invariant

@@ -1,0 +1,70 @@
+-- What contracts see of contexts and of the handles of tasks, and what is read of what was heard of their calls.
+use Rattle.std.specs.Prelude.{◌≡◌, ◌⊎◌, ℕ, List, [], Option, Some, None, false, Result, Ok, Err}
+use Rattle.rt_base.specs.Label.{is_label, prefixed}
+use Rattle.rt_base.specs.declared.error.Error.{Error}
+use Rattle.rt_base.specs.declared.error.Error.TheVariants.{NoMemory, Metric}
+use Rattle.rt_base.specs.declared.execution.Execution.{Execution}
+use Rattle.rt_base.specs.declared.execution.Execution.TheVariants.{Shared}
+use Rattle.rt_base.specs.declared.metric_error.MetricError.TheVariants.{BadLabel}
+use Rattle.rt_base.specs.declared.name.Name.{Name}
+use Rattle.rt_base.specs.declared.refused.Refused.{Refused}
+use Rattle.rt_audit.specs.declared.reply.CallReply.{CallReply}
+use Rattle.rt_audit.specs.declared.reply.CallReply.TheVariants.{NodeAt, TaskAt, Closed, Refused as IsRefused}
+use Rattle.rt_model.specs.Turns.{Heard, Plain, Handed}
+use Rattle.rt_core.specs.declared.handle.Kind.{Kind}
+use Rattle.rt_core.specs.declared.handle.Kind.TheVariants.{Task, Nothing}
+
+-- the node on which a context stands, its name, and where a task spawned on it runs
+pub record Context : Type 0 where
+  pub node : ℕ
+  pub name : Name
+  pub execution : Execution
+
+-- a context on this node, with this name
+abbrev pub context_on : ℕ → Name → Context
+context_on node name = record { node = node; name = name; execution = Shared false }
+
+-- that of a run's root
+abbrev pub root_context : Context
+root_context = context_on 0 (record { label = []; attributes = [] })
+
+-- a child has the label of its parent, a low line and its own, and the same attributes
+abbrev pub child_name : Name → List ℕ → Name
+child_name name label = record { label = prefixed name.label label; attributes = name.attributes }
+
+-- a key was refused for this
+abbrev pub IsRefusedKey : List ℕ → Error → Type 0
+IsRefusedKey key error = ((error ≡ Metric BadLabel) × (is_label key ≡ false)) ⊎ ((error ≡ NoMemory) × (is_label key ≡ Rattle.std.specs.Prelude.true))
+
+-- a call that made a child was heard so
+abbrev pub child_replied : Context → List ℕ → CallReply → Result Context Error
+child_replied context label (NodeAt node ended) = Ok (context_on node (child_name context.name label))
+child_replied context label (IsRefused error) = Err error
+child_replied context label _ = Err NoMemory
+
+abbrev pub child_heard : {O : Type 0} → Context → List ℕ → Heard O → Result Context Error
+child_heard context label (Plain reply) = child_replied context label reply
+child_heard context label (Handed value) = Err NoMemory
+
+-- a call that spawned was heard so
+abbrev pub handle_replied : CallReply → Result Kind Error
+handle_replied (TaskAt task number) = Ok (Task task false)
+handle_replied Closed = Ok Nothing
+handle_replied (IsRefused error) = Err error
+handle_replied _ = Err NoMemory
+
+abbrev pub handle_heard : {O : Type 0} → Heard O → Result Kind Error
+handle_heard (Plain reply) = handle_replied reply
+handle_heard (Handed value) = Err NoMemory
+
+abbrev pub spawn_told : Result Kind (Refused Context) → Result Kind Error
+spawn_told (Ok handle) = Ok handle
+spawn_told (Err refused) = Err refused.error
+
+-- what is made of a context
+abbrev pub IsMakerOf : {A : Type 0} → (Context → A → Type 0) → (Context → A) → Type 0
+IsMakerOf {A = A} post makes = (context : Context) (state : A) → post context state → state ≡ makes context
+
+-- the state of a task that is spawned on a context, by the number of the fresh node of its own
+abbrev pub makes_on : {A : Type 0} → Context → (Context → A) → ℕ → A
+makes_on context makes number = makes (context_on number context.name)

@@ -1,0 +1,42 @@
+-- What a number has, changed.
+use Rattle.std.proofs.Common.{◌≡◌, ℕ, List, [], ◌∷◌, refl, true, false, arith, Some, None}
+use Rattle.rt_model.specs.declared.mark.Mark.{Mark}
+use Rattle.rt_model.specs.declared.result.Outcome.{Outcome}
+use Rattle.rt_model.specs.declared.result.TaskResult.{TaskResult}
+use Rattle.rt_model.specs.Lists.{find, replaced}
+use Rattle.rt_model.specs.Marks.{flag, flagged, leave}
+use Rattle.rt_model.specs.Results.{with_abort, with_outcome}
+
+replaced-as : {V : Type 0} (change : V → V) (k : ℕ) (xs : List (ℕ × V)) (old new : V) → find k xs ≡ Some old → change old ≡ new → replaced (λ x. new) k xs ≡ replaced change k xs
+replaced-as change k [] old new h e = refl
+replaced-as change k (x ∷ xs) old new h e = grind (arith, replaced-as change k xs old new)
+
+replaced-none : {V : Type 0} (change : V → V) (k : ℕ) (xs : List (ℕ × V)) → find k xs ≡ None → replaced change k xs ≡ xs
+replaced-none change k [] h = refl
+replaced-none change k (x ∷ xs) h = grind (arith, replaced-none change k xs)
+
+pub flag-some : (k : ℕ) (ms : List (ℕ × Mark)) (m : Mark) → find k ms ≡ Some m → replaced (λ x. record { node = m.node; left = false; flagged = true }) k ms ≡ flag k ms
+flag-some k ms m h = replaced-as flagged k ms m (record { node = m.node; left = false; flagged = true }) h refl
+
+pub flag-none : (k : ℕ) (ms : List (ℕ × Mark)) → find k ms ≡ None → flag k ms ≡ ms
+flag-none k ms h = replaced-none flagged k ms h
+
+pub leave-some : (k : ℕ) (ms : List (ℕ × Mark)) (m : Mark) → find k ms ≡ Some m → replaced (λ x. record m { left = true }) k ms ≡ leave k ms
+leave-some k ms m h = replaced-as (λ x. record x { left = true }) k ms m (record m { left = true }) h refl
+
+pub leave-none : (k : ℕ) (ms : List (ℕ × Mark)) → find k ms ≡ None → leave k ms ≡ ms
+leave-none k ms h = replaced-none (λ x. record x { left = true }) k ms h
+
+pub abort-some : (k : ℕ) (rs : List (ℕ × TaskResult)) (r : TaskResult) → find k rs ≡ Some r → replaced (λ x. record { outcome = r.outcome; aborted = true }) k rs ≡ with_abort k rs
+abort-some k rs r h = replaced-as (λ x. record x { aborted = true }) k rs r (record r { aborted = true }) h refl
+
+pub abort-none : (k : ℕ) (rs : List (ℕ × TaskResult)) → find k rs ≡ None → with_abort k rs ≡ rs
+abort-none k rs h = replaced-none (λ x. record x { aborted = true }) k rs h
+
+pub outcome-some : (k : ℕ) (rs : List (ℕ × TaskResult)) (o : Outcome) (r : TaskResult) → find k rs ≡ Some r → replaced (λ x. record { outcome = o; aborted = r.aborted }) k rs ≡ with_outcome o k rs
+outcome-some k rs o r h = replaced-as (λ x. record x { outcome = o }) k rs r (record r { outcome = o }) h refl
+
+pub outcome-none : (k : ℕ) (rs : List (ℕ × TaskResult)) (o : Outcome) → find k rs ≡ None → with_outcome o k rs ≡ rs
+outcome-none k rs o h = replaced-none (λ x. record x { outcome = o }) k rs h
+
+pub ruleset change_laws = (flag-some, flag-none, leave-some, leave-none, abort-some, abort-none, outcome-some, outcome-none)

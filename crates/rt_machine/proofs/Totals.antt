@@ -1,0 +1,78 @@
+-- The places that marks and results hold, when one is changed.
+use Rattle.std.proofs.Common.{◌≡◌, ◌≤◌, ◌+◌, ℕ, List, [], ◌∷◌, ◌++◌, refl, true, false, Bool, arith, Option, Some, None, option_map, is_some, length}
+use Rattle.rt_model.specs.declared.mark.Mark.{Mark}
+use Rattle.rt_model.specs.declared.result.Outcome.{Outcome}
+use Rattle.rt_model.specs.declared.result.Outcome.TheVariants.{Open, There, Exited, Closed}
+use Rattle.rt_model.specs.declared.result.TaskResult.{TaskResult}
+use Rattle.rt_model.specs.Lists.{find, without, replaced, those}
+use Rattle.rt_model.specs.Rows.{total}
+use Rattle.rt_model.specs.Marks.{flag, flag_all, leave, is_left}
+use Rattle.rt_model.specs.Results.{may_abort, with_abort, with_outcome}
+use Rattle.rt_machine.specs.Places.{ones, mark_places, result_places, open_places}
+use Rattle.rt_model.specs.Effects.{marks_ended}
+use Rattle.rt_machine.specs.Ends.{open_in, waiter_in}
+use Rattle.rt_machine.specs.News.{is_new}
+
+pub flag-places : (k : ℕ) (ms : List (ℕ × Mark)) → total mark_places (flag k ms) + ones (is_left (find k ms)) ≡ total mark_places ms
+flag-places k [] = refl
+flag-places k (m ∷ ms) = grind (arith, flag-places k ms)
+
+pub leave-places : (k : ℕ) (ms : List (ℕ × Mark)) → total mark_places (leave k ms) ≡ total mark_places ms + ones (is_new (find k ms))
+leave-places k [] = refl
+leave-places k (m ∷ ms) = grind (arith, leave-places k ms)
+
+pub abort-places : (k : ℕ) (rs : List (ℕ × TaskResult)) → may_abort (find k rs) ≡ true → total result_places (with_abort k rs) + 1 ≡ total result_places rs
+abort-places k [] h = cc
+abort-places k (r ∷ rs) h = grind (arith, abort-places k rs)
+
+pub settle-places : (k : ℕ) (rs : List (ℕ × TaskResult)) (o : Outcome) → open_places o ≡ 0 → total result_places (with_outcome o k rs) + open_in (option_map (λ r. r.outcome) (find k rs)) ≡ total result_places rs
+settle-places k [] o h = refl
+settle-places k (r ∷ rs) o h = grind (arith, settle-places k rs o h)
+
+-- whoever waits for a result waits for one that is open
+pub waits-places : (o : Option Outcome) → length (those (waiter_in o)) ≤ open_in o
+waits-places None = omega arith
+waits-places (Some (Open None)) = omega arith
+waits-places (Some (Open (Some k))) = omega arith
+waits-places (Some There) = omega arith
+waits-places (Some Exited) = omega arith
+waits-places (Some Closed) = omega arith
+
+total-same : {V : Type 0} (f : V → ℕ) (change : V → V) (k : ℕ) (xs : List (ℕ × V)) (v : V) → find k xs ≡ Some v → f (change v) ≡ f v → total f (replaced change k xs) ≡ total f xs
+total-same f change k [] v h e = cc
+total-same f change k (x ∷ xs) v h e = grind (arith, total-same f change k xs v)
+
+pub join-places : (k : ℕ) (rs : List (ℕ × TaskResult)) (o : Outcome) (r : TaskResult) → find k rs ≡ Some r → open_places o ≡ open_places r.outcome → total result_places (with_outcome o k rs) ≡ total result_places rs
+join-places k rs o r h e = total-same result_places (λ x. record x { outcome = o }) k rs r h (rw e refl)
+
+pub without-places : {V : Type 0} (f : V → ℕ) (k : ℕ) (xs : List (ℕ × V)) (v : V) → find k xs ≡ Some v → total f (without k xs) + f v ≡ total f xs
+without-places f k [] v h = cc
+without-places f k (x ∷ xs) v h = grind (arith, without-places f k xs v)
+
+pub without-fewer : {V : Type 0} (f : V → ℕ) (k : ℕ) (xs : List (ℕ × V)) → total f (without k xs) ≤ total f xs
+without-fewer f k [] = omega arith
+without-fewer f k (x ∷ xs) = grind (arith, without-fewer f k xs)
+
+find-flagged : (j k : ℕ) (ms : List (ℕ × Mark)) → is_some (find j ms) ≡ true → is_some (find j (flag k ms)) ≡ true
+find-flagged j k [] h = cc
+find-flagged j k (m ∷ ms) h = grind (arith, find-flagged j k ms)
+
+-- a mark stays while others are flagged
+pub has-flagged : (j : ℕ) (ks : List ℕ) (ms : List (ℕ × Mark)) → is_some (find j ms) ≡ true → is_some (find j (flag_all ks ms)) ≡ true
+has-flagged j [] ms h = h
+has-flagged j (k ∷ ks) ms h = has-flagged j ks (flag k ms) (find-flagged j k ms h)
+
+pub without-one : (k : ℕ) (ms : List (ℕ × Mark)) → is_some (find k ms) ≡ true → total mark_places (without k ms) + 1 ≤ total mark_places ms
+without-one k [] h = cc
+without-one k (m ∷ ms) h = grind (arith, without-one k ms)
+
+-- the marks that stay when a task ends
+pub ended-fewer : (settles : Bool) (k : ℕ) (ms : List (ℕ × Mark)) → total mark_places (marks_ended settles k ms) ≤ total mark_places ms
+ended-fewer true k ms = without-fewer mark_places k ms
+ended-fewer false k ms = omega arith
+
+pub more-places : {V : Type 0} (f : V → ℕ) (xs : List (ℕ × V)) (x : ℕ × V) → total f (xs ++ x ∷ []) ≡ total f xs + f x.1
+more-places f [] x = omega arith
+more-places f (y ∷ xs) x = omega (arith, more-places f xs x)
+
+pub ruleset place_laws = (flag-places, leave-places, abort-places, settle-places, waits-places, join-places, without-fewer, more-places)

@@ -1,0 +1,48 @@
+use Rattle.std.proofs.Common.{◌≡◌, ◌∙◌, refl, sym, arith, true}
+use Rattle.rt_super.specs.Ancestry.{is_live}
+use Rattle.rt_model.specs.Effects.{after, is_closing}
+use Rattle.rt_machine.proofs.Nodes.{live-release, length-release}
+use Rattle.rt_machine.proofs.Owed.{due-close}
+use Rattle.rt_machine.proofs.Over.{over-release}
+use Rattle.rt_machine.proofs.machine.Machine.close_node.Goals as goal
+
+pub overflow_sub-self : goal.overflow_sub-self
+overflow_sub-self c =
+    let s = c.self.inside.journal.told.state in
+    let i = c.self.invariant in
+    let live : is_live s.nodes c.args.node ≡ true = rw i.nodes_are (cc) in
+    omega (arith, live-release s.nodes c.args.node live, i.promised_is)
+
+pub invariant_of-self : goal.invariant_of-self
+unfolding after
+invariant_of-self c =
+    let s = c.self.inside.journal.told.state in
+    let i = c.self.invariant in
+    let live : is_live s.nodes c.args.node ≡ true = rw i.nodes_are (cc) in
+    let fewer = live-release s.nodes c.args.node live in
+    rw (c.note.ensures.told, c.release.ensures)
+    record {
+      clock_is = i.clock_is;
+      numbers_are = i.numbers_are;
+      root_is = i.root_is;
+      left_is = i.left_is;
+      panicked_is = i.panicked_is;
+      nodes_are = rw i.nodes_are refl;
+      labels_are = i.labels_are;
+      closing_is = i.closing_is;
+      ready_is = i.ready_is;
+      alarms_are = i.alarms_are;
+      marks_are = i.marks_are;
+      results_are = i.results_are;
+      none_drawn = i.none_drawn;
+      none_owed = due-close (is_closing s.phase) s.marks c.args.node;
+      all_ended = λ closing. over-release s.nodes c.args.node (i.all_ended closing);
+      label_next = i.label_next ∙ sym (length-release c.self.inside.tree c.args.node);
+      mark_next = i.mark_next;
+      result_next = i.result_next;
+      promised_is = omega (arith, fewer, i.promised_is);
+      room = omega (arith, fewer, i.promised_is, i.room, c.note.ensures.spare);
+      ready_room = omega (arith, i.ready_room);
+      fit = i.fit;
+      within = i.within;
+    }

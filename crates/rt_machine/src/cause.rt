@@ -1,0 +1,33 @@
+//! Why a call is refused.
+
+ghost use Rattle.std.specs.Prelude.{◌≡◌};
+ghost use Rattle.rt_machine.specs.Causes.{error_of};
+
+use rt_base::{Error, MetricError};
+
+/// The cause of a refusal.
+#[derive(Clone, Copy, Debug)]
+pub enum Cause {
+    UnknownToken,
+    TooManyTasks,
+    Exited,
+    Closed,
+    BadLabel,
+    Reserved,
+}
+
+impl Cause {
+    /// The error that the caller gets.
+    pub fn error(self) -> Error
+        ensures { result ≡ error_of self }
+    {
+        match self {
+            Cause::UnknownToken => Error::UnknownToken,
+            Cause::TooManyTasks => Error::TooManyTasks,
+            Cause::Exited => Error::Exited,
+            Cause::Closed => Error::Closed,
+            Cause::BadLabel => Error::Metric(MetricError::BadLabel),
+            Cause::Reserved => Error::Metric(MetricError::Reserved),
+        }
+    }
+}

@@ -1,0 +1,9 @@
+//! The marks of tasks that were spawned.
+
+/// A spawned task that runs: its node, whether it was left pending since a flag last woke it, and whether it is flagged.
+#[derive(Clone, Copy, Debug)]
+pub struct Mark {
+    pub node: u64,
+    pub left: bool,
+    pub flagged: bool,
+}

@@ -1,0 +1,116 @@
+//! What tasks have, by their numbers.
+
+ghost use Rattle.std.specs.Prelude.{◌≡◌, ◌≤◌, ◌<◌, ◌+◌, ◌∷◌, ◌++◌, [], ℕ, None, OnOk};
+ghost use Rattle.rt_model.specs.Lists.{find, without, replaced};
+
+use rt_base::NoMemory;
+use std::alloc::Global;
+use std::marker::Model;
+
+/// What some of the tasks have, by their numbers, which go up from a first one. Finding it takes one step.
+#[derive(Drop)]
+pub struct Table<V> {
+    first: u64,
+    places: Vec<Option<V>>,
+}
+
+impl<V> Model for Table<V> {
+    ghost use Rattle.std.specs.Prelude.{◌-◌, ◌+◌, vec_len, vec_capacity};
+    ghost use Rattle.rt_model.specs.Rows.{Rows, rows};
+
+    ghost Value = { Rows V };
+
+    ghost view = { λ t. record { items = rows t.first t.places.items; next = t.first + vec_len t.places; spare = vec_capacity t.places - vec_len t.places } };
+}
+
+#[tactic(auto, using(crate::proofs::Rows::row_laws))]
+impl<V: Copy> Table<V> {
+    /// Nothing, up to this number.
+    pub fn new(alloc: Global, first: u64) -> Self
+        ensures items { result.items ≡ [] }
+        ensures next { result.next ≡ first }
+    {
+        Table {
+            first,
+            places: Vec::new(alloc),
+        }
+    }
+
+    /// Takes room for so many further numbers.
+    pub fn reserve(&mut self, places: usize) -> Result<(), NoMemory>
+        ensures items { self.new.items ≡ self.old.items }
+        ensures next { self.new.next ≡ self.old.next }
+        ensures room { OnOk result (places ≤ self.new.spare) }
+        ensures kept { self.old.spare ≤ self.new.spare }
+    {
+        self.places.reserve(places)?;
+        Ok(())
+    }
+
+    /// No number from the next one on has anything.
+    pub fn facts(&self)
+        ensures { (task : ℕ) → self.now.next ≤ task → find task self.now.items ≡ None }
+    {
+        let _ = &self.places;
+    }
+
+    /// What a task has.
+    pub fn get(&self, task: u64) -> Option<V>
+        ensures { result ≡ find task self.now.items }
+    {
+        if task < self.first {
+            return None;
+        }
+        match self.places.get((task - self.first) as usize) {
+            Some(place) => *place,
+            None => None,
+        }
+    }
+
+    /// Puts this in the place of what a task has. Nothing where it has nothing.
+    pub fn set(&mut self, task: u64, value: V)
+        ensures items { self.new.items ≡ replaced (λ old. value) task self.old.items }
+        ensures next { self.new.next ≡ self.old.next }
+        ensures spare { self.new.spare ≡ self.old.spare }
+    {
+        if self.get(task).is_none() {
+            return;
+        }
+        let place = (task - self.first) as usize;
+        self.places[place] = Some(value);
+    }
+
+    /// Takes what a task has out.
+    pub fn remove(&mut self, task: u64)
+        ensures items { self.new.items ≡ without task self.old.items }
+        ensures gone { find task self.new.items ≡ None }
+        ensures next { self.new.next ≡ self.old.next }
+        ensures spare { self.new.spare ≡ self.old.spare }
+    {
+        if self.get(task).is_none() {
+            return;
+        }
+        let place = (task - self.first) as usize;
+        self.places[place] = None;
+    }
+
+    /// Adds what the next number has.
+    pub fn push(&mut self, value: V)
+        requires { 0 < self.old.spare }
+        ensures items { self.new.items ≡ self.old.items ++ (self.old.next, value) ∷ [] }
+        ensures next { self.new.next ≡ self.old.next + 1 }
+        ensures spare { self.new.spare + 1 ≡ self.old.spare }
+    {
+        self.places.push_reserved(Some(value));
+    }
+
+    /// Passes the next number over.
+    pub fn skip(&mut self)
+        requires { 0 < self.old.spare }
+        ensures items { self.new.items ≡ self.old.items }
+        ensures next { self.new.next ≡ self.old.next + 1 }
+        ensures spare { self.new.spare + 1 ≡ self.old.spare }
+    {
+        self.places.push_reserved(None);
+    }
+}

@@ -1,0 +1,35 @@
+use Rattle.std.proofs.Common.{rules, ◌≡◌, ◌∙◌, ap, refl, true, false, ◌++◌, ◌∷◌, [], Some, None}
+use Rattle.rt_super.specs.Ancestry.{is_ended, new_node}
+use Rattle.rt_model.specs.Lists.{has_number}
+use Rattle.rt_walk.specs.Nodes.{told_by}
+use Rattle.rt_walk.proofs.Rows.{unknown, born-right, child-right, placed-right, distinct-right}
+use Rattle.rt_walk.proofs.nodes.Nodes.add_child.Goals as goal
+
+pub invariant_of-self-then-is_ended : goal.invariant_of-self-then-is_ended
+invariant_of-self-then-is_ended c =
+    let i = c.self.inside in
+    let xs = i.rows.items in
+    let fresh : has_number c.args.number i.places.numbers ≡ false = search rules in
+    let rows : c.push_row.new.rows.items ≡ xs ++ new_node c.args.number None true ∷ [] = search rules in
+    let places : c.push_row.new.places.numbers ≡ i.places.numbers ++ c.args.number ∷ [] = search rules in
+    let ended : c.push.new.self.numbers ≡ i.ended.numbers ++ c.args.number ∷ [] = search rules in
+    let unseen = unknown c.args.number xs i.ends.items (rw c.self.invariant.placed at fresh) in
+    record {
+      ended = born-right i.ended.numbers c.push.new.self.numbers xs c.push_row.new.rows.items i.ends.items c.args.number rows ended unseen c.self.invariant.ended;
+      placed = placed-right c.args.number i.places.numbers c.push_row.new.places.numbers xs c.push_row.new.rows.items (new_node c.args.number None true) c.self.invariant.placed refl rows places;
+      distinct = distinct-right c.args.number i.places.numbers c.push_row.new.places.numbers places fresh c.self.invariant.distinct;
+    }
+
+pub invariant_of-self-3 : goal.invariant_of-self-3
+invariant_of-self-3 c =
+    let i = c.self.inside in
+    let xs = i.rows.items in
+    let fresh : has_number c.args.number i.places.numbers ≡ false = search rules in
+    let rows : c.push_row-2.new.rows.items ≡ xs ++ new_node c.args.number (Some c.args.parent) false ∷ [] = search rules in
+    let places : c.push_row-2.new.places.numbers ≡ i.places.numbers ++ c.args.number ∷ [] = search rules in
+    let off : is_ended (told_by c.reserve.new.self.items i.ends.items) c.args.parent ≡ false = search rules in
+    record {
+      ended = child-right i.ended.numbers c.reserve-3.new.self.numbers xs c.push_row-2.new.rows.items i.ends.items c.args.number c.args.parent rows c.reserve-3.ensures.numbers (rw c.reserve.ensures.items at off) c.self.invariant.ended;
+      placed = placed-right c.args.number i.places.numbers c.push_row-2.new.places.numbers xs c.push_row-2.new.rows.items (new_node c.args.number (Some c.args.parent) false) c.self.invariant.placed refl rows places;
+      distinct = distinct-right c.args.number i.places.numbers c.push_row-2.new.places.numbers places fresh c.self.invariant.distinct;
+    }

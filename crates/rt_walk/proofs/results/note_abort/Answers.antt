@@ -1,0 +1,7 @@
+use Rattle.std.proofs.Common.{◌∙◌, sym, true}
+use Rattle.rt_model.specs.declared.result.TaskResult.{TaskResult}
+use Rattle.rt_walk.proofs.Tables.{replaced-found}
+use Rattle.rt_walk.proofs.results.note_abort.Goals as goal
+
+pub returns-in-Some : goal.returns-in-Some
+returns-in-Some c = c.replace.ensures ∙ replaced-found (λ (r : TaskResult). record r { aborted = true }) c.args.task c.in-Some.found c.args.results.now (sym c.in-Some.ensures)

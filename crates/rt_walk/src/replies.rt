@@ -1,0 +1,196 @@
+//! What a call may be answered.
+
+ghost use Rattle.std.specs.Prelude.{◌≡◌, ◌↔◌, IfOk, OnErr, IsTrue, option_map};
+ghost use Rattle.rt_base.specs.declared.error.Error.TheVariants.{UnknownToken, Metric};
+ghost use Rattle.rt_audit.specs.declared.call.Call.TheVariants.{Abort, AbortTask, Child, CloseNode, GiveUp, SleepPoll, Spawn, Wake};
+ghost use Rattle.rt_model.specs.Lists.{find};
+ghost use Rattle.rt_walk.specs.Memory.{HasLabel};
+ghost use Rattle.rt_model.specs.Rules.{Answers, ChildAnswers, IsRefusal, JoinAnswers, OutcomeAnswers, SpawnAnswers, Unless, label_refusal};
+
+use crate::Walker;
+use crate::results::may_abort;
+use rt_audit::{Call, CallReply, Label};
+use rt_base::{Error, MAX_TIME, MetricError, Nanos, NoMemory, child_label};
+use rt_model::Outcome;
+use std::alloc::Global;
+
+impl Walker {
+    /// Whether the call may have this reply. It takes memory where the label of a child is compared.
+    pub(crate) fn answers(&self, call: &Call, reply: &CallReply) -> Result<bool, NoMemory>
+        ensures ok { IfOk result (λ may. IsTrue may ↔ Answers self.now call.now reply.now) }
+        ensures err { OnErr result (HasLabel call.now) }
+    {
+        Ok(match call {
+            Call::Child { node, label } => self.child_answers(*node, label, reply)?,
+            Call::CloseNode { node } => {
+                matches!(reply, CallReply::Done) && self.nodes.is_live(*node)
+            }
+            Call::Spawn { node } => self.spawn_answers(*node, reply),
+            Call::Abort { task } => {
+                matches!(reply, CallReply::Done) && may_abort(&self.results, *task)
+            }
+            Call::AbortTask { task } => self.abort_task_answers(*task, reply),
+            Call::Wake { task } => self.wake_answers(*task, reply),
+            Call::Join { task } => self.join_answers(*task, reply),
+            Call::GiveUp { task } => {
+                matches!(reply, CallReply::Done) && self.results.get(*task).is_some()
+            }
+            Call::SleepPoll { due } => self.sleep_answers(*due, reply),
+        })
+    }
+
+    fn child_answers(&self, node: u64, label: &Label, reply: &CallReply) -> Result<bool, NoMemory>
+        ensures { IfOk result (λ may. IsTrue may ↔ Answers self.now (Child node label.now) reply.now) }
+    {
+        if !self.nodes.is_live(node) {
+            return Ok(is_unknown(reply));
+        }
+        let refusal = refusal_of(self.allocator(), self.label_at(node), label.as_str())?;
+        Ok(match (reply, refusal) {
+            (
+                CallReply::NodeAt {
+                    node: number,
+                    ended,
+                },
+                None,
+            ) => !self.nodes.is_known(*number) && *ended == self.nodes.is_ended(node),
+            (CallReply::Refused { error }, Some(refusal)) => is_metric(error.error(), refusal),
+            _ => false,
+        })
+    }
+
+    fn spawn_answers(&self, node: u64, reply: &CallReply) -> bool
+        ensures { IsTrue result ↔ Answers self.now (Spawn node) reply.now }
+    {
+        if !self.nodes.is_free(node) {
+            return is_unknown(reply);
+        }
+        if self.next >= u64::MAX as u128 {
+            return is_too_many(reply);
+        }
+        match reply {
+            CallReply::TaskAt { task, node: number } => {
+                *task as u128 == self.next
+                    && !self.nodes.is_ended(node)
+                    && !self.nodes.is_known(*number)
+            }
+            CallReply::Closed => self.nodes.is_ended(node),
+            _ => false,
+        }
+    }
+
+    fn abort_task_answers(&self, task: u64, reply: &CallReply) -> bool
+        ensures { IsTrue result ↔ Answers self.now (AbortTask task) reply.now }
+    {
+        let runs = self.marks.get(task).is_some();
+        match reply {
+            CallReply::Done => runs,
+            CallReply::Refused { error } => {
+                matches!(error.error(), Error::UnknownToken) && !runs
+            }
+            _ => false,
+        }
+    }
+
+    fn wake_answers(&self, task: u64, reply: &CallReply) -> bool
+        ensures { IsTrue result ↔ Answers self.now (Wake task) reply.now }
+    {
+        match reply {
+            CallReply::Done => self.was_given(task),
+            CallReply::Refused { error } => {
+                matches!(error.error(), Error::UnknownToken) && !self.was_given(task)
+            }
+            _ => false,
+        }
+    }
+
+    fn join_answers(&self, task: u64, reply: &CallReply) -> bool
+        ensures { IsTrue result ↔ JoinAnswers (find task self.now.results) reply.now }
+    {
+        match self.results.get(task) {
+            None => is_unknown(reply),
+            Some(found) => outcome_answers(found.outcome, reply),
+        }
+    }
+
+    fn sleep_answers(&self, due: Nanos, reply: &CallReply) -> bool
+        ensures { IsTrue result ↔ Answers self.now (SleepPoll due) reply.now }
+    {
+        match reply {
+            CallReply::Ready => due <= self.time,
+            CallReply::PendingAt { alarm } => {
+                self.time < due && due <= MAX_TIME && self.alarms.may_tell(due, *alarm)
+            }
+            _ => false,
+        }
+    }
+}
+
+/// Whether a result that stands so is told so.
+fn outcome_answers(outcome: Outcome, reply: &CallReply) -> bool
+    ensures { IsTrue result ↔ OutcomeAnswers outcome reply.now }
+{
+    match outcome {
+        Outcome::Open { .. } => matches!(reply, CallReply::Pending),
+        Outcome::There => matches!(reply, CallReply::Ready),
+        Outcome::Exited => is_exited(reply),
+        Outcome::Closed => is_closed(reply),
+    }
+}
+
+fn is_unknown(reply: &CallReply) -> bool
+    ensures { IsTrue result ↔ IsRefusal Error.UnknownToken reply.now }
+{
+    match reply {
+        CallReply::Refused { error } => matches!(error.error(), Error::UnknownToken),
+        _ => false,
+    }
+}
+
+fn is_too_many(reply: &CallReply) -> bool
+    ensures { IsTrue result ↔ IsRefusal Error.TooManyTasks reply.now }
+{
+    match reply {
+        CallReply::Refused { error } => matches!(error.error(), Error::TooManyTasks),
+        _ => false,
+    }
+}
+
+fn is_exited(reply: &CallReply) -> bool
+    ensures { IsTrue result ↔ IsRefusal Error.Exited reply.now }
+{
+    match reply {
+        CallReply::Refused { error } => matches!(error.error(), Error::Exited),
+        _ => false,
+    }
+}
+
+fn is_closed(reply: &CallReply) -> bool
+    ensures { IsTrue result ↔ IsRefusal Error.Closed reply.now }
+{
+    match reply {
+        CallReply::Refused { error } => matches!(error.error(), Error::Closed),
+        _ => false,
+    }
+}
+
+/// Whether this is the error of that kind.
+fn is_metric(error: &Error, kind: MetricError) -> bool
+    ensures { IsTrue result ↔ (error.now ≡ Metric kind) }
+{
+    match error {
+        Error::Metric(other) => *other == kind,
+        _ => false,
+    }
+}
+
+/// Why a label is refused under that of a node.
+fn refusal_of(alloc: Global, prefix: &str, label: &str) -> Result<Option<MetricError>, NoMemory>
+    ensures { IfOk result (λ refusal. option_map Metric refusal ≡ label_refusal prefix.now label.now) }
+{
+    match child_label(alloc, prefix, label) {
+        Ok(_) => Ok(None),
+        Err(Error::Metric(kind)) => Ok(Some(kind)),
+        Err(_) => Err(NoMemory),
+    }
+}

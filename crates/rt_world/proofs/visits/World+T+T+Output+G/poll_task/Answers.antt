@@ -1,0 +1,80 @@
+use Rattle.std.proofs.Common.{◌≡◌, sym, refl, inl, inr, true, false}
+use Rattle.rt_model.specs.Lists.{is_some_number}
+use Rattle.rt_model.specs.Tied.{with_first, Steps}
+use Rattle.rt_world.proofs.Follows.{visit-pending, visit-ready, visit-panicked, visit-cut}
+use Rattle.rt_world.proofs.Walked.{polled-fresh, polled-short, polled-broken, polled-frees, long}
+use Rattle.rt_world.proofs.visits.World+T+T+Output+G.poll_task.Goals as goal
+
+pub returns-then-is_short-clause-agrees : goal.returns-then-is_short-clause-agrees
+returns-then-is_short-clause-agrees g c first f =
+    let p : Steps g.row.T.Denot g.row.T-Output.Denot = with_first g.T.Task.steps first in
+    let taken = c.take_state-state.ensures.rest in
+    let fresh = c.requires.fresh in (
+      false,
+      rw c.answer.ensures
+          (visit-cut p c.args.self.now c.take_state-state.new.self c.poll-answer.new.world c.args.task c.take_state-state.result c.poll-answer.new.self taken c.take_state-state.ensures.state fresh.calls c.poll-answer.ensures.kept c.facts.ensures.calls c.facts.ensures.state
+          (inl (rw c.new-cx.ensures at (polled-short c.take_state-state.new.self c.poll-answer.new.world _ _ _ (rw taken fresh.turns) (rw taken fresh.lacked) (sym c.if-is_short.ensures) c.poll-answer.ensures.steps)))
+          (polled-frees c.take_state-state.new.self c.poll-answer.new.world _ _ _ (rw taken fresh.turns) c.poll-answer.ensures.steps) f),
+    )
+
+pub returns-in-NoMemory-clause-agrees : goal.returns-in-NoMemory-clause-agrees
+returns-in-NoMemory-clause-agrees g c first f =
+    let p : Steps g.row.T.Denot g.row.T-Output.Denot = with_first g.T.Task.steps first in
+    let taken = c.take_state-state.ensures.rest in
+    let fresh = c.requires.fresh in (
+      false,
+      rw c.answer-in-NoMemory.ensures
+          (visit-cut p c.args.self.now c.take_state-state.new.self c.poll-answer.new.world c.args.task c.take_state-state.result c.poll-answer.new.self taken c.take_state-state.ensures.state fresh.calls c.poll-answer.ensures.kept c.facts.ensures.calls c.facts.ensures.state
+          (inr (rw c.new-cx.ensures at (polled-broken c.take_state-state.new.self c.poll-answer.new.world _ _ _ (rw taken fresh.turns) (long c.if-is_short.ensures) refl c.in-NoMemory.ensures.steps)))
+          (polled-frees c.take_state-state.new.self c.poll-answer.new.world _ _ _ (rw taken fresh.turns) c.poll-answer.ensures.steps) f),
+    )
+
+pub returns-then-flagged-clause-agrees : goal.returns-then-flagged-clause-agrees
+returns-then-flagged-clause-agrees g c first f =
+    let p : Steps g.row.T.Denot g.row.T-Output.Denot = with_first g.T.Task.steps first in
+    let taken = c.take_state-state.ensures.rest in
+    let fresh = c.requires.fresh in
+    rw c.answer-in-Pending.ensures (visit-pending p c.args.self.now c.take_state-state.new.self c.poll-answer.new.world c.args.task c.take_state-state.result c.poll-answer.new.self taken c.take_state-state.ensures.state fresh.calls c.poll-answer.ensures.kept c.facts.ensures.calls c.facts.ensures.state
+    (rw c.new-cx.ensures at (polled-fresh c.take_state-state.new.self c.poll-answer.new.world _ _ _ (rw taken fresh.turns) (long c.if-is_short.ensures) refl c.in-Pending.ensures.steps)) f)
+
+pub returns-else-flagged-clause-agrees : goal.returns-else-flagged-clause-agrees
+returns-else-flagged-clause-agrees g c first f =
+    let p : Steps g.row.T.Denot g.row.T-Output.Denot = with_first g.T.Task.steps first in
+    let taken = c.take_state-state.ensures.rest in
+    let fresh = c.requires.fresh in
+    rw c.answer-in-Pending.ensures (visit-pending p c.args.self.now c.take_state-state.new.self c.poll-answer.new.world c.args.task c.take_state-state.result c.poll-answer.new.self taken c.take_state-state.ensures.state fresh.calls c.poll-answer.ensures.kept c.facts.ensures.calls c.facts.ensures.state
+    (rw c.new-cx.ensures at (polled-fresh c.take_state-state.new.self c.poll-answer.new.world _ _ _ (rw taken fresh.turns) (long c.if-is_short.ensures) refl c.in-Pending.ensures.steps)) f)
+
+pub returns-then-is_root-clause-agrees : goal.returns-then-is_root-clause-agrees
+returns-then-is_root-clause-agrees g c first f =
+    let p : Steps g.row.T.Denot g.row.T-Output.Denot = with_first g.T.Task.steps first in
+    let taken = c.take_state-state.ensures.rest in
+    let fresh = c.requires.fresh in
+    let root : is_some_number c.args.task c.poll-answer.new.world.told.state.root ≡ true = sym c.if-is_root.ensures in
+    rw c.answer_root.ensures (rw root at (visit-ready p c.args.self.now c.take_state-state.new.self c.poll-answer.new.world c.args.task c.take_state-state.result c.poll-answer.new.self taken c.take_state-state.ensures.state fresh.calls c.poll-answer.ensures.kept c.facts.ensures.calls c.facts.ensures.state c.in-Ready.output
+    (rw c.new-cx.ensures at (polled-fresh c.take_state-state.new.self c.poll-answer.new.world _ _ _ (rw taken fresh.turns) (long c.if-is_short.ensures) refl c.in-Ready.ensures.steps)) f))
+
+pub returns-else-is_root-clause-agrees : goal.returns-else-is_root-clause-agrees
+returns-else-is_root-clause-agrees g c first f =
+    let p : Steps g.row.T.Denot g.row.T-Output.Denot = with_first g.T.Task.steps first in
+    let taken = c.take_state-state.ensures.rest in
+    let fresh = c.requires.fresh in
+    let root : is_some_number c.args.task c.poll-answer.new.world.told.state.root ≡ false = sym c.if-is_root.ensures in
+    rw c.answer_result.ensures (rw root at (visit-ready p c.args.self.now c.take_state-state.new.self c.poll-answer.new.world c.args.task c.take_state-state.result c.poll-answer.new.self taken c.take_state-state.ensures.state fresh.calls c.poll-answer.ensures.kept c.facts.ensures.calls c.facts.ensures.state c.in-Ready.output
+    (rw c.new-cx.ensures at (polled-fresh c.take_state-state.new.self c.poll-answer.new.world _ _ _ (rw taken fresh.turns) (long c.if-is_short.ensures) refl c.in-Ready.ensures.steps)) f))
+
+pub returns-then-root-clause-agrees : goal.returns-then-root-clause-agrees
+returns-then-root-clause-agrees g c first f =
+    let p : Steps g.row.T.Denot g.row.T-Output.Denot = with_first g.T.Task.steps first in
+    let taken = c.take_state-state.ensures.rest in
+    let fresh = c.requires.fresh in
+    rw c.answer_panicked.ensures (visit-panicked p c.args.self.now c.take_state-state.new.self c.poll-answer.new.world c.args.task c.take_state-state.result c.poll-answer.new.self taken c.take_state-state.ensures.state fresh.calls c.poll-answer.ensures.kept c.facts.ensures.calls c.facts.ensures.state c.in-Panicked.text
+    (rw c.new-cx.ensures at (polled-fresh c.take_state-state.new.self c.poll-answer.new.world _ _ _ (rw taken fresh.turns) (long c.if-is_short.ensures) refl c.in-Panicked.ensures.steps)) f)
+
+pub returns-else-root-clause-agrees : goal.returns-else-root-clause-agrees
+returns-else-root-clause-agrees g c first f =
+    let p : Steps g.row.T.Denot g.row.T-Output.Denot = with_first g.T.Task.steps first in
+    let taken = c.take_state-state.ensures.rest in
+    let fresh = c.requires.fresh in
+    rw c.answer_panicked.ensures (visit-panicked p c.args.self.now c.take_state-state.new.self c.poll-answer.new.world c.args.task c.take_state-state.result c.poll-answer.new.self taken c.take_state-state.ensures.state fresh.calls c.poll-answer.ensures.kept c.facts.ensures.calls c.facts.ensures.state c.in-Panicked.text
+    (rw c.new-cx.ensures at (polled-fresh c.take_state-state.new.self c.poll-answer.new.world _ _ _ (rw taken fresh.turns) (long c.if-is_short.ensures) refl c.in-Panicked.ensures.steps)) f)

@@ -1,0 +1,85 @@
+use Rattle.std.proofs.Common.{◌≡◌, ◌∙◌, refl, sym, Some, None, false, arith, inl}
+use Rattle.rt_base.specs.declared.error.Error.TheVariants.{NoMemory}
+use Rattle.rt_audit.specs.declared.call.Call.TheVariants.{Spawn}
+use Rattle.rt_audit.specs.declared.reply.CallReply.TheVariants.{TaskAt, Closed}
+use Rattle.rt_machine.specs.Calls.{Noted}
+use Rattle.rt_model.specs.Turns.{Spawning}
+use Rattle.rt_model.specs.Effects.{is_closing}
+use Rattle.rt_world.proofs.Seats.{grows-more, not-closing, some-none}
+use Rattle.rt_world.proofs.Walked.{stays-same}
+use Rattle.rt_world.proofs.Calling.{refused-calls, refused-spawn, spawned-calls, spawned-seated, made-noted, spawns-next, ending-runs}
+use Rattle.rt_world.proofs.world.World.spawn.Goals as goal
+
+pub returns-in-Err-clause-err : goal.returns-in-Err-clause-err
+returns-in-Err-clause-err g c made =
+    let w = c.self.inside in
+    rw (← c.self.view_is) (refused-spawn w.machine c.spawn.new.self _ _ w.panic w.out w.rng c.args.node made c.in-Err.error (rw (c.reserve_places.ensures.tasks, c.reserve_places.ensures.outputs) refl) c.in-Err.ensures.err)
+
+pub returns-in-Err-clause-called : goal.returns-in-Err-clause-called
+returns-in-Err-clause-called g c made by =
+    let w = c.self.inside in
+    rw (← c.self.view_is) (refused-calls w.machine c.spawn.new.self _ _ w.panic w.out w.rng c.args.node made (c.in-Err.error, c.args.given) (rw (c.reserve_places.ensures.tasks, c.reserve_places.ensures.outputs) refl) c.in-Err.ensures.err)
+
+pub returns-in-Ok-None-clause-called : goal.returns-in-Ok-None-clause-called
+returns-in-Ok-None-clause-called g c made by =
+    let w = c.self.inside in
+    rw (← c.self.view_is) (spawned-calls w.machine c.spawn.new.self _ _ w.panic w.out w.rng c.args.node made None (made-noted w.machine c.spawn.new.self _ _ w.panic w.out w.rng (Spawning c.args.node made) Closed (rw c.in-Ok-None.field-0-is at c.in-Ok-None.ensures.ok) (rw (c.reserve_places.ensures.tasks, c.reserve_places.ensures.outputs) refl)))
+
+pub invariant_of-self-in-Ok-Some : goal.invariant_of-self-in-Ok-Some
+invariant_of-self-in-Ok-Some g c =
+    let w = c.self.inside in
+    let s = w.machine.told.state in
+    let i = c.self.invariant in
+    let r = c.reserve_places.ensures in
+    let noted : Noted w.out w.machine c.spawn.new.self (Spawn c.args.node) (TaskAt c.in-Ok-Some.task c.in-Ok-Some.number) = rw c.in-Ok-Some.field-0-is at c.in-Ok-Some.ensures.ok in
+    let task : c.in-Ok-Some.task ≡ w.tasks.next = spawns-next s c.args.node c.in-Ok-Some.task c.in-Ok-Some.number noted.answers ∙ sym i.next in
+    let calls = rw (← c.self.view_is) at c.requires.calling in
+    spawned-seated w.tasks c.add.new.self w.outputs c.skip.new.self w.out w.machine c.spawn.new.self c.args.node c.in-Ok-Some.number c.make-state.result i
+    (rw (← task) noted)
+    (c.add.ensures.items ∙ rw (r.tasks_next, r.tasks) refl)
+    (c.add.ensures.first ∙ r.tasks_first)
+    (c.add.ensures.next ∙ rw r.tasks_next refl)
+    (c.skip.ensures.items ∙ r.outputs)
+    (c.skip.ensures.first ∙ r.outputs_first)
+    (c.skip.ensures.next ∙ rw r.outputs_next refl)
+    (c.facts.ensures.fresh w.tasks.next (omega (arith, i.next)))
+    (ending-runs s.phase s.root _ w.out s.running calls i.runs)
+
+pub returns-in-Ok-Some-clause-kept : goal.returns-in-Ok-Some-clause-kept
+returns-in-Ok-Some-clause-kept g c =
+    let w = c.self.inside in
+    let s = w.machine.told.state in
+    let noted : Noted w.out w.machine c.spawn.new.self (Spawn c.args.node) (TaskAt c.in-Ok-Some.task c.in-Ok-Some.number) = rw c.in-Ok-Some.field-0-is at c.in-Ok-Some.ensures.ok in
+    let going : is_closing s.phase ≡ false = not-closing (is_closing s.phase) (λ closing. some-none (rw c.in-Ok-Some.field-0-is at (c.in-Ok-Some.ensures.closing closing))) in
+    rw (← c.self.view_is)
+    record {
+      begin = noted.begin;
+      given = noted.given;
+      past = noted.past;
+      phase = noted.phase;
+      clock = noted.clock;
+      root = noted.root;
+      panic = refl;
+      out = refl;
+      rng = refl;
+      running = rw noted.running (grows-more s.phase c.in-Ok-Some.task s.running going);
+      marked = stays-same _ _ noted.lacked;
+    }
+
+pub returns-in-Ok-Some-clause-called : goal.returns-in-Ok-Some-clause-called
+returns-in-Ok-Some-clause-called g c made by =
+    let w = c.self.inside in
+    let r = c.reserve_places.ensures in
+    let noted : Noted w.out w.machine c.spawn.new.self (Spawn c.args.node) (TaskAt c.in-Ok-Some.task c.in-Ok-Some.number) = rw c.in-Ok-Some.field-0-is at c.in-Ok-Some.ensures.ok in
+    let task : c.in-Ok-Some.task ≡ w.tasks.next = spawns-next w.machine.told.state c.args.node c.in-Ok-Some.task c.in-Ok-Some.number noted.answers ∙ sym c.self.invariant.next in
+    let state : c.make-state.result ≡ made c.in-Ok-Some.number = by c.in-Ok-Some.number c.make-state.result c.make-state.ensures in
+    rw (← c.self.view_is)
+    (spawned-calls w.machine c.spawn.new.self _ _ w.panic w.out w.rng c.args.node made (Some (c.in-Ok-Some.task, c.in-Ok-Some.number))
+    (made-noted w.machine c.spawn.new.self _ _ w.panic w.out w.rng (Spawning c.args.node made) (TaskAt c.in-Ok-Some.task c.in-Ok-Some.number) noted
+    (rw (c.add.ensures.items, c.skip.ensures.items, r.outputs, r.tasks, r.tasks_next, ← task, state) refl)))
+
+pub returns-in_default-clause-called : goal.returns-in_default-clause-called
+returns-in_default-clause-called g c made by =
+    let w = c.self.inside in
+    let r = c.reserve_places.ensures in
+    rw (← c.self.view_is) (refused-calls w.machine c.lack.new.self _ _ w.panic w.out w.rng c.args.node made (NoMemory, c.args.given) (rw (r.tasks, r.outputs) refl) (inl (refl, c.lack.ensures)))
