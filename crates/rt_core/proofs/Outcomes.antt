@@ -118,8 +118,8 @@ module _ {A O G : Type 0} (p : Steps A O) (begin : Begin) (w : World A O G) (law
       ends-with-text p begin (own w.told) (value_of w e.last None e.whole) lawful (rw is at e.agrees.tied)
       (ap reached (sym state) ∙ rw ends refl ∙ ap Some panicked)
 
-  pub completes : (given journal : List Entry) (rng : G) (output : O) (time cycle : ℕ) (deadline : Option ℕ) → w.told.state.phase ≡ Finished Completed → Ended p w Completed (Some output) → journal ≡ given ++ own w.told → time ≡ w.told.state.clock.time → w.told.state.clock.fixed ≡ begin → begin.cycle ≡ cycle → begin.deadline ≡ deadline → Completes p (record { begin = begin; given = given; rng = rng }) output (record { time = time; deadline = deadline; cycle = cycle; journal = journal; rng = rng })
-  completes given journal rng output time cycle deadline ends e extends at fixed one two =
+  pub completes : (given journal : List Entry) (rng : G) (output : O) (time cycle : ℕ) (deadline : Option ℕ) (catch : Bool) → w.told.state.phase ≡ Finished Completed → Ended p w Completed (Some output) → journal ≡ given ++ own w.told → time ≡ w.told.state.clock.time → w.told.state.clock.fixed ≡ begin → begin.cycle ≡ cycle → begin.deadline ≡ deadline → begin.catch ≡ catch → Completes p (record { begin = begin; given = given; rng = rng }) output (record { time = time; deadline = deadline; cycle = cycle; catch = catch; journal = journal; rng = rng })
+  completes given journal rng output time cycle deadline catch ends e extends at fixed one two three =
       let r = is_run Completed (Some output) ends e (λ h. cc) in
       record {
         entries = own w.told;
@@ -127,7 +127,7 @@ module _ {A O G : Type 0} (p : Steps A O) (begin : Begin) (w : World A O G) (law
         value = r.0;
         run = r.1;
         gives = r.2;
-        keeps = rw (extends, at, ← one, ← two, ← fixed) refl;
+        keeps = rw (extends, at, ← one, ← two, ← three, ← fixed) refl;
       }
 
 -- valid input fails only where it is out of memory

@@ -61,9 +61,9 @@ abbrev pub aborted : Kind → Kind
 aborted (Task task before) = Task task true
 aborted Nothing = Nothing
 
--- nothing is polled by what isn't there
-abbrev pub no_polls : {A O V : Type 0} → NoPoller → Step A NoPoller O (Poll (Result V Error))
-no_polls none = Gives Pending none
+-- what is no poller is closed
+unfoldable pub no_polls : {A O V : Type 0} → NoPoller → Step A NoPoller O (Poll (Result V Error))
+no_polls none = Gives (Ready (Err Closed)) none
 
-abbrev pub no_spends : {A O : Type 0} → NoPoller → Last A O
+unfoldable pub no_spends : {A O : Type 0} → NoPoller → Last A O
 no_spends none = Gives tt tt

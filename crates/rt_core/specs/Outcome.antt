@@ -21,6 +21,7 @@ kept_of end journal rng = record {
   time = end.clock.time;
   deadline = end.clock.fixed.deadline;
   cycle = end.clock.fixed.cycle;
+  catch = end.clock.fixed.catch;
   journal = journal;
   rng = rng;
 }

@@ -55,6 +55,7 @@ pub record Kept (G : Type 0) : Type 0 where
   pub time : ℕ
   pub deadline : Option ℕ
   pub cycle : ℕ
+  pub catch : Bool
   pub journal : List Entry
   pub rng : G
 

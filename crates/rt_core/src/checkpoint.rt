@@ -9,8 +9,8 @@ use std::marker::Model;
 
 /// What a completed run leaves, from which a later one may go on.
 ///
-/// Contracts see its last moment, its deadline and cycle in nanoseconds, the entries of all runs so far, and its
-/// generator.
+/// Contracts see its last moment, its deadline and cycle in nanoseconds, whether panics are caught, the entries of all
+/// runs so far, and its generator.
 #[derive(Debug, Drop)]
 pub struct Checkpoint<G> {
     pub(crate) rng: G,
@@ -18,6 +18,7 @@ pub struct Checkpoint<G> {
     pub(crate) time: Nanos,
     pub(crate) deadline: Option<Nanos>,
     pub(crate) cycle: Nanos,
+    pub(crate) catch_panics: bool,
 }
 
 impl<G> Model for Checkpoint<G> {
@@ -25,7 +26,7 @@ impl<G> Model for Checkpoint<G> {
 
     ghost Value = { Kept G };
 
-    ghost view = { λ c. record { time = c.time; deadline = c.deadline; cycle = c.cycle; journal = c.journal.entries; rng = c.rng } };
+    ghost view = { λ c. record { time = c.time; deadline = c.deadline; cycle = c.cycle; catch = c.catch_panics; journal = c.journal.entries; rng = c.rng } };
 }
 
 impl<G> Checkpoint<G> {

@@ -11,9 +11,9 @@ use rt_base::{Error, Poll};
 use rt_world::{Cx, Outcome, Poller, World};
 use std::marker::{Model, PhantomData};
 
-/// No poller.
+/// The poller of a handle that has none of its own. It is closed.
 #[derive(Debug, Drop)]
-pub enum NoPoller {}
+pub struct NoPoller;
 
 /// What a handle holds.
 #[derive(Clone, Copy, Debug)]
@@ -143,6 +143,7 @@ fn polled<O>(joined: Result<Option<O>, Error>) -> Poll<Result<O, Error>>
     }
 }
 
+#[tactic(auto, using(rt_world::proofs::Walked::poller_laws))]
 impl<T: Outcome, V> Poller<T, V> for NoPoller {
     ghost use Rattle.rt_core.specs.Handles.{no_polls, no_spends};
 
@@ -155,10 +156,8 @@ impl<T: Outcome, V> Poller<T, V> for NoPoller {
         _world: &mut World<T, T::Output, G>,
         _cx: &Cx,
     ) -> Poll<Result<V, Error>> {
-        match *self {}
+        Poll::Ready(Err(Error::Closed))
     }
 
-    fn give_up<G: Rng>(self, _world: &mut World<T, T::Output, G>) {
-        match self {}
-    }
+    fn give_up<G: Rng>(self, _world: &mut World<T, T::Output, G>) {}
 }

@@ -115,6 +115,7 @@ impl<G: Rng + Drop> Runner<G> {
                     time,
                     deadline: begin.deadline,
                     cycle: begin.cycle,
+                    catch_panics: begin.catch,
                 },
             }),
             Err(cause) => Err(Failure {

@@ -23,7 +23,7 @@ returns-in-Ok-outcome-clause-run g c =
     let rng = c.into_parts-journal.ensures.rng ∙ c.run_maker-outcome.ensures.leaves.rng ∙ ap (λ (u : World g.row.T.Denot g.row.T-Output.Denot g.row.G.Denot). u.rng) c.in-Ok.ensures.ok in
     let extends = c.into_parts-journal.ensures.entries ∙ ap (λ (ys : List Entry). ys ++ own w.told) given in
     rw (← c.self.view_is, rng)
-    (completes p c.self.inside.begin w (rw begin at c.facts.ensures.lawful) (rw begin at c.facts.ensures.state) begin _ _ _ c.in-Ok-outcome.output _ _ _ c.in-Ok-outcome.ensures.leaves.phase (c.in-Ok-outcome.ensures.agrees (c.in-Ok.ensures.agrees p)) extends c.now-time.ensures.time fixed refl refl)
+    (completes p c.self.inside.begin w (rw begin at c.facts.ensures.lawful) (rw begin at c.facts.ensures.state) begin _ _ _ c.in-Ok-outcome.output _ _ _ _ c.in-Ok-outcome.ensures.leaves.phase (c.in-Ok-outcome.ensures.agrees (c.in-Ok.ensures.agrees p)) extends c.now-time.ensures.time fixed refl refl refl)
 
 pub returns-in-Err-outcome-clause-failure : goal.returns-in-Err-outcome-clause-failure
 unfolding after begun
