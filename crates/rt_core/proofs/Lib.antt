@@ -1,3 +1,4 @@
 pub mod Outcomes
 pub mod Requeue
+pub mod Timeouts
 pub mod Joining

@@ -1,5 +1,5 @@
 -- What contracts see of contexts and of the handles of tasks, and what is read of what was heard of their calls.
-use Rattle.std.specs.Prelude.{◌≡◌, ◌⊎◌, ℕ, List, [], Option, Some, None, false, Result, Ok, Err}
+use Rattle.std.specs.Prelude.{◌≡◌, ◌⊎◌, ℕ, List, [], false, true, Result, Ok, Err}
 use Rattle.rt_base.specs.Label.{is_label, prefixed}
 use Rattle.rt_base.specs.declared.error.Error.{Error}
 use Rattle.rt_base.specs.declared.error.Error.TheVariants.{NoMemory, Metric}
@@ -10,7 +10,12 @@ use Rattle.rt_base.specs.declared.name.Name.{Name}
 use Rattle.rt_base.specs.declared.refused.Refused.{Refused}
 use Rattle.rt_audit.specs.declared.reply.CallReply.{CallReply}
 use Rattle.rt_audit.specs.declared.reply.CallReply.TheVariants.{NodeAt, TaskAt, Closed, Refused as IsRefused}
-use Rattle.rt_model.specs.Turns.{Heard, Plain, Handed}
+use Rattle.rt_audit.specs.declared.call.Call.TheVariants.{Child}
+use Rattle.rt_model.specs.Turns.{Ask, Spawning, Plainly, Heard, Plain, Handed}
+use Rattle.rt_model.specs.Walk.{Step}
+use Rattle.rt_world.specs.World.{World}
+use Rattle.rt_world.specs.Calls.{Made}
+use Rattle.rt_world.specs.Walked.{tells}
 use Rattle.rt_core.specs.declared.handle.Kind.{Kind}
 use Rattle.rt_core.specs.declared.handle.Kind.TheVariants.{Task, Nothing}
 
@@ -34,7 +39,7 @@ child_name name label = record { label = prefixed name.label label; attributes =
 
 -- a key was refused for this
 abbrev pub IsRefusedKey : List ℕ → Error → Type 0
-IsRefusedKey key error = ((error ≡ Metric BadLabel) × (is_label key ≡ false)) ⊎ ((error ≡ NoMemory) × (is_label key ≡ Rattle.std.specs.Prelude.true))
+IsRefusedKey key error = ((error ≡ Metric BadLabel) × (is_label key ≡ false)) ⊎ ((error ≡ NoMemory) × (is_label key ≡ true))
 
 -- a call that made a child was heard so
 abbrev pub child_replied : Context → List ℕ → CallReply → Result Context Error
@@ -45,6 +50,10 @@ child_replied context label _ = Err NoMemory
 abbrev pub child_heard : {O : Type 0} → Context → List ℕ → Heard O → Result Context Error
 child_heard context label (Plain reply) = child_replied context label reply
 child_heard context label (Handed value) = Err NoMemory
+
+-- a context makes a child with this label
+unfoldable pub childs : {A O : Type 0} → Context → List ℕ → Step A (Unit {0}) O (Result Context Error)
+childs context label = tells (Plainly (Child context.node label)) (child_heard context label)
 
 -- a call that spawned was heard so
 abbrev pub handle_replied : CallReply → Result Kind Error
@@ -68,3 +77,16 @@ IsMakerOf {A = A} post makes = (context : Context) (state : A) → post context 
 -- the state of a task that is spawned on a context, by the number of the fresh node of its own
 abbrev pub makes_on : {A : Type 0} → Context → (Context → A) → ℕ → A
 makes_on context makes number = makes (context_on number context.name)
+
+-- a context asks for a task that is made so
+abbrev pub spawning : {A O : Type 0} → Context → (Context → A) → Ask A O
+spawning context makes = Spawning context.node context.execution (makes_on context makes)
+
+-- and spawns it
+unfoldable pub spawns : {A O : Type 0} → Context → (Context → A) → Step A (Unit {0}) O (Result Kind Error)
+spawns context makes = tells (spawning context makes) handle_heard
+
+-- the task was spawned, with this handle
+abbrev pub IsSpawned : {A O G : Type 0} → Context → (Context → A) → World A O G → World A O G → Kind → Type 0
+IsSpawned context makes old new handle =
+    (reply : CallReply) × Made old new (spawning context makes) reply × (handle_replied reply ≡ Ok handle)

@@ -1,5 +1,6 @@
 pub mod Sleeper
 pub mod Pollers
+pub mod Timeouts
 pub mod Contexts
 pub mod Handles
 pub mod Failures

@@ -1,19 +1,23 @@
 //! Contexts: where a task stands in the tree of its run.
 
-ghost use Rattle.std.specs.Prelude.{◌≡◌, ◌≤◌, true, IfOk, IfErr};
+ghost use Rattle.std.specs.Prelude.{◌≡◌, ◌≤◌, Bool, true, None, IfOk, IfErr, Result};
 ghost use Rattle.rt_base.specs.Attributes.{with_attribute};
 ghost use Rattle.rt_base.specs.Label.{is_label};
 ghost use Rattle.rt_base.specs.declared.execution.Execution.TheVariants.{Shared, Dedicated as IsDedicated};
 ghost use Rattle.rt_audit.specs.declared.call.Call.TheVariants.{Child, CloseNode};
+ghost use Rattle.rt_audit.specs.declared.reply.CallReply.TheVariants.{NodeAt};
 ghost use Rattle.rt_model.specs.Rules.{MayCall};
-ghost use Rattle.rt_model.specs.Turns.{Plainly, Spawning};
-ghost use Rattle.rt_world.specs.Calls.{Kept};
-ghost use Rattle.rt_world.specs.Walked.{Closes, Reads};
-ghost use Rattle.rt_core.specs.Contexts.{IsMakerOf, IsRefusedKey, child_heard, child_name, context_on, handle_heard, root_context, makes_on, spawn_told};
+ghost use Rattle.rt_model.specs.Turns.{Plainly};
+ghost use Rattle.rt_model.specs.Walk.{Step, then};
+ghost use Rattle.rt_model.specs.declared.answer.Answer.{Answer};
+ghost use Rattle.rt_world.specs.Calls.{IsRefused, Kept, Made};
+ghost use Rattle.rt_world.specs.Walked.{Closes, Goes, Polled, Rooted};
+ghost use Rattle.rt_core.specs.Contexts.{IsMakerOf, IsRefusedKey, IsSpawned, child_name, childs, context_on, root_context, spawn_told, spawning, spawns};
+ghost use Rattle.rt_core.specs.declared.handle.Kind.{Kind};
 ghost use Rattle.rt_core.specs.Pollers.{sleep_for, sleep_until};
 
 use crate::handle::HandleOf;
-use crate::{NoPoller, Sleep};
+use crate::{NoPoller, Sleep, Timeout};
 use rt_base::{
     Error, Execution, Items, MAX_TIME, MetricError, Name, Nanos, NoMemory, Refused, Text,
     add_attribute, clone_attributes, prefixed_name, validate_label,
@@ -76,7 +80,7 @@ impl Context {
     /// The context with this attribute; a key that is there gets this value. A refusal hands the context back as it was.
     ///
     /// Errors, the first that holds: `Metric(BadLabel)` exactly where the key isn't valid, `NoMemory`.
-    pub fn with_attribute(mut self, key: &str, value: &str) -> Result<Context, Refused<Context>>
+    pub fn with_attribute(self, key: &str, value: &str) -> Result<Context, Refused<Context>>
         ensures ok { IfOk result (λ context. (is_label key.now ≡ true) × (context ≡ record self { name = record self.name { attributes = with_attribute self.name.attributes key.now value.now } })) }
         ensures err { IfErr result (λ refused. (refused.back ≡ self) × IsRefusedKey key.now refused.error) }
     {
@@ -86,15 +90,30 @@ impl Context {
                 error: Error::Metric(kind),
             });
         }
-        let Ok(copy) = clone_attributes(self.alloc, self.name.attributes.as_slice()) else {
-            return Err(lacking(self));
+        let Context {
+            node,
+            name: Name { label, attributes },
+            execution,
+            alloc,
+        } = self;
+        let mut attributes = attributes.into_inner();
+        let added = add_attribute(alloc, &mut attributes, key, value);
+        let back = Context {
+            node,
+            name: Name {
+                label,
+                attributes: Items::of(attributes),
+            },
+            execution,
+            alloc,
         };
-        let mut attributes = copy.into_inner();
-        if add_attribute(self.alloc, &mut attributes, key, value).is_err() {
-            return Err(lacking(self));
+        match added {
+            Ok(()) => Ok(back),
+            Err(NoMemory) => Err(Refused {
+                back,
+                error: Error::NoMemory,
+            }),
         }
-        self.name.attributes = Items::of(attributes);
-        Ok(self)
     }
 
     /// The context with the hint that a task spawned on it runs among the others, and whether it may block.
@@ -116,13 +135,16 @@ impl Context {
     /// A context on a fresh child of its node, with the same attributes. The label is the parent's, `_` and this one. The
     /// child of a node that has ended is born ended. It takes memory.
     ///
-    /// Errors, the first that holds: `UnknownToken`, `Metric` with `BadLabel` where the label isn't valid, or `Reserved`
-    /// where the full one begins with `runtime`, `NoMemory`.
-    #[tactic(auto, using(rt_world::proofs::Walked::read_laws))]
+    /// Errors, the first that holds: `NoMemory` where there is no room for the name, `UnknownToken`, `Metric` with
+    /// `BadLabel` where the label isn't valid, or `Reserved` where the full one begins with `runtime`, `NoMemory`.
+    #[tactic(auto, using(rt_world::proofs::Walked::tell_laws), unfolding(crate::specs::Contexts::childs))]
     pub fn child<T, O, G>(&self, world: &mut World<T, O, G>, label: &str) -> Result<Context, Error>
         requires { MayCall world.old.told.state world.old.out }
         ensures kept { Kept world.old world.new }
-        ensures called { Reads (Plainly (Child self.now.node label.now)) (child_heard self.now label.now) world.old world.new result }
+        ensures ok { IfOk result (λ c. (ended : Bool) × Made world.old world.new (Plainly (Child self.now.node label.now)) (NodeAt c.node ended)) }
+        ensures name { IfOk result (λ c. c ≡ context_on c.node (child_name self.now.name label.now)) }
+        ensures err { IfErr result (λ e. IsRefused world.old world.new (Plainly (Child self.now.node label.now)) e) }
+        ensures steps { Goes (childs self.now label.now) world.old world.new result tt }
     {
         let Ok(name) = self.child_name(label) else {
             world.lack();
@@ -137,9 +159,9 @@ impl Context {
     /// Spawns a task, on its node. The task is made of a context on a fresh child of that, with the same label and
     /// attributes. On a node that has ended nothing is made, and the handle is closed. It takes memory.
     ///
-    /// Errors, the first that holds, each hands the context back: `UnknownToken`, `TooManyTasks` exactly where the next
-    /// number is `u64::MAX`, `NoMemory`.
-    #[tactic(auto, using(rt_world::proofs::Walked::read_laws))]
+    /// Errors, the first that holds, each hands the context back: `NoMemory` where there is no room for the task,
+    /// `UnknownToken`, `TooManyTasks` exactly where the next number is `u64::MAX`, `NoMemory`.
+    #[tactic(auto, using(rt_world::proofs::Walked::tell_laws), unfolding(crate::specs::Contexts::spawns))]
     pub fn spawn<T, O, G, F: FnOnce(Context) -> T + Drop>(
         self,
         world: &mut World<T, O, G>,
@@ -149,7 +171,11 @@ impl Context {
         requires callable { F.IsAlwaysCallable make }
         ensures kept { Kept world.old world.new }
         ensures back { IfErr result (λ refused. refused.back ≡ self) }
-        ensures called { (makes : Context → T) → IsMakerOf (F.post make) makes → Reads (Spawning self.node (makes_on self makes)) handle_heard world.old world.new (spawn_told result) }
+        ensures ok { (makes : Context → T) → IsMakerOf (F.post make) makes → IfOk result (λ handle. IsSpawned self makes world.old world.new handle) }
+        ensures err { (makes : Context → T) → IfErr result (λ refused. IsRefused world.old world.new (spawning self makes) refused.error) }
+        ensures steps { (makes : Context → T) → IsMakerOf (F.post make) makes → Goes (spawns self makes) world.old world.new (spawn_told result) tt }
+        ensures polls { (makes : Context → T) (more : Result Kind Error → Unit {0} → Step T T O (Answer O)) (end : World T O G) (answer : Answer O) (left : T) → IsMakerOf (F.post make) makes → Polled (more (spawn_told result) tt) world.new end answer left → Polled (then (spawns self makes) more) world.old end answer left }
+        ensures roots { (makes : Context → T) (more : Result Kind Error → Unit {0} → Step T T O (Unit {0})) (end : World T O G) (root : Result T NoMemory) → IsMakerOf (F.post make) makes → Rooted (more (spawn_told result) tt) world.new end root → Rooted (then (spawns self makes) more) world.old end root }
     {
         let Context {
             node,
@@ -161,7 +187,7 @@ impl Context {
             requires { F.IsAlwaysCallable make }
             ensures { F.post make (context_on number name) result }
         { make(Context::on(alloc, number, name)) };
-        match world.spawn(node, name, made) {
+        match world.spawn(node, execution, name, made) {
             Ok(Some((task, number))) => Ok(HandleOf::of(task)),
             Ok(None) => Ok(HandleOf::closed()),
             Err((error, name)) => Err(Refused {
@@ -202,15 +228,10 @@ impl Context {
     }
 
     /// A sleep for so many nanoseconds from now on. `ClockOverflow` exactly where it would end past `MAX_TIME`.
-    #[tactic(auto, unfolding(crate::specs::Pollers::sleep_for))]
     pub fn sleep<T, O, G>(&self, world: &World<T, O, G>, duration: Nanos) -> Result<Sleep, Error>
         ensures { result ≡ sleep_for world.now.told.state.clock.time duration }
     {
-        let now = self.current(world);
-        if MAX_TIME - now < duration {
-            return Err(Error::ClockOverflow);
-        }
-        Ok(Sleep::until(now + duration))
+        Sleep::lasting(self.current(world), duration)
     }
 
     /// A sleep until this moment, in nanoseconds since the epoch. `ClockOverflow` exactly where it is past `MAX_TIME`.
@@ -225,6 +246,18 @@ impl Context {
         Ok(Sleep::until(deadline))
     }
 
+    /// What polls this state for at most so many nanoseconds from its first poll on.
+    pub fn timeout<P>(&self, duration: Nanos, state: P) -> Timeout<P>
+        ensures { result ≡ record { state = state; duration = duration; sleep = None } }
+    {
+        let _ = &self.node;
+        Timeout {
+            state,
+            duration,
+            sleep: None,
+        }
+    }
+
     /// The name of a child.
     fn child_name(&self, label: &str) -> Result<Name, NoMemory>
         ensures { IfOk result (λ name. name ≡ child_name self.now.name label.now) }
@@ -234,16 +267,5 @@ impl Context {
             label: Text::of(label),
             attributes: clone_attributes(self.alloc, self.name.attributes.as_slice())?,
         })
-    }
-}
-
-/// A context that is handed back since memory was lacking.
-fn lacking(context: Context) -> Refused<Context>
-    ensures back { result.back ≡ context }
-    ensures error { result.error ≡ Error.NoMemory }
-{
-    Refused {
-        back: context,
-        error: Error::NoMemory,
     }
 }

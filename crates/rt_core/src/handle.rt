@@ -6,6 +6,7 @@ ghost use Rattle.rt_world.specs.Calls.{Kept};
 ghost use Rattle.rt_world.specs.Walked.{Spends};
 ghost use Rattle.rt_core.specs.Handles.{handle_aborts, aborted, unaborted, polled};
 
+use crate::AbortOnDropOf;
 use rand_core::Rng;
 use rt_base::{Error, Poll};
 use rt_world::{Cx, Outcome, Poller, World};
@@ -19,7 +20,7 @@ pub struct NoPoller;
 #[derive(Clone, Copy, Debug)]
 pub enum Kind {
     /// The number of a task, and whether it was aborted by this handle.
-    Task(u64, bool),
+    Task { task: u64, aborted: bool },
     /// Nothing, since the node had ended.
     Nothing,
 }
@@ -51,7 +52,10 @@ impl<O, P> HandleOf<O, P> {
         ensures { result ≡ Kind.Task task false }
     {
         HandleOf {
-            kind: Kind::Task(task, false),
+            kind: Kind::Task {
+                task,
+                aborted: false,
+            },
             output: PhantomData,
             poller: PhantomData,
         }
@@ -84,14 +88,27 @@ impl<O, P> HandleOf<O, P> {
         }
     }
 
+    /// A guard that aborts the task where nobody waits for it.
+    pub fn abort_on_drop(self) -> AbortOnDropOf<O, P>
+        ensures { result.handle ≡ self }
+    {
+        AbortOnDropOf { handle: self }
+    }
+
     /// Notes that the task is aborted by this handle. Answers its number, if it wasn't before.
     fn note_abort(&mut self) -> Option<u64>
         ensures handle { self.new ≡ aborted self.old }
         ensures task { result ≡ unaborted self.old }
     {
         match self.kind {
-            Kind::Task(task, false) => {
-                self.kind = Kind::Task(task, true);
+            Kind::Task {
+                task,
+                aborted: false,
+            } => {
+                self.kind = Kind::Task {
+                    task,
+                    aborted: true,
+                };
                 Some(task)
             }
             _ => None,
@@ -113,7 +130,7 @@ impl<T: Outcome, P> Poller<T, T::Output> for HandleOf<T::Output, P> {
         _cx: &Cx,
     ) -> Poll<Result<T::Output, Error>> {
         let task = match self.kind {
-            Kind::Task(task, _) => task,
+            Kind::Task { task, .. } => task,
             Kind::Nothing => return Poll::Ready(Err(Error::Closed)),
         };
         polled(world.join(task))
@@ -126,7 +143,7 @@ impl<T: Outcome, P> Poller<T, T::Output> for HandleOf<T::Output, P> {
             poller: _,
         } = self;
         match kind {
-            Kind::Task(task, _) => world.give_up(task),
+            Kind::Task { task, .. } => world.give_up(task),
             Kind::Nothing => {}
         }
     }

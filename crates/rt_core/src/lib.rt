@@ -1,6 +1,7 @@
 //! Runners: a root task is made, run to its end under virtual time, and a checkpoint is handed back.
 #![tactic(auto)]
 
+mod abort_on_drop;
 mod checkpoint;
 mod config;
 mod context;
@@ -12,9 +13,11 @@ mod running;
 mod sleep;
 #[cfg(test)]
 mod tests;
+mod timeout;
 pub mod utils;
 mod yields;
 
+pub use abort_on_drop::{AbortOnDrop, AbortOnDropOf};
 pub use checkpoint::{Checkpoint, Failure, Finished};
 pub use config::{Config, ConfigError};
 pub use context::Context;
@@ -26,4 +29,5 @@ pub use rt_world::{Answer, Cx, Outcome, Poller, Task, World};
 pub use run_error::RunError;
 pub use runner::Runner;
 pub use sleep::Sleep;
+pub use timeout::Timeout;
 pub use yields::Reschedule;

@@ -28,7 +28,8 @@ impl Model for Sleep {
 impl Sleep {
     ghost use Rattle.std.specs.Prelude.{◌≡◌, ◌≤◌};
     ghost use Rattle.rt_base.specs.declared.time.TheConstants.{MAX_TIME};
-    ghost use Rattle.rt_core.specs.Pollers.{until};
+    ghost use Rattle.std.specs.Prelude.{Result};
+    ghost use Rattle.rt_core.specs.Pollers.{sleep_for, until};
 
     /// A sleep that has no alarm yet.
     pub(crate) fn until(deadline: Nanos) -> Sleep
@@ -39,6 +40,18 @@ impl Sleep {
             deadline,
             alarm: None,
         }
+    }
+
+    /// A sleep for so many nanoseconds from this time on. `ClockOverflow` exactly where it would end past `MAX_TIME`.
+    #[tactic(auto, unfolding(crate::specs::Pollers::sleep_for))]
+    pub(crate) fn lasting(now: Nanos, duration: Nanos) -> Result<Sleep, Error>
+        requires { now ≤ MAX_TIME }
+        ensures { result ≡ sleep_for now duration }
+    {
+        if MAX_TIME - now < duration {
+            return Err(Error::ClockOverflow);
+        }
+        Ok(Sleep::until(now + duration))
     }
 }
 

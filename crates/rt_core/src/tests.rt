@@ -1,11 +1,20 @@
 // Each call once. Whole runs of a task type of one's own are compared in `rt_errand`.
 
+ghost use Rattle.std.specs.Prelude.{◌≡◌, None};
+ghost use Rattle.rt_model.specs.Rules.{MayCall};
+ghost use Rattle.rt_world.specs.Calls.{Kept};
+
 use crate::utils::reschedule;
 use crate::{
-    Answer, Config, ConfigError, Context, Cx, Failure, MAX_TIME, NoMemory, Outcome, Poller, Rng,
-    RootMaker, RunError, Runner, Sleep, Task, World,
+    Answer, Config, ConfigError, Context, Cx, Error, Execution, Failure, MAX_TIME, Name, NoMemory,
+    Outcome, Poller, Refused, Rng, RootMaker, RunError, Runner, Sleep, Task, Timeout, World,
 };
-use rt_audit::Journal;
+use rand_chacha::ChaCha12Rng;
+use rand_core::SeedableRng;
+use rt_audit::{FinishCause, Journal};
+use rt_base::MetricError;
+use rt_model::Begin;
+use rt_world::WorldOf;
 use std::alloc::Global;
 use std::test::Fail;
 
@@ -146,6 +155,60 @@ impl RootMaker<Juggler> for RootJuggler {
     }
 }
 
+/// A task that at each poll polls a sleep under a limit, and is never ready.
+struct Hasty {
+    context: Context,
+    waits: Timeout<Sleep>,
+}
+
+impl Outcome for Hasty {
+    type Output = u64;
+}
+
+#[tactic(auto, using(rt_world::proofs::Walked::task_laws))]
+impl Task for Hasty {
+    ghost use Rattle.rt_model.specs.declared.answer.Answer.TheVariants.{Pending};
+    ghost use Rattle.rt_model.specs.Walk.{Gives, then, followed_by};
+    ghost use Rattle.rt_core.specs.Pollers.{sleep_polls, sleep_spends, closes};
+    ghost use Rattle.rt_core.specs.Timeouts.{timeout_polls, timeout_spends};
+
+    ghost steps = { record { next = λ h now task. then (timeout_polls (λ sleep now task. sleep_polls sleep) h.waits now task) (λ answer waits. Gives Pending (record { context = h.context; waits = waits })); last = λ h now task. followed_by (timeout_spends sleep_spends h.waits) (closes h.context.node) } };
+
+    fn poll<G: Rng>(&mut self, world: &mut World<Self, u64, G>, cx: &Cx) -> Answer<u64> {
+        let _ = self.waits.poll(world, cx);
+        Answer::Pending
+    }
+
+    fn end<G: Rng>(self, world: &mut World<Self, u64, G>) {
+        let Hasty { context, waits } = self;
+        waits.give_up(world);
+        context.close(world);
+    }
+}
+
+/// Makes a task whose sleep ends at 5 ms, and its limit 3 ms after its first poll.
+#[derive(Clone, Copy)]
+struct RootHasty;
+
+#[tactic(auto, using(rt_world::proofs::Walked::maker_laws))]
+impl RootMaker<Hasty> for RootHasty {
+    ghost use Rattle.std.specs.Prelude.{None};
+    ghost use Rattle.rt_model.specs.Walk.{Gives};
+    ghost use Rattle.rt_core.specs.Pollers.{until};
+    ghost use Rattle.rt_core.specs.Contexts.{root_context};
+
+    ghost first = { λ maker now. Gives tt (record { context = root_context; waits = record { state = until 5000000; duration = 3000000; sleep = None } }) };
+
+    fn make<G: Rng>(
+        self,
+        context: Context,
+        _world: &mut World<Hasty, u64, G>,
+    ) -> Result<Hasty, NoMemory> {
+        let waits = context.timeout(3_000_000, Sleep::until(5_000_000));
+        Ok(Hasty { context, waits })
+    }
+}
+
 /// The lines of a journal.
 fn lines(alloc: Global, journal: &Journal) -> Result<String, NoMemory> {
     let mut text = String::new(alloc);
@@ -264,6 +327,52 @@ finish timeout
     Ok(cause == RunError::Timeout && text.as_str() == expected)
 }
 
+/// Whether a limit is polled where its state isn't ready, and is over in time.
+fn limits(alloc: Global) -> Result<bool, NoMemory> {
+    let expected = "\
+start 0 - 1000000 0
+root 0
+round 0
+visit 0
+event process_task 00000000000000000000000000000000 -
+call 0 sleep-poll 5000000 -> pending 0
+call 0 sleep-poll 3000000 -> pending 1
+answer 0 pending
+advance 1000000
+skip 3000000
+fire 1
+wake 0
+round 0
+visit 0
+event process_task 00000000000000000000000000000000 -
+call 0 sleep-poll 5000000 -> pending 0
+call 0 sleep-poll 3000000 -> ready
+answer 0 pending
+advance 4000000
+skip 5000000
+fire 0
+wake 0
+round 0
+visit 0
+event process_task 00000000000000000000000000000000 -
+call 0 sleep-poll 5000000 -> ready
+answer 0 pending
+advance 6000000
+cleanup
+nodeend 0
+call 0 close-node 0 -> ok
+answer 0 ended
+crash
+finish stalled
+";
+    let Err(failure) = Runner::default().start::<Hasty, RootHasty>(alloc, RootHasty) else {
+        return Ok(false);
+    };
+    let Failure { cause, journal } = failure;
+    let text = lines(alloc, &journal)?;
+    Ok(cause == RunError::Stalled && text.as_str() == expected)
+}
+
 /// Whether runs complete, and leave what they should.
 fn completes(alloc: Global) -> bool {
     let Ok(timed) = Runner::timed(5) else {
@@ -294,6 +403,138 @@ fn keeps_settings() -> bool {
     kept && late.assert() == Err(ConfigError::DeadlineTooLate) && Runner::new(Config::new()).is_ok()
 }
 
+/// The world of a run whose maker is under way.
+type Making = WorldOf<Probe, ChaCha12Rng>;
+
+/// A context with a further attribute, or as it was where it was refused.
+fn with_attribute(context: Context, key: &str, value: &str) -> (Context, Option<Error>) {
+    match context.with_attribute(key, value) {
+        Ok(context) => (context, None),
+        Err(refused) => {
+            let Refused { back, error } = refused;
+            (back, Some(error))
+        }
+    }
+}
+
+/// Whether a name has this label and these attributes.
+fn is_named(name: &Name, label: &str, attributes: &[(&str, &str)]) -> bool {
+    let named = name.attributes.as_slice();
+    let mut same = name.label.as_str() == label && named.len() == attributes.len();
+    for ((key, value), (other, wanted)) in named.iter().zip(attributes) {
+        same = same && key.as_str() == *other && value.as_str() == *wanted;
+    }
+    same
+}
+
+/// Whether a context has this name.
+fn has_name(context: &Context, label: &str, attributes: &[(&str, &str)]) -> bool {
+    match context.name() {
+        Ok(name) => is_named(&name, label, attributes),
+        Err(_) => false,
+    }
+}
+
+/// Spawns a probe, and aborts it twice before its handle is given up. Answers whether it was spawned.
+#[tactic(auto, using(rt_world::proofs::Walked::close_laws))]
+fn spawns_aborted(context: Context, world: &mut Making) -> bool
+    requires { MayCall world.old.told.state world.old.out }
+    ensures { Kept world.old world.new }
+{
+    let spawned = context.spawn(
+        world,
+        |context| Probe {
+            context,
+            calls: false,
+        },
+    );
+    match spawned {
+        Ok(mut handle) => {
+            handle.abort(world);
+            handle.abort_on_drop().give_up(world);
+            true
+        }
+        Err(refused) => {
+            let Refused { back, error: _ } = refused;
+            back.close(world);
+            false
+        }
+    }
+}
+
+/// Whether contexts are named, refused and spawned on as they should be.
+#[tactic(auto, using(rt_world::proofs::Walked::close_laws))]
+fn answers_contexts(alloc: Global, world: &mut Making) -> bool
+    requires { MayCall world.old.told.state world.old.out }
+    ensures { Kept world.old world.new }
+{
+    let (context, late) = with_attribute(Context::root(alloc), "b", "2");
+    let (context, early) = with_attribute(context, "a", "1");
+    let (context, again) = with_attribute(context, "b", "3");
+    let (context, bad) = with_attribute(context, "9", "4");
+    let kept = late.is_none()
+        && early.is_none()
+        && again.is_none()
+        && bad == Some(Error::Metric(MetricError::BadLabel))
+        && has_name(&context, "", &[("a", "1"), ("b", "3")]);
+    let reserved = match context.child(world, "runtime") {
+        Ok(child) => {
+            child.close(world);
+            false
+        }
+        Err(error) => error == Error::Metric(MetricError::Reserved),
+    };
+    let spawned = match context.child(world, "left") {
+        Ok(child) => {
+            let named = has_name(&child, "left", &[("a", "1"), ("b", "3")]);
+            let spawned = spawns_aborted(child.shared(true).dedicated(), world);
+            named && spawned
+        }
+        Err(_) => false,
+    };
+    context.close(world);
+    let unknown = world.abort_task(9) == Err(Error::UnknownToken);
+    let hinted = world.executions() == [(0, Execution::Dedicated)].as_slice();
+    kept && reserved && spawned && unknown && hinted
+}
+
+/// Whether the calls of contexts and handles in a maker are answered and written as they should be.
+#[tactic(auto, unfolding(rt_model::specs::Effects::after, rt_model::specs::State::begun))]
+fn writes_contexts(alloc: Global) -> Result<bool, NoMemory> {
+    let expected = "\
+start 0 - 1000000 0
+call - child 0 runtime -> err 14
+call - child 0 left -> node 1
+call - spawn 1 -> task 0 node 2
+call - abort 0 -> ok
+call - give-up 0 -> ok
+call - close-node 0 -> ok
+call - abort-task 9 -> err 12
+cleanup
+nodeend 0
+call 0 close-node 2 -> ok
+answer 0 ended
+crash
+finish nomemory
+";
+    let begin = Begin {
+        start: 0,
+        cycle: 1_000_000,
+        deadline: None,
+        first: 0,
+        catch: false,
+    };
+    let rng = ChaCha12Rng::seed_from_u64(1);
+    let Ok(mut world) = Making::begin(alloc, Journal::new(alloc), begin, rng) else {
+        return Err(NoMemory);
+    };
+    let answered = answers_contexts(alloc, &mut world);
+    let cause = world.cleanup_unmade(None, FinishCause::NoMemory);
+    let (journal, _, panic) = world.into_parts();
+    let text = lines(alloc, &journal)?;
+    Ok(answered && cause == FinishCause::NoMemory && panic.is_none() && text.as_str() == expected)
+}
+
 #[test]
 fn surface(rt: HostRuntime) -> Result<(), Fail> {
     assert!(rt; keeps_settings());
@@ -301,5 +542,7 @@ fn surface(rt: HostRuntime) -> Result<(), Fail> {
     assert!(rt; notes_calls(rt.alloc())?);
     assert!(rt; ends_unmade(rt.alloc())?);
     assert!(rt; visits_twice(rt.alloc())?);
+    assert!(rt; limits(rt.alloc())?);
+    assert!(rt; writes_contexts(rt.alloc())?);
     Ok(())
 }

@@ -3,20 +3,19 @@ use Rattle.std.specs.Prelude.{ℕ, codes, Result, Ok, Err}
 use Rattle.rt_base.specs.declared.error.Error.{Error}
 use Rattle.rt_base.specs.declared.poll.Poll.{Poll}
 use Rattle.rt_base.specs.declared.poll.Poll.TheVariants.{Ready as IsReady, Pending as IsPending}
-use Rattle.rt_audit.specs.declared.call.Call.TheVariants.{Child, CloseNode}
+use Rattle.rt_audit.specs.declared.call.Call.TheVariants.{CloseNode}
 use Rattle.rt_model.specs.declared.answer.Answer.{Answer}
 use Rattle.rt_model.specs.declared.answer.Answer.TheVariants.{Pending, Ready}
 use Rattle.rt_model.specs.Tied.{TaskSteps}
-use Rattle.rt_model.specs.Turns.{Plainly, Spawning}
+use Rattle.rt_model.specs.Turns.{Plainly}
 use Rattle.rt_model.specs.Walk.{Step, Last, Spends, Gives, then, followed_by}
-use Rattle.rt_world.specs.Walked.{reads}
-use Rattle.rt_core.specs.Contexts.{Context, child_heard, handle_heard, makes_on, root_context}
+use Rattle.rt_core.specs.Contexts.{Context, childs, root_context, spawns}
 use Rattle.rt_core.specs.Handles.{handle_polls, handle_spends}
 use Rattle.rt_core.specs.Sleeper.{Sleeper}
 use Rattle.rt_core.specs.Pollers.{sleep_for, sleep_polls, sleep_spends, closes}
 use Rattle.rt_core.specs.declared.handle.Kind.{Kind}
 use Rattle.rt_errand.specs.declared.crew.Crew.{Crew}
-use Rattle.rt_errand.specs.declared.crew.RootCrew.{RootCrew}
+use Rattle.rt_errand.specs.declared.crew.RootPair.{RootPair}
 use Rattle.rt_errand.specs.declared.crew.Work.{Work}
 use Rattle.rt_errand.specs.declared.crew.Work.TheVariants.{Hires, Joins, Naps, Sleeps, Done}
 
@@ -50,7 +49,7 @@ spawned c context (Err error) = Spends (Plainly (CloseNode context.node)) (Gives
 
 -- a child was made for its worker
 abbrev pub hired : Crew → ℕ → Result Context Error → Next
-hired c number (Ok context) = reads (Spawning context.node (makes_on context (worker number))) handle_heard (spawned c context)
+hired c number (Ok context) = then (spawns context (worker number)) (λ handle told. spawned c context handle)
 hired c number (Err error) = Gives (Ready (Err error)) c
 
 -- its sleep answered so
@@ -69,7 +68,7 @@ naps c number (Err error) = Gives (Ready (Err error)) c
 
 -- a poll, by what is to be done
 abbrev pub polled : Crew → Work → ℕ → Next
-polled c (Hires number) time = reads (Plainly (Child c.context.node (codes "worker"))) (child_heard c.context (codes "worker")) (hired (at c Done) number)
+polled c (Hires number) time = then (childs c.context (codes "worker")) (λ child told. hired (at c Done) number child)
 polled c (Joins handle) time = joins (at c Done) handle
 polled c (Naps number) time = naps (at c Done) number (sleep_for time 1000000)
 polled c (Sleeps sleep number) time = sleeps (at c Done) number sleep
@@ -85,5 +84,19 @@ abbrev pub crew_steps : TaskSteps Crew Output
 crew_steps = record { next = λ c time task. polled c c.work time; last = λ c time number. ended c c.work }
 
 -- the root, on node 0
-abbrev pub crew_made : RootCrew → Step Crew Crew Output (Unit {0})
-crew_made maker = Gives tt (record { context = root_context; work = Hires maker.number })
+abbrev pub crew_made : ℕ → Step Crew Crew Output (Unit {0})
+crew_made number = Gives tt (record { context = root_context; work = Hires number })
+
+-- a worker was spawned beside the root and its handle given up, or it was refused
+abbrev pub parted : ℕ → Context → Result Kind Error → Step Crew Crew Output (Unit {0})
+parted number context (Ok handle) = followed_by (handle_spends handle) (crew_made number)
+parted number context (Err error) = Spends (Plainly (CloseNode context.node)) (crew_made number)
+
+-- a child was made for it
+abbrev pub beside : ℕ → Result Context Error → Step Crew Crew Output (Unit {0})
+beside number (Ok context) = then (spawns context (worker number)) (λ handle told. parted number context handle)
+beside number (Err error) = crew_made number
+
+-- a root with a worker beside it
+abbrev pub pair_made : RootPair → Step Crew Crew Output (Unit {0})
+pair_made maker = then (childs root_context (codes "worker")) (λ child told. beside maker.number child)

@@ -1,3 +1,4 @@
 pub mod Crew
 pub mod Errand
+pub mod Heir
 pub mod Retry

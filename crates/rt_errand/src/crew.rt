@@ -73,7 +73,7 @@ impl Crew {
         put(&mut self.work, Work::Joins(handle));
         match joined {
             Poll::Pending => Answer::Pending,
-            Poll::Ready(Ok(number)) => Answer::Ready(number),
+            Poll::Ready(Ok(output)) => Answer::Ready(output),
             Poll::Ready(Err(error)) => Answer::Ready(Err(error)),
         }
     }
@@ -178,7 +178,7 @@ pub struct RootCrew {
 impl RootMaker<Crew> for RootCrew {
     ghost use Rattle.rt_errand.specs.Crew.{crew_made};
 
-    ghost first = { λ maker now. crew_made maker };
+    ghost first = { λ maker now. crew_made maker.number };
 
     fn make<G: Rng>(
         self,
@@ -188,6 +188,47 @@ impl RootMaker<Crew> for RootCrew {
         Ok(Crew {
             context,
             work: Work::Hires(self.number),
+        })
+    }
+}
+
+/// Makes the first of a crew, and spawns a worker beside it that nobody waits for.
+#[derive(Clone, Copy, Debug)]
+pub struct RootPair {
+    pub number: u64,
+}
+
+#[tactic(auto, using(rt_world::proofs::Walked::maker_laws))]
+impl RootMaker<Crew> for RootPair {
+    ghost use Rattle.rt_errand.specs.Crew.{pair_made};
+
+    ghost first = { λ maker now. pair_made maker };
+
+    fn make<G: Rng>(
+        self,
+        context: Context,
+        world: &mut World<Crew, Result<u64, Error>, G>,
+    ) -> Result<Crew, NoMemory> {
+        let number = self.number;
+        if let Ok(child) = context.child(world, "worker") {
+            let spawned = child.spawn(
+                world,
+                |context| Crew {
+                    context,
+                    work: Work::Naps(number),
+                },
+            );
+            match spawned {
+                Ok(handle) => handle.give_up(world),
+                Err(refused) => {
+                    let Refused { back, error: _ } = refused;
+                    back.close(world);
+                }
+            }
+        }
+        Ok(Crew {
+            context,
+            work: Work::Hires(number),
         })
     }
 }

@@ -1,15 +1,17 @@
 //! Small task types of one's own, from their definitions to their runs: an errand, a retry that pauses longer each time,
-//! and a crew, whose first task spawns another and waits for it.
+//! a crew, whose first task spawns another and waits for it, and an heir, which spawns below a node that has ended.
 #![tactic(auto)]
 
 mod crew;
 mod errand;
+mod heir;
 mod maker;
 mod retry;
 #[cfg(test)]
 mod tests;
 
-pub use crew::{Crew, RootCrew};
+pub use crew::{Crew, RootCrew, RootPair};
 pub use errand::{Errand, Stage};
+pub use heir::{Heir, RootHeir};
 pub use maker::RootErrand;
 pub use retry::{Retry, RootRetry};

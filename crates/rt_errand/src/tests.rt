@@ -1,6 +1,8 @@
 // Whole journals, as text.
 
-use crate::{Crew, Errand, Retry, RootCrew, RootErrand, RootRetry, Stage};
+use crate::{
+    Crew, Errand, Heir, Retry, RootCrew, RootErrand, RootHeir, RootPair, RootRetry, Stage,
+};
 use rand_chacha::ChaCha12Rng;
 use rt_audit::Journal;
 use rt_core::utils::reschedule;
@@ -601,5 +603,123 @@ finish timeout
     };
     let config = Config::new().with_timeout(Some(2_000_000));
     assert!(rt; crew_plays(rt.alloc(), config, expected)?);
+    Ok(())
+}
+
+#[test]
+fn nobody_waits_for_a_worker(rt: HostRuntime) -> Result<(), Fail> {
+    let expected = Expected {
+        ending: Ok(Ok(7)),
+        time: 3_000_000,
+        lines: "\
+start 0 - 1000000 0
+call - child 0 worker -> node 1
+call - spawn 1 -> task 0 node 2
+call - give-up 0 -> ok
+root 1
+round 0 1
+visit 0
+event process_task 00000000000000000000000000000000 776f726b6572
+call 0 sleep-poll 1000000 -> pending 0
+answer 0 pending
+visit 1
+event process_task 00000000000000000000000000000001 -
+call 1 child 0 worker -> node 3
+call 1 spawn 3 -> task 2 node 4
+call 1 join 2 -> pending
+answer 1 pending
+advance 1000000
+fire 0
+wake 0
+round 2 0
+visit 2
+event process_task 00000000000000000000000000000002 776f726b6572
+call 2 sleep-poll 2000000 -> pending 1
+answer 2 pending
+visit 0
+event process_task 00000000000000000000000000000000 776f726b6572
+call 0 sleep-poll 1000000 -> ready
+answer 0 ready
+call 0 close-node 2 -> ok
+answer 0 ended
+nodeend 1
+wake 0
+advance 2000000
+fire 1
+wake 2
+round 0 2
+visit 2
+event process_task 00000000000000000000000000000002 776f726b6572
+call 2 sleep-poll 2000000 -> ready
+answer 2 ready
+call 2 close-node 4 -> ok
+answer 2 ended
+wake 1
+nodeend 3
+wake 2
+advance 3000000
+round 1 2
+visit 1
+event process_task 00000000000000000000000000000001 -
+call 1 join 2 -> ready
+answer 1 ready
+cleanup
+nodeend 0
+call 1 give-up 2 -> ok
+call 1 close-node 0 -> ok
+answer 1 ended
+crash
+finish ok
+",
+    };
+    let root = RootPair { number: 7 };
+    let run = Runner::default().start_and_recover::<Crew, RootPair>(rt.alloc(), root);
+    assert!(rt; is_as_expected(rt.alloc(), run, expected)?);
+    Ok(())
+}
+
+#[test]
+fn spawn_on_an_ended_node(rt: HostRuntime) -> Result<(), Fail> {
+    let expected = Expected {
+        ending: Ok(Err(Error::Closed)),
+        time: 2_000_000,
+        lines: "\
+start 0 - 1000000 0
+root 0
+round 0
+visit 0
+event process_task 00000000000000000000000000000000 -
+call 0 child 0 own -> node 1
+call 0 child 1 below -> node 2
+call 0 spawn 1 -> task 1 node 3
+call 0 join 1 -> pending
+answer 0 pending
+advance 1000000
+round 1
+visit 1
+event process_task 00000000000000000000000000000001 6f776e
+answer 1 ready
+call 1 close-node 3 -> ok
+answer 1 ended
+wake 0
+nodeend 1
+advance 2000000
+round 0
+visit 0
+event process_task 00000000000000000000000000000000 -
+call 0 join 1 -> ready
+call 0 give-up 1 -> ok
+call 0 spawn 2 -> closed
+answer 0 ready
+cleanup
+nodeend 0
+call 0 close-node 0 -> ok
+answer 0 ended
+crash
+finish ok
+",
+    };
+    let run = Runner::default().start_and_recover::<Heir, RootHeir>(rt.alloc(), RootHeir);
+    assert!(rt; is_as_expected(rt.alloc(), run, expected)?);
     Ok(())
 }

@@ -23,7 +23,7 @@ use Rattle.rt_model.specs.Lists.{find}
 use Rattle.rt_super.specs.Ancestry.{is_ended}
 use Rattle.rt_model.specs.Turns.{Held, Ask, Sleeping, Heard, Asks, Fits, call_of, put}
 use Rattle.rt_model.specs.Walk.{Step, Does, Gives, Gave, Walks, Fronts}
-use Rattle.rt_model.specs.Tied.{Steps, Value, nothing, MovesCleanup, Moves, Polls, IsTied, taken}
+use Rattle.rt_model.specs.Tied.{Steps, Value, nothing, MovesCleanup, Moves, Polls, IsTied, taken, given}
 use Rattle.rt_model.specs.Run.{IsValidInput}
 use Rattle.rt_laws.proofs.Endings.{EndsFor, ends-all, cleans-for}
 use Rattle.rt_laws.proofs.Starts.{run_starts}
@@ -51,7 +51,7 @@ IsFine (Some cause) = cause ≡ Completed
 
 module _ {A O : Type 0} (p : Steps A O) where
   -- behind its first entry
-  further : (s : State) (v : Value A O) (e : Entry) (x : List Entry) (cause : FinishCause) (r : Rest p s v (e ∷ x) cause) → (u : Value A O) × Moves p s v e u × (u.whole ≡ true) × Rest p (after s e) u x cause
+  pub further : (s : State) (v : Value A O) (e : Entry) (x : List Entry) (cause : FinishCause) (r : Rest p s v (e ∷ x) cause) → (u : Value A O) × Moves p s v e u × (u.whole ≡ true) × Rest p (after s e) u x cause
   further s v e x cause r =
       let t = r.tied in
       let u : Value A O = t.0 in
@@ -74,7 +74,7 @@ module _ {A O : Type 0} (p : Steps A O) where
       let z : EndsFor of (Finished cause) = rw e at k in
       elim z [ inl m ↦ absurd (n m) | inr m ↦ fine-some of cause f m ]
 
-  cleanup : (s : State) (u : Value A O) → IsFine (reached s) → Completes p (after s Cleanup) u
+  pub cleanup : (s : State) (u : Value A O) → IsFine (reached s) → Completes p (after s Cleanup) u
   unfolding after
   cleanup s u f x cause r = fine-ends (reached s) cause (after_all (after s Cleanup) x).phase f r.caused r.ends (ends-all (reached s) (after s Cleanup) x refl (cleans-for (is_ended s.nodes 0) (reached s)) r.lawful).1
 
@@ -222,13 +222,13 @@ module _ {A O : Type 0} (p : Steps A O) where
       turned call reply = record { call = call; reply = reply; stood = stood_in s }
 
       -- a call that may come is the next one
-      called : (at : Step A A O (Answer O)) (call : Call) (reply : CallReply) (u : Value A O) (x : List Entry) (cause : FinishCause) → Leads at → u ≡ v → Rest p (after s (CallEntry (Some task) call reply)) u x cause → Fronts at now (turned call reply ∷ [])
+      pub called : (at : Step A A O (Answer O)) (call : Call) (reply : CallReply) (u : Value A O) (x : List Entry) (cause : FinishCause) → Leads at → u ≡ v → Rest p (after s (CallEntry (Some task) call reply)) u x cause → Fronts at now (turned call reply ∷ [])
       unfolding after
       called at call reply u x cause l k r =
           let f = polling-front (after s (CallEntry (Some task) call reply)) u task left a x cause is (rw k there) r in
           leads-fronts at now (turned call reply ∷ []) s.turns (taken task v.held) (p.task.next a s.clock.time task) l (rw k at f)
 
-      gave : (at : Step A A O (Answer O)) (answer : Answer O) (end : Held A O) (other : ℕ) → Leads at → other ≡ task → (k : Polls p s other v.held answer end) → Gave (stood_in s) now at answer k.left k.moved
+      pub gave : (at : Step A A O (Answer O)) (answer : Answer O) (end : Held A O) (other : ℕ) → Leads at → other ≡ task → (k : Polls p s other v.held answer end) → Gave (stood_in s) now at answer k.left k.moved
       gave at answer end other l e k = leads-gave at now (stood_in s) answer k.left k.moved s.turns (taken task v.held) (p.task.next a s.clock.time task) l (polls-walk s v task other a answer end e there k)
 
       pub polling_does : (ask : Ask A O) (on : Heard O → Step A A O (Answer O)) → Leads (Does ask on) → ((reply : CallReply) → Answers s (call_of ask) reply → Fits ask (turned (call_of ask) reply) → Completes p (after s (CallEntry (Some task) (call_of ask) reply)) v) → Completes p s v
@@ -270,8 +270,9 @@ module _ {A O : Type 0} (p : Steps A O) where
           told (PendingAt number) m f = let l = m.0 in absurd (omega arith)
           told _ m f = absurd m
 
-      pub polling_gives : (answer : Answer O) (next : A) → s.root ≡ Some task → ((text : List ℕ) → answer ≢ Panicked text) → Leads (Gives answer next) → (answer ≡ Pending → Completes p (after s (AnswerEntry task IsPending)) (record v { held = put task next now })) → Completes p s v
-      polling_gives answer next root calm l more = continues s v (λ cause e. cc) c
+      -- an answer that is no panic, of the root or of another task
+      pub polling_answers : (answer : Answer O) (next : A) → ((text : List ℕ) → answer ≢ Panicked text) → Leads (Gives answer next) → (answer ≡ Pending → Completes p (after s (AnswerEntry task IsPending)) (record v { held = put task next now })) → ((o : O) → answer ≡ Ready o → Completes p (after s (AnswerEntry task IsReady)) (given s task o (put task next now) v)) → Completes p s v
+      polling_answers answer next calm l pending ready = continues s v (λ cause e. cc) c
         where
           calls : (by : Option ℕ) (call : Call) (reply : CallReply) (u : Value A O) → by ≡ Some task → u ≡ v → Completes p (after s (CallEntry by call reply)) u
           calls by call reply u e k x cause r =
@@ -283,12 +284,19 @@ module _ {A O : Type 0} (p : Steps A O) where
               let g = gave (Gives answer next) Pending end other l e k in
               let held : end ≡ put task next now = k.is ∙ rw (e, ← g.1, g.2) refl in
               let same : u ≡ record v { held = put task next now } = is ∙ rw held refl in
-              rw (e, same) (more g.0)
+              rw (e, same) (pending g.0)
+
+          gives : (other : ℕ) (u : Value A O) (o : O) (end : Held A O) → other ≡ task → Polls p s other v.held (Ready o) end → u ≡ given s other o end v → Completes p (after s (AnswerEntry other IsReady)) u
+          gives other u o end e k is =
+              let g = gave (Gives answer next) (Ready o) end other l e k in
+              let held : end ≡ put task next now = k.is ∙ rw (e, ← g.1, g.2) refl in
+              let same : u ≡ given s task o (put task next now) v = is ∙ rw (e, held) refl in
+              rw (e, same) (ready o g.0)
 
           c : Continues s v
           c (CallEntry by call reply) u m k w = calls by call reply u (rw is at m.1.0) k
           c (AnswerEntry other IsPending) u m k w = let n = m.1 in pends other u k.0 (cc) k.1 k.2
-          c (AnswerEntry other IsReady) u m k w = let n = m.1 in let e : task ≡ other = cc in ready s u other (root ∙ ap Some e)
+          c (AnswerEntry other IsReady) u m k w = let n = m.1 in gives other u k.0 k.1 (cc) k.2 k.3
           c (AnswerEntry other IsPanicked) u m k w = let n = m.1 in let text : List ℕ = k.0 in absurd (calm text (gave (Gives answer next) (Panicked text) k.1 other l (cc) k.2).0)
           c (AnswerEntry other IsStopped) u m k w = let n : Polling task left ≡ Halted other = rw is at m.1 in absurd (cc)
           c (AnswerEntry other LacksMemory) u m k w = not-whole u (record v { held = put other k.left k.moved; whole = false }) w refl k.is
@@ -296,9 +304,13 @@ module _ {A O : Type 0} (p : Steps A O) where
           c (Wake other) u m k w = absurd (cc)
           c e u m k w = let z : stands (Polling task left) e ≡ true = rw is at (may_stand s e m) in absurd (cc)
 
+      pub polling_gives : (answer : Answer O) (next : A) → s.root ≡ Some task → ((text : List ℕ) → answer ≢ Panicked text) → Leads (Gives answer next) → (answer ≡ Pending → Completes p (after s (AnswerEntry task IsPending)) (record v { held = put task next now })) → Completes p s v
+      polling_gives answer next root calm l more =
+          polling_answers answer next calm l more (λ o e. ready s (given s task o (put task next now) v) task root)
+
     -- the maker
 
-    made : (at : Step A A O (Unit {0})) (now : Held A O) (by : Option ℕ) (call : Call) (reply : CallReply) (u : Value A O) (x : List Entry) (cause : FinishCause) → s.phase ≡ Making → LeadsTo (p.first s.clock.time) v.held s.turns at now → u ≡ v → Rest p (after s (CallEntry by call reply)) u x cause → Fronts at now (record { call = call; reply = reply; stood = stood_in s } ∷ [])
+    pub made : (at : Step A A O (Unit {0})) (now : Held A O) (by : Option ℕ) (call : Call) (reply : CallReply) (u : Value A O) (x : List Entry) (cause : FinishCause) → s.phase ≡ Making → LeadsTo (p.first s.clock.time) v.held s.turns at now → u ≡ v → Rest p (after s (CallEntry by call reply)) u x cause → Fronts at now (record { call = call; reply = reply; stood = stood_in s } ∷ [])
     unfolding after
     made at now by call reply u x cause h l k r =
         let f = making-front (after s (CallEntry by call reply)) u x cause h r in

@@ -1,6 +1,7 @@
 -- What is no run that was cut off.
 use Rattle.std.proofs.Common.{◌≡◌, ℕ, inl, inr, true, false, List, [], ◌∷◌, ◌++◌, Some, refl, rules, arith, take, drop}
 use Rattle.std.proofs.lemmas.List.Sorted.{IsPermutation-refl}
+use Rattle.rt_base.specs.declared.execution.Execution.TheVariants.{Dedicated}
 use Rattle.rt_audit.specs.declared.answer.AnswerKind.TheVariants.{Ready as AnswersReady, NoMemory as LacksMemory, Ended}
 use Rattle.rt_audit.specs.declared.finish.FinishCause.TheVariants.{NoMemory}
 use Rattle.rt_audit.specs.declared.entry.Entry.TheVariants.{Call, Answer as Answered, NodeEnd, Cleanup}
@@ -11,7 +12,7 @@ use Rattle.rt_audit.specs.declared.reply.CallReply.TheVariants.{Done, TaskAt, Pe
 use Rattle.rt_model.specs.Lists.{find}
 use Rattle.rt_model.specs.State.{Turn, Stood, begun}
 use Rattle.rt_model.specs.Effects.{after, after_all}
-use Rattle.rt_model.specs.Turns.{Held, put, with_task, freed_by, FreesOne, has_place}
+use Rattle.rt_model.specs.Turns.{Held, put, with_task, with_spawned, freed_by, FreesOne, has_place}
 use Rattle.rt_model.specs.Rules.{IsLawful}
 use Rattle.rt_model.specs.Walk.{Gives, Stops, stood_before}
 use Rattle.rt_model.specs.Tied.{Value, nothing, taken}
@@ -73,7 +74,7 @@ none_in_an_end number r =
 
 -- what a call moves whose ask isn't known
 moves-some : (held : Held (Unit {0}) ℕ) (call : CallOf) (reply : CallReply) → (end : Held (Unit {0}) ℕ) × FreesOne held call reply end
-moves-some held (Spawn node) (TaskAt task number) = (put task tt held, (tt, refl))
+moves-some held (Spawn node) (TaskAt task number) = (with_spawned task Dedicated tt held, (Dedicated, tt, refl))
 moves-some held call reply = (freed_by held call reply, refl)
 
 puts : (k : ℕ) (xs : List (ℕ × Unit {0})) → find k (with_task k tt xs) ≡ Some tt

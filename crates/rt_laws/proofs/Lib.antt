@@ -11,6 +11,7 @@ pub mod Misses
 pub mod Nearby
 pub mod Nodes
 pub mod Numbers
+pub mod OneTask
 pub mod Order
 pub mod Others
 pub mod Ranges
@@ -22,10 +23,13 @@ pub mod Spawned
 pub mod Stands
 pub mod Starts
 pub mod Stays
+pub mod Supervising
 pub mod Tasks
 pub mod Timely
 pub mod Trees
 pub mod Under
 pub mod Valid
+pub mod ValidAborting
+pub mod ValidSide
 pub mod Values
 pub mod Several

@@ -41,11 +41,11 @@ module _ {A O : Type 0} (other : ℕ) where
   put-same held task number a n = find-with task other a held.tasks (λ e. n (number, rw e refl))
 
   moved-same : (held : Held A O) (ask : Ask A O) (call : Call) (reply : CallReply) → (((told : ℕ) × (reply ≡ TaskAt other told)) → ⊥) → Same held (moved_by held ask call reply)
-  moved-same held (Spawning node made) call (TaskAt task number) n = put-same held task number (made number) n
+  moved-same held (Spawning node execution made) call (TaskAt task number) n = put-same held task number (made number) n
   moved-same held ask call reply n = freed-same held call reply
 
   frees-one : (held : Held A O) (call : Call) (reply : CallReply) (end : Held A O) → (((told : ℕ) × (reply ≡ TaskAt other told)) → ⊥) → FreesOne held call reply end → Same held end
-  frees-one held (Spawn node) (TaskAt task number) end n f = ap (λ (x : Held A O). find other x.tasks) f.1 ∙ put-same held task number f.0 n
+  frees-one held (Spawn node) (TaskAt task number) end n f = ap (λ (x : Held A O). find other x.tasks) f.2 ∙ put-same held task number f.1 n
   frees-one held call reply end n f = ap (λ (x : Held A O). find other x.tasks) f ∙ freed-same held call reply
 
   frees-same : (held : Held A O) (turns : List Turn) (end : Held A O) → AllByRecursion (SpawnsOthers other) turns → Frees held turns end → Same held end

@@ -1,7 +1,10 @@
 -- Small runs with spawned tasks, and what comes near to them.
-use Rattle.std.specs.Prelude.{ℕ, List, [], ◌∷◌, ◌++◌, Some, None, codes, false}
+use Rattle.std.specs.Prelude.{ℕ, List, [], ◌∷◌, ◌++◌, Option, Some, None, codes, false}
+use Rattle.rt_base.specs.declared.error.Error.TheVariants.{Closed}
+use Rattle.rt_base.specs.declared.execution.Execution.TheVariants.{Shared}
 use Rattle.rt_audit.specs.declared.call.Call.TheVariants.{Child, CloseNode, Spawn, AbortTask, Join, GiveUp}
-use Rattle.rt_audit.specs.declared.reply.CallReply.TheVariants.{Done, NodeAt, TaskAt, Pending as StillPending, Ready as IsReady}
+use Rattle.rt_audit.specs.declared.reply.CallReply.{CallReply}
+use Rattle.rt_audit.specs.declared.reply.CallReply.TheVariants.{Done, NodeAt, TaskAt, Pending as StillPending, Ready as IsReady, Refused}
 use Rattle.rt_audit.specs.declared.answer.AnswerKind.TheVariants.{Pending as AnswersPending, Ready as AnswersReady, Ended}
 use Rattle.rt_audit.specs.declared.finish.FinishCause.TheVariants.{Completed}
 use Rattle.rt_audit.specs.declared.entry.Entry.{Entry}
@@ -11,12 +14,17 @@ use Rattle.rt_model.specs.declared.answer.Answer.TheVariants.{Pending, Ready}
 use Rattle.rt_model.specs.Events.{process_task, task_fields}
 use Rattle.rt_model.specs.Turns.{Plainly, Spawning, Heard, Plain, Handed}
 use Rattle.rt_model.specs.Walk.{Step, Does, Spends, Gives, Last}
-use Rattle.rt_model.specs.Tied.{Steps, with_first}
+use Rattle.rt_model.specs.Tied.{Steps, Value, with_first, nothing}
 use Rattle.rt_laws.specs.Examples.{opening, visiting_root, finishing}
 
 -- an end that closes this node
 abbrev pub closes : {A : Type 0} → ℕ → Last A ℕ
 closes node = Spends (Plainly (CloseNode node)) (Gives tt tt)
+
+-- the values behind a run that gave this output, and where one task was spawned, on no thread of its own
+abbrev pub gave_beside : {A : Type 0} → ℕ → ℕ → Value A ℕ
+gave_beside task number =
+    record nothing { held = record { tasks = []; results = []; executions = (task, Shared false) ∷ [] }; output = Some number }
 
 -- a task of the maker
 
@@ -37,7 +45,7 @@ spawn_heard node (Plain (TaskAt task number)) = Spends (Plainly (GiveUp task)) (
 spawn_heard node _ = Spends (Plainly (CloseNode node)) (Gives tt prompt_root)
 
 abbrev pub child_heard : Heard ℕ → Step Prompt Prompt ℕ (Unit {0})
-child_heard (Plain (NodeAt node ended)) = Does (Spawning node (λ number. record { node = number; value = 5 })) (spawn_heard node)
+child_heard (Plain (NodeAt node ended)) = Does (Spawning node (Shared false) (λ number. record { node = number; value = 5 })) (spawn_heard node)
 child_heard _ = Gives tt prompt_root
 
 -- the maker spawns a task that gives 5, and makes a root that gives 1
@@ -89,8 +97,14 @@ pub data Aborting : Type 0 where
   -- the task, on a context of this node
   Aborter : (node : ℕ) → Aborting
 
+-- what a root gives for a value that won't come, since its join was refused
+abbrev pub without_value : ℕ
+without_value = 2
+
+-- with the value the handle is given up, and so it is where the join is refused
 abbrev pub join_heard : ℕ → Heard ℕ → Step Aborting Aborting ℕ (Answer ℕ)
 join_heard task (Handed value) = Spends (Plainly (GiveUp task)) (Gives (Ready value) Parent)
+join_heard task (Plain (Refused error)) = Spends (Plainly (GiveUp task)) (Gives (Ready without_value) Parent)
 join_heard task _ = Gives Pending (Joining task)
 
 abbrev pub joins : ℕ → Step Aborting Aborting ℕ (Answer ℕ)
@@ -101,7 +115,7 @@ aborter_heard (Plain (TaskAt task number)) = joins task
 aborter_heard _ = Gives Pending Parent
 
 abbrev pub parent_heard : Heard ℕ → Step Aborting Aborting ℕ (Answer ℕ)
-parent_heard (Plain (NodeAt node ended)) = Does (Spawning node (λ number. Aborter number)) aborter_heard
+parent_heard (Plain (NodeAt node ended)) = Does (Spawning node (Shared false) (λ number. Aborter number)) aborter_heard
 parent_heard _ = Gives Pending Parent
 
 -- the task gives 4 behind the abort, or is pending
@@ -115,7 +129,7 @@ aborting_last Parent now task = closes 0
 aborting_last (Joining other) now task = Spends (Plainly (GiveUp other)) (closes 0)
 aborting_last (Aborter node) now task = closes node
 
--- a root that spawns a task, which aborts itself and answers so, and gives its value
+-- a root that spawns a task, which aborts itself and answers so, and joins it: the root gives the task's value, or what stands for none
 abbrev pub aborting_root : Answer ℕ → Steps Aborting ℕ
 aborting_root answer = with_first (record { next = aborting_next answer; last = aborting_last }) (λ now. Gives tt Parent)
 
@@ -148,31 +162,47 @@ parent_ends = (Call (Some 0) (GiveUp 1) Done ∷ Answered 0 AnswersReady ∷ Cle
 abbrev pub aborting_journal : List Entry
 aborting_journal = aborter_joined ++ aborts_itself ++ aborter_ends ++ visiting_root ++ joined ++ parent_ends
 
--- near misses
+-- it is left pending, and ends in the same visit without a result, and then its node
+abbrev pub aborter_stops : List Entry
+aborter_stops = (Answered 1 AnswersPending ∷ []) ++ aborter_closes ++ (NodeEnd 1 ∷ [])
 
--- the task's context is closed by nobody
-abbrev pub nobodys_call : List Entry
-nobodys_call =
-    side_spawned ++ side_ready ++ (Call None (CloseNode 2) Done ∷ Answered 0 Ended ∷ NodeEnd 1 ∷ []) ++ second_ready ++ second_ends ++ finishing Completed
+-- the end of the node wakes the task that it flags, and then who joins it. The task is ended, and isn't visited any more
+abbrev pub both_woken : List Entry
+both_woken = Wake 1 ∷ Wake 0 ∷ Advance 2000000 ∷ Round (1 ∷ 0 ∷ []) ∷ []
 
--- a join is ready at once
-abbrev pub early_join : List Entry
-early_join = opening ++ visiting_root ++ aborter_spawned ++ joined ++ (Answered 0 AnswersReady ∷ []) ++ finishing Completed
+-- there is no result
+abbrev pub refused : List Entry
+refused = Call (Some 0) (Join 1) (Refused Closed) ∷ []
 
--- a result is handed out twice
-abbrev pub second_join : List Entry
-second_join = aborter_joined ++ aborts_itself ++ aborter_ends ++ visiting_root ++ joined ++ joined ++ parent_ends
+abbrev pub stopping_journal : List Entry
+stopping_journal = aborter_joined ++ aborts_itself ++ aborter_stops ++ both_woken ++ visiting_root ++ refused ++ parent_ends
 
--- the task is left pending behind its abort, and its node ends. Whoever joins it isn't woken, or neither is
-abbrev pub unwoken : List Entry → List Entry
-unwoken wakes =
-    aborter_joined ++ aborts_itself ++ (Answered 1 AnswersPending ∷ []) ++ aborter_closes ++ (NodeEnd 1 ∷ []) ++ wakes ++ (Advance 2000000 ∷ [])
+-- near misses, each beside a journal that differs in this one place and is lawful
 
--- a second task gets the number of the first
-abbrev pub number_again : List Entry
-number_again =
-    opening ++ visiting_root ++ aborter_spawned ++ (Call (Some 0) (Child 0 handle) (NodeAt 3 false) ∷ Call (Some 0) (Spawn 3) (TaskAt 1 4) ∷ Answered 0 AnswersReady ∷ [])
+-- the task's context is closed by this one
+abbrev pub closed_by : Option ℕ → List Entry
+closed_by by =
+    side_spawned ++ side_ready ++ (Call by (CloseNode 2) Done ∷ Answered 0 Ended ∷ NodeEnd 1 ∷ []) ++ second_ready ++ second_ends ++ finishing Completed
 
--- the root is ready while its task runs, and is ended first
-abbrev pub root_first : List Entry
-root_first = opening ++ visiting_root ++ aborter_spawned ++ (Answered 0 AnswersReady ∷ Cleanup ∷ NodeEnd 0 ∷ Answered 0 Ended ∷ [])
+-- a join of a task that hasn't ended is answered so
+abbrev pub early_join : CallReply → List Entry
+early_join reply = opening ++ visiting_root ++ aborter_spawned ++ (Call (Some 0) (Join 1) reply ∷ [])
+
+-- a join is answered so behind one that was ready
+abbrev pub second_join : CallReply → List Entry
+second_join reply =
+    aborter_joined ++ aborts_itself ++ aborter_ends ++ visiting_root ++ joined ++ (Call (Some 0) (Join 1) reply ∷ []) ++ parent_ends
+
+-- the task is left pending behind its abort, and the end of its node makes these wakes
+abbrev pub waking : List Entry → List Entry
+waking wakes = aborter_joined ++ aborts_itself ++ aborter_stops ++ wakes ++ (Advance 2000000 ∷ [])
+
+-- a second task gets this number
+abbrev pub second_number : ℕ → List Entry
+second_number number =
+    opening ++ visiting_root ++ aborter_spawned ++ (Call (Some 0) (Child 0 handle) (NodeAt 3 false) ∷ Call (Some 0) (Spawn 3) (TaskAt number 4) ∷ Answered 0 AnswersReady ∷ [])
+
+-- the root is ready while its task runs, and this task is ended first
+abbrev pub first_ended : ℕ → List Entry
+first_ended task =
+    opening ++ visiting_root ++ aborter_spawned ++ (Answered 0 AnswersReady ∷ Cleanup ∷ NodeEnd 0 ∷ Answered task Ended ∷ [])

@@ -44,7 +44,8 @@ pub use examples::{
 };
 pub use supervised::{
     a_task_of_the_maker_has_its_run, a_task_that_aborts_itself_has_its_run,
-    near_misses_of_tasks_are_not_lawful, no_run_begins_behind_one_that_failed,
+    inputs_with_spawned_tasks_are_valid, near_misses_of_tasks_are_not_lawful,
+    no_run_begins_behind_one_that_failed,
 };
 
 /// Time never goes back: not behind any state, and so nowhere in a run.

@@ -1,5 +1,6 @@
 -- Walks, one after another.
 use Rattle.std.proofs.Common.{◌≡◌, ℕ, List, [], ◌∷◌, ◌++◌, refl}
+use Rattle.rt_base.specs.declared.execution.Execution.{Execution}
 use Rattle.rt_audit.specs.declared.call.Call.{Call}
 use Rattle.rt_audit.specs.declared.call.Call.TheVariants.{Child, CloseNode, Spawn, Abort, AbortTask, Wake, Join, GiveUp, SleepPoll}
 use Rattle.rt_audit.specs.declared.reply.CallReply.{CallReply}
@@ -93,19 +94,19 @@ frees-plain held (Join task) reply h = refl
 frees-plain held (GiveUp task) reply h = refl
 frees-plain held (SleepPoll due) reply h = refl
 
-frees-spawn : {A O : Type 0} (held : Held A O) (node : ℕ) (made : ℕ → A) (reply : CallReply) → FreesOne held (Spawn node) reply (moved_by held (Spawning node made) (Spawn node) reply)
-frees-spawn held node made Done = refl
-frees-spawn held node made (NodeAt number ended) = refl
-frees-spawn held node made (TaskAt task number) = (made number, refl)
-frees-spawn held node made Closed = refl
-frees-spawn held node made Pending = refl
-frees-spawn held node made (PendingAt alarm) = refl
-frees-spawn held node made Ready = refl
-frees-spawn held node made (Refused error) = refl
+frees-spawn : {A O : Type 0} (held : Held A O) (node : ℕ) (execution : Execution) (made : ℕ → A) (reply : CallReply) → FreesOne held (Spawn node) reply (moved_by held (Spawning node execution made) (Spawn node) reply)
+frees-spawn held node execution made Done = refl
+frees-spawn held node execution made (NodeAt number ended) = refl
+frees-spawn held node execution made (TaskAt task number) = (execution, made number, refl)
+frees-spawn held node execution made Closed = refl
+frees-spawn held node execution made Pending = refl
+frees-spawn held node execution made (PendingAt alarm) = refl
+frees-spawn held node execution made Ready = refl
+frees-spawn held node execution made (Refused error) = refl
 
 -- what a turn that was asked moves, its call may move
 pub frees-moved : {A O : Type 0} (held : Held A O) (ask : Ask A O) (t : Turn) → Asks ask t → FreesOne held t.call t.reply (moved held ask t)
 frees-moved held (Plainly call) t h = rw h.0 (frees-plain held call t.reply h.1)
 frees-moved held (Sleeping due alarm) t h = rw h.0 refl
 frees-moved held (Sending call value) t h = rw h.0 (frees-plain held call t.reply h.1)
-frees-moved held (Spawning node made) t h = rw h.0 (frees-spawn held node made t.reply)
+frees-moved held (Spawning node execution made) t h = rw h.0 (frees-spawn held node execution made t.reply)

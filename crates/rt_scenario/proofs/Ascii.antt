@@ -6,6 +6,7 @@ use Rattle.std.specs.Char.{is_ascii_alphabetic}
 use Rattle.std.specs.List.{list_all}
 use Rattle.std.specs.Str.{IsUtf8}
 use Rattle.rt_base.specs.Label.{is_label, is_word_byte}
+use Rattle.rt_scenario.specs.Scenario.{is_printable}
 
 word_byte_small : (b : ℕ) → is_word_byte b ≡ true → b < 128
 word_byte_small b h = grind (arith, nat_tests)
@@ -25,3 +26,14 @@ label_small (b ∷ bs) h (suc i) = word_bytes_small bs (and_parts _ _ h).1 i
 
 pub label_is_utf8 : (bs : List ℕ) → is_label bs ≡ true → IsUtf8 bs
 label_is_utf8 bs h = IsUtf8-from_ascii bs (label_small bs h)
+
+printable_byte : (b : ℕ) → is_printable b ≡ true → b < 128
+printable_byte b h = grind (arith, nat_tests)
+
+printable_small : (bs : List ℕ) → list_all is_printable bs ≡ true → (i : ℕ) → get_or bs i 0 < 128
+printable_small [] h i = omega arith
+printable_small (b ∷ bs) h zero = printable_byte b (and_parts _ _ h).0
+printable_small (b ∷ bs) h (suc i) = printable_small bs (and_parts _ _ h).1 i
+
+pub printable_is_utf8 : (bs : List ℕ) → list_all is_printable bs ≡ true → IsUtf8 bs
+printable_is_utf8 bs h = IsUtf8-from_ascii bs (printable_small bs h)

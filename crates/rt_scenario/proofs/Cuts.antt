@@ -1,7 +1,11 @@
-use Rattle.std.proofs.Common.{◌≡◌, ℕ, zero, suc, ◌+◌, ◌<◌, List, [], ◌∷◌, true, false, ◌==◌, length, take, drop, get_or, refl, arith, add-one, ◌-◌, ◌≤◌, length-drop, if◌then◌else◌, Option, Some, None, is_some}
+use Rattle.std.proofs.Common.{◌≡◌, ℕ, zero, suc, ◌+◌, ◌<◌, List, [], ◌∷◌, true, false, ◌==◌, length, take, drop, get_or, refl, arith, add-one, ◌-◌, ◌≤◌, length-drop, if◌then◌else◌, Option, Some, None, is_some, codes, nat_lt}
 use Rattle.std.specs.Borrow.{Bor}
 use Rattle.std.proofs.lemmas.List.{take_all, drop_all}
 use Rattle.std.proofs.lemmas.Bool.Decides.{nat_tests}
+use Rattle.std.proofs.lemmas.Bool.{and_parts}
+use Rattle.std.specs.List.{list_all}
+use Rattle.rt_scenario.specs.Scenario.{is_printable, names_run}
+use Rattle.rt_scenario.specs.Words.{is_text}
 use Rattle.rt_scenario.specs.Lines.{lines_of, words_of, words_in, onto_first}
 
 -- none of the first n bytes of the text is this one
@@ -56,3 +60,26 @@ last_line (x ∷ xs) i some all h = rw (take_all i (x ∷ xs) all, drop_all i (x
 pub some_in : (text : Option (Bor (List ℕ))) → true ≡ is_some text → 0 < length (words_in text)
 some_in None h = absurd (cc)
 some_in (Some t) h = some_words t.now
+
+-- how much of a text is left
+abbrev pub left : Option (Bor (List ℕ)) → ℕ
+left None = 0
+left (Some text) = length text.now + 1
+
+-- the words behind `with`, where there are some
+pub run_named : (root word : List ℕ) (names all : List (List ℕ)) → all ≡ root ∷ word ∷ names → is_text word (codes "with") ≡ true → 0 < length names → names_run all ≡ Some (root ∷ names)
+run_named root word [] all e w some = absurd (omega (arith, some))
+run_named root word (n ∷ ns) all e w some =
+    let counted : nat_lt 0 (length (n ∷ ns)) ≡ true = grind (arith, nat_tests) in
+    rw (e, w, counted) refl
+
+-- the words of a text of allowed bytes are of allowed bytes
+printable_onto : (b : ℕ) (words : List (List ℕ)) → is_printable b ≡ true → list_all (list_all is_printable) words ≡ true → list_all (list_all is_printable) (onto_first b words) ≡ true
+printable_onto b [] h all = rw h refl
+printable_onto b (word ∷ words) h all = rw h all
+
+pub printable_words : (text : List ℕ) → list_all is_printable text ≡ true → list_all (list_all is_printable) (words_of text) ≡ true
+printable_words [] h = refl
+printable_words (b ∷ bs) h =
+    let rest = printable_words bs (and_parts _ _ h).1 in
+    elim (b == 32) as (λ space. list_all (list_all is_printable) (if space then [] ∷ words_of bs else onto_first b (words_of bs)) ≡ true) [ true ↦ rest | false ↦ printable_onto b (words_of bs) (and_parts _ _ h).0 rest ]

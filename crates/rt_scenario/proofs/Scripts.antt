@@ -1,17 +1,17 @@
-use Rattle.std.proofs.Common.{◌≡◌, ℕ, suc, ◌+◌, ◌<◌, ◌≤◌, Bool, true, false, cond, if◌then◌else◌, List, [], ◌∷◌, ◌++◌, length, Option, Some, None, is_some, IfSome, Ok, Err, refl, sym, ap, ◌∙◌, arith, add-one}
+use Rattle.std.proofs.Common.{◌≡◌, ℕ, suc, ◌+◌, ◌<◌, Bool, true, false, cond, if◌then◌else◌, List, [], ◌∷◌, ◌++◌, length, Option, Some, None, is_some, Err, refl, sym, ap, subst, ◌∙◌, arith, add-one}
+use Rattle.std.specs.List.{All}
+use Rattle.std.proofs.lemmas.List.{length_push}
+use Rattle.std.proofs.lemmas.List.Elements.{All-cons}
 use Rattle.std.specs.Option.{option_map, option_copied}
 use Rattle.std.specs.Borrow.{Bor}
 use Rattle.rt_scenario.specs.Words.{is_text}
-use Rattle.rt_scenario.specs.Scenario.{Draft, CanRun, script_at, with_line, row, step_row}
-use Rattle.rt_scenario.specs.Open.{open_scripts}
-use Rattle.rt_scenario.specs.declared.draft.OpenScript.{OpenScript}
+use Rattle.rt_scenario.specs.Scenario.{Draft, CanRun, script_at, scripts_at, onto_places, row}
 use Rattle.std.specs.Cmp.Lexicographic.{same_text}
 use Rattle.rt_scenario.specs.Answers.{IsBare}
 use Rattle.rt_scenario.specs.declared.kind.Kind.TheVariants as kind
-use Rattle.rt_scenario.specs.declared.line.Line.{Line}
 use Rattle.rt_scenario.specs.declared.scenario.ScriptText.{ScriptText}
 use Rattle.rt_scenario.specs.declared.word.Word.{Word}
-use Rattle.rt_scenario.specs.declared.word.Word.TheVariants.{Timeout, Script, Sleep, Yield, Pend, End, Done, Run}
+use Rattle.rt_scenario.specs.declared.word.Word.TheVariants.{Timeout, Catch, Script, Sleep, Until, Yield, Pend, End, Panic, Spawn, Abort, Drop, Join, Done, Run}
 
 -- the first place, or else the second
 abbrev pub place_or : Option ℕ → Option ℕ → Option ℕ
@@ -36,15 +36,6 @@ script_at_push [] t name = refl
 script_at_push (s ∷ ss) t name =
     found_push (is_text s.name name) (script_at ss name) (script_at (ss ++ t ∷ []) name) (place_last ss t.name name) (place_last (s ∷ ss) t.name name) (script_at_push ss t name) (place_next (script_at ss name) (is_text t.name name) (length ss))
 
--- a line more changes no name
-pub script_at_same : (ss : List ScriptText) (s t : ScriptText) (name : List ℕ) → s.name ≡ t.name → script_at (ss ++ s ∷ []) name ≡ script_at (ss ++ t ∷ []) name
-script_at_same ss s t name e = script_at_push ss s name ∙ ap (λ n. place_or (script_at ss name) (place_last ss n name)) e ∙ sym (script_at_push ss t name)
-
-pub with_line_push : (ss : List ScriptText) (s : ScriptText) (line : Line) → with_line (ss ++ s ∷ []) line ≡ ss ++ record s { lines = s.lines ++ line ∷ [] } ∷ []
-with_line_push [] s line = refl
-with_line_push (a ∷ []) s line = refl
-with_line_push (a ∷ b ∷ ss) s line = ap (λ l. a ∷ l) (with_line_push (b ∷ ss) s line)
-
 -- a word more than there may be
 pub bare_count : (d : Draft) (word : Word) (ws : List (List ℕ)) → IsBare word → 0 < length ws → row d word ws ≡ Err kind.Count
 bare_count d word [] bare some = absurd (omega arith)
@@ -55,20 +46,18 @@ bare_count d Timeout (w ∷ ws) bare some = absurd bare
 bare_count d Script (w ∷ ws) bare some = absurd bare
 bare_count d Sleep (w ∷ ws) bare some = absurd bare
 bare_count d End (w ∷ ws) bare some = absurd bare
+bare_count d Catch (w ∷ ws) bare some = absurd bare
+bare_count d Until (w ∷ ws) bare some = absurd bare
+bare_count d Panic (w ∷ ws) bare some = absurd bare
+bare_count d Spawn (w ∷ ws) bare some = absurd bare
+bare_count d Abort (w ∷ ws) bare some = absurd bare
+bare_count d Drop (w ∷ ws) bare some = absurd bare
+bare_count d Join (w ∷ ws) bare some = absurd bare
 bare_count d Run (w ∷ ws) bare some = absurd bare
-
--- a line more in the open script
-pub line_pushed : (timeout root : Option ℕ) (closed : List ScriptText) (current : Option OpenScript) (s : OpenScript) (items : List Line) (line : Line) → current ≡ Some s → items ≡ s.lines.items ++ line ∷ [] → step_row (record { timeout = timeout; scripts = closed ++ open_scripts current; is_open = is_some current; root = root }) line ≡ Ok (record { timeout = timeout; scripts = closed ++ record { name = s.name; lines = items } ∷ []; is_open = true; root = root })
-line_pushed timeout root closed current s items line e f =
-    rw (e, f, with_line_push closed (record { name = s.name; lines = s.lines.items }) line) refl
 
 place_or_none : (o : Option ℕ) → place_or o None ≡ o
 place_or_none None = refl
 place_or_none (Some i) = refl
-
-pub none_open : (o : Option OpenScript) → is_some o ≡ false → open_scripts o ≡ []
-none_open None h = refl
-none_open (Some s) h = absurd (cc)
 
 pub none_copied : (o : Option (Bor ℕ)) → is_some o ≡ false → option_copied o ≡ None
 none_copied None h = refl
@@ -103,7 +92,28 @@ pub script_at_bound : (ss : List ScriptText) (name : List ℕ) (place : ℕ) →
 script_at_bound [] name place e = absurd (cc)
 script_at_bound (s ∷ ss) name place e = bound_by (is_text s.name name) (script_at ss name) (length ss) place (λ i h. script_at_bound ss name i h) e
 
--- a script that can be run can be run among more
-pub can_run_more : (xs ys : List ScriptText) (timeout root : Option ℕ) → length xs ≤ length ys → IfSome root (CanRun xs timeout) → IfSome root (CanRun ys timeout)
-can_run_more xs ys timeout None more can = tt
-can_run_more xs ys timeout (Some place) more can = (omega (arith, can.0), can.1)
+-- scripts that can be run can be run among more
+pub can_run_more : (ss : List ScriptText) (t : ScriptText) (timeout : Option ℕ) (places : List ℕ) → All (CanRun ss timeout) places → All (CanRun (ss ++ t ∷ []) timeout) places
+can_run_more ss t timeout places can k d inside = (omega (arith, (can k d inside).0, length_push ss t), (can k d inside).1)
+
+onto_found : (o : Option ℕ) (p : ℕ) (more : Option (List ℕ)) (ps : List ℕ) → o ≡ Some p → option_map (λ qs. (p ∷ []) ++ qs) more ≡ Some ps → onto_places o more ≡ Some ps
+onto_found o p more ps e f = rw e f
+
+-- the root's script is found, and then the others
+pub run_found : (ss : List ScriptText) (root : List ℕ) (words : List (List ℕ)) (p : ℕ) (ps : List ℕ) → script_at ss root ≡ Some p → option_map (λ qs. (p ∷ []) ++ qs) (scripts_at ss words) ≡ Some ps → scripts_at ss (root ∷ words) ≡ Some ps
+run_found ss root words p ps e f = onto_found (script_at ss root) p (scripts_at ss words) ps e f
+
+onto_bound : (o : Option ℕ) (more : Option (List ℕ)) (n : ℕ) (ps : List ℕ) → ((i : ℕ) → o ≡ Some i → i < n) → ((qs : List ℕ) → more ≡ Some qs → All (λ p. p < n) qs) → onto_places o more ≡ Some ps → All (λ p. p < n) ps
+onto_bound None more n ps one others e = absurd (cc)
+onto_bound (Some i) None n ps one others e = absurd (cc)
+onto_bound (Some i) (Some qs) n ps one others e =
+    let same : i ∷ qs ≡ ps = cc in
+    subst (λ l. All (λ p. p < n) l) same (All-cons (λ p. p < n) i qs (one i refl) (others qs refl))
+
+-- scripts that are found are there
+pub scripts_at_bound : (ss : List ScriptText) (names : List (List ℕ)) (ps : List ℕ) → scripts_at ss names ≡ Some ps → All (λ p. p < length ss) ps
+scripts_at_bound ss [] ps e =
+    let same : [] ≡ ps = cc in
+    subst (λ l. All (λ p. p < length ss) l) same (λ k d inside. absurd (omega (arith, inside)))
+scripts_at_bound ss (name ∷ names) ps e =
+    onto_bound (script_at ss name) (scripts_at ss names) (length ss) ps (λ i h. script_at_bound ss name i h) (λ qs h. scripts_at_bound ss names qs h) e

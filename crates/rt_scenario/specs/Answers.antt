@@ -1,8 +1,9 @@
 -- What calls of the reader answer, out of memory apart.
-use Rattle.std.specs.Prelude.{◌≡◌, ℕ, Option, Some, None, Result, Ok, Err}
-use Rattle.rt_scenario.specs.Scenario.{Draft, Reading, Whole, BrokenAt, ending}
+use Rattle.std.specs.Prelude.{◌≡◌, ℕ, true, false, if◌then◌else◌, List, Option, Some, None, Result, Ok, Err}
+use Rattle.rt_scenario.specs.Scenario.{Draft, Reading, Whole, BrokenAt, ending, is_name, script_at, scripts_at}
+use Rattle.rt_scenario.specs.declared.scenario.ScriptText.{ScriptText}
 use Rattle.rt_scenario.specs.declared.kind.Kind.{Kind}
-use Rattle.rt_scenario.specs.declared.kind.Kind.TheVariants.{NoRun}
+use Rattle.rt_scenario.specs.declared.kind.Kind.TheVariants.{NoRun, Name, Missing}
 use Rattle.rt_scenario.specs.declared.scenario.Scenario.{Scenario}
 use Rattle.rt_scenario.specs.declared.reader.Refusal.{Refusal}
 use Rattle.rt_scenario.specs.declared.reader.Refusal.TheVariants.{Broken as Breaks', NoMemory as NoMemory'}
@@ -23,6 +24,25 @@ IsBare Yield = Unit {0}
 IsBare Pend = Unit {0}
 IsBare Done = Unit {0}
 IsBare word = ⊥
+
+-- the word is this name, or no name
+abbrev pub Named : List ℕ → Result (List ℕ) Stop → Type 0
+Named word (Ok text) = (is_name word ≡ true) × (text ≡ word)
+Named word (Err (Breaks k)) = (is_name word ≡ false) × (k ≡ Name)
+Named word (Err NoMemory) = Unit {0}
+
+abbrev pub or_missing : Option ℕ → Result ℕ Kind
+or_missing None = Err Missing
+or_missing (Some place) = Ok place
+
+-- the place of the script that the word names
+abbrev pub found_at : List ScriptText → List ℕ → Result ℕ Kind
+found_at scripts word = if is_name word then or_missing (script_at scripts word) else Err Name
+
+-- one of the words names no script
+abbrev pub Lacks : List ScriptText → List (List ℕ) → Stop → Type 0
+Lacks scripts words (Breaks k) = (scripts_at scripts words ≡ None) × (k ≡ Missing)
+Lacks scripts words NoMemory = Unit {0}
 
 -- the scenario that a draft makes after its last line, if it makes one
 abbrev pub Finishes : Draft → Option Scenario → Type 0

@@ -1,7 +1,9 @@
 pub mod Answers
+pub mod Capped
 pub mod KindWords
 pub mod Lines
 pub mod Numbers
-pub mod Open
 pub mod Scenario
+pub mod Scripts
+pub mod Within
 pub mod Words

@@ -1,86 +1,129 @@
 -- How a scenario is read: line by line from the top, up to the first line that breaks a rule.
 use Rattle.std.specs.Prelude.{◌≡◌, ◌<◌, ℕ, ◌+◌, ◌-◌, ◌==◌, ◌&&◌, ◌||◌, not, nat_lt, nat_le, Bool, true, false, if◌then◌else◌, List, [], ◌∷◌, ◌++◌, length, take, slice_index, codes, Option, Some, None, is_some, is_none, Result, Ok, Err, ℤ}
-use Rattle.std.specs.Option.{option_map}
+use Rattle.std.specs.Option.{option_map, unwrap_or}
 use Rattle.std.specs.List.{list_all, list_any}
 use Rattle.rt_base.specs.Label.{is_label}
 use Rattle.rt_base.specs.declared.time.TheConstants.{MAX_TIME}
 use Rattle.rt_scenario.specs.Lines.{lines_of, words_of}
 use Rattle.rt_scenario.specs.Numbers.{number_of, value_of}
-use Rattle.rt_scenario.specs.Words.{is_text, word_of}
+use Rattle.rt_scenario.specs.Scripts.{Begun, closed_script, tasks_at, tasks_of}
+use Rattle.rt_scenario.specs.Words.{is_text, switch_of, word_of}
 use Rattle.rt_scenario.specs.declared.kind.Kind.{Kind}
 use Rattle.rt_scenario.specs.declared.kind.Kind.TheVariants as kind
-use Rattle.rt_scenario.specs.declared.line.Line.{Line}
 use Rattle.rt_scenario.specs.declared.line.Line.TheVariants as step
+use Rattle.rt_scenario.specs.declared.named_line.NamedLine.{NamedLine}
+use Rattle.rt_scenario.specs.declared.named_line.NamedLine.TheVariants.{Plain, Spawn, Abort, Drop, Join}
 use Rattle.rt_scenario.specs.declared.scenario.Scenario.{Scenario}
 use Rattle.rt_scenario.specs.declared.scenario.ScriptText.{ScriptText}
 use Rattle.rt_scenario.specs.declared.word.Word.{Word}
-use Rattle.rt_scenario.specs.declared.word.Word.TheVariants.{Timeout, Script, Sleep, Yield, Pend, End, Done, Run}
+use Rattle.rt_scenario.specs.declared.word.Word.TheVariants.{Timeout, Catch, Script, Sleep, Until, Yield, Pend, End, Panic, Spawn as SpawnWord, Abort as AbortWord, Drop as DropWord, Join as JoinWord, Done, Run}
 
--- what the lines so far say: the settings, the scripts, whether the last script is open, and the
--- place of the script that is run
+-- what the lines so far say: the settings, the scripts, the one whose `done` hasn't come, and the places
+-- of the scripts that are run, the root first
 pub record Draft : Type 0 where
   pub timeout : Option ℕ
+  pub catch : Option Bool
   pub scripts : List ScriptText
-  pub is_open : Bool
-  pub root : Option ℕ
+  pub current : Option Begun
+  pub run : List ℕ
 
 abbrev pub blank : Draft
-blank = record { timeout = None; scripts = []; is_open = false; root = None }
+blank = record { timeout = None; catch = None; scripts = []; current = None; run = [] }
 
 -- the place of the script of this name
 abbrev pub script_at : List ScriptText → List ℕ → Option ℕ
 script_at [] name = None
 script_at (s ∷ ss) name = if is_text s.name name then Some 0 else option_map (λ n. n + 1) (script_at ss name)
 
--- a line more in the last script
-abbrev pub with_line : List ScriptText → Line → List ScriptText
-with_line [] line = []
-with_line (s ∷ []) line = record s { lines = s.lines ++ line ∷ [] } ∷ []
-with_line (s ∷ t ∷ ss) line = s ∷ with_line (t ∷ ss) line
+abbrev pub onto_places : Option ℕ → Option (List ℕ) → Option (List ℕ)
+onto_places None places = None
+onto_places (Some place) places = option_map (λ ps. place ∷ ps) places
+
+-- the places of the scripts of these names, if all are there
+abbrev pub scripts_at : List ScriptText → List (List ℕ) → Option (List ℕ)
+scripts_at scripts [] = Some []
+scripts_at scripts (name ∷ names) = onto_places (script_at scripts name) (scripts_at scripts names)
 
 -- a name has at most 32 bytes
 abbrev pub is_name : List ℕ → Bool
 is_name word = is_label word && nat_le (length word) 32
 
+-- no script is open, and nothing is run
+abbrev pub is_between : Draft → Bool
+is_between d = is_none d.current && length d.run == 0
+
 -- where each word may stand: settings before the first script, steps within a script, and the run
 -- after the scripts
 abbrev pub is_placed : Draft → Word → Bool
-is_placed d Timeout = not d.is_open && is_none d.root && length d.scripts == 0
-is_placed d Script = not d.is_open && is_none d.root
-is_placed d Run = not d.is_open && is_none d.root
-is_placed d Sleep = d.is_open
-is_placed d Yield = d.is_open
-is_placed d Pend = d.is_open
-is_placed d End = d.is_open
-is_placed d Done = d.is_open
+is_placed d Timeout = is_between d && length d.scripts == 0
+is_placed d Catch = is_between d && length d.scripts == 0
+is_placed d Script = is_between d
+is_placed d Run = is_between d
+is_placed d word = is_some d.current
 
--- what each word does with its number, name or value, or the rule that it breaks
+-- what each word does with its numbers, names and values, or the rule that it breaks
 abbrev pub timeout_row : Draft → Option ℕ → Result Draft Kind
 timeout_row d None = Err kind.Number
 timeout_row d (Some n) = if is_some d.timeout then Err kind.Twice else Ok (record d { timeout = Some n })
+
+abbrev pub catch_row : Draft → Option Bool → Result Draft Kind
+catch_row d None = Err kind.Name
+catch_row d (Some b) = if is_some d.catch then Err kind.Twice else Ok (record d { catch = Some b })
 
 abbrev pub script_row : Draft → List ℕ → Result Draft Kind
 script_row d name =
     if not (is_name name) then Err kind.Name
     else (if is_some (script_at d.scripts name) then Err kind.Twice
-    else Ok (record d { scripts = d.scripts ++ record { name = name; lines = [] } ∷ []; is_open = true }))
+    else Ok (record d { current = Some (record { name = name; lines = []; words = [] }) }))
 
-abbrev pub step_row : Draft → Line → Result Draft Kind
-step_row d line = Ok (record d { scripts = with_line d.scripts line })
+abbrev pub with_line : NamedLine → Begun → Begun
+with_line line s = record s { lines = s.lines ++ line ∷ [] }
+
+abbrev pub step_row : Draft → NamedLine → Result Draft Kind
+step_row d line = Ok (record d { current = option_map (with_line line) d.current })
 
 abbrev pub sleep_row : Draft → Option ℕ → Result Draft Kind
 sleep_row d None = Err kind.Number
-sleep_row d (Some n) = step_row d (step.Sleep n)
+sleep_row d (Some n) = step_row d (Plain (step.Sleep n))
+
+abbrev pub until_row : Draft → Option ℕ → Result Draft Kind
+until_row d None = Err kind.Number
+until_row d (Some n) = step_row d (Plain (step.Until n))
 
 abbrev pub value_row : Draft → Option ℤ → Result Draft Kind
 value_row d None = Err kind.Number
-value_row d (Some v) = step_row d (step.End v)
+value_row d (Some v) = step_row d (Plain (step.End v))
 
 abbrev pub end_row : Draft → List ℕ → Result Draft Kind
-end_row d word = if is_text word (codes "last") then step_row d step.EndLast else value_row d (value_of word)
+end_row d word = if is_text word (codes "last") then step_row d (Plain step.EndLast) else value_row d (value_of word)
+
+-- a panic's word goes behind those before it
+abbrev pub with_panic : List ℕ → Begun → Begun
+with_panic word s = record s { lines = s.lines ++ Plain (step.Panic (length s.words)) ∷ []; words = s.words ++ word ∷ [] }
+
+abbrev pub panic_row : Draft → List ℕ → Result Draft Kind
+panic_row d word = Ok (record d { current = option_map (with_panic word) d.current })
+
+abbrev pub spawned_row : Draft → List ℕ → Option ℕ → Result Draft Kind
+spawned_row d handle None = Err kind.Missing
+spawned_row d handle (Some place) = step_row d (Spawn handle place)
+
+abbrev pub spawn_row : Draft → List ℕ → List ℕ → Result Draft Kind
+spawn_row d handle name = if not (is_name handle && is_name name) then Err kind.Name else spawned_row d handle (script_at d.scripts name)
+
+-- a step with a handle
+abbrev pub handle_row : Draft → (List ℕ → NamedLine) → List ℕ → Result Draft Kind
+handle_row d line handle = if not (is_name handle) then Err kind.Name else step_row d (line handle)
+
+abbrev pub abort_row : Draft → List ℕ → Result Draft Kind
+abort_row d word = if is_text word (codes "self") then step_row d (Plain step.AbortSelf) else handle_row d Abort word
+
+abbrev pub with_closed : Draft → Option Begun → Draft
+with_closed d None = d
+with_closed d (Some s) = record d { scripts = d.scripts ++ closed_script s ∷ []; current = None }
 
 abbrev pub done_row : Draft → Result Draft Kind
-done_row d = Ok (record d { is_open = false })
+done_row d = Ok (with_closed d d.current)
 
 -- time begins at 0, so a limit past its end can't be kept
 abbrev pub is_runnable : Option ℕ → Bool
@@ -91,23 +134,40 @@ is_runnable (Some n) = nat_le n MAX_TIME
 abbrev pub CanRun : List ScriptText → Option ℕ → ℕ → Type 0
 CanRun scripts timeout place = (place < length scripts) × (is_runnable timeout ≡ true)
 
-abbrev pub found_row : Draft → Option ℕ → Result Draft Kind
+-- a run has at most 100,000 tasks
+abbrev pub found_row : Draft → Option (List ℕ) → Result Draft Kind
 found_row d None = Err kind.Missing
-found_row d (Some place) = if is_runnable d.timeout then Ok (record d { root = Some place }) else Err kind.Config
+found_row d (Some places) =
+    if nat_lt 100000 (tasks_at (tasks_of d.scripts) places) then Err kind.Tasks
+    else (if is_runnable d.timeout then Ok (record d { run = places }) else Err kind.Config)
 
-abbrev pub run_row : Draft → List ℕ → Result Draft Kind
-run_row d name = if not (is_name name) then Err kind.Name else found_row d (script_at d.scripts name)
+-- the names in a run, `NAME` or `NAME with NAME ..`
+abbrev pub names_run : List (List ℕ) → Option (List (List ℕ))
+names_run [] = None
+names_run (root ∷ []) = Some (root ∷ [])
+names_run (root ∷ word ∷ names) = if is_text word (codes "with") && nat_lt 0 (length names) then Some (root ∷ names) else None
+
+abbrev pub run_row : Draft → Option (List (List ℕ)) → Result Draft Kind
+run_row d None = Err kind.Count
+run_row d (Some names) = if not (list_all is_name names) then Err kind.Name else found_row d (scripts_at d.scripts names)
 
 -- the rows with their numbers of words
 abbrev pub row : Draft → Word → List (List ℕ) → Result Draft Kind
 row d Timeout (w ∷ []) = timeout_row d (number_of w)
+row d Catch (w ∷ []) = catch_row d (switch_of w)
 row d Script (w ∷ []) = script_row d w
 row d Sleep (w ∷ []) = sleep_row d (number_of w)
-row d Yield [] = step_row d step.Yield
-row d Pend [] = step_row d step.Pend
+row d Until (w ∷ []) = until_row d (number_of w)
+row d Yield [] = step_row d (Plain step.Yield)
+row d Pend [] = step_row d (Plain step.Pend)
 row d End (w ∷ []) = end_row d w
+row d Panic (w ∷ []) = panic_row d w
+row d SpawnWord (h ∷ w ∷ []) = spawn_row d h w
+row d AbortWord (w ∷ []) = abort_row d w
+row d DropWord (h ∷ []) = handle_row d Drop h
+row d JoinWord (h ∷ []) = handle_row d Join h
 row d Done [] = done_row d
-row d Run (w ∷ []) = run_row d w
+row d Run ws = run_row d (names_run ws)
 row d word args = Err kind.Count
 
 -- the rules of a line, in the order in which they are tested
@@ -146,13 +206,14 @@ pub data Reading : Type 0 where
   Whole : Scenario → Reading
   BrokenAt : ℕ → Kind → Reading
 
-abbrev pub run_or_none : ℕ → Draft → Option ℕ → Reading
-run_or_none n d None = BrokenAt n kind.NoRun
-run_or_none n d (Some place) = Whole (record { timeout = d.timeout; scripts = d.scripts; root = place })
+abbrev pub run_or_none : ℕ → Draft → List ℕ → Reading
+run_or_none n d [] = BrokenAt n kind.NoRun
+run_or_none n d (root ∷ with) =
+    Whole (record { timeout = d.timeout; catch = unwrap_or d.catch false; scripts = d.scripts; root = root; with = with })
 
 -- after the last line, whose number is below n
 abbrev pub ending : ℕ → Draft → Reading
-ending n d = if d.is_open then BrokenAt n kind.NoRun else run_or_none n d d.root
+ending n d = if is_some d.current then BrokenAt n kind.NoRun else run_or_none n d d.run
 
 abbrev pub reading_on : ℕ → Result Draft Kind → (Draft → Reading) → Reading
 reading_on n (Ok d) rest = rest d

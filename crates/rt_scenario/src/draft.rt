@@ -1,18 +1,27 @@
 // What the lines so far say.
-ghost use Rattle.std.specs.Prelude.{◌≡◌, true, false, ◌<◌, ◌==◌, not, length, Some, None, Ok, Err, IfSome, MatchOption, MatchResult, List, ℕ, [], ◌∷◌, ◌≢◌};
+ghost use Rattle.std.specs.Prelude.{◌≡◌, true, false, ◌<◌, ◌==◌, not, length, Some, None, Ok, Err, IfSome, IfOk, MatchOption, MatchResult, List, ℕ, [], ◌∷◌, ◌++◌, ◌≢◌, is_some, nat_lt};
+ghost use Rattle.std.specs.Option.{option_map};
+ghost use Rattle.std.specs.List.{All, list_all};
 ghost use Rattle.rt_scenario.specs.Lines.{words_of, words_in};
 ghost use Rattle.rt_scenario.specs.Numbers.{number_of, value_of};
-ghost use Rattle.rt_scenario.specs.Scenario.{Draft, blank, CanRun, is_placed, row, after_line, after_text, after_words, timeout_row, script_row, step_row, sleep_row, end_row, done_row, run_row};
-ghost use Rattle.rt_scenario.specs.Answers.{Answers, Finishes, IsBare};
+ghost use Rattle.rt_scenario.specs.Words.{switch_of};
+ghost use Rattle.rt_scenario.specs.Scenario.{Draft, blank, CanRun, is_between, is_name, is_placed, is_printable, names_run, row, after_line, after_text, after_words, timeout_row, catch_row, script_row, step_row, sleep_row, until_row, end_row, panic_row, spawn_row, abort_row, handle_row, done_row, found_row, run_row, script_at, scripts_at};
+ghost use Rattle.rt_scenario.specs.Answers.{Answers, Finishes, IsBare, Lacks, found_at};
+ghost use Rattle.rt_scenario.specs.Scripts.{tasks_of, tasks_at as total_at};
+ghost use Rattle.rt_scenario.specs.Within.{HasPlaces, HavePlaces, IsFree};
+ghost use Rattle.rt_scenario.specs.declared.named_line.NamedLine.TheVariants as named_line;
 
 use crate::kind::Kind;
 use crate::line::Line;
-use crate::names::name_of;
+use crate::named_line::NamedLine;
+use crate::names::{are_names, name_of, named, text_of};
 use crate::numbers;
+use crate::open_script::OpenScript;
 use crate::scenario::{Scenario, ScriptText};
-use crate::split::{is_passed_over, only_word, split_word, test_text};
+use crate::split::{is_passed_over, only_word, run_words, split_word, test_text, two_words};
 use crate::stop::Stop;
-use crate::word::Word;
+use crate::tasks::{MAX_TASKS, tasks_at, tasks_of};
+use crate::word::{Word, switch_of};
 use rt_base::{Items, MAX_TIME, Nanos, Text};
 use std::alloc::Global;
 use std::collections::BTreeMap;
@@ -21,35 +30,32 @@ use std::marker::Model;
 /// The greatest number of bytes of a line, without its LF.
 const LINE_LEN: usize = 4096;
 
-/// The settings and scripts so far, with the places of the scripts by their names.
+/// The settings and scripts so far, with the places of the scripts by their names and the tasks of each.
 #[derive(Drop)]
 pub struct Draft {
     timeout: Option<Nanos>,
+    catch: Option<bool>,
     closed: Vec<ScriptText>,
-    current: Option<OpenScript>,
+    tasks: Vec<u64>,
     places: BTreeMap<String, usize>,
-    root: Option<usize>,
-}
-
-/// A script whose `done` hasn't come.
-#[derive(Drop)]
-pub struct OpenScript {
-    name: Text,
-    lines: Vec<Line>,
+    current: Option<OpenScript>,
+    /// The places of the scripts that are run, the root first.
+    run: Vec<usize>,
 }
 
 impl Model for Draft {
-    ghost use Rattle.std.specs.Prelude.{◌≡◌, ℕ, List, ◌++◌, is_some, IfSome};
+    ghost use Rattle.std.specs.Prelude.{◌≡◌, ℕ, List, None, IfSome, length};
     ghost use Rattle.std.specs.BTreeMap.{get_by_text};
+    ghost use Rattle.std.specs.List.{All};
+    ghost use Rattle.rt_scenario.specs.Capped.{capped_tasks};
     ghost use Rattle.rt_scenario.specs.Scenario.{Draft, script_at, CanRun};
+    ghost use Rattle.rt_scenario.specs.Within.{HavePlaces, IsBegun};
 
     ghost Value = { Draft };
 
-    ghost use Rattle.rt_scenario.specs.Open.{open_scripts};
+    ghost view = { λ d. record { timeout = d.timeout; catch = d.catch; scripts = d.closed.items; current = d.current; run = d.run.items } };
 
-    ghost view = { λ d. record { timeout = d.timeout; scripts = d.closed.items ++ open_scripts d.current; is_open = is_some d.current; root = d.root } };
-
-    ghost invariant = { λ d. ((name : List ℕ) → get_by_text d.places name ≡ script_at (d.closed.items ++ open_scripts d.current) name) × IfSome d.root (CanRun (d.closed.items ++ open_scripts d.current) d.timeout) };
+    ghost invariant = { λ d. ((name : List ℕ) → get_by_text d.places name ≡ script_at d.closed.items name) × (d.tasks.items ≡ capped_tasks d.closed.items) × All (CanRun d.closed.items d.timeout) d.run.items × IfSome d.current (λ s. script_at d.closed.items s.name ≡ None) × HavePlaces d.closed.items × IfSome d.current (IsBegun (length d.closed.items)) };
 }
 
 impl Draft {
@@ -58,10 +64,12 @@ impl Draft {
     {
         Draft {
             timeout: None,
+            catch: None,
             closed: Vec::new(alloc),
-            current: None,
+            tasks: Vec::new(alloc),
             places: BTreeMap::new(alloc),
-            root: None,
+            current: None,
+            run: Vec::new(alloc),
         }
     }
 
@@ -69,21 +77,29 @@ impl Draft {
     pub fn finish(self) -> Option<Scenario>
         ensures says { Finishes self result }
         ensures runs { IfSome result (λ s. CanRun s.scripts s.timeout s.root) }
+        ensures spawns { IfSome result (λ s. All (CanRun s.scripts s.timeout) s.with) }
+        ensures places { IfSome result (λ s. HavePlaces s.scripts) }
     {
         let Draft {
             timeout,
+            catch,
             closed,
-            current,
+            tasks: _,
             places: _,
-            root,
+            current,
+            run,
         } = self;
-        if current.is_some() {
+        if current.is_some() || run.is_empty() {
             return None;
         }
+        let mut with = run;
+        let root = with.remove(0);
         Some(Scenario {
             timeout,
+            catch: catch.unwrap_or(false),
             scripts: Items::of(closed),
-            root: root?,
+            root,
+            with: Items::of(with),
         })
     }
 
@@ -120,6 +136,7 @@ impl Draft {
     }
 
     fn take_words(&mut self, text: &[u8]) -> Result<(), Stop>
+        requires { list_all is_printable text.now ≡ true }
         ensures { Answers (after_words self.old (words_of text.now)) result self.new }
     {
         let (first, args) = split_word(text);
@@ -136,28 +153,42 @@ impl Draft {
     fn allows(&self, word: Word) -> bool
         ensures { result ≡ is_placed self.now word }
     {
-        let between = self.current.is_none() && self.root.is_none();
         match word {
-            Word::Timeout => between && self.closed.is_empty(),
-            Word::Script | Word::Run => between,
-            Word::Sleep | Word::Yield | Word::Pend | Word::End | Word::Done => self
-                .current
-                .is_some(),
+            Word::Timeout | Word::Catch => self.is_between() && self.closed.is_empty(),
+            Word::Script | Word::Run => self.is_between(),
+            _ => self.current.is_some(),
         }
+    }
+
+    fn is_between(&self) -> bool
+        ensures { result ≡ is_between self.now }
+    {
+        self.current.is_none() && self.run.is_empty()
     }
 
     /// Takes a line in, by its first word and what stands after it.
     fn take(&mut self, word: Word, args: Option<&[u8]>) -> Result<(), Stop>
-        requires { is_placed self.old word ≡ true }
+        requires placed { is_placed self.old word ≡ true }
+        requires printable { list_all (list_all is_printable) (words_in args) ≡ true }
         ensures { Answers (row self.old word (words_in args.entry)) result self.new }
     {
         match word {
             Word::Yield | Word::Pend | Word::Done => self.take_bare(word, args),
             Word::Timeout => self.set_timeout(one(args)?),
+            Word::Catch => self.set_catch(one(args)?),
             Word::Script => self.open_script(one(args)?),
             Word::Sleep => self.sleep(one(args)?),
+            Word::Until => self.until(one(args)?),
             Word::End => self.end(one(args)?),
-            Word::Run => self.run(one(args)?),
+            Word::Panic => self.panic(one(args)?),
+            Word::Spawn => {
+                let (handle, script) = two(args)?;
+                self.spawn(handle, script)
+            }
+            Word::Abort => self.abort(one(args)?),
+            Word::Drop => self.give_up(one(args)?),
+            Word::Join => self.join(one(args)?),
+            Word::Run => self.run(args),
         }
     }
 
@@ -170,14 +201,14 @@ impl Draft {
             return Err(Stop::Breaks(Kind::Count));
         }
         match word {
-            Word::Yield => self.push(Line::Yield),
-            Word::Pend => self.push(Line::Pend),
+            Word::Yield => self.push_plain(Line::Yield),
+            Word::Pend => self.push_plain(Line::Pend),
             _ => self.close_script(),
         }
     }
 
     fn set_timeout(&mut self, word: &[u8]) -> Result<(), Stop>
-        requires { self.old.root ≡ None }
+        requires { self.old.run ≡ [] }
         ensures { Answers (timeout_row self.old (number_of word.now)) result self.new }
     {
         let Some(timeout) = numbers::number_of(word) else {
@@ -190,8 +221,20 @@ impl Draft {
         Ok(())
     }
 
+    fn set_catch(&mut self, word: &[u8]) -> Result<(), Stop>
+        ensures { Answers (catch_row self.old (switch_of word.now)) result self.new }
+    {
+        let Some(catch) = switch_of(word) else {
+            return Err(Stop::Breaks(Kind::Name));
+        };
+        if self.catch.is_some() {
+            return Err(Stop::Breaks(Kind::Twice));
+        }
+        self.catch = Some(catch);
+        Ok(())
+    }
+
     fn open_script(&mut self, word: &[u8]) -> Result<(), Stop>
-        requires { self.old.is_open ≡ false }
         ensures { Answers (script_row self.old word.now) result self.new }
     {
         let Some(name) = name_of(word) else {
@@ -201,76 +244,213 @@ impl Draft {
             return Err(Stop::Breaks(Kind::Twice));
         }
         let alloc = *self.closed.allocator();
-        let text = Text::of(String::from_str(alloc, name)?);
-        let key = String::from_str(alloc, name)?;
-        self.places.insert(key, self.closed.len())?;
-        self.current = Some(OpenScript {
-            name: text,
-            lines: Vec::new(alloc),
-        });
+        let name = Text::of(String::from_str(alloc, name)?);
+        self.current = Some(OpenScript::new(alloc, name));
         Ok(())
     }
 
-    fn push(&mut self, line: Line) -> Result<(), Stop>
-        requires { self.old.is_open ≡ true }
+    fn push(&mut self, line: NamedLine) -> Result<(), Stop>
+        requires open { is_some self.old.current ≡ true }
+        requires free { IsFree (length self.old.scripts) line }
         ensures { Answers (step_row self.old line) result self.new }
     {
         match &mut self.current {
-            Some(script) => script.lines.push(line)?,
+            Some(script) => script.push(line)?,
             None => unreachable!(),
         }
         Ok(())
     }
 
+    /// Takes a line without a handle.
+    fn push_plain(&mut self, line: Line) -> Result<(), Stop>
+        requires open { is_some self.old.current ≡ true }
+        requires free { IsFree (length self.old.scripts) (named_line.Plain line) }
+        ensures { Answers (step_row self.old (named_line.Plain line)) result self.new }
+    {
+        self.push(NamedLine::Plain(line))
+    }
+
     fn sleep(&mut self, word: &[u8]) -> Result<(), Stop>
-        requires { self.old.is_open ≡ true }
+        requires { is_some self.old.current ≡ true }
         ensures { Answers (sleep_row self.old (number_of word.now)) result self.new }
     {
         match numbers::number_of(word) {
-            Some(duration) => self.push(Line::Sleep(duration)),
+            Some(duration) => self.push_plain(Line::Sleep(duration)),
+            None => Err(Stop::Breaks(Kind::Number)),
+        }
+    }
+
+    fn until(&mut self, word: &[u8]) -> Result<(), Stop>
+        requires { is_some self.old.current ≡ true }
+        ensures { Answers (until_row self.old (number_of word.now)) result self.new }
+    {
+        match numbers::number_of(word) {
+            Some(moment) => self.push_plain(Line::Until(moment)),
             None => Err(Stop::Breaks(Kind::Number)),
         }
     }
 
     fn end(&mut self, word: &[u8]) -> Result<(), Stop>
-        requires { self.old.is_open ≡ true }
+        requires { is_some self.old.current ≡ true }
         ensures { Answers (end_row self.old word.now) result self.new }
     {
         if word == b"last".as_slice() {
-            return self.push(Line::EndLast);
+            return self.push_plain(Line::EndLast);
         }
         match numbers::value_of(word) {
-            Some(value) => self.push(Line::End(value)),
+            Some(value) => self.push_plain(Line::End(value)),
             None => Err(Stop::Breaks(Kind::Number)),
         }
+    }
+
+    fn panic(&mut self, word: &[u8]) -> Result<(), Stop>
+        requires open { is_some self.old.current ≡ true }
+        requires printable { list_all is_printable word.now ≡ true }
+        ensures { Answers (panic_row self.old word.now) result self.new }
+    {
+        let word = text_of(*self.closed.allocator(), word)?;
+        match &mut self.current {
+            Some(script) => script.push_panic(word)?,
+            None => unreachable!(),
+        }
+        Ok(())
+    }
+
+    fn spawn(&mut self, handle: &[u8], script: &[u8]) -> Result<(), Stop>
+        requires { is_some self.old.current ≡ true }
+        ensures { Answers (spawn_row self.old handle.now script.now) result self.new }
+    {
+        let handle = named(*self.closed.allocator(), handle)?;
+        let place = self.find(script)?;
+        self.push(NamedLine::Spawn(handle, place))
+    }
+
+    fn abort(&mut self, word: &[u8]) -> Result<(), Stop>
+        requires { is_some self.old.current ≡ true }
+        ensures { Answers (abort_row self.old word.now) result self.new }
+    {
+        if word == b"self".as_slice() {
+            return self.push_plain(Line::AbortSelf);
+        }
+        let handle = named(*self.closed.allocator(), word)?;
+        self.push(NamedLine::Abort(handle))
+    }
+
+    fn give_up(&mut self, word: &[u8]) -> Result<(), Stop>
+        requires { is_some self.old.current ≡ true }
+        ensures { Answers (handle_row self.old named_line.Drop word.now) result self.new }
+    {
+        let handle = named(*self.closed.allocator(), word)?;
+        self.push(NamedLine::Drop(handle))
+    }
+
+    fn join(&mut self, word: &[u8]) -> Result<(), Stop>
+        requires { is_some self.old.current ≡ true }
+        ensures { Answers (handle_row self.old named_line.Join word.now) result self.new }
+    {
+        let handle = named(*self.closed.allocator(), word)?;
+        self.push(NamedLine::Join(handle))
     }
 
     fn close_script(&mut self) -> Result<(), Stop>
         ensures { Answers (done_row self.old) result self.new }
     {
-        self.closed.reserve(1)?;
-        if let Some(OpenScript { name, lines }) = self.current.take() {
-            self.closed.push_reserved(ScriptText {
-                name,
-                lines: Items::of(lines),
-            });
+        match self.current.take() {
+            Some(current) => self.declare(current.close()?),
+            None => Ok(()),
         }
+    }
+
+    /// Puts a script behind the others.
+    fn declare(&mut self, script: ScriptText) -> Result<(), Stop>
+        requires absent { script_at self.old.scripts script.name ≡ None }
+        requires places { HasPlaces (length self.old.scripts) script }
+        requires between { self.old.current ≡ None }
+        ensures { Answers (Ok (record self.old { scripts = self.old.scripts ++ script ∷ [] })) result self.new }
+    {
+        let key = script.name.clone_value()?.into_inner();
+        let tasks = tasks_of(self.tasks.as_slice(), script.lines.as_slice());
+        self.closed.reserve(1)?;
+        self.tasks.reserve(1)?;
+        self.places.insert(key, self.closed.len())?;
+        self.closed.push_reserved(script);
+        self.tasks.push_reserved(tasks);
         Ok(())
     }
 
-    fn run(&mut self, word: &[u8]) -> Result<(), Stop>
-        ensures { Answers (run_row self.old word.now) result self.new }
+    fn run(&mut self, args: Option<&[u8]>) -> Result<(), Stop>
+        ensures { Answers (run_row self.old (names_run (words_in args.entry))) result self.new }
     {
-        let Some(name) = name_of(word) else {
+        let Some((root, with)) = run_words(args) else {
+            return Err(Stop::Breaks(Kind::Count));
+        };
+        if name_of(root).is_none() || !are_names(with) {
             return Err(Stop::Breaks(Kind::Name));
-        };
-        let Some(place) = self.places.get(name).copied() else {
-            return Err(Stop::Breaks(Kind::Missing));
-        };
+        }
+        let places = self.find_run(root, with)?;
+        self.set_run(places)
+    }
+
+    /// Runs the scripts at these places.
+    fn set_run(&mut self, places: Vec<usize>) -> Result<(), Stop>
+        requires { All (λ place. place < length self.old.scripts) places.items }
+        ensures { Answers (found_row self.old (Some places.items)) result self.new }
+    {
+        if self.has_too_many(places.as_slice()) {
+            return Err(Stop::Breaks(Kind::Tasks));
+        }
         if self.timeout.is_some_and(|timeout| timeout > MAX_TIME) {
             return Err(Stop::Breaks(Kind::Config));
         }
-        self.root = Some(place);
+        self.run = places;
+        Ok(())
+    }
+
+    /// Whether the scripts at these places have more tasks than a run may have.
+    fn has_too_many(&self, places: &[usize]) -> bool
+        ensures { result ≡ nat_lt 100000 (total_at (tasks_of self.now.scripts) places.now) }
+    {
+        tasks_at(self.tasks.as_slice(), places) > MAX_TASKS
+    }
+
+    /// The places of the root's script and of those that the words name.
+    fn find_run(&self, root: &[u8], with: Option<&[u8]>) -> Result<Vec<usize>, Stop>
+        requires root { is_name root.now ≡ true }
+        requires with { list_all is_name (words_in with) ≡ true }
+        ensures found { MatchResult result (λ places. scripts_at self.now.scripts (root.now ∷ words_in with.entry) ≡ Some places.items) (Lacks self.now.scripts (root.now ∷ words_in with.entry)) }
+        ensures there { IfOk result (λ places. All (λ place. place < length self.now.scripts) places.items) }
+    {
+        let mut places = Vec::new(*self.closed.allocator());
+        places.push(self.find(root)?)?;
+        self.find_all(with, &mut places)?;
+        Ok(places)
+    }
+
+    /// The place of the script that the word names.
+    fn find(&self, word: &[u8]) -> Result<usize, Kind>
+        ensures found { result ≡ found_at self.now.scripts word.now }
+        ensures there { IfOk result (λ place. place < length self.now.scripts) }
+    {
+        let Some(name) = name_of(word) else {
+            return Err(Kind::Name);
+        };
+        match self.places.get(name) {
+            Some(place) => Ok(*place),
+            None => Err(Kind::Missing),
+        }
+    }
+
+    /// Puts the places of the scripts that the words name behind those that are there.
+    fn find_all(&self, words: Option<&[u8]>, places: &mut Vec<usize>) -> Result<(), Stop>
+        requires { list_all is_name (words_in words) ≡ true }
+        ensures { MatchResult result (λ _. option_map (λ more. places.old.items ++ more) (scripts_at self.now.scripts (words_in words.entry)) ≡ Some places.new.items) (Lacks self.now.scripts (words_in words.entry)) }
+    {
+        let mut rest = words;
+        while let Some(text) = rest {
+            let (word, tail) = split_word(text);
+            places.push(self.find(word)?)?;
+            rest = tail;
+        }
         Ok(())
     }
 }
@@ -280,6 +460,15 @@ fn one<'a>(args: Option<&'a [u8]>) -> Result<&'a [u8], Stop>
 {
     match only_word(args) {
         Some(word) => Ok(word),
+        None => Err(Stop::Breaks(Kind::Count)),
+    }
+}
+
+fn two<'a>(args: Option<&'a [u8]>) -> Result<(&'a [u8], &'a [u8]), Stop>
+    ensures { MatchResult result (λ words. words_in args.entry ≡ words.0.now ∷ words.1.now ∷ []) (λ stop. (stop ≡ Stop.Breaks Kind.Count) × (length (words_in args.entry) ≢ 2)) }
+{
+    match two_words(args) {
+        Some(words) => Ok(words),
         None => Err(Stop::Breaks(Kind::Count)),
     }
 }

@@ -22,13 +22,13 @@ pub enum Kind {
     Unknown,
     /// The number of words.
     Count,
-    /// A word isn't a name.
+    /// A word isn't a name, or it isn't `on` or `off` where one of these stands.
     Name,
     /// A word isn't a number, or it is past a limit.
     Number,
     /// The setting or the script stands twice.
     Twice,
-    /// The script isn't declared above.
+    /// A script isn't declared above.
     Missing,
     /// The run has too many tasks.
     Tasks,

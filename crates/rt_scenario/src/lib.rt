@@ -2,14 +2,18 @@
 #![tactic(auto)]
 
 mod draft;
+mod handles;
 pub mod kind;
 pub mod line;
+mod named_line;
 mod names;
 mod numbers;
+mod open_script;
 pub mod reader;
 pub mod scenario;
 mod split;
 mod stop;
+mod tasks;
 #[cfg(test)]
 mod tests;
 mod word;

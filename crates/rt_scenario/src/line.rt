@@ -3,10 +3,15 @@
 use rt_base::Nanos;
 
 /// What a task of the script does at one line.
+///
+/// A handle's place is its place among the script's `handles`, a word's that among its `words`, and a script's that
+/// among those of the scenario.
 #[derive(Clone, Copy, Debug, PartialEq, Eq)]
 pub enum Line {
     /// Sleeps so long.
     Sleep(Nanos),
+    /// Sleeps until this moment.
+    Until(Nanos),
     /// Lets the others go first.
     Yield,
     /// Answers pending at each poll.
@@ -15,4 +20,16 @@ pub enum Line {
     End(i64),
     /// Ends with the value of the last line.
     EndLast,
+    /// Panics with the word at this place.
+    Panic(usize),
+    /// Spawns the script at the second place, and keeps the handle at the first.
+    Spawn(usize, usize),
+    /// Aborts the task of this handle.
+    Abort(usize),
+    /// Aborts itself.
+    AbortSelf,
+    /// Gives this handle up.
+    Drop(usize),
+    /// Waits for the task of this handle.
+    Join(usize),
 }

@@ -1,8 +1,15 @@
-// Names of scripts.
-ghost use Rattle.std.specs.Prelude.{◌≡◌, true, false, MatchOption};
-ghost use Rattle.rt_scenario.specs.Scenario.{is_name};
+// Names of scripts and handles, and words of panics.
+ghost use Rattle.std.specs.Prelude.{◌≡◌, true, false, MatchOption, IfOk};
+ghost use Rattle.std.specs.List.{list_all};
+ghost use Rattle.rt_scenario.specs.Answers.{Named};
+ghost use Rattle.rt_scenario.specs.Lines.{words_in};
+ghost use Rattle.rt_scenario.specs.Scenario.{is_name, is_printable};
 
-use rt_base::is_label;
+use crate::kind::Kind;
+use crate::split::split_word;
+use crate::stop::Stop;
+use rt_base::{NoMemory, Text, is_label};
+use std::alloc::Global;
 use std::str;
 
 /// The greatest number of bytes of a name.
@@ -17,6 +24,42 @@ pub fn name_of(word: &[u8]) -> Option<&str>
     }
     match str::from_utf8(word) {
         Ok(name) => Some(name),
+        Err(_) => unreachable!(),
+    }
+}
+
+/// Whether each of the words is a name.
+pub fn are_names(words: Option<&[u8]>) -> bool
+    ensures { result ≡ list_all is_name (words_in words.entry) }
+{
+    let mut rest = words;
+    while let Some(text) = rest {
+        let (word, tail) = split_word(text);
+        if name_of(word).is_none() {
+            return false;
+        }
+        rest = tail;
+    }
+    true
+}
+
+/// The word as a text, where it is a name.
+pub fn named(alloc: Global, word: &[u8]) -> Result<Text, Stop>
+    ensures { Named word.now result }
+{
+    match name_of(word) {
+        Some(name) => Ok(Text::of(String::from_str(alloc, name)?)),
+        None => Err(Stop::Breaks(Kind::Name)),
+    }
+}
+
+/// The word as a text.
+pub fn text_of(alloc: Global, word: &[u8]) -> Result<Text, NoMemory>
+    requires { list_all is_printable word.now ≡ true }
+    ensures { IfOk result (λ text. text ≡ word.now) }
+{
+    match str::from_utf8(word) {
+        Ok(text) => Ok(Text::of(String::from_str(alloc, text)?)),
         Err(_) => unreachable!(),
     }
 }

@@ -1,7 +1,9 @@
 // Reads a whole scenario.
 ghost use Rattle.std.specs.Prelude.{IfOk};
+ghost use Rattle.std.specs.List.{All};
 ghost use Rattle.rt_scenario.specs.Scenario.{scenario_of, CanRun};
 ghost use Rattle.rt_scenario.specs.Answers.{Reads};
+ghost use Rattle.rt_scenario.specs.Within.{HavePlaces};
 
 use crate::draft::Draft;
 use crate::kind::Kind;
@@ -31,6 +33,8 @@ pub enum Refusal {
 pub fn read_scenario(alloc: Global, bytes: &[u8]) -> Result<Scenario, Refusal>
     ensures says { Reads (scenario_of bytes.now) result }
     ensures runs { IfOk result (λ s. CanRun s.scripts s.timeout s.root) }
+    ensures spawns { IfOk result (λ s. All (CanRun s.scripts s.timeout) s.with) }
+    ensures places { IfOk result (λ s. HavePlaces s.scripts) }
 {
     let mut draft = Draft::new(alloc);
     let mut line = 1u64;

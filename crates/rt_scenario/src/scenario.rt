@@ -8,10 +8,14 @@ use rt_base::{Items, Nanos, Text};
 pub struct Scenario {
     /// The length of the run in nanoseconds, where it is limited.
     pub timeout: Option<Nanos>,
+    /// Whether panics are caught; not if no line says so.
+    pub catch: bool,
     /// The scripts in order; each has a name of its own.
     pub scripts: Items<ScriptText>,
     /// The place among them of the script that is run.
     pub root: usize,
+    /// The places of the scripts that are spawned beside it, in order; one may stand there often.
+    pub with: Items<usize>,
 }
 
 /// The lines of a script.
@@ -19,4 +23,8 @@ pub struct Scenario {
 pub struct ScriptText {
     pub name: Text,
     pub lines: Items<Line>,
+    /// The names of handles that stand in its lines, each once, in byte order.
+    pub handles: Items<Text>,
+    /// The words of its panics, in order of the lines.
+    pub words: Items<Text>,
 }

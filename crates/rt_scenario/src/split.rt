@@ -1,7 +1,7 @@
 // Cuts a text into lines, and a line into words.
-ghost use Rattle.std.specs.Prelude.{◌≡◌, ◌≢◌, ◌<◌, ◌≤◌, ℕ, List, [], ◌∷◌, length, slice_index, IfSome, MatchOption, ◌==◌};
+ghost use Rattle.std.specs.Prelude.{◌≡◌, ◌≢◌, ◌<◌, ◌≤◌, ℕ, List, [], ◌∷◌, length, slice_index, IfSome, MatchOption, ◌==◌, Some, None};
 ghost use Rattle.std.specs.List.{list_all, list_any};
-ghost use Rattle.rt_scenario.specs.Scenario.{is_printable, is_passed_over, has_stray_space};
+ghost use Rattle.rt_scenario.specs.Scenario.{is_printable, is_passed_over, has_stray_space, names_run};
 ghost use Rattle.rt_scenario.specs.Lines.{lines_of, words_of, words_in};
 
 /// The first line, with its LF if it has one, and what stands after it.
@@ -39,6 +39,31 @@ pub fn only_word<'a>(text: Option<&'a [u8]>) -> Option<&'a [u8]>
     match split_word(text?) {
         (word, None) => Some(word),
         (_, Some(_)) => None,
+    }
+}
+
+/// The two words, where there are just two.
+pub fn two_words<'a>(text: Option<&'a [u8]>) -> Option<(&'a [u8], &'a [u8])>
+    ensures { MatchOption result (length (words_in text.entry) ≢ 2) (λ words. words_in text.entry ≡ words.0.now ∷ words.1.now ∷ []) }
+{
+    let (first, rest) = split_word(text?);
+    let second = only_word(rest)?;
+    Some((first, second))
+}
+
+/// The word of a root and the words behind `with`, where the words are those of a run.
+pub fn run_words<'a>(text: Option<&'a [u8]>) -> Option<(&'a [u8], Option<&'a [u8]>)>
+    ensures { MatchOption result (names_run (words_in text.entry) ≡ None) (λ words. names_run (words_in text.entry) ≡ Some (words.0.now ∷ words_in words.1)) }
+{
+    let (root, rest) = split_word(text?);
+    let Some(rest) = rest else {
+        return Some((root, None));
+    };
+    let (word, names) = split_word(rest);
+    if names.is_some() && word == b"with".as_slice() {
+        Some((root, names))
+    } else {
+        None
     }
 }
 

@@ -32,3 +32,25 @@ impl<T: Drop> From<AllocFailed<T>> for Stop {
         Stop::NoMemory
     }
 }
+
+impl From<NoMemory> for Stop {
+    ghost use Rattle.std.specs.Prelude.{◌≡◌};
+    ghost use Rattle.rt_scenario.specs.declared.stop.Stop.TheVariants.{NoMemory};
+
+    ghost from_gives = { λ _ stop. stop ≡ NoMemory };
+
+    fn from(_: NoMemory) -> Stop {
+        Stop::NoMemory
+    }
+}
+
+impl From<Kind> for Stop {
+    ghost use Rattle.std.specs.Prelude.{◌≡◌};
+    ghost use Rattle.rt_scenario.specs.declared.stop.Stop.TheVariants.{Breaks};
+
+    ghost from_gives = { λ kind stop. stop ≡ Breaks kind };
+
+    fn from(kind: Kind) -> Stop {
+        Stop::Breaks(kind)
+    }
+}

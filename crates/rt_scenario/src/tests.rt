@@ -65,7 +65,8 @@ fn first_broken_lines(rt: HostRuntime) -> Result<(), Fail> {
         ("script a\nSleep 1\n", 2, "unknown"),
         ("timeout\n", 1, "count"),
         ("script a\nyield 1\n", 2, "count"),
-        ("script a\ndone\nrun a with a\n", 3, "count"),
+        ("timeout 1 2\n", 1, "count"),
+        ("script a b\n", 1, "count"),
         ("script 9a\n", 1, "name"),
         ("script abcdefghijklmnopqrstuvwxyzabcdefg\n", 1, "name"),
         ("run a-b\n", 1, "name"),
@@ -114,6 +115,137 @@ fn refused_numbers_and_names(rt: HostRuntime) -> Result<(), Fail> {
     Ok(())
 }
 
+#[test]
+fn surface_of_supervision(rt: HostRuntime) -> Result<(), Fail> {
+    let text =
+        b"catch on\nscript idle\npend\ndone\nscript self\npanic a~\ndone\nscript main\nspawn z idle\nspawn b_1 self\nuntil 340282366920938463463374607431768211455\npanic boom\nabort b_1\nabort self\ndrop self\nabort z\njoin z\njoin B\npanic boom\nspawn z idle\ndone\nrun main with self idle self\n";
+    let scenario = read_scenario(rt.alloc(), text)?;
+    assert!(rt; scenario.catch);
+    assert!(rt; scenario.timeout.is_none());
+    assert_eq!(rt; scenario.root, 2);
+    assert_eq!(rt; scenario.with.as_slice(), [1usize, 0, 1].as_slice());
+    let scripts = scenario.scripts.as_slice();
+    assert_eq!(rt; scripts.len(), 3);
+    assert_eq!(rt; scripts[1].lines.as_slice(), [Line::Panic(0)].as_slice());
+    assert_eq!(rt; scripts[1].handles.as_slice().len(), 0);
+    assert_eq!(rt; scripts[1].words.as_slice().len(), 1);
+    assert_eq!(rt; scripts[1].words.as_slice()[0].as_str(), "a~");
+    let main = &scripts[2];
+    assert_eq!(rt;
+        main.lines.as_slice(),
+        [
+            Line::Spawn(3, 0),
+            Line::Spawn(1, 1),
+            Line::Until(u128::MAX),
+            Line::Panic(0),
+            Line::Abort(1),
+            Line::AbortSelf,
+            Line::Drop(2),
+            Line::Abort(3),
+            Line::Join(3),
+            Line::Join(0),
+            Line::Panic(1),
+            Line::Spawn(3, 0)
+        ]
+        .as_slice()
+    );
+    let handles = main.handles.as_slice();
+    assert_eq!(rt; handles.len(), 4);
+    for (handle, name) in handles.iter().zip(["B", "b_1", "self", "z"]) {
+        assert_eq!(rt; handle.as_str(), name);
+    }
+    let words = main.words.as_slice();
+    assert_eq!(rt; words.len(), 2);
+    assert_eq!(rt; words[0].as_str(), "boom");
+    assert_eq!(rt; words[1].as_str(), "boom");
+    Ok(())
+}
+
+/// A text that breaks no rule.
+fn expect_read(rt: &impl Abort, alloc: Global, text: &str) {
+    assert!(rt; read_scenario(alloc, text.as_bytes()).is_ok(), "at {text}");
+}
+
+#[test]
+fn read_lines_of_supervision(rt: HostRuntime) -> Result<(), Fail> {
+    for text in [
+        "catch off\ntimeout 1\nscript a\ndone\nrun a\n",
+        "script a\ndone\nscript b\nspawn abcdefghijklmnopqrstuvwxyzabcdef a\ndone\nrun b with a a b\n",
+        "script with\ndone\nrun with with with with\n",
+        "script a\nabort nobody\ndrop nobody\njoin nobody\nuntil 0\npanic #!~\ndone\nrun a\n",
+        "script a\ndone\nscript b\nspawn h a\nspawn h a\nspawn self a\nabort self\njoin self\ndone\nrun b\n",
+    ] {
+        expect_read(&rt, rt.alloc(), text);
+    }
+    Ok(())
+}
+
+#[test]
+fn refused_lines_of_supervision(rt: HostRuntime) -> Result<(), Fail> {
+    for (text, line, word) in [
+        ("catch on", 1u64, "cut"),
+        ("catch  on\n", 1, "space"),
+        ("script a\ncatch on\n", 2, "place"),
+        ("script a\ndone\ncatch on\n", 3, "place"),
+        ("until 1\n", 1, "place"),
+        ("panic x\n", 1, "place"),
+        ("spawn\n", 1, "place"),
+        ("script a\ndone\njoin h\n", 3, "place"),
+        ("script a\ndone\nrun a with a\ndrop h\n", 4, "place"),
+        ("catches on\n", 1, "unknown"),
+        ("script a\nAbort h\n", 2, "unknown"),
+        ("catch\n", 1, "count"),
+        ("catch on off\n", 1, "count"),
+        ("script a\nuntil\n", 2, "count"),
+        ("script a\nuntil x 1\n", 2, "count"),
+        ("script a\npanic\n", 2, "count"),
+        ("script a\npanic two words\n", 2, "count"),
+        ("script a\nspawn 9\n", 2, "count"),
+        ("script a\nspawn h a b\n", 2, "count"),
+        ("script a\nabort\n", 2, "count"),
+        ("script a\nabort self h\n", 2, "count"),
+        ("script a\ndrop\n", 2, "count"),
+        ("script a\njoin h i\n", 2, "count"),
+        ("run\n", 1, "count"),
+        ("script a\ndone\nrun a with\n", 3, "count"),
+        ("script a\ndone\nrun a a\n", 3, "count"),
+        ("script a\ndone\nrun a and a\n", 3, "count"),
+        ("run 9 a with a\n", 1, "count"),
+        ("catch maybe\n", 1, "name"),
+        ("catch On\n", 1, "name"),
+        ("catch 1\n", 1, "name"),
+        (
+            "script a\nuntil 340282366920938463463374607431768211456\n",
+            2,
+            "number",
+        ),
+        ("script a\nuntil 01\n", 2, "number"),
+        ("catch on\ncatch on\n", 2, "twice"),
+        ("catch on\ntimeout 1\ncatch off\n", 3, "twice"),
+        ("catch on\ncatch maybe\n", 2, "name"),
+        (
+            "script a\nspawn abcdefghijklmnopqrstuvwxyzabcdefg a\n",
+            2,
+            "name",
+        ),
+        ("script a\nspawn 9 none\n", 2, "name"),
+        ("script a\nspawn h 9\n", 2, "name"),
+        ("script a\nabort 9\n", 2, "name"),
+        ("script a\ndrop a-b\n", 2, "name"),
+        ("script a\njoin _h\n", 2, "name"),
+        ("run none with a-b\n", 1, "name"),
+        ("run 9 with none\n", 1, "name"),
+        ("script a\nspawn h a\n", 2, "missing"),
+        ("script a\nspawn h b\ndone\nscript b\ndone\n", 2, "missing"),
+        ("script a\ndone\nrun a with a b\n", 3, "missing"),
+        ("script a\ndone\nrun b with a\n", 3, "missing"),
+        ("script a\nspawn h a\ndone\n", 2, "missing"),
+    ] {
+        expect_broken(&rt, rt.alloc(), text, line, word)?;
+    }
+    Ok(())
+}
+
 /// The kind of the line that a comment of so many bytes is, or of the line after it.
 fn kind_at(alloc: Global, length: usize) -> Result<Option<Kind>, AllocError> {
     let mut text = vec![in alloc; b'#'; length]?;
@@ -155,5 +287,109 @@ fn a_mebibyte(rt: HostRuntime) -> Result<(), Fail> {
     let text = sleeps(rt.alloc(), 131_069)?;
     assert_eq!(rt; text.len(), 1_048_572);
     assert_eq!(rt; lines_read(rt.alloc(), text.as_slice())?, 131_069);
+    Ok(())
+}
+
+/// So many scripts, of which each but the first spawns the one before it so often; the last is run, and then the first
+/// so often.
+fn spawns(alloc: Global, scripts: u32, times: u32, with: u32) -> Result<String, AllocError> {
+    let mut text = String::from_str(alloc, "script s0\nend 0\ndone\n")?;
+    for script in 1..scripts {
+        text.push_str(format!(in alloc; "script s{script}\n")?.as_str())?;
+        for handle in 0..times {
+            text.push_str(format!(in alloc; "spawn h{handle} s{}\n", script - 1)?.as_str())?;
+        }
+        text.push_str("done\n")?;
+    }
+    text.push_str(format!(in alloc; "run s{}", scripts.saturating_sub(1))?.as_str())?;
+    for name in 0..with {
+        text.push_str(if name == 0 { " with s0" } else { " s0" })?;
+    }
+    text.push_str("\n")?;
+    Ok(text)
+}
+
+#[test]
+fn too_many_tasks(rt: HostRuntime) -> Result<(), Fail> {
+    let alloc = rt.alloc();
+    expect_read(&rt, alloc, spawns(alloc, 4, 46, 501)?.as_str());
+    expect_broken(
+        &rt,
+        alloc,
+        spawns(alloc, 4, 46, 502)?.as_str(),
+        148,
+        "tasks",
+    )?;
+    expect_read(&rt, alloc, spawns(alloc, 16, 2, 0)?.as_str());
+    expect_broken(&rt, alloc, spawns(alloc, 17, 2, 0)?.as_str(), 68, "tasks")?;
+    expect_broken(
+        &rt,
+        alloc,
+        spawns(alloc, 3_000, 2, 0)?.as_str(),
+        12_000,
+        "tasks",
+    )?;
+    Ok(())
+}
+
+#[test]
+fn tasks_before_config(rt: HostRuntime) -> Result<(), Fail> {
+    let alloc = rt.alloc();
+    let late = String::from_str(alloc, "timeout 9223372036854775808000000000\n")?;
+    let mut text = late.clone()?;
+    text.push_str(spawns(alloc, 17, 2, 0)?.as_str())?;
+    expect_broken(&rt, alloc, text.as_str(), 69, "tasks")?;
+    let mut text = late;
+    text.push_str(spawns(alloc, 16, 2, 0)?.as_str())?;
+    expect_broken(&rt, alloc, text.as_str(), 65, "config")?;
+    Ok(())
+}
+
+/// A script of so many scripts, each with a spawn and a join of a handle of its own, in no order.
+fn many_handles(alloc: Global, handles: u32) -> Result<String, AllocError> {
+    let mut text = String::from_str(alloc, "script idle\ndone\nscript main\n")?;
+    for number in 0..handles {
+        let handle = number.wrapping_mul(7_919) % 10_007;
+        text.push_str(format!(in alloc; "spawn h{handle} idle\n")?.as_str())?;
+    }
+    for number in 0..handles {
+        text.push_str(format!(in alloc; "join h{number}\n")?.as_str())?;
+    }
+    text.push_str("done\nrun main\n")?;
+    Ok(text)
+}
+
+#[test]
+fn ten_thousand_handles(rt: HostRuntime) -> Result<(), Fail> {
+    let text = many_handles(rt.alloc(), 10_007)?;
+    let scenario = read_scenario(rt.alloc(), text.as_bytes())?;
+    let [_, main] = scenario.scripts.as_slice() else {
+        panic!(rt; "other scripts");
+    };
+    let handles = main.handles.as_slice();
+    assert_eq!(rt; handles.len(), 10_007);
+    assert!(rt; handles.is_sorted());
+    let lines = main.lines.as_slice();
+    assert_eq!(rt; lines.len(), 20_014);
+    assert_eq!(rt; lines[0], Line::Spawn(0, 0));
+    for number in 0..10_007usize {
+        let Line::Join(place) = lines[10_007 + number] else {
+            panic!(rt; "at {number}");
+        };
+        let Some(handle) = handles.get(place) else {
+            panic!(rt; "at {number}");
+        };
+        let name = format!(in rt.alloc(); "h{number}")?;
+        assert_eq!(rt; handle.as_str(), name.as_str());
+    }
+    Ok(())
+}
+
+#[test]
+fn ten_thousand_scripts(rt: HostRuntime) -> Result<(), Fail> {
+    let text = spawns(rt.alloc(), 10_000, 1, 0)?;
+    let scenario = read_scenario(rt.alloc(), text.as_bytes())?;
+    assert_eq!(rt; scenario.scripts.as_slice().len(), 10_000);
+    assert_eq!(rt; scenario.root, 9_999);
     Ok(())
 }

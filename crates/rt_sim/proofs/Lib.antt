@@ -1,4 +1,6 @@
 pub mod Ends
+pub mod Makings
+pub mod Programs
 pub mod Runs
 pub mod Scripts
 pub mod Written

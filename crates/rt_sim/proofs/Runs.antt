@@ -1,5 +1,5 @@
 -- A run as a simulation reports it.
-use Rattle.std.proofs.Common.{◌≡◌, ℕ, List, [], subst, sym, ℤ, slice_index_or, slice_get, Some, ◌<◌, length, refl}
+use Rattle.std.proofs.Common.{◌≡◌, ◌∙◌, ℕ, List, [], subst, sym, ℤ, slice_index_or, slice_get, Some, ◌<◌, length, refl}
 use Rattle.std.proofs.lemmas.List.{append-nil}
 use Rattle.std.proofs.lemmas.Option.{slice_get_read}
 use Rattle.rand_chacha.specs.ChaCha.{ChaCha}
@@ -10,11 +10,11 @@ use Rattle.rt_core.specs.Starting.{Starting, Kept}
 use Rattle.rt_core.specs.Outcome.{Completes, Fails, DrawsNothing}
 use Rattle.rt_scenario.specs.declared.scenario.Scenario.{Scenario}
 use Rattle.rt_scenario.specs.declared.scenario.ScriptText.{ScriptText}
-use Rattle.rt_sim.specs.declared.maker.RootScript.{RootScript}
+use Rattle.rt_sim.specs.Making.{Maker}
 use Rattle.rt_sim.specs.declared.outcome.RunResult.{RunResult}
 use Rattle.rt_sim.specs.declared.outcome.RunReport.{RunReport}
 use Rattle.rt_sim.specs.declared.outcome.Outcome.{Outcome}
-use Rattle.rt_sim.specs.declared.script.Script.{Script}
+use Rattle.rt_sim.specs.Script.{Script}
 use Rattle.rt_sim.specs.Ran.{Makes, Comes, IsReported, Simulates, report_of, starting}
 use Rattle.rt_sim.specs.Asked.{Reports}
 
@@ -29,18 +29,20 @@ module _ (p : Steps Script ℤ) (r from : Starting ChaCha) (same : r ≡ from) w
   pub draws-from : (journal : List Entry) → DrawsNothing r journal → DrawsNothing from journal
   draws-from journal drawn = subst (λ s. DrawsNothing s journal) same drawn
 
--- the script that was taken out of a copy
-pub makes-taken : (s : Scenario) (scripts : List ScriptText) (script : ScriptText) (m : RootScript) → scripts ≡ s.scripts → s.root < length scripts → script ≡ slice_index_or scripts s.root script → m.lines.items ≡ script.lines → Makes s s.root script m
-makes-taken s scripts script m same h value lines = record {
+-- the script at the root's place
+pub makes-at : (s : Scenario) (scripts : List ScriptText) (script : ScriptText) (m : Maker) → scripts ≡ s.scripts → s.root < length scripts → script ≡ slice_index_or scripts s.root script → m.program ≡ scripts → m.root ≡ s.root → m.with ≡ s.with → Makes s s.root script m
+makes-at s scripts script m same h value program root with = record {
   there = subst (λ list. slice_get list s.root ≡ Some script) same (slice_get_read scripts (length scripts) s.root script refl h value);
-  lines = lines;
+  program = program ∙ same;
+  at = root;
+  with = with;
 }
 
-pub reported : (s : Scenario) (script : ScriptText) (m : RootScript) (result : RunResult) (time : ℕ) (entries : List Entry) (run : RunReport) → run ≡ report_of script.name result time 0 entries → Makes s s.root script m → Comes m (starting s.timeout) entries time result → DrawsNothing (starting s.timeout) entries → IsReported s s.root (starting s.timeout) 0 entries run
+pub reported : (s : Scenario) (script : ScriptText) (m : Maker) (result : RunResult) (time : ℕ) (entries : List Entry) (run : RunReport) → run ≡ report_of script.name result time 0 entries → Makes s s.root script m → Comes m (starting s) entries time result → DrawsNothing (starting s) entries → IsReported s s.root (starting s) 0 entries run
 reported s script m result time entries run is makes comes drawn = rw is (record { script = script; maker = m; makes = makes; comes = comes; drawn = drawn; is = refl })
 
 -- the only run of a scenario
-pub simulates : (s : Scenario) (run : RunReport) (entries : List Entry) (o : Outcome) → IsReported s s.root (starting s.timeout) 0 entries run → Reports run entries o → Simulates s o
+pub simulates : (s : Scenario) (run : RunReport) (entries : List Entry) (o : Outcome) → IsReported s s.root (starting s) 0 entries run → Reports run entries o → Simulates s o
 simulates s run entries o is reports = record {
   chain = rw (reports.1, reports.2) (entries, [], sym (append-nil entries), is, refl);
   status = rw (reports.1) reports.0;

@@ -71,7 +71,7 @@ EndsAs is text o before after = IsDone is text o before after ⊎ (IsCut is text
 
 -- a run of what was asked lacked memory and left these entries
 abbrev pub Lacks : Asked → List Entry → Type 0
-Lacks (Reads (Whole s)) entries = Halts s s.root (starting s.timeout) entries
+Lacks (Reads (Whole s)) entries = Halts s s.root (starting s) entries
 Lacks asked entries = ⊥
 
 -- a run lacked memory: it isn't reported, its entries stand in the journal, and nothing was written

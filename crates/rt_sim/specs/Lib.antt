@@ -1,4 +1,6 @@
 pub mod Asked
+pub mod Making
+pub mod Program
 pub mod Ran
 pub mod Report
 pub mod Script

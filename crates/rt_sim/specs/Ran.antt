@@ -1,39 +1,39 @@
 -- What a simulation has run.
-use Rattle.std.specs.Prelude.{◌≡◌, ◌≢◌, ◌+◌, ◌++◌, ℕ, ℤ, List, [], ◌∷◌, length, slice_get, Option, Some, false}
+use Rattle.std.specs.Prelude.{◌≡◌, ◌≢◌, ◌+◌, ◌++◌, ℕ, ℤ, List, [], ◌∷◌, length, slice_get, Some}
 use Rattle.rand_chacha.specs.ChaCha.{ChaCha}
 use Rattle.rt_audit.specs.declared.entry.Entry.{Entry}
 use Rattle.rt_audit.specs.declared.entry.Entry.TheVariants.{Round}
 use Rattle.rt_audit.specs.Journal.{last_time}
-use Rattle.rt_model.specs.Walk.{Gives}
 use Rattle.rt_model.specs.Tied.{Steps, with_first}
 use Rattle.rt_core.specs.declared.run_error.RunError.TheVariants.{NoMemory}
 use Rattle.rt_core.specs.Starting.{Starting, Kept, first_begin, seeded, default_seed}
 use Rattle.rt_core.specs.Outcome.{Completes, Fails, DrawsNothing}
 use Rattle.rt_scenario.specs.declared.scenario.Scenario.{Scenario}
 use Rattle.rt_scenario.specs.declared.scenario.ScriptText.{ScriptText}
-use Rattle.rt_sim.specs.declared.maker.RootScript.{RootScript}
 use Rattle.rt_sim.specs.declared.outcome.RunResult.{RunResult}
 use Rattle.rt_sim.specs.declared.outcome.RunResult.TheVariants.{Ok, Failed}
 use Rattle.rt_sim.specs.declared.outcome.RunReport.{RunReport}
 use Rattle.rt_sim.specs.declared.outcome.Outcome.{Outcome}
-use Rattle.rt_sim.specs.declared.script.Script.{Script}
-use Rattle.rt_sim.specs.Script.{script_steps, begun}
+use Rattle.rt_sim.specs.Script.{Script, script_steps}
+use Rattle.rt_sim.specs.Making.{Maker, making}
 
--- a script whose root this maker makes
-abbrev pub root_steps : RootScript → Steps Script ℤ
-root_steps m = with_first script_steps (λ now. Gives tt (begun m))
+-- scripts of which this maker makes the root and those beside it
+abbrev pub root_steps : Maker → Steps Script ℤ
+root_steps m = with_first script_steps (λ now. making m)
 
--- how the first run begins under this timeout
-abbrev pub starting : Option ℕ → Starting ChaCha
-starting timeout = record { begin = first_begin 1000000 0 timeout false; given = []; rng = seeded default_seed }
+-- how the first run of a scenario begins
+abbrev pub starting : Scenario → Starting ChaCha
+starting s = record { begin = first_begin 1000000 0 s.timeout s.catch; given = []; rng = seeded default_seed }
 
--- this maker makes the root of this script of the scenario
-pub record Makes (s : Scenario) (root : ℕ) (script : ScriptText) (m : RootScript) : Type 0 where
+-- this maker makes the root of this script of the scenario, and those beside it
+pub record Makes (s : Scenario) (root : ℕ) (script : ScriptText) (m : Maker) : Type 0 where
   pub there : slice_get s.scripts root ≡ Some script
-  pub lines : m.lines.items ≡ script.lines
+  pub program : m.program ≡ s.scripts
+  pub at : m.root ≡ root
+  pub with : m.with ≡ s.with
 
 -- these entries are a run, which came to this at this moment
-abbrev pub Comes : RootScript → Starting ChaCha → List Entry → ℕ → RunResult → Type 0
+abbrev pub Comes : Maker → Starting ChaCha → List Entry → ℕ → RunResult → Type 0
 Comes m s entries time (Ok output) =
     (kept : Kept ChaCha) × (kept.journal ≡ s.given ++ entries) × (kept.time ≡ time) × Completes (root_steps m) s output kept
 Comes m s entries time (Failed error) =
@@ -42,7 +42,7 @@ Comes m s entries time (Failed error) =
 -- these entries are those of a run that lacked memory
 pub record Halts (s : Scenario) (root : ℕ) (from : Starting ChaCha) (entries : List Entry) : Type 0 where
   pub script : ScriptText
-  pub maker : RootScript
+  pub maker : Maker
   pub makes : Makes s root script maker
   pub lacks : Fails (root_steps maker) from (from.given ++ entries) NoMemory
   pub drawn : DrawsNothing from (from.given ++ entries)
@@ -67,7 +67,7 @@ report_of root result time place entries = record {
 -- a run of this root from this beginning, whose entries stand from this place on, is reported so
 pub record IsReported (s : Scenario) (root : ℕ) (from : Starting ChaCha) (place : ℕ) (entries : List Entry) (run : RunReport) : Type 0 where
   pub script : ScriptText
-  pub maker : RootScript
+  pub maker : Maker
   pub makes : Makes s root script maker
   pub comes : Comes maker from entries run.time run.result
   pub drawn : DrawsNothing from (from.given ++ entries)
@@ -82,7 +82,7 @@ Chain s dues place runs entries = ⊥
 
 -- the runs of a scenario: one of its root
 abbrev pub runs_of : Scenario → List (ℕ × Starting ChaCha)
-runs_of s = (s.root, starting s.timeout) ∷ []
+runs_of s = (s.root, starting s) ∷ []
 
 abbrev pub status_of : RunResult → ℕ
 status_of (Ok output) = 0

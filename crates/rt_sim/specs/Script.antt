@@ -1,22 +1,41 @@
 -- What a script does, line by line.
-use Rattle.std.specs.Prelude.{ℕ, ◌+◌, List, [], ◌∷◌, drop, Result, Ok, Err, ℤ, pos, negsuc}
+use Rattle.std.specs.Prelude.{ℕ, ◌+◌, max, List, [], ◌∷◌, drop, Option, Some, None, Result, Ok, Err, ℤ, pos, negsuc}
 use Rattle.rt_base.specs.declared.error.Error.{Error}
+use Rattle.rt_base.specs.declared.error.Error.TheVariants.{Exited, Closed as IsClosed, ClockOverflow, UnknownToken, TooManyTasks, Metric, NoMemory as LacksMemory}
 use Rattle.rt_base.specs.declared.poll.Poll.{Poll}
 use Rattle.rt_base.specs.declared.poll.Poll.TheVariants.{Ready as IsReady, Pending as IsPending}
+use Rattle.rt_audit.specs.declared.call.Call.TheVariants.{AbortTask, CloseNode}
+use Rattle.rt_audit.specs.declared.reply.CallReply.TheVariants.{Done, Refused}
 use Rattle.rt_model.specs.declared.answer.Answer.{Answer}
-use Rattle.rt_model.specs.declared.answer.Answer.TheVariants.{Pending, Ready, NoMemory}
-use Rattle.rt_model.specs.Walk.{Step, Last, Gives, then, followed_by}
+use Rattle.rt_model.specs.declared.answer.Answer.TheVariants.{Pending, Ready, Panicked, NoMemory}
+use Rattle.rt_model.specs.Lists.{find, without}
+use Rattle.rt_model.specs.Turns.{Heard, Plain, Plainly, with_task}
+use Rattle.rt_model.specs.Walk.{Step, Last, Does, Spends, Gives, then, followed_by}
 use Rattle.rt_model.specs.Tied.{TaskSteps}
-use Rattle.rt_core.specs.Contexts.{root_context}
+use Rattle.rt_core.specs.Contexts.{Context, childs, spawns as spawns_on}
+use Rattle.rt_core.specs.Handles.{handle_polls, handle_spends, handle_aborts, aborted}
 use Rattle.rt_core.specs.Sleeper.{Sleeper}
-use Rattle.rt_core.specs.Pollers.{sleep_for, sleep_polls, sleep_spends, reschedule_polls, reschedule_spends, unqueued, closes}
+use Rattle.rt_core.specs.Pollers.{sleep_for, sleep_until, sleep_polls, sleep_spends, reschedule_polls, reschedule_spends, unqueued, closes}
+use Rattle.rt_core.specs.declared.handle.Kind.{Kind}
 use Rattle.rt_core.specs.declared.yields.Reschedule.{Reschedule}
 use Rattle.rt_scenario.specs.declared.line.Line.{Line}
-use Rattle.rt_scenario.specs.declared.line.Line.TheVariants.{Sleep, Yield, Pend, End, EndLast}
-use Rattle.rt_sim.specs.declared.script.Script.{Script}
-use Rattle.rt_sim.specs.declared.maker.RootScript.{RootScript}
+use Rattle.rt_scenario.specs.declared.line.Line.TheVariants.{Sleep, Until, Yield, Pend, End, EndLast, Panic, Spawn, Abort, AbortSelf, Drop, Join}
+use Rattle.rt_scenario.specs.declared.scenario.ScriptText.{ScriptText}
+use Rattle.rt_sim.specs.Program.{text_at, name_at, word_at}
 use Rattle.rt_sim.specs.declared.script.Waits.{Waits}
 use Rattle.rt_sim.specs.declared.script.Waits.TheVariants.{Nothing, Sleeps, Yields}
+
+-- a script that runs: all scripts, its own text, the place of its line, the value of the one before, what it waits for, the handles that
+-- it holds by the places of their names, for how many names it has places, and its context
+pub record Script : Type 0 where
+  pub program : List ScriptText
+  pub text : ScriptText
+  pub place : ℕ
+  pub last : ℤ
+  pub waits : Waits
+  pub handles : List (ℕ × Kind)
+  pub places : ℕ
+  pub context : Context
 
 abbrev pub Next : Type 0
 Next = Step Script Script ℤ (Answer ℤ)
@@ -24,12 +43,46 @@ Next = Step Script Script ℤ (Answer ℤ)
 abbrev pub Polled : Type 0
 Polled = Poll (Result (Unit {0}) Error)
 
+-- at its first line
+abbrev pub started : List ScriptText → ℕ → Context → Script
+started program script context = record { program = program; text = text_at program script; place = 0; last = pos 0; waits = Nothing; handles = []; places = 0; context = context }
+
 abbrev pub waiting : Script → Waits → Script
 waiting s waits = record s { waits = waits }
 
 -- past its line, which left this value
 abbrev pub passed : Script → ℤ → Script
 passed s value = record s { place = s.place + 1; last = value; waits = Nothing }
+
+-- without a handle, and with one in its place
+abbrev pub loosed : Script → ℕ → Script
+loosed s at = record s { handles = without at s.handles }
+
+abbrev pub bound : Script → ℕ → Kind → Script
+bound s at handle = record s { handles = with_task at handle (without at s.handles) }
+
+-- with a place for this name
+abbrev pub roomed : Script → ℕ → Script
+roomed s at = record s { places = max s.places (at + 1) }
+
+-- the value that a refusal leaves: minus its code
+abbrev pub value_of : Error → ℤ
+value_of Exited = negsuc 0
+value_of IsClosed = negsuc 1
+value_of ClockOverflow = negsuc 10
+value_of UnknownToken = negsuc 11
+value_of TooManyTasks = negsuc 12
+value_of (Metric kind) = negsuc 13
+value_of error = negsuc 22
+
+-- the value of a name that isn't held
+abbrev pub unheld : ℤ
+unheld = negsuc 98
+
+-- a refusal leaves its value, and the script goes on
+abbrev pub refused : Script → (Script → Next) → Error → Next
+refused s on LacksMemory = Gives NoMemory s
+refused s on error = on (passed s (value_of error))
 
 -- its sleep answered so
 abbrev pub slept : Script → (Script → Next) → Polled → Sleeper → Next
@@ -43,12 +96,12 @@ begun_sleep s on (Ok sleep) = then (sleep_polls sleep) (slept s on)
 begun_sleep s on (Err error) = on (passed s (negsuc 10))
 
 -- the sleep under way, or a new one
-abbrev pub sleep_in : Waits → ℕ → ℕ → Result Sleeper Error
-sleep_in (Sleeps sleep) duration time = Ok sleep
-sleep_in waits duration time = sleep_for time duration
+abbrev pub sleep_in : Waits → Result Sleeper Error → Result Sleeper Error
+sleep_in (Sleeps sleep) fresh = Ok sleep
+sleep_in waits fresh = fresh
 
-unfoldable pub sleeps : Script → (Script → Next) → ℕ → ℕ → Next
-sleeps s on duration time = begun_sleep s on (sleep_in s.waits duration time)
+unfoldable pub sleeps : Script → (Script → Next) → Result Sleeper Error → Next
+sleeps s on fresh = begun_sleep s on (sleep_in s.waits fresh)
 
 -- its turn of the others answered so
 abbrev pub yielded : Script → (Script → Next) → Polled → Reschedule → Next
@@ -64,32 +117,101 @@ turn_in waits = unqueued
 unfoldable pub yields : Script → (Script → Next) → ℕ → Next
 yields s on task = then (reschedule_polls (turn_in s.waits) task) (yielded s on)
 
--- the lines from a place on, at a time and under a number. A sleep that would end past the last moment leaves -11, and the
--- script goes on. The end of the lines acts as `end 0`
+-- what a name holds is given up
+abbrev pub releases : Option Kind → Last Script ℤ
+releases None = Gives tt tt
+releases (Some handle) = handle_spends handle
+
+-- a script was spawned on a context
+abbrev pub spawned : Script → (Script → Next) → ℕ → Context → Result Kind Error → Next
+spawned s on at context (Ok handle) = on (passed (bound s at handle) (pos 0))
+spawned s on at context (Err error) = Spends (Plainly (CloseNode context.node)) (refused s on error)
+
+-- a child was made for it
+abbrev pub placed : Script → (Script → Next) → ℕ → ℕ → Result Context Error → Next
+placed s on at script (Ok context) = then (spawns_on context (started s.program script)) (λ told u. spawned s on at context told)
+placed s on at script (Err error) = refused s on error
+
+-- a spawn first gives up what its name holds, also where it is refused then
+unfoldable pub spawns : Script → (Script → Next) → ℕ → ℕ → Next
+spawns s on at script =
+    followed_by (releases (find at s.handles))
+    (then (childs s.context (name_at s.text at)) (λ made u. placed (roomed (loosed s at) at) on at script made))
+
+-- what a join of this handle was told
+abbrev pub joined : Script → (Script → Next) → ℕ → Poll (Result ℤ Error) → Kind → Next
+joined s on at IsPending handle = Gives Pending (bound s at handle)
+joined s on at (IsReady (Ok value)) handle = followed_by (handle_spends handle) (on (passed (loosed s at) value))
+joined s on at (IsReady (Err error)) handle = followed_by (handle_spends handle) (refused (loosed s at) on error)
+
+-- a handle is given up once it is joined
+abbrev pub joins_held : Script → (Script → Next) → ℕ → Option Kind → Next
+joins_held s on at None = on (passed s unheld)
+joins_held s on at (Some handle) = then (handle_polls handle) (joined s on at)
+
+unfoldable pub joins : Script → (Script → Next) → ℕ → Next
+joins s on at = joins_held s on at (find at s.handles)
+
+abbrev pub aborts_held : Script → (Script → Next) → ℕ → Option Kind → Next
+aborts_held s on at None = on (passed s unheld)
+aborts_held s on at (Some handle) = followed_by (handle_aborts handle) (on (passed (bound s at (aborted handle)) (pos 0)))
+
+unfoldable pub aborts : Script → (Script → Next) → ℕ → Next
+aborts s on at = aborts_held s on at (find at s.handles)
+
+abbrev pub drops_held : Script → (Script → Next) → ℕ → Option Kind → Next
+drops_held s on at None = on (passed s unheld)
+drops_held s on at (Some handle) = followed_by (handle_spends handle) (on (passed (loosed s at) (pos 0)))
+
+unfoldable pub drops : Script → (Script → Next) → ℕ → Next
+drops s on at = drops_held s on at (find at s.handles)
+
+-- a script that aborts itself goes on in this poll
+abbrev pub self_aborted : Script → (Script → Next) → Heard ℤ → Next
+self_aborted s on (Plain Done) = on (passed s (pos 0))
+self_aborted s on (Plain (Refused error)) = refused s on error
+self_aborted s on heard = Gives NoMemory s
+
+unfoldable pub aborts_itself : Script → (Script → Next) → ℕ → Next
+aborts_itself s on task = Does (Plainly (AbortTask task)) (self_aborted s on)
+
+-- the lines from a place on, at a time and under a number. The end of the lines acts as `end 0`
 unfoldable pub goes_on : List Line → Script → ℕ → ℕ → Next
 goes_on [] s time task = Gives (Ready (pos 0)) s
 goes_on (End value ∷ lines) s time task = Gives (Ready value) s
 goes_on (EndLast ∷ lines) s time task = Gives (Ready s.last) s
 goes_on (Pend ∷ lines) s time task = Gives Pending s
+goes_on (Panic word ∷ lines) s time task = Gives (Panicked (word_at s.text word)) s
 goes_on (Yield ∷ lines) s time task = yields s (λ next. goes_on lines next time task) task
-goes_on (Sleep duration ∷ lines) s time task = sleeps s (λ next. goes_on lines next time task) duration time
+goes_on (Sleep duration ∷ lines) s time task = sleeps s (λ next. goes_on lines next time task) (sleep_for time duration)
+goes_on (Until moment ∷ lines) s time task = sleeps s (λ next. goes_on lines next time task) (sleep_until moment)
+goes_on (Spawn at script ∷ lines) s time task = spawns s (λ next. goes_on lines next time task) at script
+goes_on (Join at ∷ lines) s time task = joins s (λ next. goes_on lines next time task) at
+goes_on (Abort at ∷ lines) s time task = aborts s (λ next. goes_on lines next time task) at
+goes_on (AbortSelf ∷ lines) s time task = aborts_itself s (λ next. goes_on lines next time task) task
+goes_on (Drop at ∷ lines) s time task = drops s (λ next. goes_on lines next time task) at
 
 abbrev pub lines_from : Script → List Line
-lines_from s = drop s.place s.lines.items
+lines_from s = drop s.place s.text.lines
 
 -- a poll goes on from the script's place
 abbrev pub polled : Script → ℕ → ℕ → Next
 polled s time task = goes_on (lines_from s) s time task
 
--- an end gives up what it waits for, and closes the context
-abbrev pub ended : Script → Waits → Last Script ℤ
-ended s Nothing = closes s.context.node
-ended s (Sleeps sleep) = followed_by (sleep_spends sleep) (closes s.context.node)
-ended s (Yields turn) = followed_by (reschedule_spends turn) (closes s.context.node)
+-- the handles are given up in order of their names
+unfoldable pub releases_all : List (ℕ × Kind) → Last Script ℤ → Last Script ℤ
+releases_all [] next = next
+releases_all (h ∷ handles) next = followed_by (handle_spends h.1) (releases_all handles next)
+
+-- what it waits for is given up
+abbrev pub stops_waiting : Waits → Last Script ℤ
+stops_waiting Nothing = Gives tt tt
+stops_waiting (Sleeps sleep) = sleep_spends sleep
+stops_waiting (Yields turn) = reschedule_spends turn
+
+-- an end gives up what it waits for, then what it holds, and closes the context
+abbrev pub ended : Script → Last Script ℤ
+ended s = followed_by (stops_waiting s.waits) (releases_all s.handles (closes s.context.node))
 
 abbrev pub script_steps : TaskSteps Script ℤ
-script_steps = record { next = λ s time task. polled s time task; last = λ s time number. ended s s.waits }
-
--- the script that a maker makes: at its first line, on node 0
-abbrev pub begun : RootScript → Script
-begun m = record { lines = m.lines; place = 0; last = pos 0; waits = Nothing; context = root_context }
+script_steps = record { next = λ s time task. polled s time task; last = λ s time number. ended s }

@@ -3,14 +3,18 @@
 
 mod maker;
 mod outcome;
+mod program;
 mod report;
 mod script;
 mod simulate;
+#[cfg(test)]
+mod supervised_tests;
 #[cfg(test)]
 mod tests;
 
 pub use maker::RootScript;
 pub use outcome::{Outcome, RunReport, RunResult};
+pub use program::Program;
 use rt_base::{StdSink, StdSource};
 pub use script::Script;
 pub use simulate::simulate_alone;

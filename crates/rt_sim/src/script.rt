@@ -1,17 +1,33 @@
 //! The task type of a scenario.
 
-ghost use Rattle.std.specs.Prelude.{◌≡◌, ◌∷◌, ◌+◌, ◌<◌, List, pos, vec_len, IfNone};
+ghost use Rattle.std.specs.Prelude.{◌≡◌, ◌≢◌, ◌∷◌, ◌+◌, ◌<◌, List, length, pos, Ok, Err, Result, IfNone, IfSome, IfOk, OnOk, leb, Some, None, ℕ, ℤ};
+ghost use Rattle.rt_model.specs.Lists.{find};
+ghost use Rattle.rt_model.specs.Rules.{MayCall};
+ghost use Rattle.rt_model.specs.Walk.{Last};
+ghost use Rattle.rt_world.specs.World.{World as AnyWorld};
+ghost use Rattle.rt_model.specs.declared.answer.Answer.TheVariants.{NoMemory as LacksMemory};
+ghost use Rattle.rt_base.specs.declared.error.Error.{Error};
+ghost use Rattle.rt_core.specs.Sleeper.{Sleeper};
 ghost use Rattle.rt_world.specs.Calls.{IsPolling, Kept};
-ghost use Rattle.rt_world.specs.Walked.{Advanced};
+ghost use Rattle.rt_world.specs.Walked.{Advanced, Leads, Spends, Spent};
+ghost use Rattle.rt_scenario.specs.Within.{IsWithin};
 ghost use Rattle.rt_scenario.specs.declared.line.Line.{Line};
-ghost use Rattle.rt_sim.specs.Script.{Next, sleeps, yields, goes_on, passed};
+ghost use Rattle.rt_sim.specs.Program.{line_at, name_at, word_at};
+ghost use Rattle.rt_sim.specs.Script.{Next, Script, started, sleeps, yields, spawns, placed, joins, aborts, releases_all, stops_waiting, sleep_in, turn_in, aborts_itself, drops, releases, goes_on, passed, loosed, bound, roomed, refused, value_of};
 
+use crate::Program;
 use rt_core::utils::reschedule;
 use rt_core::{
-    Answer, Context, Cx, Nanos, Outcome, Poll, Poller, Reschedule, Rng, Sleep, Task, World,
+    Answer, Context, Cx, Error, Handle, NoMemory, Outcome, Poll, Poller, Refused, Reschedule, Rng,
+    Sleep, Task, World,
 };
 use rt_scenario::Line;
+use rt_world::Tasks;
+use std::marker::Model;
 use std::mem;
+
+/// The value that a name leaves that isn't held.
+const UNHELD: i64 = -99;
 
 /// What a script waits for.
 #[derive(Debug, Drop)]
@@ -21,14 +37,30 @@ pub enum Waits {
     Yields(Reschedule),
 }
 
-/// A script that runs: its lines, the place of the one that it is at, the value of the one before, what it waits for, and
-/// its context.
+/// A script that runs.
+///
+/// Contracts see all scripts of its scenario, its own text, the place of the line that it is at, the value of the one
+/// before, what it waits for, the handles that it holds by the places of their names, and its context.
 pub struct Script {
-    lines: Vec<Line>,
+    program: Program,
+    script: usize,
     place: usize,
     last: i64,
     waits: Waits,
+    handles: Tasks<Handle<Script>>,
     context: Context,
+}
+
+impl Model for Script {
+    ghost use Rattle.std.specs.Prelude.{◌≡◌, ◌<◌, length};
+    ghost use Rattle.rt_sim.specs.Program.{text_at};
+    ghost use Rattle.rt_sim.specs.Script.{Script};
+
+    ghost Value = { Script };
+
+    ghost view = { λ s. record { program = s.program; text = text_at s.program s.script; place = s.place; last = s.last; waits = s.waits; handles = s.handles.items; places = s.handles.next; context = s.context } };
+
+    ghost invariant = { λ s. (s.handles.first ≡ 0) × (s.script < length s.program) };
 }
 
 impl Outcome for Script {
@@ -36,15 +68,19 @@ impl Outcome for Script {
 }
 
 impl Script {
-    /// A script at its first line.
-    pub fn new(lines: Vec<Line>, context: Context) -> Script
-        ensures { result ≡ record { lines = lines; place = 0; last = pos 0; waits = Waits.Nothing; context = context } }
+    /// The script at this place, at its first line.
+    pub fn new(program: Program, script: usize, context: Context) -> Script
+        requires { script < length program }
+        ensures { result ≡ started program script context }
     {
+        let handles = Tasks::new(program.allocator(), 0);
         Script {
-            lines,
+            program,
+            script,
             place: 0,
             last: 0,
             waits: Waits::Nothing,
+            handles,
             context,
         }
     }
@@ -54,34 +90,53 @@ impl Script {
 impl Script {
     /// Goes past a line, which left this value.
     fn pass(&mut self, value: i64)
-        requires { self.old.place < vec_len self.old.lines }
+        requires { self.old.place < length self.old.text.lines }
         ensures { self.new ≡ passed self.old value }
     {
+        // the lines of a script are counted by a `usize`
+        let _ = self.program.lines(self.script);
         self.place += 1;
         self.last = value;
         self.waits = Waits::Nothing;
     }
 
-    /// Sleeps, or begins to. Answers none where the script goes on.
+    /// Goes past a line that was refused. Out of memory it doesn't go on.
+    fn refuse(&mut self, error: Error) -> Option<Answer<i64>>
+        requires { self.old.place < length self.old.text.lines }
+        ensures goes { IfNone result ((error ≢ Error.NoMemory) × (self.new ≡ passed self.old (value_of error))) }
+        ensures ends { IfSome result (λ answer. (answer ≡ LacksMemory) × (error ≡ Error.NoMemory) × (self.new ≡ self.old)) }
+    {
+        let value = match error {
+            Error::NoMemory => return Some(Answer::NoMemory),
+            Error::Exited => -1,
+            Error::Closed => -2,
+            Error::ClockOverflow => -11,
+            Error::UnknownToken => -12,
+            Error::TooManyTasks => -13,
+            Error::Metric(_) => -14,
+            _ => -23,
+        };
+        self.pass(value);
+        None
+    }
+
+    /// Sleeps, or begins this sleep. Answers none where the script goes on.
     #[tactic(auto, using(rt_world::proofs::Walked::task_laws), unfolding(crate::specs::Script::sleeps))]
     fn sleep<G: Rng>(
         &mut self,
         world: &mut World<Script, i64, G>,
         cx: &Cx,
-        duration: Nanos,
+        fresh: Result<Sleep, Error>,
     ) -> Option<Answer<i64>>
-        requires room { self.old.place < vec_len self.old.lines }
+        requires room { self.old.place < length self.old.text.lines }
         requires polling { IsPolling world.old cx.now.task }
         ensures kept { Kept world.old world.new }
         ensures place { IfNone result (self.new.place ≡ self.old.place + 1) }
-        ensures lines { self.new.lines ≡ self.old.lines }
-        ensures steps { (on : Script → Next) → Advanced (sleeps self.old on duration world.old.told.state.clock.time) (on self.new) world.old world.new result self.new }
+        ensures text { self.new.text ≡ self.old.text }
+        ensures steps { (on : Script → Next) → Advanced (sleeps self.old on fresh) (on self.new) world.old world.new result self.new }
     {
-        let begun = match mem::replace(&mut self.waits, Waits::Nothing) {
-            Waits::Sleeps(sleep) => Ok(sleep),
-            _ => self.context.sleep(world, duration),
-        };
-        let Ok(mut sleep) = begun else {
+        let waits = mem::replace(&mut self.waits, Waits::Nothing);
+        let Ok(mut sleep) = sleep_in(waits, fresh) else {
             self.pass(-11);
             return None;
         };
@@ -105,17 +160,14 @@ impl Script {
         world: &mut World<Script, i64, G>,
         cx: &Cx,
     ) -> Option<Answer<i64>>
-        requires room { self.old.place < vec_len self.old.lines }
+        requires room { self.old.place < length self.old.text.lines }
         requires polling { IsPolling world.old cx.now.task }
         ensures kept { Kept world.old world.new }
         ensures place { IfNone result (self.new.place ≡ self.old.place + 1) }
-        ensures lines { self.new.lines ≡ self.old.lines }
+        ensures text { self.new.text ≡ self.old.text }
         ensures steps { (on : Script → Next) → Advanced (yields self.old on cx.now.task) (on self.new) world.old world.new result self.new }
     {
-        let mut turn = match mem::replace(&mut self.waits, Waits::Nothing) {
-            Waits::Yields(turn) => turn,
-            _ => reschedule(),
-        };
+        let mut turn = turn_in(mem::replace(&mut self.waits, Waits::Nothing));
         match turn.poll(world, cx) {
             Poll::Pending => {
                 self.waits = Waits::Yields(turn);
@@ -129,6 +181,209 @@ impl Script {
         }
     }
 
+    /// Gives up what a name holds.
+    fn release<G: Rng>(&mut self, world: &mut World<Script, i64, G>, at: usize)
+        requires { MayCall world.old.told.state world.old.out }
+        ensures state { self.new ≡ loosed self.old at }
+        ensures free { find at self.new.handles ≡ None }
+        ensures kept { Kept world.old world.new }
+        ensures lacked { world.new.lacked ≡ world.old.lacked }
+        ensures steps { Spends (releases (find at self.old.handles)) world.old world.new }
+    {
+        let Some(handle) = self.handles.take(at as u64) else {
+            return;
+        };
+        handle.give_up(world);
+    }
+
+    /// Whether a name has no place for a handle.
+    fn has_no_place(&self, at: usize) -> bool
+        ensures { result ≡ leb self.now.places at }
+    {
+        match self.handles.next() {
+            Some(next) => next <= at as u64,
+            None => false,
+        }
+    }
+
+    /// Takes a place for a handle of this name, and another owner of the program.
+    fn make_room(&mut self, at: usize) -> Result<Program, NoMemory>
+        ensures state { OnOk result (self.new ≡ roomed self.old at) }
+        ensures rest { self.new ≡ record self.old { places = self.new.places } }
+        ensures program { IfOk result (λ program. program ≡ self.old.program) }
+    {
+        while self.has_no_place(at) {
+            self.handles.reserve(1)?;
+            self.handles.skip();
+        }
+        self.program.share()
+    }
+
+    /// Spawns the script of a place, under this name. Answers none where the script goes on.
+    #[tactic(auto, using(rt_world::proofs::Walked::task_laws), unfolding(crate::specs::Script::spawns))]
+    fn spawn<G: Rng>(
+        &mut self,
+        world: &mut World<Script, i64, G>,
+        at: usize,
+        script: usize,
+    ) -> Option<Answer<i64>>
+        requires room { self.old.place < length self.old.text.lines }
+        requires handle { at < length self.old.text.handles }
+        requires script { script < length self.old.program }
+        requires calling { MayCall world.old.told.state world.old.out }
+        ensures kept { Kept world.old world.new }
+        ensures place { IfNone result (self.new.place ≡ self.old.place + 1) }
+        ensures text { self.new.text ≡ self.old.text }
+        ensures steps { (on : Script → Next) → Advanced (spawns self.old on at script) (on self.new) world.old world.new result self.new }
+    {
+        self.release(world, at);
+        let Ok(program) = self.make_room(at) else {
+            world.lack();
+            return Some(Answer::NoMemory);
+        };
+        match self
+            .context
+            .child(world, self.program.handle_name(self.script, at))
+        {
+            Ok(context) => self.start(world, at, script, program, context),
+            Err(error) => self.refuse(error),
+        }
+    }
+
+    /// Spawns the script of a place on a fresh context, under this name. Answers none where the script goes on.
+    fn start<G: Rng>(
+        &mut self,
+        world: &mut World<Script, i64, G>,
+        at: usize,
+        script: usize,
+        program: Program,
+        context: Context,
+    ) -> Option<Answer<i64>>
+        requires room { self.old.place < length self.old.text.lines }
+        requires calling { MayCall world.old.told.state world.old.out }
+        requires script { script < length self.old.program }
+        requires place { at < self.old.places }
+        requires free { find at self.old.handles ≡ None }
+        requires program { program ≡ self.old.program }
+        ensures kept { Kept world.old world.new }
+        ensures place { IfNone result (self.new.place ≡ self.old.place + 1) }
+        ensures text { self.new.text ≡ self.old.text }
+        ensures steps { (on : Script → Next) → Advanced (placed self.old on at script (Ok context)) (on self.new) world.old world.new result self.new }
+    {
+        let spawned = context.spawn(
+            world,
+            |context|
+                requires { script < length program }
+            { Script::new(program, script, context) },
+        );
+        match spawned {
+            Ok(handle) => {
+                self.handles.put(at as u64, handle);
+                self.pass(0);
+                None
+            }
+            Err(refused) => {
+                let Refused { back, error } = refused;
+                back.close(world);
+                self.refuse(error)
+            }
+        }
+    }
+
+    /// Polls what a name holds. Answers none where the script goes on.
+    #[tactic(auto, using(rt_world::proofs::Walked::task_laws), unfolding(crate::specs::Script::joins))]
+    fn join<G: Rng>(
+        &mut self,
+        world: &mut World<Script, i64, G>,
+        cx: &Cx,
+        at: usize,
+    ) -> Option<Answer<i64>>
+        requires room { self.old.place < length self.old.text.lines }
+        requires polling { IsPolling world.old cx.now.task }
+        ensures kept { Kept world.old world.new }
+        ensures place { IfNone result (self.new.place ≡ self.old.place + 1) }
+        ensures text { self.new.text ≡ self.old.text }
+        ensures steps { (on : Script → Next) → Advanced (joins self.old on at) (on self.new) world.old world.new result self.new }
+    {
+        let Some(mut handle) = self.handles.take(at as u64) else {
+            self.pass(UNHELD);
+            return None;
+        };
+        match handle.poll(world, cx) {
+            Poll::Pending => {
+                self.handles.put(at as u64, handle);
+                Some(Answer::Pending)
+            }
+            Poll::Ready(Ok(value)) => {
+                handle.give_up(world);
+                self.pass(value);
+                None
+            }
+            Poll::Ready(Err(error)) => {
+                handle.give_up(world);
+                self.refuse(error)
+            }
+        }
+    }
+
+    /// Aborts what a name holds. The script goes on.
+    #[tactic(auto, using(rt_world::proofs::Walked::task_laws), unfolding(crate::specs::Script::aborts))]
+    fn abort<G: Rng>(&mut self, world: &mut World<Script, i64, G>, at: usize)
+        requires room { self.old.place < length self.old.text.lines }
+        requires calling { MayCall world.old.told.state world.old.out }
+        ensures kept { Kept world.old world.new }
+        ensures place { self.new.place ≡ self.old.place + 1 }
+        ensures text { self.new.text ≡ self.old.text }
+        ensures steps { (on : Script → Next) → Leads (aborts self.old on at) (on self.new) world.old world.new }
+    {
+        let Some(mut handle) = self.handles.take(at as u64) else {
+            return self.pass(UNHELD);
+        };
+        handle.abort(world);
+        self.handles.put(at as u64, handle);
+        self.pass(0);
+    }
+
+    /// Gives up what a name holds. The script goes on.
+    #[tactic(auto, using(rt_world::proofs::Walked::task_laws), unfolding(crate::specs::Script::drops))]
+    fn drop_handle<G: Rng>(&mut self, world: &mut World<Script, i64, G>, at: usize)
+        requires room { self.old.place < length self.old.text.lines }
+        requires calling { MayCall world.old.told.state world.old.out }
+        ensures kept { Kept world.old world.new }
+        ensures place { self.new.place ≡ self.old.place + 1 }
+        ensures text { self.new.text ≡ self.old.text }
+        ensures steps { (on : Script → Next) → Leads (drops self.old on at) (on self.new) world.old world.new }
+    {
+        let Some(handle) = self.handles.take(at as u64) else {
+            return self.pass(UNHELD);
+        };
+        handle.give_up(world);
+        self.pass(0);
+    }
+
+    /// Aborts its own task. Answers none where the script goes on.
+    #[tactic(auto, using(rt_world::proofs::Walked::task_laws), unfolding(crate::specs::Script::aborts_itself))]
+    fn abort_itself<G: Rng>(
+        &mut self,
+        world: &mut World<Script, i64, G>,
+        cx: &Cx,
+    ) -> Option<Answer<i64>>
+        requires room { self.old.place < length self.old.text.lines }
+        requires polling { IsPolling world.old cx.now.task }
+        ensures kept { Kept world.old world.new }
+        ensures place { IfNone result (self.new.place ≡ self.old.place + 1) }
+        ensures text { self.new.text ≡ self.old.text }
+        ensures steps { (on : Script → Next) → Advanced (aborts_itself self.old on cx.now.task) (on self.new) world.old world.new result self.new }
+    {
+        match world.abort_task(cx.task()) {
+            Ok(()) => {
+                self.pass(0);
+                None
+            }
+            Err(error) => self.refuse(error),
+        }
+    }
+
     /// Does the line that the script is at. Answers none where the script goes on.
     #[tactic(auto, using(rt_world::proofs::Walked::task_laws), unfolding(crate::specs::Script::goes_on))]
     fn take_line<G: Rng>(
@@ -137,19 +392,42 @@ impl Script {
         cx: &Cx,
         line: Line,
     ) -> Option<Answer<i64>>
-        requires room { self.old.place < vec_len self.old.lines }
+        requires room { self.old.place < length self.old.text.lines }
+        requires within { IsWithin (length self.old.program) self.old.text line }
         requires polling { IsPolling world.old cx.now.task }
         ensures kept { Kept world.old world.new }
         ensures place { IfNone result (self.new.place ≡ self.old.place + 1) }
-        ensures lines { self.new.lines ≡ self.old.lines }
+        ensures text { self.new.text ≡ self.old.text }
         ensures steps { (lines : List Line) → Advanced (goes_on (line ∷ lines) self.old world.old.told.state.clock.time cx.now.task) (goes_on lines self.new world.old.told.state.clock.time cx.now.task) world.old world.new result self.new }
     {
         match line {
-            Line::Sleep(duration) => self.sleep(world, cx, duration),
+            Line::Sleep(duration) => {
+                let fresh = self.context.sleep(world, duration);
+                self.sleep(world, cx, fresh)
+            }
+            Line::Until(moment) => {
+                let fresh = self.context.sleep_until(moment);
+                self.sleep(world, cx, fresh)
+            }
             Line::Yield => self.give_way(world, cx),
             Line::Pend => Some(Answer::Pending),
             Line::End(value) => Some(Answer::Ready(value)),
             Line::EndLast => Some(Answer::Ready(self.last)),
+            Line::Panic(word) => match self.program.word(self.script, word) {
+                Ok(text) => Some(Answer::Panicked(text)),
+                Err(NoMemory) => Some(Answer::NoMemory),
+            },
+            Line::Spawn(at, script) => self.spawn(world, at, script),
+            Line::Join(at) => self.join(world, cx, at),
+            Line::AbortSelf => self.abort_itself(world, cx),
+            Line::Abort(at) => {
+                self.abort(world, at);
+                None
+            }
+            Line::Drop(at) => {
+                self.drop_handle(world, at);
+                None
+            }
         }
     }
 }
@@ -161,8 +439,7 @@ impl Task for Script {
     ghost steps = { script_steps };
 
     fn poll<G: Rng>(&mut self, world: &mut World<Script, i64, G>, cx: &Cx) -> Answer<i64> {
-        while self.place < self.lines.len() {
-            let line = self.lines[self.place];
+        while let Some(line) = self.program.line(self.script, self.place) {
             if let Some(answer) = self.take_line(world, cx, line) {
                 return answer;
             }
@@ -172,17 +449,69 @@ impl Task for Script {
 
     fn end<G: Rng>(self, world: &mut World<Script, i64, G>) {
         let Script {
-            lines: _,
+            program: _,
+            script: _,
             place: _,
             last: _,
             waits,
+            handles,
             context,
         } = self;
-        match waits {
-            Waits::Nothing => {}
-            Waits::Sleeps(sleep) => sleep.give_up(world),
-            Waits::Yields(turn) => turn.give_up(world),
-        }
+        stop_waiting(world, waits);
+        release_all(world, handles);
         context.close(world);
     }
+}
+
+/// The sleep under way, or this one.
+fn sleep_in(waits: Waits, fresh: Result<Sleep, Error>) -> Result<Sleep, Error>
+    ensures { result ≡ sleep_in waits fresh }
+{
+    match waits {
+        Waits::Sleeps(sleep) => Ok(sleep),
+        _ => fresh,
+    }
+}
+
+/// The turn of the others under way, or a new one.
+fn turn_in(waits: Waits) -> Reschedule
+    ensures { result ≡ turn_in waits }
+{
+    match waits {
+        Waits::Yields(turn) => turn,
+        _ => reschedule(),
+    }
+}
+
+/// Gives up what is under way.
+#[tactic(auto, using(rt_world::proofs::Walked::task_laws))]
+fn stop_waiting<G: Rng>(world: &mut World<Script, i64, G>, waits: Waits)
+    requires { MayCall world.old.told.state world.old.out }
+    ensures kept { Kept world.old world.new }
+    ensures lacked { world.new.lacked ≡ world.old.lacked }
+    ensures steps { Spends (stops_waiting waits) world.old world.new }
+{
+    match waits {
+        Waits::Nothing => {}
+        Waits::Sleeps(sleep) => sleep.give_up(world),
+        Waits::Yields(turn) => turn.give_up(world),
+    }
+}
+
+/// Gives up all handles, in order of their names.
+#[tactic(auto, using(rt_world::proofs::Walked::loop_laws))]
+fn release_all<G: Rng>(world: &mut World<Script, i64, G>, handles: Tasks<Handle<Script>>)
+    requires { MayCall world.old.told.state world.old.out }
+    ensures kept { Kept world.old world.new }
+    ensures lacked { world.new.lacked ≡ world.old.lacked }
+    ensures steps { (next : Last Script ℤ) (end : AnyWorld Script ℤ G) → Spent next world.new end → Spent (releases_all handles.items next) world.old end }
+{
+    let mut handles = handles;
+    while let Some(at) = handles.ends_next(None) {
+        let Some(handle) = handles.take(at) else {
+            unreachable!();
+        };
+        handle.give_up(world);
+    }
+    handles.destroy_empty();
 }

@@ -2,13 +2,15 @@
 
 ghost use Rattle.std.specs.Prelude.{◌≡◌, ◌≢◌, ◌<◌, ◌≤◌, ◌⊎◌, ◌∷◌, [], false, Some, IfSome, length, map, vec_len, vec_capacity, string_bytes};
 ghost use Rattle.rt_base.specs.Outside.{HasRisen};
+ghost use Rattle.std.specs.List.{All};
 ghost use Rattle.rt_scenario.specs.Scenario.{scenario_of, CanRun, Whole, BrokenAt};
+ghost use Rattle.rt_scenario.specs.Within.{HavePlaces};
 ghost use Rattle.rt_sim.specs.Asked.{Asked, Reads, IsAsked, Refuses, Reports, EndsAs, Ends, says_run};
 ghost use Rattle.rt_sim.specs.Ran.{report_of, rounds_in, status_of};
 ghost use Rattle.rt_sim.specs.Report.{reports_text};
 
 use crate::report::{Unwritten, write_report};
-use crate::{Outcome, RootScript, RunReport, RunResult, Script};
+use crate::{Outcome, Program, RootScript, RunReport, RunResult, Script};
 use rt_audit::{Entry, Journal};
 use rt_base::{Items, Nanos, Sink8, Source, Text, Unread, read_whole, write_whole};
 use rt_core::{Config, Failure, Finished, RunError, Runner};
@@ -112,26 +114,35 @@ fn refuse_broken<K: Sink8>(alloc: Global, sink: &mut K, broken: Broken) -> Outco
 
 /// Runs the root of a scenario.
 fn run_scenario<K: Sink8>(alloc: Global, scenario: Scenario, sink: &mut K) -> Outcome
-    requires { CanRun scenario.scripts scenario.timeout scenario.root }
+    requires root { CanRun scenario.scripts scenario.timeout scenario.root }
+    requires with { All (CanRun scenario.scripts scenario.timeout) scenario.with }
+    requires places { HavePlaces scenario.scripts }
     ensures ends { Ends (Reads (Whole scenario)) result (K.held sink.old) (K.held sink.new) }
     ensures read { result.status ≢ 4 }
     ensures unwritten { result.status ≡ 5 → HasRisen (K.faults sink.old) (K.faults sink.new) }
 {
     let Scenario {
         timeout,
+        catch,
         scripts,
         root,
+        with,
     } = scenario;
     let Ok(place) = Vec::with_capacity(alloc, 1) else {
         return nothing(alloc, 7);
     };
-    let mut scripts = scripts.into_inner();
-    let script = scripts.swap_remove(root);
-    let Ok(runner) = Runner::new(Config::new().with_timeout(timeout)) else {
+    let scripts = scripts.into_inner();
+    let Ok(name) = scripts[root].name.clone_value() else {
+        return nothing(alloc, 7);
+    };
+    let Ok(program) = Program::new(alloc, scripts) else {
+        return nothing(alloc, 7);
+    };
+    let config = Config::new().with_timeout(timeout).with_catch_panics(catch);
+    let Ok(runner) = Runner::new(config) else {
         unreachable!();
     };
-    let name = script.name;
-    let maker = RootScript::new(script.lines.into_inner());
+    let maker = RootScript::new(program, root, with);
     match runner.start_and_recover::<Script, RootScript>(alloc, maker) {
         Ok(finished) => {
             let Finished { output, checkpoint } = finished;

@@ -24,7 +24,7 @@ fn words_of(alloc: Global, words: &str) -> Result<Vec<String>, AllocError> {
 }
 
 /// The outcome for these words.
-fn simulated<S: Source, K: Sink8>(
+pub(crate) fn simulated<S: Source, K: Sink8>(
     alloc: Global,
     words: &str,
     source: &mut S,
@@ -35,13 +35,13 @@ fn simulated<S: Source, K: Sink8>(
 }
 
 /// A source of this text.
-fn source_of(alloc: Global, text: &str) -> Result<ListSource, AllocError> {
+pub(crate) fn source_of(alloc: Global, text: &str) -> Result<ListSource, AllocError> {
     let bytes = Vec::from_slice(alloc, text.as_bytes())?;
     Ok(ListSource::new(bytes, Vec::new(alloc), 1000))
 }
 
 /// A sink without a fault.
-fn sink_of(alloc: Global) -> ListSink {
+pub(crate) fn sink_of(alloc: Global) -> ListSink {
     ListSink::new(alloc, Vec::new(alloc), 1000)
 }
 
@@ -51,7 +51,7 @@ fn only(alloc: Global, call: u64) -> Result<Vec<u64>, AllocError> {
 }
 
 /// Without a fault these words answer this status, and what is written ends so.
-fn expect_end(
+pub(crate) fn expect_end(
     rt: &impl Abort,
     alloc: Global,
     words: &str,
@@ -113,7 +113,7 @@ fn statuses_and_texts(rt: HostRuntime) -> Result<(), Fail> {
             "run",
             "script a\ndone\nrun a with b\n",
             3,
-            "error 3 count\n",
+            "error 3 missing\n",
         ),
         (
             "run",

@@ -3,6 +3,7 @@ use Rattle.std.proofs.Common.{◌≡◌, inl, inr, ◌+◌, ◌-◌, ◌^◌, le
 use Rattle.rt_base.specs.declared.error.Error.{Error}
 use Rattle.rt_base.specs.declared.error.Error.TheVariants.{UnknownToken, TooManyTasks}
 use Rattle.rt_base.specs.declared.no_memory.NoMemory.{NoMemory as OutOfMemory}
+use Rattle.rt_base.specs.declared.execution.Execution.{Execution}
 use Rattle.rt_audit.specs.declared.call.Call.{Call}
 use Rattle.rt_audit.specs.declared.call.Call.TheVariants.{Child, CloseNode, Spawn, Abort, AbortTask, Wake, Join, GiveUp, SleepPoll}
 use Rattle.rt_audit.specs.declared.reply.CallReply.{CallReply}
@@ -211,15 +212,15 @@ module _ {A O G : Type 0} (old new : Seen) (held end : Held A O) (panic : Option
       refused (inl lack) = inl (lack.0, rw (lack.1, e) refl)
       refused (inr n) = inr (made-noted (Plainly (Child node label)) (Refused error) n e)
 
-  pub refused-spawn : (node : ℕ) (made : ℕ → A) (error : Error) → end ≡ held → IsRefused out old new (Spawn node) error → WorldRefused before behind (Spawning node made) error
-  refused-spawn node made error e (inl lack) = inl (lack.0, rw (lack.1, e) refl)
-  refused-spawn node made error e (inr n) = inr (made-noted (Spawning node made) (Refused error) n e)
+  pub refused-spawn : (node : ℕ) (execution : Execution) (made : ℕ → A) (error : Error) → end ≡ held → IsRefused out old new (Spawn node) error → WorldRefused before behind (Spawning node execution made) error
+  refused-spawn node execution made error e (inl lack) = inl (lack.0, rw (lack.1, e) refl)
+  refused-spawn node execution made error e (inr n) = inr (made-noted (Spawning node execution made) (Refused error) n e)
 
-  pub refused-calls : {C : Type 0} (node : ℕ) (made : ℕ → A) (back : Error × C) → end ≡ held → IsRefused out old new (Spawn node) back.0 → Called (Spawning node made) before behind (Plain (Refused back.0))
-  refused-calls {C = C} node made back e r = let result : Result (Option (ℕ × ℕ)) (Error × C) = Err back in spawn-called before behind node made result tt (refused-spawn node made back.0 e r)
+  pub refused-calls : {C : Type 0} (node : ℕ) (execution : Execution) (made : ℕ → A) (back : Error × C) → end ≡ held → IsRefused out old new (Spawn node) back.0 → Called (Spawning node execution made) before behind (Plain (Refused back.0))
+  refused-calls {C = C} node execution made back e r = let result : Result (Option (ℕ × ℕ)) (Error × C) = Err back in spawn-called before behind node execution made result tt (refused-spawn node execution made back.0 e r)
 
-  pub spawned-calls : (node : ℕ) (made : ℕ → A) (at : Option (ℕ × ℕ)) → Made before behind (Spawning node made) (spawn_reply at) → Called (Spawning node made) before behind (Plain (spawn_reply at))
-  spawned-calls node made at n = let result : Result (Option (ℕ × ℕ)) (Error × Unit {0}) = Ok at in spawn-called before behind node made result n tt
+  pub spawned-calls : (node : ℕ) (execution : Execution) (made : ℕ → A) (at : Option (ℕ × ℕ)) → Made before behind (Spawning node execution made) (spawn_reply at) → Called (Spawning node execution made) before behind (Plain (spawn_reply at))
+  spawned-calls node execution made at n = let result : Result (Option (ℕ × ℕ)) (Error × Unit {0}) = Ok at in spawn-called before behind node execution made result n tt
 
   pub pending-calls : (task : ℕ) → end ≡ held → Noted out old new (Join task) Pending → Called (Plainly (Join task)) before behind (Plain Pending)
   pending-calls task e n = join-called before behind task (Ok None) (made-noted (Plainly (Join task)) Pending n e) tt

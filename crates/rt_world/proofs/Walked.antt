@@ -4,6 +4,7 @@ use Rattle.std.proofs.lemmas.List.{append-nil}
 use Rattle.rt_base.specs.declared.error.Error.{Error}
 use Rattle.rt_base.specs.declared.error.Error.TheVariants.{NoMemory as OutOf}
 use Rattle.rt_base.specs.declared.no_memory.NoMemory.{NoMemory as OutOfMemory}
+use Rattle.rt_base.specs.declared.execution.Execution.{Execution}
 use Rattle.rt_audit.specs.declared.call.Call.{Call}
 use Rattle.rt_audit.specs.declared.call.Call.TheVariants.{Child, AbortTask, Wake, Join}
 use Rattle.rt_audit.specs.declared.reply.CallReply.{CallReply}
@@ -21,7 +22,7 @@ use Rattle.rt_model.proofs.Walks.{walks-then, fronts-then, stops-then, stops-fir
 use Rattle.rt_machine.specs.Calls.{turn_in, marked, sleep_reply, slept_number, spawn_reply}
 use Rattle.rt_world.specs.World.{World}
 use Rattle.rt_world.specs.Calls.{Stays, Grows, Kept, Made, IsRefused, SpentBy, Joined, lacking}
-use Rattle.rt_world.specs.Walked.{Broke, EndsWith, Turned, Walked, Spent, Polled, answered_by, Rooted, root_by, Goes, Called, reads, Reads, wake_told, sleep_told, child_told, spawn_told, join_told, Spends as MaySpend, Closes, Leads}
+use Rattle.rt_world.specs.Walked.{Broke, EndsWith, Turned, Walked, Spent, Polled, answered_by, Rooted, root_by, Goes, Called, tells, wake_told, sleep_told, child_told, spawn_told, join_told, Spends as MaySpend, Closes, Leads}
 
 stood-more : (ts us : List Turn) (n0 n1 n2 : Stood) → stood_before us n2 ≡ n1 → stood_before ts n1 ≡ n0 → stood_before (ts ++ us) n2 ≡ n0
 stood-more [] us n0 n1 n2 h k = h ∙ k
@@ -326,6 +327,11 @@ module _ {A O G : Type 0} (old mid new : World A O G) where
   unfolding Spent Walked
   spent-spend call next plain spent two = (walked-spend old mid new tt tt call next plain spent two)
 
+module _ {A L O R G : Type 0} (old mid new : World A O G) (first : Step A L O R) (more : R → L → Last A O) (r : R) (a : L) where
+  pub spent-then : Walked first old mid r a → Spent (more r a) mid new → Spent (then first more) old new
+  unfolding Spent Walked
+  spent-then one two = (walked-then old mid new first more r a tt tt one two)
+
 pub spent-nothing : {A O G : Type 0} (w : World A O G) → Spent (Gives tt tt) w w
 unfolding Spent Walked
 spent-nothing w = (walked-gives w tt tt)
@@ -373,7 +379,16 @@ unfolding Polled
 polled-lacking old new step answer left e l = rw e ((turned-lacking old (answered_by answer left) step l))
 
 -- and of a maker
+module _ {A L O R G : Type 0} (old mid new : World A O G) (first : Step A L O R) (more : R → L → Step A A O (Unit {0})) (r : R) (a : L) (result : Result A OutOfMemory) where
+  pub rooted-then : Walked first old mid r a → Rooted (more r a) mid new result → Rooted (then first more) old new result
+  unfolding Walked Rooted
+  rooted-then one two = (turned-then old mid new first more r a (root_by result) one two)
+
 module _ {A O G : Type 0} (old mid new : World A O G) (result : Result A OutOfMemory) where
+  pub rooted-followed : (first : Last A O) (next : Step A A O (Unit {0})) → Spent first old mid → Rooted next mid new result → Rooted (followed_by first next) old new result
+  unfolding followed_by Spent Walked
+  rooted-followed first next one two = rooted-then old mid new first (λ answer left. next) tt tt result one two
+
   -- a token that is spent
   pub rooted-spend : (call : Call) (next : Step A A O (Unit {0})) → IsPlain call → SpentBy old mid call → Rooted next mid new result → Rooted (Spends (Plainly call) next) old new result
   unfolding Rooted
@@ -428,9 +443,9 @@ module _ {A O G : Type 0} (old new : World A O G) where
   child-called node label (Ok at) made refused = called-made (Plainly (Child node label)) (NodeAt at.0 at.1) (Plain (NodeAt at.0 at.1)) made (refl, tt) refl
   child-called node label (Err error) made refused = called-refused (Plainly (Child node label)) error (λ reply. (refl, tt)) refl refused
 
-  pub spawn-called : {C : Type 0} (node : ℕ) (made : ℕ → A) (result : Result (Option (ℕ × ℕ)) (Error × C)) → IfOk result (λ at. Made old new (Spawning node made) (spawn_reply at)) → IfErr result (λ back. IsRefused old new (Spawning node made) back.0) → Called (Spawning node made) old new (spawn_told result)
-  spawn-called node made (Ok at) is refused = called-made (Spawning node made) (spawn_reply at) (Plain (spawn_reply at)) is (refl, tt) refl
-  spawn-called node made (Err back) is refused = called-refused (Spawning node made) back.0 (λ reply. (refl, tt)) refl refused
+  pub spawn-called : {C : Type 0} (node : ℕ) (execution : Execution) (made : ℕ → A) (result : Result (Option (ℕ × ℕ)) (Error × C)) → IfOk result (λ at. Made old new (Spawning node execution made) (spawn_reply at)) → IfErr result (λ back. IsRefused old new (Spawning node execution made) back.0) → Called (Spawning node execution made) old new (spawn_told result)
+  spawn-called node execution made (Ok at) is refused = called-made (Spawning node execution made) (spawn_reply at) (Plain (spawn_reply at)) is (refl, tt) refl
+  spawn-called node execution made (Err back) is refused = called-refused (Spawning node execution made) back.0 (λ reply. (refl, tt)) refl refused
 
   pub sleep-called : (due : ℕ) (alarm : Option ℕ) (result : Result (Option ℕ) OutOfMemory) → IfOk result (λ told. told ≡ slept_number old.told.state.clock.time old.told.state.alarms due alarm) → IfOk result (λ told. Made old new (Sleeping due alarm) (sleep_reply told)) → OnErr result (new ≡ lacking old) → Called (Sleeping due alarm) old new (sleep_told result)
   sleep-called due alarm (Ok told) is made lacked =
@@ -443,15 +458,6 @@ module _ {A O G : Type 0} (old new : World A O G) where
   join-called task (Err error) made refused = called-refused (Plainly (Join task)) error (λ reply. (refl, tt)) refl refused
 
 pub ruleset call_laws = (wake-called, abort-called, child-called, spawn-called, sleep-called, join-called)
-
--- what was read of a call
-pub reads-called : {A O G V : Type 0} (ask : Ask A O) (read : Heard O → V) (old new : World A O G) (heard : Heard O) (value : V) → Called ask old new heard → read heard ≡ value → Reads ask read old new value
-unfolding reads
-reads-called ask read old new heard value called is = record {
-  onward = λ on end given state walked. called.onward (λ heard. on (read heard)) end given state (rw is walked);
-  ends = λ on end walked. called.ends (λ heard. on (read heard)) end (rw is walked);
-  makes = λ on end root walked. called.makes (λ heard. on (read heard)) end root (rw is walked);
-}
 
 -- a part from its first call on
 module _ {A L O R G : Type 0} (step : Step A L O R) (old new : World A O G) (given : Option (R × L)) (fresh : old.told.state.turns ≡ []) (two : Turned step old new given) where
@@ -613,7 +619,12 @@ calling-kept old new k calls = rw (k.phase, k.root, k.out) (calls-kept old.told.
 -- from there on
 module _ {A L O R G : Type 0} (old new : World A O G) (step : Step A L O R) (r : R) (a : L) where
   pub goes-on : Walked step old new r a → Goes step old new r a
-  goes-on one = record { walked = one; onward = λ more end given state two. polled-then old new end step more r a given state one two }
+  goes-on one = record {
+    walked = one;
+    onward = λ more end given state two. polled-then old new end step more r a given state one two;
+    ends = λ more end two. spent-then old new end step more r a one two;
+    makes = λ more end root two. rooted-then old new end step more r a root one two;
+  }
 
 module _ {A O G : Type 0} (old new : World A O G) (step : Last A O) where
   pub spends-on : Spent step old new → MaySpend step old new
@@ -621,6 +632,7 @@ module _ {A O G : Type 0} (old new : World A O G) (step : Last A O) where
     spent = one;
     ends = λ next end two. spent-followed old new end step next one two;
     onward = λ next end given state two. polled-followed old new end given state step next one two;
+    makes = λ next end root two. rooted-followed old new end root step next one two;
   }
 
 module _ {A O G : Type 0} (old new : World A O G) (call : Call) where
@@ -631,6 +643,32 @@ module _ {A O G : Type 0} (old new : World A O G) (call : Call) where
     onward = λ next end given state two. polled-spend old new end given state call next plain one two;
     makes = λ next end root two. rooted-spend old new end root call next plain one two;
   }
+
+-- and what is read of it
+module _ {A O G V : Type 0} (old new : World A O G) (read : Heard O → V) (value : V) where
+  -- it was made
+  tells-made : (ask : Ask A O) (reply : CallReply) (heard : Heard O) → Made old new ask reply → Asks ask (turn_in old.told.state (call_of ask) reply) → heard ≡ heard_of old.held (turn_in old.told.state (call_of ask) reply) → read heard ≡ value → Goes (tells ask read) old new value tt
+  unfolding tells Walked
+  tells-made ask reply heard made asks is e =
+      goes-on old new (tells ask read) value tt (turned-made old new new (Some (value, tt)) ask reply heard (λ heard. Gives (read heard) tt) made asks is (turned-none new (Some (value, tt)) (Gives (read heard) tt) (e, refl, refl)))
+
+  -- it lacked memory
+  pub tells-lacking : (ask : Ask A O) → new ≡ lacking old → Goes (tells ask read) old new value tt
+  unfolding tells
+  tells-lacking ask is = goes-on old new (tells ask read) value tt (walked-lacking old new (tells ask read) value tt is tt)
+
+  -- it was refused
+  tells-refused : (ask : Ask A O) (error : Error) → Asks ask (turn_in old.told.state (call_of ask) (Refused error)) → Plain (Refused error) ≡ heard_of old.held (turn_in old.told.state (call_of ask) (Refused error)) → IsRefused old new ask error → read (Plain (Refused error)) ≡ value → Goes (tells ask read) old new value tt
+  tells-refused ask error asks is (inl lack) e = tells-lacking ask lack.1
+  tells-refused ask error asks is (inr made) e = tells-made ask (Refused error) (Plain (Refused error)) made asks is e
+
+  pub child-tells : (node : ℕ) (label : List ℕ) (result : Result (ℕ × Bool) Error) → IfOk result (λ made. Made old new (Plainly (Child node label)) (NodeAt made.0 made.1)) → IfErr result (λ e. IsRefused old new (Plainly (Child node label)) e) → read (child_told result) ≡ value → Goes (tells (Plainly (Child node label)) read) old new value tt
+  child-tells node label (Ok at) made refused e = tells-made (Plainly (Child node label)) (NodeAt at.0 at.1) (Plain (NodeAt at.0 at.1)) made (refl, tt) refl e
+  child-tells node label (Err error) made refused e = tells-refused (Plainly (Child node label)) error (refl, tt) refl refused e
+
+  pub spawn-tells : {C : Type 0} (node : ℕ) (execution : Execution) (made : ℕ → A) (result : Result (Option (ℕ × ℕ)) (Error × C)) → IfOk result (λ at. Made old new (Spawning node execution made) (spawn_reply at)) → IfErr result (λ back. IsRefused old new (Spawning node execution made) back.0) → read (spawn_told result) ≡ value → Goes (tells (Spawning node execution made) read) old new value tt
+  spawn-tells node execution made (Ok at) is refused e = tells-made (Spawning node execution made) (spawn_reply at) (Plain (spawn_reply at)) is (refl, tt) refl e
+  spawn-tells node execution made (Err back) is refused e = tells-refused (Spawning node execution made) back.0 (refl, tt) refl refused e
 
 -- nothing was walked yet
 pub leads-same : {A O G : Type 0} (step : Step A A O (Answer O)) (w : World A O G) → Leads step step w w
@@ -645,7 +683,7 @@ pub ruleset task_laws = (polled-wake, polled-sleep, polled-spend, polled-gives, 
 
 pub ruleset maker_laws = (rooted-spend, rooted-gives, rooted-lacks, rooted-lacking, stays-same, stays-marked, grows-same, grows-kept, stays-kept, calling-kept)
 
-pub ruleset read_laws = (reads-called, stays-same, stays-marked, grows-same, grows-kept, stays-kept, calling-kept)
+pub ruleset tell_laws = (tells-lacking, child-tells, spawn-tells, stays-same, stays-marked, grows-same, grows-kept, stays-kept, calling-kept)
 
 pub ruleset stay_laws = (stays-same, stays-marked, grows-same)
 

@@ -11,7 +11,7 @@ use Rattle.rt_model.specs.declared.answer.Answer.{Answer}
 use Rattle.rt_model.specs.declared.answer.Answer.TheVariants.{NoMemory}
 use Rattle.rt_model.specs.State.{Turn, Stood, stood_in}
 use Rattle.rt_model.specs.Turns.{Ask, Heard, Plain, Handed, Plainly, Held, Frees}
-use Rattle.rt_model.specs.Walk.{Step, Last, Does, Spends as IsSpent, Walks, Fronts, Stops, then, followed_by, stood_before}
+use Rattle.rt_model.specs.Walk.{Step, Last, Does, Gives, Spends as IsSpent, Walks, Fronts, Stops, then, followed_by, stood_before}
 use Rattle.rt_machine.specs.Calls.{sleep_reply, spawn_reply}
 use Rattle.rt_world.specs.World.{World}
 use Rattle.rt_world.specs.Calls.{SpentBy}
@@ -65,10 +65,13 @@ root_by (Err lack) = None
 unfoldable pub Rooted : {A O G : Type 0} → Step A A O (Unit {0}) → World A O G → World A O G → Result A OutOfMemory → Type 0
 Rooted step old new result = Turned step old new (root_by result)
 
--- what a poll of a poller leaves: its steps were walked, and so whoever goes on from here has walked them and the rest
+-- what a poll of a poller or a call leaves: its steps were walked, and so whoever goes on from here has walked them and the rest, in
+-- a poll, an end or a maker
 pub record Goes {A L O R G : Type 0} (step : Step A L O R) (old new : World A O G) (answer : R) (left : L) : Type 0 where
   pub walked : Walked step old new answer left
   pub onward : (more : R → L → Step A A O (Answer O)) (end : World A O G) (given : Answer O) (state : A) → Polled (more answer left) new end given state → Polled (then step more) old end given state
+  pub ends : (more : R → L → Last A O) (end : World A O G) → Spent (more answer left) new end → Spent (then step more) old end
+  pub makes : (more : R → L → Step A A O (Unit {0})) (end : World A O G) (root : Result A OutOfMemory) → Rooted (more answer left) new end root → Rooted (then step more) old end root
 
 -- what a call leaves: whoever goes on from what was heard of it has made it and walked the rest, in a poll, an end or a maker. Where
 -- it lacked memory, what follows is free
@@ -77,15 +80,9 @@ pub record Called {A O G : Type 0} (ask : Ask A O) (old new : World A O G) (hear
   pub ends : (on : Heard O → Last A O) (end : World A O G) → Spent (on heard) new end → Spent (Does ask on) old end
   pub makes : (on : Heard O → Step A A O (Unit {0})) (end : World A O G) (root : Result A OutOfMemory) → Rooted (on heard) new end root → Rooted (Does ask on) old end root
 
--- a call, and what follows from what is read of what was heard of it
-unfoldable pub reads : {A L O R V : Type 0} → Ask A O → (Heard O → V) → (V → Step A L O R) → Step A L O R
-reads ask read on = Does ask (λ heard. on (read heard))
-
--- what a call leaves of which this was read
-pub record Reads {A O G V : Type 0} (ask : Ask A O) (read : Heard O → V) (old new : World A O G) (value : V) : Type 0 where
-  pub onward : (on : V → Step A A O (Answer O)) (end : World A O G) (given : Answer O) (state : A) → Polled (on value) new end given state → Polled (reads ask read on) old end given state
-  pub ends : (on : V → Last A O) (end : World A O G) → Spent (on value) new end → Spent (reads ask read on) old end
-  pub makes : (on : V → Step A A O (Unit {0})) (end : World A O G) (root : Result A OutOfMemory) → Rooted (on value) new end root → Rooted (reads ask read on) old end root
+-- a call, and what is read of what was heard of it
+unfoldable pub tells : {A O V : Type 0} → Ask A O → (Heard O → V) → Step A (Unit {0}) O V
+tells ask read = Does ask (λ heard. Gives (read heard) tt)
 
 -- what is told of the calls
 abbrev pub wake_told : {O : Type 0} → Result (Unit {0}) Error → Heard O
@@ -122,6 +119,7 @@ pub record Spends {A O G : Type 0} (step : Last A O) (old new : World A O G) : T
   pub spent : Spent step old new
   pub ends : (next : Last A O) (end : World A O G) → Spent next new end → Spent (followed_by step next) old end
   pub onward : (next : Step A A O (Answer O)) (end : World A O G) (given : Answer O) (state : A) → Polled next new end given state → Polled (followed_by step next) old end given state
+  pub makes : (next : Step A A O (Unit {0})) (end : World A O G) (root : Result A OutOfMemory) → Rooted next new end root → Rooted (followed_by step next) old end root
 
 -- the same of a call that spends a token
 pub record Closes {A O G : Type 0} (call : Call) (old new : World A O G) : Type 0 where

@@ -1,11 +1,11 @@
 //! The cleanup of a run.
 
-ghost use Rattle.std.specs.Prelude.{◌≡◌, ◌<◌, true, false, Option, ℕ, List, Bool, None, Some, [], length, OnSome, IfNone, ◌||◌};
+ghost use Rattle.std.specs.Prelude.{◌≡◌, ◌≢◌, ◌<◌, true, false, Option, ℕ, List, Bool, None, Some, [], length, OnSome, IfNone, ◌||◌};
 ghost use Rattle.rt_audit.specs.declared.finish.FinishCause.TheVariants.{NoMemory};
 ghost use Rattle.rt_model.specs.State.{Making, Closing, Crashed, Finished};
 ghost use Rattle.rt_model.specs.Causes.{reached};
 ghost use Rattle.rt_model.specs.Effects.{cause_of};
-ghost use Rattle.rt_model.specs.Rules.{MayCrash, MayFinish};
+ghost use Rattle.rt_model.specs.Rules.{MayClose, MayCrash, MayFinish};
 ghost use Rattle.rt_model.specs.Tied.{Steps, First, with_first};
 ghost use Rattle.rt_machine.specs.Steps.{IsCut};
 ghost use Rattle.rt_machine.specs.Told.{pushed};
@@ -17,10 +17,10 @@ use rand_core::Rng;
 use rt_audit::{Entry, FinishCause};
 
 impl<T, O, G> World<T, O, G> {
-    /// Begins the cleanup of a run whose root was taken in.
+    /// Begins the cleanup of a run.
     #[tactic(auto, using(crate::proofs::Seats::closing_laws), unfolding(rt_model::specs::Effects::after))]
     fn close(&mut self)
-        requires phase { IsCut self.old.told.state.phase }
+        requires closes { MayClose self.old.told.state.phase }
         requires none_out { self.old.out ≡ None }
         ensures closing { IsClosing self.new }
         ensures phase { self.new.told.state.phase ≡ Closing (reached self.old.told.state) }
@@ -29,25 +29,8 @@ impl<T, O, G> World<T, O, G> {
         ensures clock { self.new.told.state.clock ≡ self.old.told.state.clock }
         ensures root { self.new.told.state.root ≡ self.old.told.state.root }
         ensures rng { self.new.rng ≡ self.old.rng }
-        ensures agrees { (p : Steps T O) (whole : Bool) (output : Option O) → Agrees p whole self.old output → Agrees p whole self.new output }
-    {
-        self.machine.take_short();
-        self.machine.cleanup();
-    }
-
-    /// Begins the cleanup of a run whose root was not taken in.
-    #[tactic(auto, using(crate::proofs::Seats::closing_laws), unfolding(rt_model::specs::Effects::after))]
-    fn close_unmade(&mut self)
-        requires phase { self.old.told.state.phase ≡ Making }
-        requires none_out { self.old.out ≡ None }
-        ensures closing { IsClosing self.new }
-        ensures phase { self.new.told.state.phase ≡ Closing (reached self.old.told.state) }
-        ensures begin { self.new.told.begin ≡ self.old.told.begin }
-        ensures given { self.new.told.given ≡ self.old.told.given }
-        ensures clock { self.new.told.state.clock ≡ self.old.told.state.clock }
-        ensures root { self.new.told.state.root ≡ self.old.told.state.root }
-        ensures rng { self.new.rng ≡ self.old.rng }
-        ensures agrees { (p : Steps T O) (whole : Bool) (unmade : Option T) → self.old.panic ≡ None → MakingAgrees p whole self.old unmade → AgreesWith p whole self.new None unmade }
+        ensures agrees { (p : Steps T O) (whole : Bool) (output : Option O) → self.old.told.state.phase ≢ Making → Agrees p whole self.old output → Agrees p whole self.new output }
+        ensures unmade { (p : Steps T O) (whole : Bool) (unmade : Option T) → self.old.told.state.phase ≡ Making → self.old.panic ≡ None → MakingAgrees p whole self.old unmade → AgreesWith p whole self.new None unmade }
     {
         self.machine.take_short();
         self.machine.cleanup();
@@ -181,7 +164,7 @@ impl<T: Task, G: Rng> World<T, T::Output, G> {
         ensures cause { IsFinal cause result }
         ensures agrees { (first : First T T.Output) (whole : Bool) → MakingAgrees (with_first T.steps first) whole self.old unmade → EndsFor (with_first T.steps first) self.new result None whole }
     {
-        self.close_unmade();
+        self.close();
         let lacked = self.end_all();
         let Some(root) = unmade else {
             self.seal(FinishCause::NoMemory);

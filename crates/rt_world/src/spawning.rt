@@ -1,6 +1,6 @@
 //! Spawning tasks.
 
-ghost use Rattle.std.specs.Prelude.{ℕ, ◌≡◌, ◌<◌, IfOk, IfErr, OnOk, None, Some, true, false};
+ghost use Rattle.std.specs.Prelude.{ℕ, ◌≡◌, ◌<◌, IfOk, IfErr, OnOk, None, Some, true, false, vec_len, vec_capacity};
 ghost use Rattle.rt_model.specs.Rules.{MayCall};
 ghost use Rattle.rt_model.specs.Turns.{Spawning};
 ghost use Rattle.rt_machine.specs.Calls.{spawn_reply};
@@ -9,19 +9,20 @@ ghost use Rattle.rt_world.specs.Walked.{Called, spawn_told};
 
 use crate::World;
 use crate::tasks::Tasks;
-use rt_base::{Error, NoMemory};
+use rt_base::{Error, Execution, NoMemory};
 
 #[tactic(auto, using(crate::proofs::Walked::call_laws, crate::proofs::Walked::stay_laws, crate::proofs::Calling::seated_laws))]
 impl<T, O, G> World<T, O, G> {
-    /// Spawns a task on a node: its state is made of what is given and of the number of the fresh node on which its own
-    /// context stands. Answers the task's number and that node's, or nothing where the node has ended; it is closed
-    /// then. A refusal hands back what was given. It takes memory.
+    /// Spawns a task on a node, which asks to run there: its state is made of what is given and of the number of the fresh
+    /// node on which its own context stands. Answers the task's number and that node's, or nothing where the node has
+    /// ended; it is closed then. A refusal hands back what was given. It takes memory.
     ///
     /// Errors, the first that holds: `UnknownToken` where the node isn't live or has a task, `TooManyTasks` exactly where
     /// the next number is `u64::MAX`, `NoMemory`.
     pub fn spawn<C: Drop, F: FnOnce((C, u64)) -> T + Drop>(
         &mut self,
         node: u64,
+        execution: Execution,
         given: C,
         make: F,
     ) -> Result<Option<(u64, u64)>, (Error, C)>
@@ -29,11 +30,11 @@ impl<T, O, G> World<T, O, G> {
         requires callable { F.IsAlwaysCallable make }
         ensures kept { Kept self.old self.new }
         ensures back { IfErr result (λ back. back.1 ≡ given) }
-        ensures ok { (made : ℕ → T) → IsMadeBy (F.post make) given made → IfOk result (λ at. Made self.old self.new (Spawning node made) (spawn_reply at)) }
-        ensures err { (made : ℕ → T) → IfErr result (λ back. IsRefused self.old self.new (Spawning node made) back.0) }
-        ensures called { (made : ℕ → T) → IsMadeBy (F.post make) given made → Called (Spawning node made) self.old self.new (spawn_told result) }
+        ensures ok { (made : ℕ → T) → IsMadeBy (F.post make) given made → IfOk result (λ at. Made self.old self.new (Spawning node execution made) (spawn_reply at)) }
+        ensures err { (made : ℕ → T) → IfErr result (λ back. IsRefused self.old self.new (Spawning node execution made) back.0) }
+        ensures called { (made : ℕ → T) → IsMadeBy (F.post make) given made → Called (Spawning node execution made) self.old self.new (spawn_told result) }
     {
-        let Ok(()) = reserve_places(&mut self.tasks, &mut self.outputs) else {
+        let Ok(()) = reserve_places(&mut self.tasks, &mut self.outputs, &mut self.executions) else {
             self.machine.lack();
             return Err((Error::NoMemory, given));
         };
@@ -45,16 +46,18 @@ impl<T, O, G> World<T, O, G> {
                 let state = make((given, number));
                 self.tasks.add(state);
                 self.outputs.skip();
+                self.executions.push_reserved((task, execution));
                 Ok(Some((task, number)))
             }
         }
     }
 }
 
-/// Takes room for a further task and its output.
+/// Takes room for a further task, its output and where it asked to run.
 pub(crate) fn reserve_places<T, O>(
     tasks: &mut Tasks<T>,
     outputs: &mut Tasks<O>,
+    executions: &mut Vec<(u64, Execution)>,
 ) -> Result<(), NoMemory>
     ensures tasks { tasks.new.items ≡ tasks.old.items }
     ensures tasks_first { tasks.new.first ≡ tasks.old.first }
@@ -64,7 +67,11 @@ pub(crate) fn reserve_places<T, O>(
     ensures outputs_first { outputs.new.first ≡ outputs.old.first }
     ensures outputs_next { outputs.new.next ≡ outputs.old.next }
     ensures outputs_room { OnOk result (0 < outputs.new.spare) }
+    ensures executions { executions.new.items ≡ executions.old.items }
+    ensures executions_room { OnOk result (vec_len executions.new < vec_capacity executions.new) }
 {
     tasks.reserve(1)?;
-    outputs.reserve(1)
+    outputs.reserve(1)?;
+    executions.reserve(1)?;
+    Ok(())
 }

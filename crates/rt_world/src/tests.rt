@@ -2,12 +2,14 @@
 
 ghost use Rattle.std.specs.Prelude.{◌≡◌, ◌≤◌, [], None, false};
 ghost use Rattle.rt_model.specs.State.{Between};
+ghost use Rattle.rt_model.specs.Rules.{MayCall};
+ghost use Rattle.rt_world.specs.Calls.{Kept};
 
 use crate::{Answer, Cx, Outcome, Task, World, WorldOf};
 use rand_core::utils::NextWord;
 use rand_core::{Rng, utils};
 use rt_audit::{FinishCause, Journal};
-use rt_base::{Error, NoMemory};
+use rt_base::{Error, Execution, NoMemory};
 use rt_model::Begin;
 use std::alloc::Global;
 use std::test::Fail;
@@ -135,8 +137,19 @@ fn run(alloc: Global, taken_in: bool) -> Result<Came, NoMemory> {
     }
 }
 
+/// What comes of spawning a probe.
+fn spawns(world: &mut WorldOf<Probe, Zeros>, node: u64) -> Result<Option<(u64, u64)>, Error>
+    requires { MayCall world.old.told.state world.old.out }
+    ensures { Kept world.old world.new }
+{
+    match world.spawn(node, Execution::Dedicated, (), |((), _)| Probe) {
+        Ok(at) => Ok(at),
+        Err((error, ())) => Err(error),
+    }
+}
+
 /// Whether calls before a root are answered as they should be, and are written.
-#[tactic(auto, unfolding(rt_model::specs::Effects::after, rt_model::specs::State::begun))]
+#[tactic(auto, using(crate::proofs::Walked::close_laws), unfolding(rt_model::specs::Effects::after, rt_model::specs::State::begun))]
 fn answers_calls(alloc: Global) -> Result<bool, NoMemory> {
     let begin = Begin {
         start: 3,
@@ -152,6 +165,16 @@ fn answers_calls(alloc: Global) -> Result<bool, NoMemory> {
     let over = world.sleep_poll(3, None);
     let waits = world.sleep_poll(5, None);
     let refused = world.wake(9);
+    let child = world.child(0, "left");
+    let spawned = spawns(&mut world, 1);
+    let again = spawns(&mut world, 1);
+    let hinted = world.executions() == [(0, Execution::Dedicated)].as_slice();
+    let waits_for = world.join(0);
+    let flagged = world.abort_task(0);
+    let unknown = world.abort_task(1);
+    world.abort(0);
+    world.give_up(0);
+    let gone = world.join(0);
     world.close_node(0);
     let now = world.now();
     let cause = world.cleanup_unmade(None, FinishCause::NoMemory);
@@ -161,7 +184,15 @@ fn answers_calls(alloc: Global) -> Result<bool, NoMemory> {
             && over == Ok(None)
             && waits == Ok(Some(0))
             && refused == Err(Error::UnknownToken)
-            && came.entries == 9,
+            && child == Ok((1, false))
+            && spawned == Ok(Some((0, 2)))
+            && again == Err(Error::UnknownToken)
+            && hinted
+            && waits_for == Ok(None)
+            && flagged == Ok(())
+            && unknown == Err(Error::UnknownToken)
+            && gone == Err(Error::UnknownToken)
+            && came.entries == 19,
     )
 }
 

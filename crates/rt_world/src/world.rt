@@ -17,7 +17,7 @@ ghost use Rattle.rt_world.specs.Follows.{Follows, Agrees, IsMade};
 use crate::Outcome;
 use crate::tasks::Tasks;
 use rt_audit::{AnswerKind, Entry, Journal};
-use rt_base::{MAX_TIME, Nanos, NoMemory, Text};
+use rt_base::{Execution, MAX_TIME, Nanos, NoMemory, Text};
 use rt_machine::Machine;
 use rt_model::Begin;
 use std::alloc::Global;
@@ -34,6 +34,7 @@ pub struct World<T, O, G> {
     pub(crate) machine: Machine,
     pub(crate) tasks: Tasks<T>,
     pub(crate) outputs: Tasks<O>,
+    pub(crate) executions: Vec<(u64, Execution)>,
     pub(crate) panic: Option<Text>,
     pub(crate) out: Option<u64>,
     rng: G,
@@ -45,7 +46,7 @@ impl<T, O, G> Model for World<T, O, G> {
 
     ghost Value = { World T O G };
 
-    ghost view = { λ w. record { told = w.machine.told; lacked = w.machine.lacked; held = record { tasks = w.tasks.items; results = w.outputs.items }; panic = w.panic; out = w.out; rng = w.rng } };
+    ghost view = { λ w. record { told = w.machine.told; lacked = w.machine.lacked; held = record { tasks = w.tasks.items; results = w.outputs.items; executions = w.executions.items }; panic = w.panic; out = w.out; rng = w.rng } };
 
     ghost invariant = { λ w. AreSeated w.tasks w.outputs w.out w.machine.told.state };
 }
@@ -68,7 +69,7 @@ impl<T, O, G> World<T, O, G> {
         rng: G,
     ) -> Result<World<T, O, G>, (Journal, G)>
         requires { begin.start ≤ MAX_TIME }
-        ensures ok { IfOk result (λ w. w ≡ record { told = pushed (fresh begin journal.entries) (Entry.Start begin.first begin.start begin.deadline begin.cycle); lacked = None; held = record { tasks = []; results = [] }; panic = None; out = None; rng = rng }) }
+        ensures ok { IfOk result (λ w. w ≡ record { told = pushed (fresh begin journal.entries) (Entry.Start begin.first begin.start begin.deadline begin.cycle); lacked = None; held = record { tasks = []; results = []; executions = [] }; panic = None; out = None; rng = rng }) }
         ensures err { IfErr result (λ back. (back.0.entries ≡ journal.entries) × (back.1 ≡ rng)) }
         ensures agrees { IfOk result (λ w. (p : Steps T O) → Agrees p true w None) }
     {
@@ -78,6 +79,7 @@ impl<T, O, G> World<T, O, G> {
                 machine,
                 tasks: Tasks::new(alloc, begin.first),
                 outputs: Tasks::new(alloc, begin.first),
+                executions: Vec::new(alloc),
                 panic: None,
                 out: None,
                 rng,
@@ -259,6 +261,14 @@ impl<T, O, G> World<T, O, G> {
         self.out = None;
     }
 
+    /// Where each spawned task asked to run, by its number, in the order in which they were spawned. It changes nothing
+    /// under virtual time.
+    pub fn executions(&self) -> &[(u64, Execution)]
+        ensures { result.now ≡ self.now.held.executions }
+    {
+        self.executions.as_slice()
+    }
+
     /// What is known of each world: its entries are lawful, each round's order is the ready list as it stood, and its
     /// state is what they tell.
     pub fn facts(&self)
@@ -286,6 +296,7 @@ impl<T, O: Drop, G> World<T, O, G> {
             machine,
             tasks,
             outputs: _,
+            executions: _,
             panic,
             out: _,
             rng,

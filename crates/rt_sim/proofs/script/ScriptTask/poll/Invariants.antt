@@ -4,12 +4,12 @@ use Rattle.rt_world.specs.Walked.{Leads}
 use Rattle.rt_sim.specs.Script.{polled}
 use Rattle.rt_sim.proofs.script.ScriptTask.poll.Given as goal
 
-abbrev pub invariant-loop-self : goal.invariant-loop-self
-invariant-loop-self g l = record {
+abbrev pub invariant-loop-line : goal.invariant-loop-line
+invariant-loop-line g l = record {
   kept : Kept l.fn.world l.world;
-  lines : l.self.lines ≡ l.fn.self.lines;
+  text : l.self.text ≡ l.fn.self.text;
   leads : Leads (polled l.fn.self l.fn.world.told.state.clock.time l.cx.task) (polled l.self l.fn.world.told.state.clock.time l.cx.task) l.fn.world l.world;
 }
 
-abbrev pub decreases-loop-self : goal.decreases-loop-self
-decreases-loop-self g l = length l.self.lines.items - l.self.place
+abbrev pub decreases-loop-line : goal.decreases-loop-line
+decreases-loop-line g l = length l.self.text.lines - l.self.place

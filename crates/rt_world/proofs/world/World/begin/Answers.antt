@@ -23,4 +23,4 @@ invariant_of-result g c =
     })
 
 pub returns-in-Ok-clause-agrees : goal.returns-in-Ok-clause-agrees
-returns-in-Ok-clause-agrees g c p = rw (c.in-Ok.ensures.ok, c.new.ensures.items, c.new-in-Ok.ensures.items) (follows-start p c.args.begin c.args.journal.entries _ _ _ _)
+returns-in-Ok-clause-agrees g c p = rw (c.in-Ok.ensures.ok, c.new.ensures.items, c.new-in-Ok.ensures.items, c.new-in-Ok-2.ensures.items) (follows-start p c.args.begin c.args.journal.entries _ _ _ _)

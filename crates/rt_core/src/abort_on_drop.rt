@@ -1,0 +1,56 @@
+//! Handles whose task is aborted where nobody waits for it.
+
+ghost use Rattle.std.specs.Prelude.{◌≡◌};
+ghost use Rattle.rt_model.specs.Rules.{MayCall};
+ghost use Rattle.rt_model.specs.Walk.{followed_by};
+ghost use Rattle.rt_world.specs.Calls.{Kept};
+ghost use Rattle.rt_world.specs.Walked.{Spends};
+ghost use Rattle.rt_core.specs.Handles.{aborted, handle_aborts, handle_spends};
+
+use crate::NoPoller;
+use crate::handle::HandleOf;
+use rand_core::Rng;
+use rt_world::{Outcome, Poller, World};
+
+/// A guard over the handle of a task of this type.
+pub type AbortOnDrop<T, P = NoPoller> = AbortOnDropOf<<T as Outcome>::Output, P>;
+
+/// A guard over the handle of a task with this output. It is a token: it must be spent by [`join`](Self::join), by
+/// [`abort`](Self::abort), or by [`give_up`](Self::give_up), which aborts the task first.
+pub struct AbortOnDropOf<O, P> {
+    pub(crate) handle: HandleOf<O, P>,
+}
+
+impl<O, P> AbortOnDropOf<O, P> {
+    /// The handle again, by which the task is waited for.
+    pub fn join(self) -> HandleOf<O, P>
+        ensures { result ≡ self.handle }
+    {
+        let AbortOnDropOf { handle } = self;
+        handle
+    }
+
+    /// The handle again, whose task is aborted. It is then polled to the task's end. It takes no memory.
+    pub fn abort<T, G>(self, world: &mut World<T, O, G>) -> HandleOf<O, P>
+        requires { MayCall world.old.told.state world.old.out }
+        ensures handle { result ≡ aborted self.handle }
+        ensures kept { Kept world.old world.new }
+        ensures lacked { world.new.lacked ≡ world.old.lacked }
+        ensures steps { Spends (handle_aborts self.handle) world.old world.new }
+    {
+        let AbortOnDropOf { mut handle } = self;
+        handle.abort(world);
+        handle
+    }
+
+    /// Aborts the task, and gives its result up. It takes no memory.
+    #[tactic(auto, using(rt_world::proofs::Walked::close_laws))]
+    pub fn give_up<T: Outcome<Output = O>, G: Rng>(self, world: &mut World<T, O, G>)
+        requires { MayCall world.old.told.state world.old.out }
+        ensures kept { Kept world.old world.new }
+        ensures lacked { world.new.lacked ≡ world.old.lacked }
+        ensures steps { Spends (followed_by (handle_aborts self.handle) (handle_spends (aborted self.handle))) world.old world.new }
+    {
+        self.abort(world).give_up(world)
+    }
+}

@@ -1,0 +1,190 @@
+-- A handle in the lines of a script has a place among its handles.
+use Rattle.std.proofs.Common.{◌≡◌, ℕ, suc, ◌+◌, ◌≤◌, ◌<◌, Bool, true, false, cond, List, [], ◌∷◌, ◌++◌, length, get_or, Option, Some, None, refl, sym, subst, arith}
+use Rattle.std.specs.List.{All, filter}
+use Rattle.std.specs.Option.{IfSome}
+use Rattle.std.specs.Ordering.{is_lt, ordering_reverse, match_ordering}
+use Rattle.std.specs.declared.cmp.Ordering.{Ordering}
+use Rattle.std.specs.declared.cmp.Ordering.TheVariants.{Less, Equal, Greater}
+use Rattle.std.specs.BTreeSet.{insert_key}
+use Rattle.std.specs.Cmp.Lexicographic.{nat_list_cmp_total}
+use Rattle.std.proofs.lemmas.List.{length_push}
+use Rattle.std.proofs.lemmas.List.Elements.{All-cons, All-map, All-push}
+use Rattle.rt_base.specs.Attributes.{text_cmp}
+use Rattle.rt_scenario.specs.Scenario.{with_line, with_panic}
+use Rattle.rt_scenario.specs.Scripts.{Begun, closed_script, handle_of, handles_of, place_of, placed, with_handle, with_handles}
+use Rattle.rt_scenario.specs.Within.{IsWithin, HasPlaces, HavePlaces, IsFree, IsNamed, IsBegun}
+use Rattle.rt_scenario.specs.declared.line.Line.{Line}
+use Rattle.rt_scenario.specs.declared.line.Line.TheVariants as step
+use Rattle.rt_scenario.specs.declared.named_line.NamedLine.{NamedLine}
+use Rattle.rt_scenario.specs.declared.named_line.NamedLine.TheVariants.{Plain, Spawn, Abort, Drop, Join}
+use Rattle.rt_scenario.specs.declared.scenario.ScriptText.{ScriptText}
+
+abbrev Lies : List (List ℕ) → List ℕ → Type 0
+Lies names name = place_of names name < length names
+
+abbrev before : List ℕ → List ℕ → Bool
+before name other = is_lt (text_cmp other name)
+
+filter_short : (p : List ℕ → Bool) (xs : List (List ℕ)) → length (filter p xs) ≤ length xs
+filter_short p [] = omega arith
+filter_short p (x ∷ xs) = by (p x) (filter_short p xs)
+  where
+    by : (b : Bool) → length (filter p xs) ≤ length xs → length (cond b (x ∷ filter p xs) (filter p xs)) ≤ suc (length xs)
+    by true h = omega (arith, h)
+    by false h = omega (arith, h)
+
+behind : (name x : List ℕ) (names : List (List ℕ)) → Lies names name → Lies (x ∷ names) name
+behind name x names h = by (before name x)
+  where
+    by : (b : Bool) → length (cond b (x ∷ filter (before name) names) (filter (before name) names)) < suc (length names)
+    by true = omega (arith, h)
+    by false = omega (arith, h)
+
+first : (name x : List ℕ) (names : List (List ℕ)) → before name x ≡ false → Lies (x ∷ names) name
+first name x names e = rw e (omega (arith, filter_short (before name) names))
+
+rest : (name x : List ℕ) (names : List (List ℕ)) → before name x ≡ true → Lies (x ∷ names) name → Lies names name
+rest name x names e h = let more = rw e at h in omega (arith, more)
+
+itself : (r : Ordering) → r ≡ ordering_reverse r → is_lt r ≡ false
+itself Less e = absurd (cc)
+itself Equal e = refl
+itself Greater e = refl
+
+not_before : (r q : Ordering) → q ≡ Equal → r ≡ ordering_reverse q → is_lt r ≡ false
+not_before Less q e f = absurd (cc)
+not_before Equal q e f = refl
+not_before Greater q e f = refl
+
+-- a name keeps its place where one more is taken in
+kept : (name k : List ℕ) (names : List (List ℕ)) → Lies names name → Lies (insert_key text_cmp names k) name
+kept name k [] h = absurd (omega (arith, h))
+kept name k (x ∷ xs) h = by (text_cmp k x) (before name x) refl (kept name k xs)
+  where
+    by : (r : Ordering) (b : Bool) → before name x ≡ b → (Lies xs name → Lies (insert_key text_cmp xs k) name) → Lies (match_ordering r (k ∷ x ∷ xs) (x ∷ xs) (x ∷ insert_key text_cmp xs k)) name
+    by Less b e more = behind name k (x ∷ xs) h
+    by Equal b e more = h
+    by Greater true e more = behind name x (insert_key text_cmp xs k) (more (rest name x xs e h))
+    by Greater false e more = first name x (insert_key text_cmp xs k) e
+
+-- a name that is taken in has a place
+taken : (k : List ℕ) (names : List (List ℕ)) → Lies (insert_key text_cmp names k) k
+taken k [] = first k k [] (itself (text_cmp k k) (nat_list_cmp_total.antisymm k k))
+taken k (x ∷ xs) = by (text_cmp k x) refl (taken k xs)
+  where
+    by : (r : Ordering) → text_cmp k x ≡ r → Lies (insert_key text_cmp xs k) k → Lies (match_ordering r (k ∷ x ∷ xs) (x ∷ xs) (x ∷ insert_key text_cmp xs k)) k
+    by Less e more = first k k (x ∷ xs) (itself (text_cmp k k) (nat_list_cmp_total.antisymm k k))
+    by Equal e more = first k x xs (not_before (text_cmp x k) (text_cmp k x) e (nat_list_cmp_total.antisymm x k))
+    by Greater e more = behind k x (insert_key text_cmp xs k) more
+
+with_one : (names : List (List ℕ)) (name : List ℕ) (o : Option (List ℕ)) → Lies names name → Lies (with_handle names o) name
+with_one names name None h = h
+with_one names name (Some k) h = kept name k names h
+
+with_more : (names : List (List ℕ)) (name : List ℕ) (lines : List NamedLine) → Lies names name → Lies (with_handles names lines) name
+with_more names name [] h = h
+with_more names name (line ∷ lines) h = with_more (with_handle names (handle_of line)) name lines (with_one names name (handle_of line) h)
+
+own : (names : List (List ℕ)) (o : Option (List ℕ)) (lines : List NamedLine) → IfSome o (Lies (with_handles (with_handle names o) lines))
+own names None lines = tt
+own names (Some k) lines = with_more (insert_key text_cmp names k) k lines (taken k names)
+
+-- each handle of the lines has a place
+all_lie : (names : List (List ℕ)) (lines : List NamedLine) → All (λ line. IfSome (handle_of line) (Lies (with_handles names lines))) lines
+all_lie names [] = λ k d inside. absurd (omega (arith, inside))
+all_lie names (line ∷ lines) =
+    All-cons (λ l. IfSome (handle_of l) (Lies (with_handles names (line ∷ lines)))) line lines (own names (handle_of line) lines) (all_lie (with_handle names (handle_of line)) lines)
+
+placed_one : (scripts : ℕ) (s : ScriptText) (line : NamedLine) → IsNamed scripts (length s.words) line → IfSome (handle_of line) (Lies s.handles) → IsWithin scripts s (placed s.handles line)
+placed_one scripts s (Plain (step.Panic word)) named lies = named
+placed_one scripts s (Plain (step.Spawn handle script)) named lies = absurd named
+placed_one scripts s (Plain (step.Abort handle)) named lies = absurd named
+placed_one scripts s (Plain (step.Drop handle)) named lies = absurd named
+placed_one scripts s (Plain (step.Join handle)) named lies = absurd named
+placed_one scripts s (Plain (step.Sleep n)) named lies = tt
+placed_one scripts s (Plain (step.Until n)) named lies = tt
+placed_one scripts s (Plain step.Yield) named lies = tt
+placed_one scripts s (Plain step.Pend) named lies = tt
+placed_one scripts s (Plain (step.End v)) named lies = tt
+placed_one scripts s (Plain step.EndLast) named lies = tt
+placed_one scripts s (Plain step.AbortSelf) named lies = tt
+placed_one scripts s (Spawn handle script) named lies = (lies, named)
+placed_one scripts s (Abort handle) named lies = lies
+placed_one scripts s (Drop handle) named lies = lies
+placed_one scripts s (Join handle) named lies = lies
+
+-- a script that is closed has the places that its lines hold
+pub closed_has : (scripts : ℕ) (s : Begun) → IsBegun scripts s → HasPlaces scripts (closed_script s)
+closed_has scripts s begun =
+    All-map (IsWithin scripts (closed_script s)) (placed (handles_of s.lines)) s.lines
+    (λ k d inside. placed_one scripts (closed_script s) (get_or s.lines k d) (begun k d inside) (all_lie [] s.lines k d inside))
+
+-- among more scripts the places lie as well
+within_more : (n : ℕ) (s : ScriptText) (line : Line) → IsWithin n s line → IsWithin (n + 1) s line
+within_more n s (step.Panic word) h = h
+within_more n s (step.Spawn handle script) h = (h.0, omega (arith, h.1))
+within_more n s (step.Abort handle) h = h
+within_more n s (step.Drop handle) h = h
+within_more n s (step.Join handle) h = h
+within_more n s (step.Sleep d) h = tt
+within_more n s (step.Until d) h = tt
+within_more n s step.Yield h = tt
+within_more n s step.Pend h = tt
+within_more n s (step.End v) h = tt
+within_more n s step.EndLast h = tt
+within_more n s step.AbortSelf h = tt
+
+has_more : (n : ℕ) (s : ScriptText) → HasPlaces n s → HasPlaces (n + 1) s
+has_more n s h k d inside = within_more n s (get_or s.lines k d) (h k d inside)
+
+-- a script more has places, too
+pub have_push : (ss : List ScriptText) (s : ScriptText) → HavePlaces ss → HasPlaces (length ss) s → HavePlaces (ss ++ s ∷ [])
+have_push ss s have has k d inside =
+    subst (λ n. HasPlaces n (get_or (ss ++ s ∷ []) k d)) (sym (length_push ss s))
+    (All-push (HasPlaces (length ss + 1)) ss s (λ i e below. has_more (length ss) (get_or ss i e) (have i e below)) (has_more (length ss) s has) k d inside)
+
+free_named : (scripts words : ℕ) (line : NamedLine) → IsFree scripts line → IsNamed scripts words line
+free_named scripts words (Plain (step.Panic word)) h = absurd h
+free_named scripts words (Plain (step.Spawn handle script)) h = absurd h
+free_named scripts words (Plain (step.Abort handle)) h = absurd h
+free_named scripts words (Plain (step.Drop handle)) h = absurd h
+free_named scripts words (Plain (step.Join handle)) h = absurd h
+free_named scripts words (Plain (step.Sleep n)) h = tt
+free_named scripts words (Plain (step.Until n)) h = tt
+free_named scripts words (Plain step.Yield) h = tt
+free_named scripts words (Plain step.Pend) h = tt
+free_named scripts words (Plain (step.End v)) h = tt
+free_named scripts words (Plain step.EndLast) h = tt
+free_named scripts words (Plain step.AbortSelf) h = tt
+free_named scripts words (Spawn handle script) h = h
+free_named scripts words (Abort handle) h = tt
+free_named scripts words (Drop handle) h = tt
+free_named scripts words (Join handle) h = tt
+
+-- a line more
+pub begun_line : (scripts : ℕ) (s : Begun) (line : NamedLine) → IsBegun scripts s → IsFree scripts line → IsBegun scripts (with_line line s)
+begun_line scripts s line begun free = All-push (IsNamed scripts (length s.words)) s.lines line begun (free_named scripts (length s.words) line free)
+
+named_more : (scripts words : ℕ) (line : NamedLine) → IsNamed scripts words line → IsNamed scripts (words + 1) line
+named_more scripts words (Plain (step.Panic word)) h = omega (arith, h)
+named_more scripts words (Plain (step.Spawn handle script)) h = absurd h
+named_more scripts words (Plain (step.Abort handle)) h = absurd h
+named_more scripts words (Plain (step.Drop handle)) h = absurd h
+named_more scripts words (Plain (step.Join handle)) h = absurd h
+named_more scripts words (Plain (step.Sleep n)) h = tt
+named_more scripts words (Plain (step.Until n)) h = tt
+named_more scripts words (Plain step.Yield) h = tt
+named_more scripts words (Plain step.Pend) h = tt
+named_more scripts words (Plain (step.End v)) h = tt
+named_more scripts words (Plain step.EndLast) h = tt
+named_more scripts words (Plain step.AbortSelf) h = tt
+named_more scripts words (Spawn handle script) h = h
+named_more scripts words (Abort handle) h = tt
+named_more scripts words (Drop handle) h = tt
+named_more scripts words (Join handle) h = tt
+
+-- a panic more, and its word
+pub begun_panic : (scripts : ℕ) (s : Begun) (word : List ℕ) → IsBegun scripts s → IsBegun scripts (with_panic word s)
+begun_panic scripts s word begun k d inside =
+    subst (λ n. IsNamed scripts n (get_or (with_panic word s).lines k d)) (sym (length_push s.words word))
+    (All-push (IsNamed scripts (length s.words + 1)) s.lines (Plain (step.Panic (length s.words))) (λ i e below. named_more scripts (length s.words) (get_or s.lines i e) (begun i e below)) (omega arith) k d inside)

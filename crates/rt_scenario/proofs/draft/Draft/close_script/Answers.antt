@@ -1,0 +1,10 @@
+use Rattle.std.proofs.Common.{length, subst, sym, rules}
+use Rattle.rt_scenario.specs.Within.{HasPlaces, IsBegun}
+use Rattle.rt_scenario.proofs.Placed.{closed_has}
+use Rattle.rt_scenario.proofs.draft.Draft.close_script.Goals as goal
+
+pub declare-requires-clause-places : goal.declare-requires-clause-places
+declare-requires-clause-places c =
+    let scripts = length c.self.inside.closed.items in
+    let begun : IsBegun scripts c.in-Some.current = search rules in
+    subst (λ s. HasPlaces scripts s) (sym c.in_ok-close-in-Some.ensures) (closed_has scripts c.in-Some.current begun)

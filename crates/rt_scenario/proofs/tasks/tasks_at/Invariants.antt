@@ -1,0 +1,10 @@
+use Rattle.std.proofs.Common.{◌≡◌, ◌+◌, ◌<◌, ◌^◌, length}
+use Rattle.rt_scenario.specs.Scripts.{tasks_at}
+use Rattle.rt_scenario.specs.Capped.{capped}
+use Rattle.rt_scenario.proofs.tasks.tasks_at.Given as goal
+
+abbrev pub invariant-loop-place : goal.invariant-loop-place
+invariant-loop-place l = (capped (l.total + tasks_at l.fn.tasks l.rest) ≡ capped (tasks_at l.fn.tasks l.fn.places)) × (l.total < 2 ^ 64)
+
+abbrev pub decreases-loop-place : goal.decreases-loop-place
+decreases-loop-place l = length l.rest

@@ -1,0 +1,43 @@
+-- The places that lines hold lie within their lists.
+use Rattle.std.specs.Prelude.{ℕ, ◌<◌, List, length}
+use Rattle.std.specs.List.{All}
+use Rattle.rt_scenario.specs.Scripts.{Begun}
+use Rattle.rt_scenario.specs.declared.line.Line.{Line}
+use Rattle.rt_scenario.specs.declared.line.Line.TheVariants as step
+use Rattle.rt_scenario.specs.declared.named_line.NamedLine.{NamedLine}
+use Rattle.rt_scenario.specs.declared.named_line.NamedLine.TheVariants.{Plain, Spawn}
+use Rattle.rt_scenario.specs.declared.scenario.ScriptText.{ScriptText}
+
+-- a handle's place and a word's lie among those of the script, and a script's among so many
+abbrev pub IsWithin : ℕ → ScriptText → Line → Type 0
+IsWithin scripts s (step.Panic word) = word < length s.words
+IsWithin scripts s (step.Spawn handle script) = (handle < length s.handles) × (script < scripts)
+IsWithin scripts s (step.Abort handle) = handle < length s.handles
+IsWithin scripts s (step.Drop handle) = handle < length s.handles
+IsWithin scripts s (step.Join handle) = handle < length s.handles
+IsWithin scripts s line = Unit {0}
+
+abbrev pub HasPlaces : ℕ → ScriptText → Type 0
+HasPlaces scripts s = All (IsWithin scripts s) s.lines
+
+-- each line of each script
+abbrev pub HavePlaces : List ScriptText → Type 0
+HavePlaces scripts = All (HasPlaces (length scripts)) scripts
+
+-- a line without a word, whose handle is a name, and whose script is among so many
+abbrev pub IsFree : ℕ → NamedLine → Type 0
+IsFree scripts (Plain (step.Panic word)) = ⊥
+IsFree scripts (Plain (step.Spawn handle script)) = ⊥
+IsFree scripts (Plain (step.Abort handle)) = ⊥
+IsFree scripts (Plain (step.Drop handle)) = ⊥
+IsFree scripts (Plain (step.Join handle)) = ⊥
+IsFree scripts (Spawn handle script) = script < scripts
+IsFree scripts line = Unit {0}
+
+-- such a line, or a panic whose word is among so many
+abbrev pub IsNamed : ℕ → ℕ → NamedLine → Type 0
+IsNamed scripts words (Plain (step.Panic word)) = word < words
+IsNamed scripts words line = IsFree scripts line
+
+abbrev pub IsBegun : ℕ → Begun → Type 0
+IsBegun scripts s = All (IsNamed scripts (length s.words)) s.lines

@@ -1,0 +1,20 @@
+-- The scripts of a scenario, by their places.
+use Rattle.std.specs.Prelude.{ℕ, List, [], Option, slice_get, slice_index_or}
+use Rattle.rt_scenario.specs.declared.line.Line.{Line}
+use Rattle.rt_scenario.specs.declared.scenario.ScriptText.{ScriptText}
+
+-- a place without a script has one without lines
+abbrev pub no_text : ScriptText
+no_text = record { name = []; lines = []; handles = []; words = [] }
+
+abbrev pub text_at : List ScriptText → ℕ → ScriptText
+text_at scripts at = slice_index_or scripts at no_text
+
+abbrev pub line_at : ScriptText → ℕ → Option Line
+line_at text place = slice_get text.lines place
+
+abbrev pub name_at : ScriptText → ℕ → List ℕ
+name_at text handle = slice_index_or text.handles handle []
+
+abbrev pub word_at : ScriptText → ℕ → List ℕ
+word_at text at = slice_index_or text.words at []
