@@ -417,20 +417,25 @@ fn with_attribute(context: Context, key: &str, value: &str) -> (Context, Option<
     }
 }
 
-/// Whether a name has this label and these attributes.
-fn is_named(name: &Name, label: &str, attributes: &[(&str, &str)]) -> bool {
-    let named = name.attributes.as_slice();
-    let mut same = name.label.as_str() == label && named.len() == attributes.len();
-    for ((key, value), (other, wanted)) in named.iter().zip(attributes) {
-        same = same && key.as_str() == *other && value.as_str() == *wanted;
+/// A name as text: its label, and then each attribute.
+fn name_text(alloc: Global, name: &Name) -> Result<String, NoMemory> {
+    let mut text = name.label.as_str().to_owned(alloc)?;
+    for attribute in name.attributes.as_slice() {
+        text.push(' ')?;
+        text.push_str(attribute.0.as_str())?;
+        text.push('=')?;
+        text.push_str(attribute.1.as_str())?;
     }
-    same
+    Ok(text)
 }
 
-/// Whether a context has this name.
-fn has_name(context: &Context, label: &str, attributes: &[(&str, &str)]) -> bool {
-    match context.name() {
-        Ok(name) => is_named(&name, label, attributes),
+/// Whether a context has the name that is this as text.
+fn has_name(alloc: Global, context: &Context, expected: &str) -> bool {
+    let Ok(name) = context.name() else {
+        return false;
+    };
+    match name_text(alloc, &name) {
+        Ok(text) => text.as_str() == expected,
         Err(_) => false,
     }
 }
@@ -462,40 +467,61 @@ fn spawns_aborted(context: Context, world: &mut Making) -> bool
     }
 }
 
+/// Whether attributes are taken and refused as they should be. The context comes back.
+fn takes_attributes(alloc: Global) -> (Context, bool) {
+    let (context, late) = with_attribute(Context::root(alloc), "b", "2");
+    let (context, early) = with_attribute(context, "a", "1");
+    let (context, again) = with_attribute(context, "b", "3");
+    let (context, bad) = with_attribute(context, "9", "4");
+    let taken = late.is_none() && early.is_none() && again.is_none();
+    let refused = bad == Some(Error::Metric(MetricError::BadLabel));
+    let named = has_name(alloc, &context, " a=1 b=3");
+    (context, taken && refused && named)
+}
+
+/// Why a child is refused, if it is.
+#[tactic(auto, using(rt_world::proofs::Walked::close_laws))]
+fn refusal(context: &Context, world: &mut Making, label: &str) -> Option<Error>
+    requires { MayCall world.old.told.state world.old.out }
+    ensures { Kept world.old world.new }
+{
+    match context.child(world, label) {
+        Ok(child) => {
+            child.close(world);
+            None
+        }
+        Err(error) => Some(error),
+    }
+}
+
+/// Whether a child has its name, and a task is spawned on it.
+#[tactic(auto, using(rt_world::proofs::Walked::close_laws))]
+fn spawns_on_a_child(alloc: Global, context: &Context, world: &mut Making) -> bool
+    requires { MayCall world.old.told.state world.old.out }
+    ensures { Kept world.old world.new }
+{
+    let Ok(child) = context.child(world, "left") else {
+        return false;
+    };
+    let named = has_name(alloc, &child, "left a=1 b=3");
+    let spawned = spawns_aborted(child.shared(true).dedicated(), world);
+    named && spawned
+}
+
 /// Whether contexts are named, refused and spawned on as they should be.
 #[tactic(auto, using(rt_world::proofs::Walked::close_laws))]
 fn answers_contexts(alloc: Global, world: &mut Making) -> bool
     requires { MayCall world.old.told.state world.old.out }
     ensures { Kept world.old world.new }
 {
-    let (context, late) = with_attribute(Context::root(alloc), "b", "2");
-    let (context, early) = with_attribute(context, "a", "1");
-    let (context, again) = with_attribute(context, "b", "3");
-    let (context, bad) = with_attribute(context, "9", "4");
-    let kept = late.is_none()
-        && early.is_none()
-        && again.is_none()
-        && bad == Some(Error::Metric(MetricError::BadLabel))
-        && has_name(&context, "", &[("a", "1"), ("b", "3")]);
-    let reserved = match context.child(world, "runtime") {
-        Ok(child) => {
-            child.close(world);
-            false
-        }
-        Err(error) => error == Error::Metric(MetricError::Reserved),
-    };
-    let spawned = match context.child(world, "left") {
-        Ok(child) => {
-            let named = has_name(&child, "left", &[("a", "1"), ("b", "3")]);
-            let spawned = spawns_aborted(child.shared(true).dedicated(), world);
-            named && spawned
-        }
-        Err(_) => false,
-    };
+    let (context, attributes) = takes_attributes(alloc);
+    let reserved = refusal(&context, world, "runtime");
+    let spawned = spawns_on_a_child(alloc, &context, world);
     context.close(world);
     let unknown = world.abort_task(9) == Err(Error::UnknownToken);
     let hinted = world.executions() == [(0, Execution::Dedicated)].as_slice();
-    kept && reserved && spawned && unknown && hinted
+    let refused = reserved == Some(Error::Metric(MetricError::Reserved));
+    attributes && refused && spawned && unknown && hinted
 }
 
 /// Whether the calls of contexts and handles in a maker are answered and written as they should be.
