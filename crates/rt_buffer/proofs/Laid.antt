@@ -28,7 +28,7 @@ pub laid_is : (t : Tip) (c : List ℕ) → LiesOver t c → laid_over t c ≡ ta
 laid_is t c l = written_end t.offset t.bytes c l.0 l.1
 
 -- a cut behind the first part
-drop_behind : (n k : ℕ) (xs ys : List ℕ) → length xs ≡ n → drop (n + k) (xs ++ ys) ≡ drop k ys
+pub drop_behind : (n k : ℕ) (xs ys : List ℕ) → length xs ≡ n → drop (n + k) (xs ++ ys) ≡ drop k ys
 drop_behind n k xs ys e =
     let gone : drop (n + k) xs ≡ [] = drop_all (n + k) xs (omega arith) in
     let left : (n + k) - length xs ≡ k = omega arith in

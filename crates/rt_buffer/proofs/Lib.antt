@@ -1,6 +1,14 @@
+pub mod Changes
+pub mod Cut
+pub mod Durable
 pub mod Flat
+pub mod Kept
 pub mod Laid
 pub mod Memory
+pub mod Merging
+pub mod Mocks
 pub mod Noting
+pub mod Overlaid
+pub mod Shown
 pub mod Steps
 pub mod Written

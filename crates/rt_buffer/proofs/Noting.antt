@@ -1,6 +1,6 @@
 -- What is noted by one call after another.
-use Rattle.std.proofs.Common.{◌≡◌, ℕ, List, ◌++◌, Option, Some, None, Result, Ok, refl, ap, ◌∙◌, subst}
-use Rattle.std.proofs.lemmas.List.{append_assoc}
+use Rattle.std.proofs.Common.{◌≡◌, ℕ, List, [], ◌++◌, Option, Some, None, Result, Ok, refl, sym, ap, ◌∙◌, subst}
+use Rattle.std.proofs.lemmas.List.{append_assoc, append-nil}
 use Rattle.rt_base.specs.declared.error.Error.{Error}
 use Rattle.rt_base.specs.Noted.{Noted, Adds}
 use Rattle.rt_base.specs.Counted.{Notes}
@@ -12,6 +12,10 @@ adds_both None mid new xs ys h k = tt
 adds_both (Some zs) mid new xs ys h k =
     let there : new ≡ Some ((zs ++ xs) ++ ys) = subst (λ m. Adds m ys new) h k in
     there ∙ ap (λ ws. let o : Option (List Noted) = Some ws in o) (append_assoc zs xs ys)
+
+pub adds_none : (old : Option (List Noted)) → Adds old [] old
+adds_none None = tt
+adds_none (Some xs) = ap (λ (ys : List Noted). let o : Option (List Noted) = Some ys in o) (sym (append-nil xs))
 
 -- a sync behind a change of the length
 pub synced_behind : {S B : Type 0} (resizes : S → B → ℕ → Result Unit Error → S → List Noted → Type 0) (syncs : S → B → Result Done Error → S → List Noted → Type 0)

@@ -1,4 +1,9 @@
+pub mod Calls
+pub mod Durable
 pub mod Flat
+pub mod Memory
+pub mod Mocks
+pub mod Pieces
 pub mod Reading
 pub mod Steps
 pub mod Tip

@@ -1,5 +1,5 @@
 -- The tip of a blob: bytes that lie over its content from an offset on.
-use Rattle.std.specs.Prelude.{ℕ, ◌+◌, ◌-◌, ◌^◌, Bool, ◌&&◌, nat_le, nat_lt, if◌then◌else◌, List, [], ◌∷◌, length, take, Option, Some, None}
+use Rattle.std.specs.Prelude.{ℕ, ◌+◌, ◌-◌, ◌^◌, max, Bool, ◌&&◌, nat_le, nat_lt, if◌then◌else◌, List, [], ◌∷◌, length, take, Option, Some, None}
 use Rattle.rt_store.specs.Content.{written}
 
 -- `capacity` is how far behind the offset a write may end that goes into the tip
@@ -47,3 +47,7 @@ resized_tip t len = if nat_le (end_of t) len then empty_tip len t.capacity else 
 -- the bytes to write out before the blob gets a new length, which is no shorter than the end of the tip
 abbrev pub bytes_before : Tip → ℕ → Option (List ℕ × ℕ)
 bytes_before t len = if nat_le (end_of t) len then bytes_to_write t else None
+
+-- the tip once its blob has bytes up to this place: where it has none of its own it begins no earlier
+abbrev pub raised : Tip → ℕ → Tip
+raised t end = elim t.bytes [ [] ↦ empty_tip (max t.offset end) t.capacity | b ∷ bs ↦ t ]

@@ -1,5 +1,5 @@
 -- What a writer answers from its tip and its blob.
-use Rattle.std.specs.Prelude.{◌≡◌, ℕ, ◌-◌, ◌≤◌, min, Bool, true, false, not, ◌||◌, List, [], ◌∷◌, ◌++◌, length, take, drop, Result, Ok, Err}
+use Rattle.std.specs.Prelude.{◌≡◌, ℕ, ◌-◌, ◌≤◌, min, Bool, true, false, not, ◌||◌, ◌&&◌, nat_lt, List, [], ◌∷◌, ◌++◌, length, take, drop, Result, Ok, Err}
 use Rattle.rt_base.specs.Counted.{Counts}
 use Rattle.rt_base.specs.declared.error.Error.{Error}
 use Rattle.rt_base.specs.declared.error.Error.TheVariants.{NoMemory}
@@ -21,6 +21,10 @@ is_clean (Started t) = false
 abbrev pub has_bytes : List ℕ → Bool
 has_bytes [] = false
 has_bytes (b ∷ bs) = true
+
+-- a tip has bytes, and they begin before this place
+abbrev pub is_in_the_way : Tip → ℕ → Bool
+is_in_the_way t end = has_bytes t.bytes && nat_lt t.offset end
 
 -- bytes are held back, or a change may not be durable
 abbrev pub needs_sync : Tip → SyncState → Bool

@@ -3,16 +3,28 @@
 #![tactic(auto)]
 
 mod ahead;
+mod held;
+#[cfg(test)]
+mod mock_tests;
+mod pieces;
 mod read;
+mod sync_fault;
+mod sync_handle;
 mod sync_state;
 #[cfg(test)]
 mod tests;
 mod tip;
 mod write;
+mod write_fault;
 mod write_op;
 
+pub use held::Held;
+pub use pieces::Pieces;
 pub use read::Read;
+pub use sync_fault::{SyncFaultBlob, SyncFaultContext};
+pub use sync_handle::{Begun, Started, SyncHandle};
 pub use sync_state::SyncState;
 pub use tip::Buffer;
 pub use write::Write;
+pub use write_fault::{WriteFaultBlob, WriteFaultContext, WriteFaults};
 pub use write_op::{Rest, Step, Stepped, WriteOp};

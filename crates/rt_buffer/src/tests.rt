@@ -1,12 +1,18 @@
 // The worked examples, and each call once.
 
-ghost use Rattle.std.specs.Prelude.{◌≡◌, IfOk, take, drop};
+ghost use Rattle.std.specs.Prelude.{◌≡◌, IfOk, List, Some, ⊤, take, drop};
+ghost use Rattle.rt_base.specs.declared.choice.Choice.{Choice};
+ghost use Rattle.rt_buffer.specs.Durable.{IfStepped, KnowsState};
 ghost use Rattle.rt_buffer.specs.Flat.{StandsFor};
+ghost use Rattle.rt_buffer.specs.Memory.{memory_bytes, memory_left, memory_promised};
+ghost use Rattle.rt_buffer.specs.Tip.{laid_over};
+ghost use Rattle.rt_buffer.specs.Writing.{LiesOver};
 ghost use Rattle.rt_store.specs.Calls.{blob_of};
+ghost use Rattle.rt_store.specs.File.{FileState, crashed};
 ghost use Rattle.rt_store.specs.Store.{content_at};
 
-use crate::{Buffer, Read, Step, Stepped, Write};
-use rt_base::{Error, NoEnv, NoMemory, WriteOptions};
+use crate::{Begun, Buffer, Read, Started, Step, Stepped, SyncHandle, Write};
+use rt_base::{Error, NoEnv, NoMemory, Poll, WriteOptions};
 use rt_bufs::{IoBuf, IoBufs};
 use rt_store::{BlobOf, Done, FaultConfig, MemStore, Storage};
 use std::alloc::Global;
@@ -92,7 +98,7 @@ fn tip_is_resized(rt: HostRuntime) -> Result<(), Fail> {
 }
 
 /// Buffers of these bytes.
-fn bufs(alloc: Global, bytes: &[u8]) -> Result<IoBufs, NoMemory> {
+pub fn bufs(alloc: Global, bytes: &[u8]) -> Result<IoBufs, NoMemory> {
     let mut copy = Vec::new(alloc);
     copy.extend_from_slice(bytes)?;
     IoBufs::from_buf(alloc, IoBuf::from_vec(copy)?)
@@ -244,7 +250,7 @@ fn tip_is_read_over_its_blob(rt: HostRuntime) -> Result<(), Fail> {
 }
 
 /// The writer that a call gave back.
-fn done(store: &mut MemStore, step: Step<MemStore>) -> Result<Write<MemStore>, Error> {
+pub fn done<S: Storage>(store: &mut S, step: Step<S>) -> Result<Write<S>, Error> {
     match step {
         Stepped::Done(writer) => Ok(writer),
         Stepped::Waiting(op) => {
@@ -255,29 +261,47 @@ fn done(store: &mut MemStore, step: Step<MemStore>) -> Result<Write<MemStore>, E
     }
 }
 
-/// Writes bytes behind those of a writer and makes them durable.
-fn append(
-    store: &mut MemStore,
-    mut writer: Write<MemStore>,
+/// Writes bytes in one chunk.
+pub fn put<S: Storage>(
+    alloc: Global,
+    store: &mut S,
+    writer: Write<S>,
+    offset: u64,
     bytes: &[u8],
-) -> Result<Write<MemStore>, Error> {
-    let size = writer.size();
-    match writer.try_write_at(size, bytes) {
-        Ok(true) => {
-            let step = writer.sync(store, &mut NoEnv, 1);
+) -> Result<Write<S>, Error> {
+    match bufs(alloc, bytes) {
+        Ok(bytes) => {
+            let step = writer.write_at(store, &mut NoEnv, offset, bytes, 1);
             done(store, step)
         }
-        _ => {
+        Err(_) => {
             writer.close(store);
-            Err(Error::WriteFailed)
+            Err(Error::NoMemory)
         }
     }
 }
 
-/// Writes `hello world!` in two parts.
-fn write_text(store: &mut MemStore, writer: Write<MemStore>) -> Result<(), Error> {
-    let writer = append(store, writer, b"hello")?;
-    let writer = append(store, writer, b" world!")?;
+pub fn synced<S: Storage>(store: &mut S, writer: Write<S>) -> Result<Write<S>, Error> {
+    let step = writer.sync(store, &mut NoEnv, 1);
+    done(store, step)
+}
+
+/// A sync, by what each crash leaves of the blob.
+fn saved(store: &mut MemStore, writer: Write<MemStore>) -> Step<MemStore>
+    ensures { LiesOver writer.held.tip (memory_bytes store.old writer.blob) → KnowsState memory_bytes memory_left memory_promised writer.held.state store.old writer.blob →
+        IfStepped result (λ _. (blob : FileState) (choices : List Choice) → blob_of store.new writer.blob ≡ Some blob → (crashed choices blob).content ≡ laid_over writer.held.tip (memory_bytes store.old writer.blob)) (λ _. ⊤) }
+{
+    writer.sync(store, &mut NoEnv, 1)
+}
+
+/// Writes `hello world!` in three parts.
+fn write_text(alloc: Global, store: &mut MemStore, writer: Write<MemStore>) -> Result<(), Error> {
+    let writer = put(alloc, store, writer, 0, b"hello")?;
+    let writer = synced(store, writer)?;
+    let writer = put(alloc, store, writer, 5, b" world")?;
+    let writer = put(alloc, store, writer, 11, b"!")?;
+    let step = saved(store, writer);
+    let writer = done(store, step)?;
     let step = writer.wait_for_sync(store, &mut NoEnv, 1);
     done(store, step)?.close(store);
     Ok(())
@@ -303,7 +327,7 @@ fn written_blob_is_read_back(rt: HostRuntime) -> Result<(), Fail> {
     match store.open(&mut NoEnv, "p", b"a") {
         Ok((blob, len)) => {
             let writer = Write::new(alloc, blob, len, 16);
-            assert_eq!(rt; write_text(&mut store, writer), Ok(()));
+            assert_eq!(rt; write_text(alloc, &mut store, writer), Ok(()));
         }
         Err(error) => panic!(rt; "{error}"),
     }
@@ -336,6 +360,125 @@ fn writer_is_resized(rt: HostRuntime) -> Result<(), Fail> {
         Ok((blob, len)) => {
             let writer = Write::new(alloc, blob, len, 16);
             assert_eq!(rt; resize_text(&rt, &mut store, writer), Ok(()));
+        }
+        Err(error) => panic!(rt; "{error}"),
+    }
+    Ok(())
+}
+
+/// Two chunks, the first of three bytes.
+fn two_chunks(alloc: Global) -> Result<IoBufs, NoMemory> {
+    let mut chunks = bufs(alloc, b"abc")?;
+    chunks.append_all(bufs(alloc, b"def")?)?;
+    Ok(chunks)
+}
+
+/// Writes that go into a tip of four bytes, through it, past it and before it.
+fn write_chunks(
+    rt: &impl Abort,
+    alloc: Global,
+    store: &mut MemStore,
+    writer: Write<MemStore>,
+    chunks: IoBufs,
+) -> Result<Write<MemStore>, Error> {
+    let step = writer.write_at(store, &mut NoEnv, 0, chunks, 1);
+    let writer = done(store, step)?;
+    assert!(rt; are(writer.read_at(store, &mut NoEnv, 0, 6), b"abcdef"));
+    let writer = put(alloc, store, writer, 6, b"0123456789")?;
+    assert_eq!(rt; writer.size(), 16);
+    let writer = put(alloc, store, writer, 2, b"xy")?;
+    let writer = put(alloc, store, writer, 18, b"z")?;
+    assert!(rt;
+        are(
+            writer.read_at(store, &mut NoEnv, 0, 19),
+            b"abxyef0123456789\0\0z"
+        )
+    );
+    Ok(writer)
+}
+
+/// Whether a write past the end of numbers is refused so.
+fn overflows(alloc: Global, store: &mut MemStore, writer: Write<MemStore>) -> bool {
+    match put(alloc, store, writer, u64::MAX, b"ab") {
+        Ok(writer) => {
+            writer.close(store);
+            false
+        }
+        Err(error) => error == Error::OffsetOverflow,
+    }
+}
+
+#[test]
+fn chunks_are_written(rt: HostRuntime) -> Result<(), Fail> {
+    let alloc = rt.alloc();
+    let mut store = MemStore::new(alloc, FaultConfig::default())?;
+    let chunks = two_chunks(alloc)?;
+    match store.open(&mut NoEnv, "p", b"a") {
+        Ok((blob, len)) => {
+            let writer = Write::new(alloc, blob, len, 4);
+            match write_chunks(&rt, alloc, &mut store, writer, chunks) {
+                Ok(writer) => assert!(rt; overflows(alloc, &mut store, writer)),
+                Err(error) => panic!(rt; "{error}"),
+            }
+        }
+        Err(error) => panic!(rt; "{error}"),
+    }
+    Ok(())
+}
+
+/// The writer and the handle that a start gave.
+fn begun(
+    store: &mut MemStore,
+    started: Started<MemStore>,
+) -> Result<(Write<MemStore>, SyncHandle), Error> {
+    match started {
+        Begun::Done(writer, handle) => Ok((writer, handle)),
+        Begun::Waiting(op) => {
+            op.give_up(store);
+            Err(Error::Timeout)
+        }
+        Begun::Failed(error) => Err(error),
+    }
+}
+
+/// Starts a sync, asks for it, and starts one where nothing is to be synced.
+fn start_syncs(
+    rt: &impl Abort,
+    alloc: Global,
+    store: &mut MemStore,
+    writer: Write<MemStore>,
+) -> Result<(), Error> {
+    let writer = put(alloc, store, writer, 0, b"ab")?;
+    let started = writer.start_sync(store, &mut NoEnv, 1);
+    let (mut writer, mut handle) = begun(store, started)?;
+    assert!(rt; writer.needs_sync());
+    assert_eq!(rt;
+        handle.poll(&mut writer, store, &mut NoEnv, 1),
+        Poll::Ready(Ok(()))
+    );
+    assert!(rt; !writer.needs_sync());
+    let started = writer.start_sync(store, &mut NoEnv, 1);
+    let (mut writer, mut other) = begun(store, started)?;
+    assert_eq!(rt;
+        other.poll(&mut writer, store, &mut NoEnv, 1),
+        Poll::Ready(Ok(()))
+    );
+    assert_eq!(rt;
+        handle.poll(&mut writer, store, &mut NoEnv, 1),
+        Poll::Ready(Ok(()))
+    );
+    writer.close(store);
+    Ok(())
+}
+
+#[test]
+fn sync_is_started(rt: HostRuntime) -> Result<(), Fail> {
+    let alloc = rt.alloc();
+    let mut store = MemStore::new(alloc, FaultConfig::default())?;
+    match store.open(&mut NoEnv, "p", b"a") {
+        Ok((blob, len)) => {
+            let writer = Write::new(alloc, blob, len, 16);
+            assert_eq!(rt; start_syncs(&rt, alloc, &mut store, writer), Ok(()));
         }
         Err(error) => panic!(rt; "{error}"),
     }

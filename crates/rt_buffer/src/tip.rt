@@ -1,8 +1,11 @@
 // The last bytes of a blob, held back from it.
-ghost use Rattle.std.specs.Prelude.{◌≡◌, ◌+◌, ◌-◌, ◌^◌, ◌<◌, ◌≤◌, ◌↔◌, [], ◌++◌, IsTrue, Some, None, if◌then◌else◌, length, take, drop, replicate, slice_range, IfOk, OnOk, OnErr};
-ghost use Rattle.rt_buffer.specs.Tip.{empty_tip, end_of, is_within, merged, bytes_to_write, drained, resized_tip, bytes_before};
+ghost use Rattle.std.specs.Prelude.{◌≡◌, ◌+◌, ◌-◌, ◌^◌, ◌<◌, ◌≤◌, ◌↔◌, [], ◌++◌, IsTrue, Some, None, if◌then◌else◌, length, take, drop, replicate, slice_range, true, IfOk, OnOk, OnErr};
+ghost use Rattle.rt_buffer.specs.Pieces.{merged_chunks};
+ghost use Rattle.rt_buffer.specs.Tip.{empty_tip, end_of, is_within, merged, bytes_to_write, drained, resized_tip, bytes_before, raised};
+ghost use Rattle.rt_buffer.specs.Writing.{is_in_the_way};
 ghost use Rattle.rt_store.specs.Content.{written};
 
+use crate::pieces::Pieces;
 use rt_base::NoMemory;
 use rt_bufs::{IoBuf, IoBufMut};
 use std::alloc::Global;
@@ -133,6 +136,7 @@ impl Buffer {
         ensures within { IfOk result (λ yes. yes ≡ is_within self.old offset (length bytes.now)) }
         ensures merged { OnOk result (self.new ≡ (if is_within self.old offset (length bytes.now) then merged self.old bytes.now offset else self.old)) }
         ensures refused { OnErr result (self.new ≡ self.old) }
+        ensures reaches { OnErr result (is_within self.old offset (length bytes.now) ≡ true) }
     {
         match self.place_for(offset, bytes.len()) {
             Some(at) => {
@@ -140,6 +144,37 @@ impl Buffer {
                 Ok(true)
             }
             None => Ok(false),
+        }
+    }
+
+    /// Puts chunks in one behind the other, up to the first that doesn't lie within its reach, and leaves the others. After
+    /// `NoMemory` some are in.
+    pub fn merge_chunks(&mut self, left: &mut Pieces) -> Result<(), NoMemory>
+        ensures tip { OnOk result (self.new ≡ (merged_chunks self.old left.old.at left.old.chunks).tip) }
+        ensures left { OnOk result (left.new ≡ (merged_chunks self.old left.old.at left.old.chunks).left) }
+    {
+        while !left.is_empty() {
+            if !self.merge(left.first(), left.at())? {
+                return Ok(());
+            }
+            let _ = left.next();
+        }
+        Ok(())
+    }
+
+    /// Whether it has bytes, and they begin before this place.
+    pub fn is_in_the_way(&self, end: u64) -> bool
+        ensures { result ≡ is_in_the_way self.now end }
+    {
+        !self.bytes.is_empty() && self.offset < end
+    }
+
+    /// Follows a write to the blob that ends here: where no bytes are held, the tip begins no earlier.
+    pub fn raise(&mut self, end: u64)
+        ensures { self.new ≡ raised self.old end }
+    {
+        if self.bytes.is_empty() {
+            self.offset = self.offset.max(end);
         }
     }
 

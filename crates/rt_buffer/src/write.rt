@@ -1,19 +1,25 @@
 // A writer of a blob that holds the last bytes back.
-ghost use Rattle.std.specs.Prelude.{◌≡◌, ◌+◌, ◌-◌, ◌^◌, ◌<◌, ◌≤◌, ℕ, [], List, Ok, Err, IfOk, OnErr, OnOk, length, take, drop, if◌then◌else◌, ◌||◌, ◌&&◌, not, true, false, Some, None};
+ghost use Rattle.std.specs.Prelude.{◌≡◌, ◌+◌, ◌-◌, ◌^◌, ◌<◌, ◌≤◌, ℕ, [], List, Ok, Err, IfOk, OnErr, OnOk, length, take, drop, if◌then◌else◌, ◌||◌, ◌&&◌, not, true, false, Option, Some, None};
 ghost use Rattle.rt_base.specs.Counted.{Notes};
 ghost use Rattle.rt_base.specs.declared.error.Error.{Error};
+ghost use Rattle.rt_buffer.specs.Calls.{calls};
 ghost use Rattle.rt_buffer.specs.declared.sync_state.SyncState.{SyncState};
+ghost use Rattle.rt_buffer.specs.Durable.{HoldsSync, IfBegun, IfStepped, Keeping, Keeps, KeepsBytes, KnowsState, Shows};
 ghost use Rattle.rt_buffer.specs.Flat.{HasBytes};
-ghost use Rattle.rt_buffer.specs.Steps.{Progress, Writer, is_started, IfStarted, AreBuffers, Then, Ends, seen_step, ResizesBlob, ResizesTip, Resizes, Waits, Settles, SyncsBlob, WritesDurably, WritesOut, Saves, Syncs};
+ghost use Rattle.rt_buffer.specs.Pieces.{with_bytes};
+ghost use Rattle.rt_buffer.specs.Steps.{AreBuffers, Begins, Drains, Ends, Finishes, IfStarted, MergesChunk, Puts, PutsAgain, PutsAll, ResizesBlob, ResizesTip, Runs, Saves, Settles, Starts, SyncsBlob, Then, Waits, WritesAt, WritesChunk, WritesDurably, WritesOut, is_started, seen_start, seen_step, with_state, with_tip, writer};
 ghost use Rattle.rt_buffer.specs.Tip.{empty_tip, bytes_to_write, bytes_before, drained, resized_tip, end_of, is_within, merged, laid_over};
-ghost use Rattle.rt_buffer.specs.Writing.{is_clean, needs_sync, has_bytes, ReadsTip, ReadsThrough, LiesOver, ClosesWriter};
-ghost use Rattle.rt_store.specs.Content.{written};
+ghost use Rattle.rt_buffer.specs.Writing.{has_bytes, needs_sync, ReadsTip, ReadsThrough, LiesOver, ClosesWriter};
+ghost use Rattle.rt_store.specs.Content.{resized, written};
+ghost use Rattle.rt_store.specs.declared.ticket.Ticket.{Ticket};
 
+use crate::held::Held;
+use crate::pieces::Pieces;
+use crate::sync_handle::{Started, handed};
 use crate::sync_state::SyncState;
-use crate::tip::Buffer;
 use crate::write_op::{Rest, Step, Stepped, WriteOp};
 use rt_base::{Env, Error, NoMemory, Poll, ReadOptions, WriteOptions};
-use rt_bufs::IoBufs;
+use rt_bufs::{IoBuf, IoBufs};
 use rt_store::{BlobOf, Done, Storage};
 use std::alloc::Global;
 use std::mem;
@@ -22,9 +28,8 @@ use std::mem;
 ///
 /// The last bytes are held back in a tip: so it stands for the blob's bytes with the tip laid over them.
 pub struct Write<S: Storage> {
-    blob: BlobOf<S>,
-    tip: Buffer,
-    state: SyncState,
+    pub(crate) blob: BlobOf<S>,
+    pub(crate) held: Held,
     alloc: Global,
 }
 
@@ -33,32 +38,29 @@ impl<S: Storage> Write<S> {
     pub fn new(alloc: Global, blob: BlobOf<S>, size: u64, capacity: usize) -> Write<S>
         requires { 0 < capacity }
         ensures blob { result.blob ≡ blob }
-        ensures tip { result.tip ≡ empty_tip size capacity }
-        ensures dirty { result.state ≡ SyncState.Dirty }
+        ensures tip { result.held.tip ≡ empty_tip size capacity }
+        ensures dirty { result.held.state ≡ SyncState.Dirty }
+        ensures syncs { result.held.syncs ≡ 0 }
     {
         Write {
             blob,
-            tip: Buffer::new(alloc, size, capacity),
-            state: SyncState::Dirty,
+            held: Held::new(alloc, size, capacity),
             alloc,
         }
     }
 
     /// How long the blob is with the bytes that are held back.
     pub fn size(&self) -> u64
-        ensures { result ≡ end_of self.now.tip }
+        ensures { result ≡ end_of self.now.held.tip }
     {
-        self.tip.size()
+        self.held.tip.size()
     }
 
     /// Whether bytes are held back, or a change may not be durable.
     pub fn needs_sync(&self) -> bool
-        ensures { result ≡ needs_sync self.now.tip self.now.state }
+        ensures { result ≡ needs_sync self.now.held.tip self.now.held.state }
     {
-        match self.state {
-            SyncState::Clean => !self.tip.is_empty(),
-            SyncState::Dirty | SyncState::Started(_) => true,
-        }
+        self.held.needs_sync()
     }
 
     /// The `len` bytes from `offset` on.
@@ -73,23 +75,23 @@ impl<S: Storage> Write<S> {
         len: usize,
     ) -> Result<IoBufs, Error>
         ensures overflow { 2 ^ 64 ≤ offset + len → (result ≡ Err Error.OffsetOverflow) × (store.new ≡ store.old) × (env.new ≡ env.old) }
-        ensures insufficient { offset + len < 2 ^ 64 → end_of self.now.tip < offset + len → (result ≡ Err Error.BlobInsufficientLength) × (store.new ≡ store.old) × (env.new ≡ env.old) }
-        ensures from_tip { offset + len ≤ end_of self.now.tip → self.now.tip.offset ≤ offset → ReadsTip self.now.tip offset len result × (store.new ≡ store.old) × (env.new ≡ env.old) }
-        ensures nothing { offset ≤ end_of self.now.tip → len ≡ 0 → IfOk result (λ b. b.bytes ≡ []) × (store.new ≡ store.old) × (env.new ≡ env.old) }
-        ensures from_blob { offset + len ≤ end_of self.now.tip → offset < self.now.tip.offset → 0 < len →
-            Notes (E.noted env.old) (λ x. ReadsThrough S.reads S.refusals self.now.blob self.now.tip offset len store.old result store.new x) (E.noted env.new) }
-        ensures flat { (bytes : S → S.Blob → List ℕ) → HasBytes S.reads bytes → LiesOver self.now.tip (bytes store.old self.now.blob) →
-            IfOk result (λ b. b.bytes ≡ take len (drop offset (laid_over self.now.tip (bytes store.old self.now.blob)))) }
+        ensures insufficient { offset + len < 2 ^ 64 → end_of self.now.held.tip < offset + len → (result ≡ Err Error.BlobInsufficientLength) × (store.new ≡ store.old) × (env.new ≡ env.old) }
+        ensures from_tip { offset + len ≤ end_of self.now.held.tip → self.now.held.tip.offset ≤ offset → ReadsTip self.now.held.tip offset len result × (store.new ≡ store.old) × (env.new ≡ env.old) }
+        ensures nothing { offset ≤ end_of self.now.held.tip → len ≡ 0 → IfOk result (λ b. b.bytes ≡ []) × (store.new ≡ store.old) × (env.new ≡ env.old) }
+        ensures from_blob { offset + len ≤ end_of self.now.held.tip → offset < self.now.held.tip.offset → 0 < len →
+            Notes (E.noted env.old) (λ x. ReadsThrough S.reads S.refusals self.now.blob self.now.held.tip offset len store.old result store.new x) (E.noted env.new) }
+        ensures flat { (bytes : S → S.Blob → List ℕ) → HasBytes S.reads bytes → LiesOver self.now.held.tip (bytes store.old self.now.blob) →
+            IfOk result (λ b. b.bytes ≡ take len (drop offset (laid_over self.now.held.tip (bytes store.old self.now.blob)))) }
         ensures spent { E.spare env.old ≤ E.spare env.new + S.most }
     {
-        let size = self.tip.size();
+        let size = self.held.tip.size();
         let Some(end) = offset.checked_add(len as u64) else {
             return Err(Error::OffsetOverflow);
         };
         if size < end {
             return Err(Error::BlobInsufficientLength);
         }
-        match self.tip.offset().checked_sub(offset) {
+        match self.held.tip.offset().checked_sub(offset) {
             None | Some(0) => self.read_tip(offset, len),
             Some(_) if len == 0 => Ok(IoBufs::new(self.alloc)),
             Some(before) => self.read_through(store, env, offset, len, before),
@@ -99,30 +101,34 @@ impl<S: Storage> Write<S> {
     /// Puts bytes into the tip, and answers whether they lie within its reach. No bytes always do. Else, and after
     /// `NoMemory`, nothing has changed.
     pub fn try_write_at(&mut self, offset: u64, bytes: &[u8]) -> Result<bool, NoMemory>
-        ensures within { IfOk result (λ yes. yes ≡ (not (has_bytes bytes.now) || is_within self.old.tip offset (length bytes.now))) }
-        ensures merged { OnOk result (self.new.tip ≡ (if has_bytes bytes.now && is_within self.old.tip offset (length bytes.now) then merged self.old.tip bytes.now offset else self.old.tip)) }
-        ensures refused { OnErr result (self.new.tip ≡ self.old.tip) }
+        ensures within { IfOk result (λ yes. yes ≡ (not (has_bytes bytes.now) || is_within self.old.held.tip offset (length bytes.now))) }
+        ensures merged { OnOk result (self.new.held.tip ≡ (if has_bytes bytes.now && is_within self.old.held.tip offset (length bytes.now) then merged self.old.held.tip bytes.now offset else self.old.held.tip)) }
+        ensures refused { OnErr result (self.new.held.tip ≡ self.old.held.tip) }
         ensures blob { self.new.blob ≡ self.old.blob }
-        ensures state { self.new.state ≡ self.old.state }
-        ensures flat { (content : List ℕ) → LiesOver self.old.tip content → has_bytes bytes.now ≡ true → result ≡ Ok true →
-            LiesOver self.new.tip content × (laid_over self.new.tip content ≡ written offset bytes.now (laid_over self.old.tip content)) }
+        ensures state { self.new.held.state ≡ self.old.held.state }
+        ensures flat { (content : List ℕ) → LiesOver self.old.held.tip content → has_bytes bytes.now ≡ true → result ≡ Ok true →
+            LiesOver self.new.held.tip content × (laid_over self.new.held.tip content ≡ written offset bytes.now (laid_over self.old.held.tip content)) }
     {
         if bytes.is_empty() {
             return Ok(true);
         }
-        self.tip.merge(bytes, offset)
+        self.held.tip.merge(bytes, offset)
     }
 
     /// Closes the blob, and gives a started sync up. The bytes that are held back are lost. It takes no memory.
     pub fn close(self, store: &mut S)
-        ensures closed { ClosesWriter S.gives_sync_up S.closes self.state self.blob store.old store.new }
+        ensures closed { ClosesWriter S.gives_sync_up S.closes self.held.state self.blob store.old store.new }
     {
         let Write {
             blob,
-            tip: _,
-            state,
+            held,
             alloc: _,
         } = self;
+        let Held {
+            tip: _,
+            state,
+            syncs: _,
+        } = held;
         match state {
             SyncState::Clean | SyncState::Dirty => {}
             SyncState::Started(ticket) => store.give_up_sync(ticket),
@@ -130,40 +136,114 @@ impl<S: Storage> Write<S> {
         store.close(blob);
     }
 
+    /// Writes bytes from `offset` on, chunk by chunk. Those that lie within the tip's reach, one after the other, go into it
+    /// at once. The others wait for a started sync first; then each goes into the tip where it can, behind a write of the
+    /// bytes that are held back where those begin before its end, and to the blob else.
+    ///
+    /// Errors: `OffsetOverflow` where they end past a `u64`, that of the started sync, the store's refusal, `NoMemory`. After
+    /// one the blob is closed.
+    pub fn write_at<E: Env>(
+        mut self,
+        store: &mut S,
+        env: &mut E,
+        offset: u64,
+        bufs: IoBufs,
+        task: u64,
+    ) -> Step<S>
+        ensures overflow { 2 ^ 64 ≤ offset + length bufs.bytes → Ends (calls S.refusals S.polls_sync S.gives_sync_up S.writes S.resizes S.syncs S.starts_sync S.closes) self.blob Rest.Nothing (Err Error.OffsetOverflow) (writer store.old self.held) store.new (seen_step (λ w. (w.blob, w.held)) (λ p. ((p.write.blob, p.write.held), p.rest)) result) × (env.new ≡ env.old) }
+        ensures writes { offset + length bufs.bytes < 2 ^ 64 → Notes (E.noted env.old) (λ x. WritesAt (calls S.refusals S.polls_sync S.gives_sync_up S.writes S.resizes S.syncs S.starts_sync S.closes) self.blob offset bufs.chunks task (writer store.old self.held) store.new (seen_step (λ w. (w.blob, w.held)) (λ p. ((p.write.blob, p.write.held), p.rest)) result) x) (E.noted env.new) }
+        ensures flat { (bytes : S → S.Blob → List ℕ) → (left : S → S.Blob → Option (List ℕ)) → (promised : S → Ticket → S.Blob → Option (List ℕ)) →
+            KeepsBytes (calls S.refusals S.polls_sync S.gives_sync_up S.writes S.resizes S.syncs S.starts_sync S.closes) bytes left promised → LiesOver self.held.tip (bytes store.old self.blob) → KnowsState bytes left promised self.held.state store.old self.blob →
+            IfStepped result (λ w. Shows bytes left promised (with_bytes offset bufs.bytes (laid_over self.held.tip (bytes store.old self.blob))) w.held store.new self.blob) (λ p. Keeping bytes left promised (with_bytes offset bufs.bytes (laid_over self.held.tip (bytes store.old self.blob))) p.rest p.write.held store.new self.blob) }
+    {
+        let mut left = match Pieces::new(self.alloc, offset, bufs) {
+            Ok(left) => left,
+            Err(error) => return self.end(store, Err(error), Rest::Nothing),
+        };
+        match self.held.tip.merge_chunks(&mut left) {
+            Err(_) => self.end(store, Err(Error::NoMemory), Rest::Nothing),
+            Ok(()) if left.is_empty() => Stepped::Done(self),
+            Ok(()) => self.run(store, env, Rest::Write(left), task),
+        }
+    }
+
     /// Makes the bytes that are held back, and all changes, durable. It waits for a started sync first. Where no change is
     /// open, they are one durable write; and where there are none either, the store isn't called.
     ///
     /// Errors: that of the started sync, the store's refusal, `NoMemory`. After one the blob is closed.
-    pub fn sync<E: Env>(mut self, store: &mut S, env: &mut E, task: u64) -> Step<S>
-        ensures syncs { Notes (E.noted env.old) (λ x. (r : Progress) × (left : Writer S) × Syncs S.polls_sync S.gives_sync_up S.writes S.syncs self.blob task (record { store = store.old; tip = self.tip; state = self.state }) r left x × Ends S.gives_sync_up S.closes self.blob Rest.Sync r left store.new (seen_step (λ w. record { blob = w.blob; tip = w.tip; state = w.state }) (λ p. (record { blob = p.write.blob; tip = p.write.tip; state = p.write.state }, p.rest)) result)) (E.noted env.new) }
+    pub fn sync<E: Env>(self, store: &mut S, env: &mut E, task: u64) -> Step<S>
+        ensures runs { Notes (E.noted env.old) (λ x. Runs (calls S.refusals S.polls_sync S.gives_sync_up S.writes S.resizes S.syncs S.starts_sync S.closes) self.blob Rest.Sync task (writer store.old self.held) store.new (seen_step (λ w. (w.blob, w.held)) (λ p. ((p.write.blob, p.write.held), p.rest)) result) x) (E.noted env.new) }
+        ensures durable { (bytes : S → S.Blob → List ℕ) → (left : S → S.Blob → Option (List ℕ)) → (promised : S → Ticket → S.Blob → Option (List ℕ)) →
+            KeepsBytes (calls S.refusals S.polls_sync S.gives_sync_up S.writes S.resizes S.syncs S.starts_sync S.closes) bytes left promised → LiesOver self.held.tip (bytes store.old self.blob) → KnowsState bytes left promised self.held.state store.old self.blob →
+            IfStepped result (λ w. Keeps bytes left promised (laid_over self.held.tip (bytes store.old self.blob)) Rest.Sync w.held store.new self.blob) (λ p. Keeping bytes left promised (laid_over self.held.tip (bytes store.old self.blob)) p.rest p.write.held store.new self.blob) }
     {
-        let progress = self.wait_and_save(store, env, task);
-        self.end(store, progress, Rest::Sync)
+        self.run(store, env, Rest::Sync, task)
+    }
+
+    /// Writes the bytes that are held back, once a sync that was started before is done, and starts a sync of all changes.
+    /// Where there are none, it shares a sync that was started before, and where no change is open, its handle is done.
+    ///
+    /// Errors: that of the sync that was started before, the store's refusal, `NoMemory`. After one the blob is closed.
+    pub fn start_sync<E: Env>(mut self, store: &mut S, env: &mut E, task: u64) -> Started<S>
+        ensures starts { Notes (E.noted env.old) (λ x. Starts (calls S.refusals S.polls_sync S.gives_sync_up S.writes S.resizes S.syncs S.starts_sync S.closes) self.blob task (writer store.old self.held) store.new (seen_start (λ w. (w.blob, w.held)) (λ p. ((p.write.blob, p.write.held), p.rest)) result) x) (E.noted env.new) }
+        ensures durable { (bytes : S → S.Blob → List ℕ) → (left : S → S.Blob → Option (List ℕ)) → (promised : S → Ticket → S.Blob → Option (List ℕ)) →
+            KeepsBytes (calls S.refusals S.polls_sync S.gives_sync_up S.writes S.resizes S.syncs S.starts_sync S.closes) bytes left promised → LiesOver self.held.tip (bytes store.old self.blob) → KnowsState bytes left promised self.held.state store.old self.blob →
+            IfBegun result (λ w. Keeps bytes left promised (laid_over self.held.tip (bytes store.old self.blob)) Rest.Start w.held store.new self.blob) (λ p. Keeping bytes left promised (laid_over self.held.tip (bytes store.old self.blob)) p.rest p.write.held store.new self.blob) }
+    {
+        if self.held.tip.is_empty() {
+            let progress = self.begin(store, env);
+            return handed(self.end(store, progress, Rest::Nothing));
+        }
+        handed(self.run(store, env, Rest::Start, task))
     }
 
     /// Gives the blob another length, once a started sync is done. Bytes that are held back and not cut are written first.
     ///
     /// Errors: that of the started sync, the store's refusal, `NoMemory`. After one the blob is closed.
-    pub fn resize<E: Env>(mut self, store: &mut S, env: &mut E, len: u64, task: u64) -> Step<S>
-        ensures resizes { Notes (E.noted env.old) (λ x. (r : Progress) × (left : Writer S) × Resizes S.polls_sync S.gives_sync_up S.writes S.resizes self.blob len task (record { store = store.old; tip = self.tip; state = self.state }) r left x × Ends S.gives_sync_up S.closes self.blob (Rest.Resize len) r left store.new (seen_step (λ w. record { blob = w.blob; tip = w.tip; state = w.state }) (λ p. (record { blob = p.write.blob; tip = p.write.tip; state = p.write.state }, p.rest)) result)) (E.noted env.new) }
+    pub fn resize<E: Env>(self, store: &mut S, env: &mut E, len: u64, task: u64) -> Step<S>
+        ensures runs { Notes (E.noted env.old) (λ x. Runs (calls S.refusals S.polls_sync S.gives_sync_up S.writes S.resizes S.syncs S.starts_sync S.closes) self.blob (Rest.Resize len) task (writer store.old self.held) store.new (seen_step (λ w. (w.blob, w.held)) (λ p. ((p.write.blob, p.write.held), p.rest)) result) x) (E.noted env.new) }
+        ensures flat { (bytes : S → S.Blob → List ℕ) → (left : S → S.Blob → Option (List ℕ)) → (promised : S → Ticket → S.Blob → Option (List ℕ)) →
+            KeepsBytes (calls S.refusals S.polls_sync S.gives_sync_up S.writes S.resizes S.syncs S.starts_sync S.closes) bytes left promised → LiesOver self.held.tip (bytes store.old self.blob) → KnowsState bytes left promised self.held.state store.old self.blob →
+            IfStepped result (λ w. Shows bytes left promised (resized len (laid_over self.held.tip (bytes store.old self.blob))) w.held store.new self.blob) (λ p. Keeping bytes left promised (resized len (laid_over self.held.tip (bytes store.old self.blob))) p.rest p.write.held store.new self.blob) }
     {
-        let progress = self.wait_and_resize(store, env, len, task);
-        self.end(store, progress, Rest::Resize(len))
+        self.run(store, env, Rest::Resize(len), task)
     }
 
     /// Waits for a started sync.
     ///
     /// Errors: that of the sync. After one the blob is closed.
-    pub fn wait_for_sync<E: Env>(mut self, store: &mut S, env: &mut E, task: u64) -> Step<S>
-        ensures waits { Notes (E.noted env.old) (λ x. (r : Progress) × (left : Writer S) × Waits S.polls_sync S.gives_sync_up task (record { store = store.old; tip = self.tip; state = self.state }) r left x × Ends S.gives_sync_up S.closes self.blob Rest.Nothing r left store.new (seen_step (λ w. record { blob = w.blob; tip = w.tip; state = w.state }) (λ p. (record { blob = p.write.blob; tip = p.write.tip; state = p.write.state }, p.rest)) result)) (E.noted env.new) }
+    pub fn wait_for_sync<E: Env>(self, store: &mut S, env: &mut E, task: u64) -> Step<S>
+        ensures runs { Notes (E.noted env.old) (λ x. Runs (calls S.refusals S.polls_sync S.gives_sync_up S.writes S.resizes S.syncs S.starts_sync S.closes) self.blob Rest.Nothing task (writer store.old self.held) store.new (seen_step (λ w. (w.blob, w.held)) (λ p. ((p.write.blob, p.write.held), p.rest)) result) x) (E.noted env.new) }
+        ensures durable { (bytes : S → S.Blob → List ℕ) → (left : S → S.Blob → Option (List ℕ)) → (promised : S → Ticket → S.Blob → Option (List ℕ)) →
+            KeepsBytes (calls S.refusals S.polls_sync S.gives_sync_up S.writes S.resizes S.syncs S.starts_sync S.closes) bytes left promised → HoldsSync bytes left promised self.held store.old self.blob →
+            IfStepped result (λ w. Keeps bytes left promised (bytes store.old self.blob) Rest.Nothing w.held store.new self.blob) (λ p. Keeping bytes left promised (bytes store.old self.blob) p.rest p.write.held store.new self.blob) }
     {
-        let progress = self.wait(store, env, task);
-        self.end(store, progress, Rest::Nothing)
+        self.run(store, env, Rest::Nothing, task)
+    }
+
+    // Waits for a started sync, and then does the rest. Where it waits, the rest is kept for later.
+    pub(crate) fn run<E: Env>(
+        mut self,
+        store: &mut S,
+        env: &mut E,
+        rest: Rest,
+        task: u64,
+    ) -> Step<S>
+        ensures runs { Notes (E.noted env.old) (λ x. Runs (calls S.refusals S.polls_sync S.gives_sync_up S.writes S.resizes S.syncs S.starts_sync S.closes) self.blob rest task (writer store.old self.held) store.new (seen_step (λ w. (w.blob, w.held)) (λ p. ((p.write.blob, p.write.held), p.rest)) result) x) (E.noted env.new) }
+    {
+        match self.wait(store, env, task) {
+            Ok(Poll::Ready(())) => {
+                let progress = self.finish(store, env, rest, task);
+                self.end(store, progress, Rest::Nothing)
+            }
+            Ok(Poll::Pending) => self.end(store, Ok(Poll::Pending), rest),
+            Err(error) => self.end(store, Err(error), rest),
+        }
     }
 
     // What a call answers that came to this, with what is left to do where it waits.
     fn end(self, store: &mut S, progress: Result<Poll<()>, Error>, rest: Rest) -> Step<S>
-        ensures { Ends S.gives_sync_up S.closes self.blob rest progress (record { store = store.old; tip = self.tip; state = self.state }) store.new (seen_step (λ w. record { blob = w.blob; tip = w.tip; state = w.state }) (λ p. (record { blob = p.write.blob; tip = p.write.tip; state = p.write.state }, p.rest)) result) }
+        ensures { Ends (calls S.refusals S.polls_sync S.gives_sync_up S.writes S.resizes S.syncs S.starts_sync S.closes) self.blob rest progress (writer store.old self.held) store.new (seen_step (λ w. (w.blob, w.held)) (λ p. ((p.write.blob, p.write.held), p.rest)) result) }
     {
         match progress {
             Ok(Poll::Ready(())) => Stepped::Done(self),
@@ -177,12 +257,12 @@ impl<S: Storage> Write<S> {
 
     // Bytes that all lie in the tip.
     fn read_tip(&self, offset: u64, len: usize) -> Result<IoBufs, Error>
-        requires begins { self.now.tip.offset ≤ offset }
-        requires ends { offset + len ≤ end_of self.now.tip }
-        ensures { ReadsTip self.now.tip offset len result }
+        requires begins { self.now.held.tip.offset ≤ offset }
+        requires ends { offset + len ≤ end_of self.now.held.tip }
+        ensures { ReadsTip self.now.held.tip offset len result }
     {
-        let from = (offset - self.tip.offset()) as usize;
-        let bytes = self.tip.slice(from, from + len)?;
+        let from = (offset - self.held.tip.offset()) as usize;
+        let bytes = self.held.tip.slice(from, from + len)?;
         Ok(IoBufs::from_buf(self.alloc, bytes)?)
     }
 
@@ -195,66 +275,47 @@ impl<S: Storage> Write<S> {
         len: usize,
         before: u64,
     ) -> Result<IoBufs, Error>
-        requires before { before ≡ self.now.tip.offset - offset }
-        requires some { offset < self.now.tip.offset }
-        requires ends { offset + len ≤ end_of self.now.tip }
-        ensures reads { Notes (E.noted env.old) (λ x. ReadsThrough S.reads S.refusals self.now.blob self.now.tip offset len store.old result store.new x) (E.noted env.new) }
+        requires before { before ≡ self.now.held.tip.offset - offset }
+        requires some { offset < self.now.held.tip.offset }
+        requires ends { offset + len ≤ end_of self.now.held.tip }
+        ensures reads { Notes (E.noted env.old) (λ x. ReadsThrough S.reads S.refusals self.now.blob self.now.held.tip offset len store.old result store.new x) (E.noted env.new) }
         ensures spent { E.spare env.old ≤ E.spare env.new + S.most }
     {
         let first = len.min(before as usize);
         let fetched = store.read_at(env, &self.blob, offset, first, ReadOptions::default())?;
         let mut bufs = fetched.freeze()?;
-        bufs.append(self.tip.slice(0, len - first)?)?;
+        bufs.append(self.held.tip.slice(0, len - first)?)?;
         Ok(bufs)
     }
 }
 
 // Writes and syncs. Each answers whether it is done, and waits for a ticket else.
 impl<S: Storage> Write<S> {
-    // Whether no change is open.
-    fn is_clean(&self) -> bool
-        ensures { result ≡ is_clean self.now.state }
-    {
-        match self.state {
-            SyncState::Clean => true,
-            SyncState::Dirty | SyncState::Started(_) => false,
-        }
-    }
-
-    // Changes what is known of durability, where no ticket is held.
-    fn set_state(&mut self, state: SyncState)
-        requires { is_started self.old.state ≡ false }
-        ensures state { self.new.state ≡ state }
-        ensures tip { self.new.tip ≡ self.old.tip }
-        ensures blob { self.new.blob ≡ self.old.blob }
-    {
-        match mem::replace(&mut self.state, state) {
-            SyncState::Clean | SyncState::Dirty => {}
-            SyncState::Started(_ticket) => unreachable!(),
-        }
-    }
-
     // Gives a started sync up that is done.
     fn settle(&mut self, store: &mut S)
-        requires { is_started self.old.state ≡ true }
-        ensures gives_up { IfStarted self.old.state (λ t. S.gives_sync_up store.old t store.new) }
-        ensures state { self.new.state ≡ SyncState.Clean }
-        ensures tip { self.new.tip ≡ self.old.tip }
+        requires { is_started self.old.held.state ≡ true }
+        ensures gives_up { IfStarted self.old.held.state (λ t. S.gives_sync_up store.old t store.new) }
+        ensures held { self.new.held ≡ with_state self.old.held SyncState.Clean }
         ensures blob { self.new.blob ≡ self.old.blob }
     {
-        match mem::replace(&mut self.state, SyncState::Clean) {
+        match mem::replace(&mut self.held.state, SyncState::Clean) {
             SyncState::Clean | SyncState::Dirty => unreachable!(),
             SyncState::Started(ticket) => store.give_up_sync(ticket),
         }
     }
 
     // Polls a started sync.
-    fn wait<E: Env>(&mut self, store: &mut S, env: &mut E, task: u64) -> Result<Poll<()>, Error>
-        ensures waits { Notes (E.noted env.old) (λ x. Waits S.polls_sync S.gives_sync_up task (record { store = store.old; tip = self.old.tip; state = self.old.state }) result (record { store = store.new; tip = self.new.tip; state = self.new.state }) x) (E.noted env.new) }
-        ensures settled { result ≡ Ok (Poll.Ready tt) → is_started self.new.state ≡ false }
+    pub(crate) fn wait<E: Env>(
+        &mut self,
+        store: &mut S,
+        env: &mut E,
+        task: u64,
+    ) -> Result<Poll<()>, Error>
+        ensures waits { Notes (E.noted env.old) (λ x. Waits (calls S.refusals S.polls_sync S.gives_sync_up S.writes S.resizes S.syncs S.starts_sync S.closes) task (writer store.old self.old.held) result (writer store.new self.new.held) x) (E.noted env.new) }
+        ensures settled { result ≡ Ok (Poll.Ready tt) → is_started self.new.held.state ≡ false }
         ensures blob { self.new.blob ≡ self.old.blob }
     {
-        let SyncState::Started(ticket) = &mut self.state else {
+        let SyncState::Started(ticket) = &mut self.held.state else {
             return Ok(Poll::Ready(()));
         };
         match store.poll_sync(env, ticket, task) {
@@ -267,6 +328,28 @@ impl<S: Storage> Write<S> {
         }
     }
 
+    // Does what is left, where no ticket is held.
+    #[tactic(auto, using(crate::proofs::Steps::then_done, crate::proofs::Steps::then_waits, crate::proofs::Steps::then_refused))]
+    fn finish<E: Env>(
+        &mut self,
+        store: &mut S,
+        env: &mut E,
+        rest: Rest,
+        task: u64,
+    ) -> Result<Poll<()>, Error>
+        requires { is_started self.old.held.state ≡ false }
+        ensures finishes { Notes (E.noted env.old) (λ x. Finishes (calls S.refusals S.polls_sync S.gives_sync_up S.writes S.resizes S.syncs S.starts_sync S.closes) self.old.blob rest task (writer store.old self.old.held) result (writer store.new self.new.held) x) (E.noted env.new) }
+        ensures blob { self.new.blob ≡ self.old.blob }
+    {
+        match rest {
+            Rest::Nothing => Ok(Poll::Ready(())),
+            Rest::Sync => self.save(store, env, task),
+            Rest::Resize(len) => self.resize_tip(store, env, len),
+            Rest::Write(left) => self.put_all(store, env, left),
+            Rest::Start => self.drain_and_begin(store, env),
+        }
+    }
+
     // A change is durable, or its ticket is held and polled.
     fn keep<E: Env>(
         &mut self,
@@ -275,17 +358,17 @@ impl<S: Storage> Write<S> {
         done: Done,
         task: u64,
     ) -> Result<Poll<()>, Error>
-        requires { is_started self.old.state ≡ false }
-        ensures settles { Notes (E.noted env.old) (λ x. Settles S.polls_sync S.gives_sync_up task done (record { store = store.old; tip = self.old.tip; state = self.old.state }) result (record { store = store.new; tip = self.new.tip; state = self.new.state }) x) (E.noted env.new) }
+        requires { is_started self.old.held.state ≡ false }
+        ensures settles { Notes (E.noted env.old) (λ x. Settles (calls S.refusals S.polls_sync S.gives_sync_up S.writes S.resizes S.syncs S.starts_sync S.closes) task done (writer store.old self.old.held) result (writer store.new self.new.held) x) (E.noted env.new) }
         ensures blob { self.new.blob ≡ self.old.blob }
     {
         match done {
             Done::Now => {
-                self.set_state(SyncState::Clean);
+                self.held.set_state(SyncState::Clean);
                 Ok(Poll::Ready(()))
             }
             Done::Gated(ticket) => {
-                self.set_state(SyncState::Started(ticket));
+                self.held.set_state(SyncState::Started(ticket));
                 self.wait(store, env, task)
             }
         }
@@ -297,8 +380,8 @@ impl<S: Storage> Write<S> {
         env: &mut E,
         task: u64,
     ) -> Result<Poll<()>, Error>
-        requires { is_started self.old.state ≡ false }
-        ensures syncs { Notes (E.noted env.old) (λ x. SyncsBlob S.polls_sync S.gives_sync_up S.syncs self.old.blob task (record { store = store.old; tip = self.old.tip; state = self.old.state }) result (record { store = store.new; tip = self.new.tip; state = self.new.state }) x) (E.noted env.new) }
+        requires { is_started self.old.held.state ≡ false }
+        ensures syncs { Notes (E.noted env.old) (λ x. SyncsBlob (calls S.refusals S.polls_sync S.gives_sync_up S.writes S.resizes S.syncs S.starts_sync S.closes) self.old.blob task (writer store.old self.old.held) result (writer store.new self.new.held) x) (E.noted env.new) }
         ensures blob { self.new.blob ≡ self.old.blob }
     {
         let done = store.sync(env, &self.blob)?;
@@ -313,8 +396,8 @@ impl<S: Storage> Write<S> {
         bufs: IoBufs,
         task: u64,
     ) -> Result<Poll<()>, Error>
-        requires { is_started self.old.state ≡ false }
-        ensures writes { Notes (E.noted env.old) (λ x. WritesDurably S.polls_sync S.gives_sync_up S.writes self.old.blob task offset bufs (record { store = store.old; tip = self.old.tip; state = self.old.state }) result (record { store = store.new; tip = self.new.tip; state = self.new.state }) x) (E.noted env.new) }
+        requires { is_started self.old.held.state ≡ false }
+        ensures writes { Notes (E.noted env.old) (λ x. WritesDurably (calls S.refusals S.polls_sync S.gives_sync_up S.writes S.resizes S.syncs S.starts_sync S.closes) self.old.blob task offset bufs (writer store.old self.old.held) result (writer store.new self.new.held) x) (E.noted env.new) }
         ensures blob { self.new.blob ≡ self.old.blob }
     {
         let done = store.write_at(env, &self.blob, offset, bufs, WriteOptions::SYNC)?;
@@ -329,12 +412,12 @@ impl<S: Storage> Write<S> {
         offset: u64,
         bufs: IoBufs,
     ) -> Result<Poll<()>, Error>
-        requires { is_started self.old.state ≡ false }
-        ensures writes { Notes (E.noted env.old) (λ x. WritesOut S.gives_sync_up S.writes self.old.blob offset bufs (record { store = store.old; tip = self.old.tip; state = self.old.state }) result (record { store = store.new; tip = self.new.tip; state = self.new.state }) x) (E.noted env.new) }
-        ensures settled { is_started self.new.state ≡ false }
+        requires { is_started self.old.held.state ≡ false }
+        ensures writes { Notes (E.noted env.old) (λ x. WritesOut (calls S.refusals S.polls_sync S.gives_sync_up S.writes S.resizes S.syncs S.starts_sync S.closes) self.old.blob offset bufs (writer store.old self.old.held) result (writer store.new self.new.held) x) (E.noted env.new) }
+        ensures settled { is_started self.new.held.state ≡ false }
         ensures blob { self.new.blob ≡ self.old.blob }
     {
-        self.set_state(SyncState::Dirty);
+        self.held.set_state(SyncState::Dirty);
         match store.write_at(env, &self.blob, offset, bufs, WriteOptions::default())? {
             Done::Now => Ok(Poll::Ready(())),
             Done::Gated(ticket) => {
@@ -346,14 +429,28 @@ impl<S: Storage> Write<S> {
 
     // The bytes of the tip, as buffers, and their offset.
     fn take_tip(&mut self) -> Result<Option<(IoBufs, u64)>, Error>
-        ensures buffers { AreBuffers (bytes_to_write self.old.tip) result }
-        ensures drained { OnOk result (self.new.tip ≡ drained self.old.tip) }
-        ensures state { self.new.state ≡ self.old.state }
+        ensures buffers { AreBuffers (bytes_to_write self.old.held.tip) result }
+        ensures drained { OnOk result (self.new.held ≡ with_tip self.old.held (drained self.old.held.tip)) }
+        ensures state { self.new.held.state ≡ self.old.held.state }
         ensures blob { self.new.blob ≡ self.old.blob }
     {
-        match self.tip.take()? {
+        match self.held.tip.take()? {
             Some((buf, offset)) => Ok(Some((IoBufs::from_buf(self.alloc, buf)?, offset))),
             None => Ok(None),
+        }
+    }
+
+    // Writes the bytes of the tip out, where there are any.
+    fn drain<E: Env>(&mut self, store: &mut S, env: &mut E) -> Result<Poll<()>, Error>
+        requires { is_started self.old.held.state ≡ false }
+        ensures drains { Notes (E.noted env.old) (λ x. Drains (calls S.refusals S.polls_sync S.gives_sync_up S.writes S.resizes S.syncs S.starts_sync S.closes) self.old.blob (writer store.old self.old.held) result (writer store.new self.new.held) x) (E.noted env.new) }
+        ensures settled { is_started self.new.held.state ≡ false }
+        ensures blob { self.new.blob ≡ self.old.blob }
+    {
+        match self.take_tip() {
+            Err(error) => Err(error),
+            Ok(Some((bufs, offset))) => self.write_out(store, env, offset, bufs),
+            Ok(None) => Ok(Poll::Ready(())),
         }
     }
 
@@ -367,8 +464,8 @@ impl<S: Storage> Write<S> {
         bufs: IoBufs,
         task: u64,
     ) -> Result<Poll<()>, Error>
-        requires { is_started self.old.state ≡ false }
-        ensures writes { Notes (E.noted env.old) (λ x. Then (WritesOut S.gives_sync_up S.writes self.old.blob offset bufs) (SyncsBlob S.polls_sync S.gives_sync_up S.syncs self.old.blob task) (record { store = store.old; tip = self.old.tip; state = self.old.state }) result (record { store = store.new; tip = self.new.tip; state = self.new.state }) x) (E.noted env.new) }
+        requires { is_started self.old.held.state ≡ false }
+        ensures writes { Notes (E.noted env.old) (λ x. Then (WritesOut (calls S.refusals S.polls_sync S.gives_sync_up S.writes S.resizes S.syncs S.starts_sync S.closes) self.old.blob offset bufs) (SyncsBlob (calls S.refusals S.polls_sync S.gives_sync_up S.writes S.resizes S.syncs S.starts_sync S.closes) self.old.blob task) (writer store.old self.old.held) result (writer store.new self.new.held) x) (E.noted env.new) }
         ensures blob { self.new.blob ≡ self.old.blob }
     {
         match self.write_out(store, env, offset, bufs) {
@@ -380,12 +477,12 @@ impl<S: Storage> Write<S> {
 
     // Makes the tip and all changes durable, where no ticket is held.
     fn save<E: Env>(&mut self, store: &mut S, env: &mut E, task: u64) -> Result<Poll<()>, Error>
-        requires { is_started self.old.state ≡ false }
-        ensures saves { Notes (E.noted env.old) (λ x. Saves S.polls_sync S.gives_sync_up S.writes S.syncs self.old.blob task (record { store = store.old; tip = self.old.tip; state = self.old.state }) result (record { store = store.new; tip = self.new.tip; state = self.new.state }) x) (E.noted env.new) }
+        requires { is_started self.old.held.state ≡ false }
+        ensures saves { Notes (E.noted env.old) (λ x. Saves (calls S.refusals S.polls_sync S.gives_sync_up S.writes S.resizes S.syncs S.starts_sync S.closes) self.old.blob task (writer store.old self.old.held) result (writer store.new self.new.held) x) (E.noted env.new) }
         ensures blob { self.new.blob ≡ self.old.blob }
     {
         let taken = self.take_tip();
-        let is_clean = self.is_clean();
+        let is_clean = self.held.is_clean();
         match taken {
             Err(error) => Err(error),
             Ok(Some((bufs, offset))) if is_clean => self.write_durably(
@@ -397,20 +494,33 @@ impl<S: Storage> Write<S> {
         }
     }
 
-    #[tactic(auto, using(crate::proofs::Steps::then_done, crate::proofs::Steps::then_waits, crate::proofs::Steps::then_refused))]
-    fn wait_and_save<E: Env>(
-        &mut self,
-        store: &mut S,
-        env: &mut E,
-        task: u64,
-    ) -> Result<Poll<()>, Error>
-        ensures syncs { Notes (E.noted env.old) (λ x. Syncs S.polls_sync S.gives_sync_up S.writes S.syncs self.old.blob task (record { store = store.old; tip = self.old.tip; state = self.old.state }) result (record { store = store.new; tip = self.new.tip; state = self.new.state }) x) (E.noted env.new) }
+    // Starts a sync where a change is open.
+    fn begin<E: Env>(&mut self, store: &mut S, env: &mut E) -> Result<Poll<()>, Error>
+        ensures begins { Notes (E.noted env.old) (λ x. Begins (calls S.refusals S.polls_sync S.gives_sync_up S.writes S.resizes S.syncs S.starts_sync S.closes) self.old.blob (writer store.old self.old.held) result (writer store.new self.new.held) x) (E.noted env.new) }
         ensures blob { self.new.blob ≡ self.old.blob }
     {
-        match self.wait(store, env, task) {
+        match self.held.state {
+            SyncState::Clean | SyncState::Started(_) => Ok(Poll::Ready(())),
+            SyncState::Dirty => {
+                let ticket = store.start_sync(env, &self.blob)?;
+                self.held.set_state(SyncState::Started(ticket));
+                self.held.syncs = self.held.syncs.saturating_add(1);
+                Ok(Poll::Ready(()))
+            }
+        }
+    }
+
+    // Writes the tip out, and starts a sync.
+    #[tactic(auto, using(crate::proofs::Steps::then_done, crate::proofs::Steps::then_waits, crate::proofs::Steps::then_refused))]
+    fn drain_and_begin<E: Env>(&mut self, store: &mut S, env: &mut E) -> Result<Poll<()>, Error>
+        requires { is_started self.old.held.state ≡ false }
+        ensures begins { Notes (E.noted env.old) (λ x. Then (Drains (calls S.refusals S.polls_sync S.gives_sync_up S.writes S.resizes S.syncs S.starts_sync S.closes) self.old.blob) (Begins (calls S.refusals S.polls_sync S.gives_sync_up S.writes S.resizes S.syncs S.starts_sync S.closes) self.old.blob) (writer store.old self.old.held) result (writer store.new self.new.held) x) (E.noted env.new) }
+        ensures blob { self.new.blob ≡ self.old.blob }
+    {
+        match self.drain(store, env) {
             Err(error) => Err(error),
             Ok(Poll::Pending) => Ok(Poll::Pending),
-            Ok(Poll::Ready(())) => self.save(store, env, task),
+            Ok(Poll::Ready(())) => self.begin(store, env),
         }
     }
 
@@ -420,11 +530,11 @@ impl<S: Storage> Write<S> {
         env: &mut E,
         len: u64,
     ) -> Result<Poll<()>, Error>
-        requires { is_started self.old.state ≡ false }
-        ensures resizes { Notes (E.noted env.old) (λ x. ResizesBlob S.resizes self.old.blob len (record { store = store.old; tip = self.old.tip; state = self.old.state }) result (record { store = store.new; tip = self.new.tip; state = self.new.state }) x) (E.noted env.new) }
+        requires { is_started self.old.held.state ≡ false }
+        ensures resizes { Notes (E.noted env.old) (λ x. ResizesBlob (calls S.refusals S.polls_sync S.gives_sync_up S.writes S.resizes S.syncs S.starts_sync S.closes) self.old.blob len (writer store.old self.old.held) result (writer store.new self.new.held) x) (E.noted env.new) }
         ensures blob { self.new.blob ≡ self.old.blob }
     {
-        self.set_state(SyncState::Dirty);
+        self.held.set_state(SyncState::Dirty);
         match store.resize(env, &self.blob, len) {
             Ok(()) => Ok(Poll::Ready(())),
             Err(error) => Err(error),
@@ -433,12 +543,12 @@ impl<S: Storage> Write<S> {
 
     // Follows a new length with the tip: the bytes that have to be written before it, as buffers, and their offset.
     fn cut_tip(&mut self, len: u64) -> Result<Option<(IoBufs, u64)>, Error>
-        ensures buffers { AreBuffers (bytes_before self.old.tip len) result }
-        ensures resized { OnOk result (self.new.tip ≡ resized_tip self.old.tip len) }
-        ensures state { self.new.state ≡ self.old.state }
+        ensures buffers { AreBuffers (bytes_before self.old.held.tip len) result }
+        ensures resized { OnOk result (self.new.held ≡ with_tip self.old.held (resized_tip self.old.held.tip len)) }
+        ensures state { self.new.held.state ≡ self.old.held.state }
         ensures blob { self.new.blob ≡ self.old.blob }
     {
-        match self.tip.resize(len)? {
+        match self.held.tip.resize(len)? {
             Some((buf, offset)) => Ok(Some((IoBufs::from_buf(self.alloc, buf)?, offset))),
             None => Ok(None),
         }
@@ -454,8 +564,8 @@ impl<S: Storage> Write<S> {
         bufs: IoBufs,
         len: u64,
     ) -> Result<Poll<()>, Error>
-        requires { is_started self.old.state ≡ false }
-        ensures writes { Notes (E.noted env.old) (λ x. Then (WritesOut S.gives_sync_up S.writes self.old.blob offset bufs) (ResizesBlob S.resizes self.old.blob len) (record { store = store.old; tip = self.old.tip; state = self.old.state }) result (record { store = store.new; tip = self.new.tip; state = self.new.state }) x) (E.noted env.new) }
+        requires { is_started self.old.held.state ≡ false }
+        ensures writes { Notes (E.noted env.old) (λ x. Then (WritesOut (calls S.refusals S.polls_sync S.gives_sync_up S.writes S.resizes S.syncs S.starts_sync S.closes) self.old.blob offset bufs) (ResizesBlob (calls S.refusals S.polls_sync S.gives_sync_up S.writes S.resizes S.syncs S.starts_sync S.closes) self.old.blob len) (writer store.old self.old.held) result (writer store.new self.new.held) x) (E.noted env.new) }
         ensures blob { self.new.blob ≡ self.old.blob }
     {
         match self.write_out(store, env, offset, bufs) {
@@ -472,8 +582,8 @@ impl<S: Storage> Write<S> {
         env: &mut E,
         len: u64,
     ) -> Result<Poll<()>, Error>
-        requires { is_started self.old.state ≡ false }
-        ensures resizes { Notes (E.noted env.old) (λ x. ResizesTip S.gives_sync_up S.writes S.resizes self.old.blob len (record { store = store.old; tip = self.old.tip; state = self.old.state }) result (record { store = store.new; tip = self.new.tip; state = self.new.state }) x) (E.noted env.new) }
+        requires { is_started self.old.held.state ≡ false }
+        ensures resizes { Notes (E.noted env.old) (λ x. ResizesTip (calls S.refusals S.polls_sync S.gives_sync_up S.writes S.resizes S.syncs S.starts_sync S.closes) self.old.blob len (writer store.old self.old.held) result (writer store.new self.new.held) x) (E.noted env.new) }
         ensures blob { self.new.blob ≡ self.old.blob }
     {
         match self.cut_tip(len) {
@@ -483,21 +593,128 @@ impl<S: Storage> Write<S> {
         }
     }
 
-    #[tactic(auto, using(crate::proofs::Steps::then_done, crate::proofs::Steps::then_waits, crate::proofs::Steps::then_refused))]
-    fn wait_and_resize<E: Env>(
+    // Puts a chunk into the tip, and answers whether it lies within its reach.
+    fn merge(&mut self, at: u64, chunk: &IoBuf) -> Result<bool, Error>
+        ensures within { IfOk result (λ yes. yes ≡ is_within self.old.held.tip at (length chunk.now)) }
+        ensures merged { OnOk result (self.new.held ≡ (if is_within self.old.held.tip at (length chunk.now) then with_tip self.old.held (merged self.old.held.tip chunk.now at) else self.old.held)) }
+        ensures beyond { result ≡ Ok false → self.new.held ≡ self.old.held }
+        ensures refused { OnErr result ((result ≡ Err Error.NoMemory) × (self.new.held ≡ self.old.held) × (is_within self.old.held.tip at (length chunk.now) ≡ true)) }
+        ensures blob { self.new.blob ≡ self.old.blob }
+    {
+        Ok(self.held.tip.merge(chunk.as_slice(), at)?)
+    }
+
+    // Writes a chunk to the blob. The tip follows it.
+    fn write_chunk<E: Env>(
         &mut self,
         store: &mut S,
         env: &mut E,
-        len: u64,
-        task: u64,
+        at: u64,
+        chunk: IoBuf,
     ) -> Result<Poll<()>, Error>
-        ensures resizes { Notes (E.noted env.old) (λ x. Resizes S.polls_sync S.gives_sync_up S.writes S.resizes self.old.blob len task (record { store = store.old; tip = self.old.tip; state = self.old.state }) result (record { store = store.new; tip = self.new.tip; state = self.new.state }) x) (E.noted env.new) }
+        requires free { is_started self.old.held.state ≡ false }
+        requires fits { at + length chunk < 2 ^ 64 }
+        ensures writes { Notes (E.noted env.old) (λ x. WritesChunk (calls S.refusals S.polls_sync S.gives_sync_up S.writes S.resizes S.syncs S.starts_sync S.closes) self.old.blob at chunk (writer store.old self.old.held) result (writer store.new self.new.held) x) (E.noted env.new) }
+        ensures settled { is_started self.new.held.state ≡ false }
         ensures blob { self.new.blob ≡ self.old.blob }
     {
-        match self.wait(store, env, task) {
+        let end = at + chunk.len() as u64;
+        let bufs = IoBufs::from_buf(self.alloc, chunk)?;
+        match self.write_out(store, env, at, bufs) {
             Err(error) => Err(error),
             Ok(Poll::Pending) => Ok(Poll::Pending),
-            Ok(Poll::Ready(())) => self.resize_tip(store, env, len),
+            Ok(Poll::Ready(())) => {
+                self.held.tip.raise(end);
+                Ok(Poll::Ready(()))
+            }
         }
+    }
+
+    // Puts a chunk into the tip where it can, and writes it to the blob else.
+    fn put_again<E: Env>(
+        &mut self,
+        store: &mut S,
+        env: &mut E,
+        at: u64,
+        chunk: IoBuf,
+    ) -> Result<Poll<()>, Error>
+        requires free { is_started self.old.held.state ≡ false }
+        requires fits { at + length chunk < 2 ^ 64 }
+        ensures puts { Notes (E.noted env.old) (λ x. PutsAgain (calls S.refusals S.polls_sync S.gives_sync_up S.writes S.resizes S.syncs S.starts_sync S.closes) self.old.blob at chunk (writer store.old self.old.held) result (writer store.new self.new.held) x) (E.noted env.new) }
+        ensures settled { is_started self.new.held.state ≡ false }
+        ensures blob { self.new.blob ≡ self.old.blob }
+    {
+        match self.merge(at, &chunk) {
+            Err(error) => Err(error),
+            Ok(true) => Ok(Poll::Ready(())),
+            Ok(false) => self.write_chunk(store, env, at, chunk),
+        }
+    }
+
+    // Writes the tip out, and then puts a chunk.
+    #[tactic(auto, using(crate::proofs::Steps::then_done, crate::proofs::Steps::then_waits, crate::proofs::Steps::then_refused))]
+    fn drain_and_put<E: Env>(
+        &mut self,
+        store: &mut S,
+        env: &mut E,
+        at: u64,
+        chunk: IoBuf,
+    ) -> Result<Poll<()>, Error>
+        requires free { is_started self.old.held.state ≡ false }
+        requires fits { at + length chunk < 2 ^ 64 }
+        ensures puts { Notes (E.noted env.old) (λ x. Then (Drains (calls S.refusals S.polls_sync S.gives_sync_up S.writes S.resizes S.syncs S.starts_sync S.closes) self.old.blob) (PutsAgain (calls S.refusals S.polls_sync S.gives_sync_up S.writes S.resizes S.syncs S.starts_sync S.closes) self.old.blob at chunk) (writer store.old self.old.held) result (writer store.new self.new.held) x) (E.noted env.new) }
+        ensures settled { is_started self.new.held.state ≡ false }
+        ensures blob { self.new.blob ≡ self.old.blob }
+    {
+        match self.drain(store, env) {
+            Err(error) => Err(error),
+            Ok(Poll::Pending) => Ok(Poll::Pending),
+            Ok(Poll::Ready(())) => self.put_again(store, env, at, chunk),
+        }
+    }
+
+    // Puts a chunk: the bytes of a tip that begins before its end are written out first.
+    fn put<E: Env>(
+        &mut self,
+        store: &mut S,
+        env: &mut E,
+        at: u64,
+        chunk: IoBuf,
+    ) -> Result<Poll<()>, Error>
+        requires free { is_started self.old.held.state ≡ false }
+        requires fits { at + length chunk < 2 ^ 64 }
+        ensures puts { Notes (E.noted env.old) (λ x. Puts (calls S.refusals S.polls_sync S.gives_sync_up S.writes S.resizes S.syncs S.starts_sync S.closes) self.old.blob at chunk (writer store.old self.old.held) result (writer store.new self.new.held) x) (E.noted env.new) }
+        ensures settled { is_started self.new.held.state ≡ false }
+        ensures blob { self.new.blob ≡ self.old.blob }
+    {
+        let is_in_the_way = self.held.tip.is_in_the_way(at + chunk.len() as u64);
+        match self.merge(at, &chunk) {
+            Err(error) => Err(error),
+            Ok(true) => Ok(Poll::Ready(())),
+            Ok(false) if is_in_the_way => self.drain_and_put(store, env, at, chunk),
+            Ok(false) => self.write_chunk(store, env, at, chunk),
+        }
+    }
+
+    // Puts one chunk after the other.
+    fn put_all<E: Env>(
+        &mut self,
+        store: &mut S,
+        env: &mut E,
+        left: Pieces,
+    ) -> Result<Poll<()>, Error>
+        requires { is_started self.old.held.state ≡ false }
+        ensures puts { Notes (E.noted env.old) (λ x. PutsAll (calls S.refusals S.polls_sync S.gives_sync_up S.writes S.resizes S.syncs S.starts_sync S.closes) self.old.blob left (writer store.old self.old.held) result (writer store.new self.new.held) x) (E.noted env.new) }
+        ensures blob { self.new.blob ≡ self.old.blob }
+    {
+        let mut left = left;
+        let mut at = left.at();
+        while let Some(chunk) = left.next() {
+            match self.put(store, env, at, chunk)? {
+                Poll::Ready(()) => at = left.at(),
+                Poll::Pending => return Ok(Poll::Pending),
+            }
+        }
+        Ok(Poll::Ready(()))
     }
 }

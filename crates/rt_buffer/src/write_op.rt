@@ -1,9 +1,13 @@
 // A writer's call that waits for a started sync.
-ghost use Rattle.std.specs.Prelude.{◌≡◌, List};
+ghost use Rattle.std.specs.Prelude.{◌≡◌, ℕ, List, Option};
 ghost use Rattle.rt_base.specs.Counted.{Notes};
-ghost use Rattle.rt_buffer.specs.Steps.{Progress, Writer, Polls, Ends, seen_step};
+ghost use Rattle.rt_buffer.specs.Calls.{calls};
+ghost use Rattle.rt_buffer.specs.Durable.{IfStepped, Keeping, Keeps, KeepsBytes};
+ghost use Rattle.rt_buffer.specs.Steps.{Runs, seen_step, writer};
 ghost use Rattle.rt_buffer.specs.Writing.{ClosesWriter};
+ghost use Rattle.rt_store.specs.declared.ticket.Ticket.{Ticket};
 
+use crate::pieces::Pieces;
 use crate::write::Write;
 use rt_base::{Env, Error};
 use rt_store::Storage;
@@ -18,12 +22,15 @@ pub enum Stepped<W, P> {
 /// What a call of a writer came to.
 pub type Step<S> = Stepped<Write<S>, WriteOp<S>>;
 
-/// What is left to do once a started sync is done.
+/// What is left to do once a started sync is done: nothing, a sync, a change of the length, a write of bytes that don't lie
+/// within the tip's reach, or the start of a sync.
 #[derive(Drop)]
 pub enum Rest {
     Nothing,
     Sync,
     Resize(u64),
+    Write(Pieces),
+    Start,
 }
 
 /// A call of a writer that waits. It must be spent by [`poll`](Self::poll) or [`give_up`](Self::give_up).
@@ -34,20 +41,21 @@ pub struct WriteOp<S: Storage> {
 
 impl<S: Storage> WriteOp<S> {
     /// Goes on, where the started sync is done.
+    ///
+    /// Errors: that of the started sync, the store's refusal, `NoMemory`. After one the blob is closed.
     pub fn poll<E: Env>(self, store: &mut S, env: &mut E, task: u64) -> Step<S>
-        ensures gives { Notes (E.noted env.old) (λ x. (r : Progress) × (left : Writer S) × Polls S.polls_sync S.gives_sync_up S.writes S.syncs S.resizes self.write.blob self.rest task (record { store = store.old; tip = self.write.tip; state = self.write.state }) r left x × Ends S.gives_sync_up S.closes self.write.blob self.rest r left store.new (seen_step (λ w. record { blob = w.blob; tip = w.tip; state = w.state }) (λ p. (record { blob = p.write.blob; tip = p.write.tip; state = p.write.state }, p.rest)) result)) (E.noted env.new) }
+        ensures runs { Notes (E.noted env.old) (λ x. Runs (calls S.refusals S.polls_sync S.gives_sync_up S.writes S.resizes S.syncs S.starts_sync S.closes) self.write.blob self.rest task (writer store.old self.write.held) store.new (seen_step (λ w. (w.blob, w.held)) (λ p. ((p.write.blob, p.write.held), p.rest)) result) x) (E.noted env.new) }
+        ensures durable { (bytes : S → S.Blob → List ℕ) → (left : S → S.Blob → Option (List ℕ)) → (promised : S → Ticket → S.Blob → Option (List ℕ)) → (content : List ℕ) →
+            KeepsBytes (calls S.refusals S.polls_sync S.gives_sync_up S.writes S.resizes S.syncs S.starts_sync S.closes) bytes left promised → Keeping bytes left promised content self.rest self.write.held store.old self.write.blob →
+            IfStepped result (λ w. Keeps bytes left promised content self.rest w.held store.new self.write.blob) (λ p. Keeping bytes left promised content p.rest p.write.held store.new self.write.blob) }
     {
         let WriteOp { write, rest } = self;
-        match rest {
-            Rest::Nothing => write.wait_for_sync(store, env, task),
-            Rest::Sync => write.sync(store, env, task),
-            Rest::Resize(len) => write.resize(store, env, len, task),
-        }
+        write.run(store, env, rest, task)
     }
 
     /// Gives the call up, and closes the blob. The bytes that are held back are lost. It takes no memory.
     pub fn give_up(self, store: &mut S)
-        ensures closed { ClosesWriter S.gives_sync_up S.closes self.write.state self.write.blob store.old store.new }
+        ensures closed { ClosesWriter S.gives_sync_up S.closes self.write.held.state self.write.blob store.old store.new }
     {
         let WriteOp { write, rest: _ } = self;
         write.close(store);

@@ -4,10 +4,10 @@ use Rattle.rt_buffer.proofs.write.Write.read_at.Goals as goal
 
 pub returns-in-None-clause-flat : goal.returns-in-None-clause-flat
 returns-in-None-clause-flat g c = λ bytes has lies.
-    flat_tip c.args.self.now.tip c.args.offset c.args.len c.read_tip.result (bytes c.args.store.now c.args.self.now.blob) lies (search rules) c.read_tip.ensures
+    flat_tip c.args.self.now.held.tip c.args.offset c.args.len c.read_tip.result (bytes c.args.store.now c.args.self.now.blob) lies (search rules) c.read_tip.ensures
 
 pub returns-in-Some-2-clause-flat : goal.returns-in-Some-2-clause-flat
 returns-in-Some-2-clause-flat g c = λ bytes has lies.
     let reads = c.read_through.ensures.reads in
-    flat_reads g.S.Storage.reads g.S.Storage.refusals bytes c.args.self.now.blob c.args.self.now.tip c.args.offset c.args.len
+    flat_reads g.S.Storage.reads g.S.Storage.refusals bytes c.args.self.now.blob c.args.self.now.held.tip c.args.offset c.args.len
     c.args.store.now c.read_through.new.store c.read_through.result reads.0 has lies (search rules) reads.2

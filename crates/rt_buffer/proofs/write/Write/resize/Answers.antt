@@ -1,8 +1,14 @@
+use Rattle.std.proofs.Common.{refl}
+use Rattle.rt_buffer.specs.Calls.{calls}
+use Rattle.rt_buffer.specs.declared.write_op.Rest.TheVariants as work
+use Rattle.rt_buffer.specs.Steps.{writer}
+use Rattle.rt_buffer.specs.Tip.{laid_over}
+use Rattle.rt_store.specs.Content.{resized}
+use Rattle.rt_buffer.proofs.Durable.{call_keeps, unseen}
 use Rattle.rt_buffer.proofs.write.Write.resize.Goals as goal
 
-pub returns : goal.returns
-returns g c = record {
-  resizes =
-      let did = c.wait_and_resize-progress.ensures.resizes in
-      (did.0, did.1, (c.wait_and_resize-progress.result, (record { store = c.wait_and_resize-progress.new.store; tip = c.wait_and_resize-progress.new.self.tip; state = c.wait_and_resize-progress.new.self.state }), did.2, rw c.wait_and_resize-progress.ensures.blob at c.end.ensures));
-}
+pub returns-clause-flat : goal.returns-clause-flat
+returns-clause-flat g c = λ bytes left promised keeps lies knows.
+    let runs = c.run.ensures.runs in
+    unseen _ _ c.run.result _ _ (call_keeps (calls g.S.Storage.refusals g.S.Storage.polls_sync g.S.Storage.gives_sync_up g.S.Storage.writes g.S.Storage.resizes g.S.Storage.syncs g.S.Storage.starts_sync g.S.Storage.closes) bytes left promised keeps c.args.self.blob c.args.task (resized c.args.len (laid_over c.args.self.held.tip (bytes c.args.store.now c.args.self.blob))) (work.Resize c.args.len)
+    (writer c.args.store.now c.args.self.held) c.run.new.store _ runs.0 (laid_over c.args.self.held.tip (bytes c.args.store.now c.args.self.blob), refl, (lies, refl, knows)) runs.2)

@@ -1,8 +1,13 @@
+use Rattle.std.proofs.Common.{refl}
+use Rattle.rt_buffer.specs.Calls.{calls}
+use Rattle.rt_buffer.specs.declared.write_op.Rest.TheVariants as work
+use Rattle.rt_buffer.specs.Steps.{writer}
+use Rattle.rt_buffer.specs.Tip.{laid_over}
+use Rattle.rt_buffer.proofs.Durable.{call_keeps, unseen}
 use Rattle.rt_buffer.proofs.write.Write.sync.Goals as goal
 
-pub returns : goal.returns
-returns g c = record {
-  syncs =
-      let did = c.wait_and_save-progress.ensures.syncs in
-      (did.0, did.1, (c.wait_and_save-progress.result, (record { store = c.wait_and_save-progress.new.store; tip = c.wait_and_save-progress.new.self.tip; state = c.wait_and_save-progress.new.self.state }), did.2, rw c.wait_and_save-progress.ensures.blob at c.end.ensures));
-}
+pub returns-clause-durable : goal.returns-clause-durable
+returns-clause-durable g c = λ bytes left promised keeps lies knows.
+    let runs = c.run.ensures.runs in
+    unseen _ _ c.run.result _ _ (call_keeps (calls g.S.Storage.refusals g.S.Storage.polls_sync g.S.Storage.gives_sync_up g.S.Storage.writes g.S.Storage.resizes g.S.Storage.syncs g.S.Storage.starts_sync g.S.Storage.closes) bytes left promised keeps c.args.self.blob c.args.task (laid_over c.args.self.held.tip (bytes c.args.store.now c.args.self.blob)) work.Sync
+    (writer c.args.store.now c.args.self.held) c.run.new.store _ runs.0 (lies, refl, knows) runs.2)

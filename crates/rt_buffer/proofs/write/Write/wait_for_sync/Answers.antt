@@ -1,8 +1,12 @@
+use Rattle.std.proofs.Common.{refl}
+use Rattle.rt_buffer.specs.Calls.{calls}
+use Rattle.rt_buffer.specs.declared.write_op.Rest.TheVariants as work
+use Rattle.rt_buffer.specs.Steps.{writer}
+use Rattle.rt_buffer.proofs.Durable.{call_keeps, unseen}
 use Rattle.rt_buffer.proofs.write.Write.wait_for_sync.Goals as goal
 
-pub returns : goal.returns
-returns g c = record {
-  waits =
-      let did = c.wait-progress.ensures.waits in
-      (did.0, did.1, (c.wait-progress.result, (record { store = c.wait-progress.new.store; tip = c.wait-progress.new.self.tip; state = c.wait-progress.new.self.state }), did.2, rw c.wait-progress.ensures.blob at c.end.ensures));
-}
+pub returns-clause-durable : goal.returns-clause-durable
+returns-clause-durable g c = λ bytes left promised keeps holds.
+    let runs = c.run.ensures.runs in
+    unseen _ _ c.run.result _ _ (call_keeps (calls g.S.Storage.refusals g.S.Storage.polls_sync g.S.Storage.gives_sync_up g.S.Storage.writes g.S.Storage.resizes g.S.Storage.syncs g.S.Storage.starts_sync g.S.Storage.closes) bytes left promised keeps c.args.self.blob c.args.task (bytes c.args.store.now c.args.self.blob) work.Nothing
+    (writer c.args.store.now c.args.self.held) c.run.new.store _ runs.0 (refl, holds) runs.2)

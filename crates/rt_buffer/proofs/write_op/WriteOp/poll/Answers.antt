@@ -1,10 +1,10 @@
+use Rattle.rt_buffer.specs.Calls.{calls}
+use Rattle.rt_buffer.specs.Steps.{writer}
+use Rattle.rt_buffer.proofs.Durable.{call_keeps, unseen}
 use Rattle.rt_buffer.proofs.write_op.WriteOp.poll.Goals as goal
 
-pub returns-in-Nothing : goal.returns-in-Nothing
-returns-in-Nothing g c = record { gives = rw c.in-Nothing.is c.wait_for_sync.ensures.waits }
-
-pub returns-in-Sync : goal.returns-in-Sync
-returns-in-Sync g c = record { gives = rw c.in-Sync.is c.sync.ensures.syncs }
-
-pub returns-in-Resize : goal.returns-in-Resize
-returns-in-Resize g c = record { gives = rw c.in-Resize.is c.resize.ensures.resizes }
+pub returns-clause-durable : goal.returns-clause-durable
+returns-clause-durable g c = λ bytes left promised content keeps keeping.
+    let runs = c.run.ensures.runs in
+    unseen _ _ c.run.result _ _ (call_keeps (calls g.S.Storage.refusals g.S.Storage.polls_sync g.S.Storage.gives_sync_up g.S.Storage.writes g.S.Storage.resizes g.S.Storage.syncs g.S.Storage.starts_sync g.S.Storage.closes) bytes left promised keeps c.args.self.write.blob c.args.task content c.args.self.rest
+    (writer c.args.store.now c.args.self.write.held) c.run.new.store _ runs.0 keeping runs.2)

@@ -1,0 +1,31 @@
+use Rattle.std.proofs.Common.{refl, ◌∙◌}
+use Rattle.rt_buffer.specs.Calls.{calls}
+use Rattle.rt_buffer.specs.declared.write_op.Rest.TheVariants as work
+use Rattle.rt_buffer.specs.Pieces.{with_bytes}
+use Rattle.rt_buffer.specs.Tip.{laid_over}
+use Rattle.rt_buffer.proofs.Changes.{merged_left, merged_whole}
+use Rattle.rt_buffer.proofs.Durable.{call_keeps, unseen}
+use Rattle.rt_buffer.proofs.Overlaid.{chunks_are}
+use Rattle.rt_buffer.proofs.Steps.{writes_left}
+use Rattle.rt_buffer.proofs.write.Write.write_at.Goals as goal
+
+pub returns-in-Ok-2-clause-writes : goal.returns-in-Ok-2-clause-writes
+returns-in-Ok-2-clause-writes g c = λ fits.
+    writes_left (calls g.S.Storage.refusals g.S.Storage.polls_sync g.S.Storage.gives_sync_up g.S.Storage.writes g.S.Storage.resizes g.S.Storage.syncs g.S.Storage.starts_sync g.S.Storage.closes) c.args.self.blob c.args.offset c.args.bufs.chunks c.args.task c.args.store.now c.args.self.held c.merge_chunks.new.self c.merge_chunks.new.left c.run.new.store _ (g.E.Env.noted c.args.env.now) (g.E.Env.noted c.run.new.env)
+    (rw c.in-Ok.ensures.made at c.in-Ok-2.ensures.tip)
+    (rw c.in-Ok.ensures.made at c.in-Ok-2.ensures.left)
+    (λ none. c.if-is_empty.ensures.1 none) c.run.ensures.runs
+
+pub returns-in-Ok-merge_chunks-clause-flat : goal.returns-in-Ok-merge_chunks-clause-flat
+returns-in-Ok-merge_chunks-clause-flat g c = λ bytes left promised keeps lies knows.
+    let m = merged_whole c.args.self.held.tip c.args.offset c.args.bufs.chunks (bytes c.args.store.now c.args.self.blob) c.merge_chunks.new.self c.merge_chunks.new.left
+    (rw c.in-Ok.ensures.made at c.in-Ok-merge_chunks.ensures.tip) (rw c.in-Ok.ensures.made at c.in-Ok-merge_chunks.ensures.left) (c.if-is_empty.ensures.0 refl) lies in
+    (m.0, m.1 ∙ chunks_are c.args.offset c.args.bufs.chunks c.args.bufs.bytes (laid_over c.args.self.held.tip (bytes c.args.store.now c.args.self.blob)) c.new.ensures.filled c.new.ensures.joined, knows)
+
+pub returns-in-Ok-2-clause-flat : goal.returns-in-Ok-2-clause-flat
+returns-in-Ok-2-clause-flat g c = λ bytes left promised keeps lies knows.
+    let m = merged_left c.args.self.held.tip c.args.offset c.args.bufs.chunks (bytes c.args.store.now c.args.self.blob) c.merge_chunks.new.self c.merge_chunks.new.left
+    (rw c.in-Ok.ensures.made at c.in-Ok-2.ensures.tip) (rw c.in-Ok.ensures.made at c.in-Ok-2.ensures.left) lies in
+    let runs = c.run.ensures.runs in
+    unseen _ _ c.run.result _ _ (call_keeps (calls g.S.Storage.refusals g.S.Storage.polls_sync g.S.Storage.gives_sync_up g.S.Storage.writes g.S.Storage.resizes g.S.Storage.syncs g.S.Storage.starts_sync g.S.Storage.closes) bytes left promised keeps c.args.self.blob c.args.task (with_bytes c.args.offset c.args.bufs.bytes (laid_over c.args.self.held.tip (bytes c.args.store.now c.args.self.blob))) (work.Write c.merge_chunks.new.left)
+    _ c.run.new.store _ runs.0 (laid_over c.merge_chunks.new.self (bytes c.args.store.now c.args.self.blob), m.1 ∙ chunks_are c.args.offset c.args.bufs.chunks c.args.bufs.bytes (laid_over c.args.self.held.tip (bytes c.args.store.now c.args.self.blob)) c.new.ensures.filled c.new.ensures.joined, (m.0, refl, knows)) runs.2)

@@ -1,0 +1,162 @@
+// The stores that a test lets fail: the worked examples, and each call once.
+
+use crate::tests::{put, synced};
+use crate::{SyncFaultContext, Write, WriteFaultContext, WriteFaults};
+use rt_base::{Error, IoKind, NoEnv, NoMemory, Poll};
+use rt_store::{Done, FaultConfig, MemStore, Storage, Ticket};
+use std::alloc::Global;
+use std::test::Fail;
+
+fn write_faults(alloc: Global) -> Result<WriteFaultContext<MemStore>, NoMemory> {
+    Ok(WriteFaultContext {
+        inner: MemStore::new(alloc, FaultConfig::default())?,
+        faults: WriteFaults::default(),
+    })
+}
+
+#[test]
+fn one_durable_write(rt: HostRuntime) -> Result<(), Fail> {
+    let alloc = rt.alloc();
+    let mut store = write_faults(alloc)?;
+    match store.open(&mut NoEnv, "p", b"a") {
+        Ok((blob, len)) => {
+            let writer = Write::new(alloc, blob, len, 16);
+            match write_both(alloc, &mut store, writer) {
+                Ok(writer) => {
+                    // Each sync fails from now on, and a durable write doesn't.
+                    store.inner.config_mut().sync_rate = 1_000_000;
+                    assert!(rt; failure(&mut store, writer).is_none());
+                }
+                Err(error) => panic!(rt; "{error}"),
+            }
+        }
+        Err(error) => panic!(rt; "{error}"),
+    }
+    assert_eq!(rt; (store.faults.writes(), store.inner.crash_draws()), (2, 0));
+    Ok(())
+}
+
+/// The cause of a sync that fails.
+fn failure<S: Storage>(store: &mut S, writer: Write<S>) -> Option<Error> {
+    match synced(store, writer) {
+        Ok(writer) => {
+            writer.close(store);
+            None
+        }
+        Err(error) => Some(error),
+    }
+}
+
+/// Writes `ab` and syncs, and then `c`.
+fn write_both(
+    alloc: Global,
+    store: &mut WriteFaultContext<MemStore>,
+    writer: Write<WriteFaultContext<MemStore>>,
+) -> Result<Write<WriteFaultContext<MemStore>>, Error> {
+    let writer = put(alloc, store, writer, 0, b"ab")?;
+    let writer = synced(store, writer)?;
+    put(alloc, store, writer, 2, b"c")
+}
+
+/// Why the sync behind them fails, where writes fail from then on.
+fn armed(
+    alloc: Global,
+    store: &mut WriteFaultContext<MemStore>,
+    writer: Write<WriteFaultContext<MemStore>>,
+) -> Option<Error> {
+    match write_both(alloc, store, writer) {
+        Ok(writer) => {
+            store.faults.arm();
+            failure(store, writer)
+        }
+        Err(error) => Some(error),
+    }
+}
+
+#[test]
+fn armed_write_fails(rt: HostRuntime) -> Result<(), Fail> {
+    let alloc = rt.alloc();
+    let mut store = write_faults(alloc)?;
+    match store.open(&mut NoEnv, "p", b"a") {
+        Ok((blob, len)) => {
+            let writer = Write::new(alloc, blob, len, 16);
+            let why = armed(alloc, &mut store, writer);
+            assert!(rt; why == Some(Error::Io(IoKind::InjectedWriteFailure)));
+        }
+        Err(error) => panic!(rt; "{error}"),
+    }
+    assert_eq!(rt; store.faults.writes(), 1);
+    // The blob was closed.
+    match store.open(&mut NoEnv, "p", b"a") {
+        Ok((blob, len)) => {
+            store.faults.disarm();
+            let writer = Write::new(alloc, blob, len, 16);
+            assert!(rt; failure(&mut store, writer).is_none());
+        }
+        Err(error) => panic!(rt; "{error}"),
+    }
+    Ok(())
+}
+
+/// What a sync, and a started one, of a new blob of a partition answer.
+fn syncs<S: Storage>(store: &mut S, partition: &str) -> Result<(bool, bool), Error> {
+    let (blob, _) = store.open(&mut NoEnv, partition, b"a")?;
+    let answer = store.sync(&mut NoEnv, &blob);
+    let started = store.start_sync(&mut NoEnv, &blob);
+    let starts = is_started(store, started);
+    store.close(blob);
+    Ok((is_now(store, answer), starts))
+}
+
+/// Whether a change was done at once.
+fn is_now<S: Storage>(store: &mut S, answer: Result<Done, Error>) -> bool {
+    match answer {
+        Ok(Done::Now) => true,
+        Ok(Done::Gated(ticket)) => {
+            store.give_up_sync(ticket);
+            false
+        }
+        Err(_) => false,
+    }
+}
+
+/// Whether a sync was started and is done.
+fn is_started<S: Storage>(store: &mut S, answer: Result<Ticket, Error>) -> bool {
+    match answer {
+        Ok(mut ticket) => {
+            let polled = store.poll_sync(&mut NoEnv, &mut ticket, 1);
+            store.give_up_sync(ticket);
+            polled == Poll::Ready(Ok(()))
+        }
+        Err(_) => false,
+    }
+}
+
+/// Why a sync of a new blob of a partition fails.
+fn why<S: Storage>(alloc: Global, store: &mut S, partition: &str) -> Option<Error> {
+    match store.open(&mut NoEnv, partition, b"b") {
+        Ok((blob, len)) => {
+            let writer = Write::new(alloc, blob, len, 16);
+            failure(store, writer)
+        }
+        Err(error) => Some(error),
+    }
+}
+
+#[test]
+fn partition_sync_fails(rt: HostRuntime) -> Result<(), Fail> {
+    let alloc = rt.alloc();
+    let mut fail_partition = String::new(alloc);
+    fail_partition.push_str("p")?;
+    let mut store = SyncFaultContext {
+        inner: MemStore::new(alloc, FaultConfig::default())?,
+        fail_partition,
+        refusals: 0,
+    };
+    assert!(rt; syncs(&mut store, "p") == Ok((false, false)));
+    assert!(rt; syncs(&mut store, "q") == Ok((true, true)));
+    assert!(rt; why(alloc, &mut store, "p") == Some(Error::Io(IoKind::InjectedPartitionSyncFault)));
+    assert!(rt; why(alloc, &mut store, "q").is_none());
+    assert_eq!(rt; store.refusals, 3);
+    Ok(())
+}
