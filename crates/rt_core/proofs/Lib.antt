@@ -2,3 +2,5 @@ pub mod Outcomes
 pub mod Requeue
 pub mod Timeouts
 pub mod Joining
+pub mod Choosing
+pub mod Completing

@@ -2,7 +2,7 @@
 use Rattle.std.specs.Prelude.{◌≡◌, ◌⊎◌, ℕ, List, [], false, true, Result, Ok, Err}
 use Rattle.rt_base.specs.Label.{is_label, prefixed}
 use Rattle.rt_base.specs.declared.error.Error.{Error}
-use Rattle.rt_base.specs.declared.error.Error.TheVariants.{NoMemory, Metric}
+use Rattle.rt_base.specs.declared.error.Error.TheVariants.{NoMemory, Closed as IsClosed, Metric}
 use Rattle.rt_base.specs.declared.execution.Execution.{Execution}
 use Rattle.rt_base.specs.declared.execution.Execution.TheVariants.{Shared}
 use Rattle.rt_base.specs.declared.metric_error.MetricError.TheVariants.{BadLabel}
@@ -16,8 +16,7 @@ use Rattle.rt_model.specs.Walk.{Step}
 use Rattle.rt_world.specs.World.{World}
 use Rattle.rt_world.specs.Calls.{Made}
 use Rattle.rt_world.specs.Walked.{tells}
-use Rattle.rt_core.specs.declared.handle.Kind.{Kind}
-use Rattle.rt_core.specs.declared.handle.Kind.TheVariants.{Task, Nothing}
+use Rattle.rt_core.specs.Handles.{TaskHandle, task_handle, held_handle}
 
 -- the node on which a context stands, its name, and where a task spawned on it runs
 pub record Context : Type 0 where
@@ -56,17 +55,17 @@ unfoldable pub childs : {A O : Type 0} → Context → List ℕ → Step A (Unit
 childs context label = tells (Plainly (Child context.node label)) (child_heard context label)
 
 -- a call that spawned was heard so
-abbrev pub handle_replied : CallReply → Result Kind Error
-handle_replied (TaskAt task number) = Ok (Task task false)
-handle_replied Closed = Ok Nothing
+abbrev pub handle_replied : {O : Type 0} → CallReply → Result (TaskHandle O) Error
+handle_replied (TaskAt task number) = Ok (task_handle task)
+handle_replied Closed = Ok (held_handle (Err IsClosed))
 handle_replied (IsRefused error) = Err error
 handle_replied _ = Err NoMemory
 
-abbrev pub handle_heard : {O : Type 0} → Heard O → Result Kind Error
+abbrev pub handle_heard : {O : Type 0} → Heard O → Result (TaskHandle O) Error
 handle_heard (Plain reply) = handle_replied reply
 handle_heard (Handed value) = Err NoMemory
 
-abbrev pub spawn_told : Result Kind (Refused Context) → Result Kind Error
+abbrev pub spawn_told : {O : Type 0} → Result (TaskHandle O) (Refused Context) → Result (TaskHandle O) Error
 spawn_told (Ok handle) = Ok handle
 spawn_told (Err refused) = Err refused.error
 
@@ -83,10 +82,10 @@ abbrev pub spawning : {A O : Type 0} → Context → (Context → A) → Ask A O
 spawning context makes = Spawning context.node context.execution (makes_on context makes)
 
 -- and spawns it
-unfoldable pub spawns : {A O : Type 0} → Context → (Context → A) → Step A (Unit {0}) O (Result Kind Error)
+unfoldable pub spawns : {A O : Type 0} → Context → (Context → A) → Step A (Unit {0}) O (Result (TaskHandle O) Error)
 spawns context makes = tells (spawning context makes) handle_heard
 
 -- the task was spawned, with this handle
-abbrev pub IsSpawned : {A O G : Type 0} → Context → (Context → A) → World A O G → World A O G → Kind → Type 0
+abbrev pub IsSpawned : {A O G : Type 0} → Context → (Context → A) → World A O G → World A O G → TaskHandle O → Type 0
 IsSpawned context makes old new handle =
     (reply : CallReply) × Made old new (spawning context makes) reply × (handle_replied reply ≡ Ok handle)

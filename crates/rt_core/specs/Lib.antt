@@ -2,8 +2,10 @@ pub mod Sleeper
 pub mod Pollers
 pub mod Timeouts
 pub mod Contexts
+pub mod Completions
 pub mod Handles
 pub mod Failures
 pub mod Starting
 pub mod Outcome
 pub mod Given
+pub mod Select

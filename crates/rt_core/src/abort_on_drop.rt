@@ -46,10 +46,12 @@ impl<O, P> AbortOnDropOf<O, P> {
     /// Aborts the task, and gives its result up. It takes no memory.
     #[tactic(auto, using(rt_world::proofs::Walked::close_laws))]
     pub fn give_up<T: Outcome<Output = O>, G: Rng>(self, world: &mut World<T, O, G>)
+    where
+        P: Poller<T, O>,
         requires { MayCall world.old.told.state world.old.out }
         ensures kept { Kept world.old world.new }
         ensures lacked { world.new.lacked ≡ world.old.lacked }
-        ensures steps { Spends (followed_by (handle_aborts self.handle) (handle_spends (aborted self.handle))) world.old world.new }
+        ensures steps { Spends (followed_by (handle_aborts self.handle) (handle_spends P.spends (aborted self.handle))) world.old world.new }
     {
         self.abort(world).give_up(world)
     }

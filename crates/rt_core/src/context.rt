@@ -13,7 +13,7 @@ ghost use Rattle.rt_model.specs.declared.answer.Answer.{Answer};
 ghost use Rattle.rt_world.specs.Calls.{IsRefused, Kept, Made};
 ghost use Rattle.rt_world.specs.Walked.{Closes, Goes, Polled, Rooted};
 ghost use Rattle.rt_core.specs.Contexts.{IsMakerOf, IsRefusedKey, IsSpawned, child_name, childs, context_on, root_context, spawn_told, spawning, spawns};
-ghost use Rattle.rt_core.specs.declared.handle.Kind.{Kind};
+ghost use Rattle.rt_core.specs.Handles.{TaskHandle};
 ghost use Rattle.rt_core.specs.Pollers.{sleep_for, sleep_until};
 
 use crate::handle::HandleOf;
@@ -157,7 +157,7 @@ impl Context {
     }
 
     /// Spawns a task, on its node. The task is made of a context on a fresh child of that, with the same label and
-    /// attributes. On a node that has ended nothing is made, and the handle is closed. It takes memory.
+    /// attributes. On a node that has ended nothing is made, and the handle holds `Closed`. It takes memory.
     ///
     /// Errors, the first that holds, each hands the context back: `NoMemory` where there is no room for the task,
     /// `UnknownToken`, `TooManyTasks` exactly where the next number is `u64::MAX`, `NoMemory`.
@@ -174,8 +174,8 @@ impl Context {
         ensures ok { (makes : Context → T) → IsMakerOf (F.post make) makes → IfOk result (λ handle. IsSpawned self makes world.old world.new handle) }
         ensures err { (makes : Context → T) → IfErr result (λ refused. IsRefused world.old world.new (spawning self makes) refused.error) }
         ensures steps { (makes : Context → T) → IsMakerOf (F.post make) makes → Goes (spawns self makes) world.old world.new (spawn_told result) tt }
-        ensures polls { (makes : Context → T) (more : Result Kind Error → Unit {0} → Step T T O (Answer O)) (end : World T O G) (answer : Answer O) (left : T) → IsMakerOf (F.post make) makes → Polled (more (spawn_told result) tt) world.new end answer left → Polled (then (spawns self makes) more) world.old end answer left }
-        ensures roots { (makes : Context → T) (more : Result Kind Error → Unit {0} → Step T T O (Unit {0})) (end : World T O G) (root : Result T NoMemory) → IsMakerOf (F.post make) makes → Rooted (more (spawn_told result) tt) world.new end root → Rooted (then (spawns self makes) more) world.old end root }
+        ensures polls { (makes : Context → T) (more : Result (TaskHandle O) Error → Unit {0} → Step T T O (Answer O)) (end : World T O G) (answer : Answer O) (left : T) → IsMakerOf (F.post make) makes → Polled (more (spawn_told result) tt) world.new end answer left → Polled (then (spawns self makes) more) world.old end answer left }
+        ensures roots { (makes : Context → T) (more : Result (TaskHandle O) Error → Unit {0} → Step T T O (Unit {0})) (end : World T O G) (root : Result T NoMemory) → IsMakerOf (F.post make) makes → Rooted (more (spawn_told result) tt) world.new end root → Rooted (then (spawns self makes) more) world.old end root }
     {
         let Context {
             node,
@@ -189,7 +189,7 @@ impl Context {
         { make(Context::on(alloc, number, name)) };
         match world.spawn(node, execution, name, made) {
             Ok(Some((task, number))) => Ok(HandleOf::of(task)),
-            Ok(None) => Ok(HandleOf::closed()),
+            Ok(None) => Ok(HandleOf::ready(Err(Error::Closed))),
             Err((error, name)) => Err(Refused {
                 back: Context {
                     node,

@@ -1,47 +1,57 @@
-//! Handles of spawned tasks.
+//! Handles of spawned tasks and of completions.
 
-ghost use Rattle.std.specs.Prelude.{◌≡◌, false};
+ghost use Rattle.std.specs.Prelude.{◌≡◌, false, None, Some, Result, Err};
+ghost use Rattle.rt_base.specs.declared.error.Error.TheVariants.{Closed as IsClosed};
 ghost use Rattle.rt_model.specs.Rules.{MayCall};
 ghost use Rattle.rt_world.specs.Calls.{Kept};
 ghost use Rattle.rt_world.specs.Walked.{Spends};
-ghost use Rattle.rt_core.specs.Handles.{handle_aborts, aborted, unaborted, polled};
+ghost use Rattle.rt_core.specs.Handles.{handle_aborts, aborted, unaborted, polled, task_handle, held_handle, polled_handle};
 
 use crate::AbortOnDropOf;
+use crate::completion::{Completion, Source, Stage};
 use rand_core::Rng;
 use rt_base::{Error, Poll};
 use rt_world::{Cx, Outcome, Poller, World};
-use std::marker::{Model, PhantomData};
+use std::marker::Model;
 
 /// The poller of a handle that has none of its own. It is closed.
 #[derive(Debug, Drop)]
 pub struct NoPoller;
 
-/// What a handle holds.
-#[derive(Clone, Copy, Debug)]
-pub enum Kind {
-    /// The number of a task, and whether it was aborted by this handle.
-    Task { task: u64, aborted: bool },
-    /// Nothing, since the node had ended.
-    Nothing,
+/// A task whose result is claimed: its number, and whether it was aborted by this handle.
+#[derive(Debug, Drop)]
+pub struct Claim {
+    pub task: u64,
+    pub aborted: bool,
 }
 
-/// A handle of a task of this type: a poller of its output.
+/// What a handle holds.
+#[derive(Debug)]
+pub enum Kind<O, P> {
+    /// The result of a task.
+    Task(Claim),
+    /// A value that comes from somewhere else.
+    Completion(Completion<O, P>),
+}
+
+/// A handle of a task of this type, or of a completion with a task's output: a poller of that output.
 pub type Handle<T, P = NoPoller> = HandleOf<<T as Outcome>::Output, P>;
 
-/// A handle of a task with this output. It is a token: it must be spent by [`give_up`](Poller::give_up).
+/// A handle of a task with this output, or of a completion. It is a token: it must be spent by
+/// [`give_up`](Poller::give_up).
 ///
-/// A poll answers the output once, `Exited` where the task reported a panic, and `Closed` where it ended without a result,
-/// where the output was handed out before, and where the task was spawned on a node that had ended.
+/// A poll of a task's handle answers the output once, `Exited` where the task reported a panic, and `Closed` where it ended
+/// without a result and where the output was handed out before. A poll of a completion answers what it holds or what its
+/// poller answers, once and `Closed` from then on, and `Aborted` once it was aborted, even where its result was ready. A
+/// task that was spawned on a node that had ended has a completion that holds `Closed`.
 pub struct HandleOf<O, P> {
-    kind: Kind,
-    output: PhantomData<O>,
-    poller: PhantomData<P>,
+    kind: Kind<O, P>,
 }
 
 impl<O, P> Model for HandleOf<O, P> {
     ghost use Rattle.rt_core.specs.declared.handle.Kind.{Kind};
 
-    ghost Value = { Kind };
+    ghost Value = { Kind O P };
 
     ghost view = { λ h. h.kind };
 }
@@ -49,31 +59,49 @@ impl<O, P> Model for HandleOf<O, P> {
 impl<O, P> HandleOf<O, P> {
     /// A handle of a task.
     pub(crate) fn of(task: u64) -> Self
-        ensures { result ≡ Kind.Task task false }
+        ensures { result ≡ task_handle task }
     {
         HandleOf {
-            kind: Kind::Task {
+            kind: Kind::Task(Claim {
                 task,
                 aborted: false,
-            },
-            output: PhantomData,
-            poller: PhantomData,
+            }),
         }
     }
 
-    /// A handle of no task.
-    pub(crate) fn closed() -> Self
-        ensures { result ≡ Kind.Nothing }
+    /// A handle that holds its result.
+    pub fn ready(answer: Result<O, Error>) -> Self
+        ensures { result ≡ held_handle answer }
     {
         HandleOf {
-            kind: Kind::Nothing,
-            output: PhantomData,
-            poller: PhantomData,
+            kind: Kind::Completion(Completion {
+                source: Source::Held(Some(answer)),
+                stage: Stage::Open,
+            }),
         }
     }
 
-    /// Aborts the task: it is flagged, and woken where it was left pending. Later calls do nothing and write no entry. It
-    /// takes no memory.
+    /// A handle of what a poller gives.
+    pub fn from_future(state: P) -> Self
+        ensures { result ≡ polled_handle state }
+    {
+        HandleOf {
+            kind: Kind::Completion(Completion {
+                source: Source::Polled(state),
+                stage: Stage::Open,
+            }),
+        }
+    }
+
+    /// A guard that aborts the task where nobody waits for it.
+    pub fn abort_on_drop(self) -> AbortOnDropOf<O, P>
+        ensures { result.handle ≡ self }
+    {
+        AbortOnDropOf { handle: self }
+    }
+
+    /// Aborts the task: it is flagged, and woken where it was left pending. A completion is waited for no more. Later calls
+    /// do nothing and write no entry. It takes no memory.
     #[tactic(auto, using(rt_world::proofs::Walked::poller_laws), unfolding(crate::specs::Handles::handle_aborts))]
     pub fn abort<T, G>(&mut self, world: &mut World<T, O, G>)
         requires { MayCall world.old.told.state world.old.out }
@@ -88,11 +116,12 @@ impl<O, P> HandleOf<O, P> {
         }
     }
 
-    /// A guard that aborts the task where nobody waits for it.
-    pub fn abort_on_drop(self) -> AbortOnDropOf<O, P>
-        ensures { result.handle ≡ self }
+    /// What it holds.
+    fn into_kind(self) -> Kind<O, P>
+        ensures { result ≡ self }
     {
-        AbortOnDropOf { handle: self }
+        let HandleOf { kind } = self;
+        kind
     }
 
     /// Notes that the task is aborted by this handle. Answers its number, if it wasn't before.
@@ -100,51 +129,49 @@ impl<O, P> HandleOf<O, P> {
         ensures handle { self.new ≡ aborted self.old }
         ensures task { result ≡ unaborted self.old }
     {
-        match self.kind {
-            Kind::Task {
-                task,
-                aborted: false,
-            } => {
-                self.kind = Kind::Task {
-                    task,
-                    aborted: true,
-                };
-                Some(task)
+        match &mut self.kind {
+            Kind::Task(claim) => {
+                if claim.aborted {
+                    return None;
+                }
+                claim.aborted = true;
+                Some(claim.task)
             }
-            _ => None,
+            Kind::Completion(completion) => {
+                completion.stage = Stage::Aborted;
+                None
+            }
         }
     }
 }
 
 #[tactic(auto, using(rt_world::proofs::Walked::poller_laws), unfolding(crate::specs::Handles::handle_polls, crate::specs::Handles::handle_spends))]
-impl<T: Outcome, P> Poller<T, T::Output> for HandleOf<T::Output, P> {
+impl<T: Outcome, P: Poller<T, T::Output>> Poller<T, T::Output> for HandleOf<T::Output, P> {
     ghost use Rattle.rt_core.specs.Handles.{handle_polls, handle_spends};
 
-    ghost polls = { λ h now task. handle_polls h };
+    ghost polls = { λ h now task. handle_polls (λ state. P.polls state now task) h };
 
-    ghost spends = { handle_spends };
+    ghost spends = { λ h. handle_spends P.spends h };
 
     fn poll<G: Rng>(
         &mut self,
         world: &mut World<T, T::Output, G>,
-        _cx: &Cx,
+        cx: &Cx,
     ) -> Poll<Result<T::Output, Error>> {
-        let task = match self.kind {
-            Kind::Task { task, .. } => task,
-            Kind::Nothing => return Poll::Ready(Err(Error::Closed)),
+        let completion = match &mut self.kind {
+            Kind::Task(claim) => {
+                let task = claim.task;
+                return polled(world.join(task));
+            }
+            Kind::Completion(completion) => completion,
         };
-        polled(world.join(task))
+        completion.poll(world, cx)
     }
 
     fn give_up<G: Rng>(self, world: &mut World<T, T::Output, G>) {
-        let HandleOf {
-            kind,
-            output: _,
-            poller: _,
-        } = self;
-        match kind {
-            Kind::Task { task, .. } => world.give_up(task),
-            Kind::Nothing => {}
+        match self.into_kind() {
+            Kind::Task(claim) => world.give_up(claim.task),
+            Kind::Completion(completion) => completion.give_up(world),
         }
     }
 }

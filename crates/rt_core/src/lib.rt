@@ -3,6 +3,7 @@
 
 mod abort_on_drop;
 mod checkpoint;
+mod completion;
 mod config;
 mod context;
 mod handle;
@@ -10,6 +11,7 @@ mod maker;
 mod run_error;
 mod runner;
 mod running;
+mod select;
 mod sleep;
 #[cfg(test)]
 mod tests;
@@ -28,6 +30,7 @@ pub use rt_base::{Error, Execution, MAX_TIME, Name, Nanos, NoMemory, Poll, Refus
 pub use rt_world::{Answer, Cx, Outcome, Poller, Task, World};
 pub use run_error::RunError;
 pub use runner::Runner;
+pub use select::{Select, SelectOf};
 pub use sleep::Sleep;
 pub use timeout::Timeout;
 pub use yields::Reschedule;

@@ -10,10 +10,9 @@ use Rattle.rt_model.specs.Tied.{TaskSteps}
 use Rattle.rt_model.specs.Turns.{Plainly}
 use Rattle.rt_model.specs.Walk.{Step, Last, Spends, Gives, then, followed_by}
 use Rattle.rt_core.specs.Contexts.{Context, childs, root_context, spawns}
-use Rattle.rt_core.specs.Handles.{handle_polls, handle_spends}
+use Rattle.rt_core.specs.Handles.{TaskHandle, task_polls, task_spends}
 use Rattle.rt_core.specs.Sleeper.{Sleeper}
 use Rattle.rt_core.specs.Pollers.{sleep_for, sleep_polls, sleep_spends, closes}
-use Rattle.rt_core.specs.declared.handle.Kind.{Kind}
 use Rattle.rt_errand.specs.declared.crew.Crew.{Crew}
 use Rattle.rt_errand.specs.declared.crew.RootPair.{RootPair}
 use Rattle.rt_errand.specs.declared.crew.Work.{Work}
@@ -35,15 +34,15 @@ joined c IsPending = Gives Pending c
 joined c (IsReady (Ok number)) = Gives (Ready number) c
 joined c (IsReady (Err error)) = Gives (Ready (Err error)) c
 
-abbrev pub joins : Crew → Kind → Next
-joins c handle = then (handle_polls handle) (λ answer handle. joined (at c (Joins handle)) answer)
+abbrev pub joins : Crew → TaskHandle Output → Next
+joins c handle = then (task_polls handle) (λ answer handle. joined (at c (Joins handle)) answer)
 
 -- a worker is on its context, at its nap
 abbrev pub worker : ℕ → Context → Crew
 worker number context = record { context = context; work = Naps number }
 
 -- its worker was spawned, or refused
-abbrev pub spawned : Crew → Context → Result Kind Error → Next
+abbrev pub spawned : Crew → Context → Result (TaskHandle Output) Error → Next
 spawned c context (Ok handle) = joins c handle
 spawned c context (Err error) = Spends (Plainly (CloseNode context.node)) (Gives (Ready (Err error)) c)
 
@@ -76,7 +75,7 @@ polled c Done time = Gives Pending c
 
 -- its end gives up what it polls, and closes its context
 abbrev pub ended : Crew → Work → Last Crew Output
-ended c (Joins handle) = followed_by (handle_spends handle) (closes c.context.node)
+ended c (Joins handle) = followed_by (task_spends handle) (closes c.context.node)
 ended c (Sleeps sleep number) = followed_by (sleep_spends sleep) (closes c.context.node)
 ended c work = closes c.context.node
 
@@ -88,8 +87,8 @@ abbrev pub crew_made : ℕ → Step Crew Crew Output (Unit {0})
 crew_made number = Gives tt (record { context = root_context; work = Hires number })
 
 -- a worker was spawned beside the root and its handle given up, or it was refused
-abbrev pub parted : ℕ → Context → Result Kind Error → Step Crew Crew Output (Unit {0})
-parted number context (Ok handle) = followed_by (handle_spends handle) (crew_made number)
+abbrev pub parted : ℕ → Context → Result (TaskHandle Output) Error → Step Crew Crew Output (Unit {0})
+parted number context (Ok handle) = followed_by (task_spends handle) (crew_made number)
 parted number context (Err error) = Spends (Plainly (CloseNode context.node)) (crew_made number)
 
 -- a child was made for it

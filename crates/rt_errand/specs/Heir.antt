@@ -10,9 +10,8 @@ use Rattle.rt_model.specs.Tied.{TaskSteps}
 use Rattle.rt_model.specs.Turns.{Plainly}
 use Rattle.rt_model.specs.Walk.{Step, Last, Spends, Gives, then, followed_by}
 use Rattle.rt_core.specs.Contexts.{Context, childs, root_context, spawns}
-use Rattle.rt_core.specs.Handles.{handle_polls, handle_spends}
+use Rattle.rt_core.specs.Handles.{TaskHandle, task_polls, task_spends}
 use Rattle.rt_core.specs.Pollers.{closes}
-use Rattle.rt_core.specs.declared.handle.Kind.{Kind}
 use Rattle.rt_errand.specs.declared.heir.Heir.{Heir}
 use Rattle.rt_errand.specs.declared.heir.Stage.{Stage}
 use Rattle.rt_errand.specs.declared.heir.Stage.TheVariants.{Starts, Waits, Ready, Over}
@@ -39,30 +38,30 @@ given h IsPending = Gives Pending h
 given h (IsReady (Ok output)) = Gives (IsOver output) h
 given h (IsReady (Err error)) = Gives (IsOver (Err error)) h
 
-abbrev pub joins : Heir → Kind → Next
-joins h late = then (handle_polls late) (λ answer late. followed_by (handle_spends late) (given h answer))
+abbrev pub joins : Heir → TaskHandle Output → Next
+joins h late = then (task_polls late) (λ answer late. followed_by (task_spends late) (given h answer))
 
 -- a spawn below the ended node was answered
-abbrev pub tried : Heir → Context → Result Kind Error → Next
+abbrev pub tried : Heir → Context → Result (TaskHandle Output) Error → Next
 tried h below (Ok late) = joins h late
 tried h below (Err error) = Spends (Plainly (CloseNode below.node)) (Gives (IsOver (Err error)) h)
 
 abbrev pub tries : Heir → Context → Next
 tries h below = then (spawns below ready) (λ late told. tried h below late)
 
-abbrev pub inherits : Heir → Kind → Context → Next
-inherits h handle below = followed_by (handle_spends handle) (tries h below)
+abbrev pub inherits : Heir → TaskHandle Output → Context → Next
+inherits h handle below = followed_by (task_spends handle) (tries h below)
 
 -- the first one's result was polled
-abbrev pub waited : Heir → Context → Kind → Joined → Next
+abbrev pub waited : Heir → Context → TaskHandle Output → Joined → Next
 waited h below handle IsPending = Gives Pending (at h (Waits handle below))
 waited h below handle (IsReady answer) = inherits h handle below
 
-abbrev pub waits : Heir → Kind → Context → Next
-waits h handle below = then (handle_polls handle) (λ answer handle. waited h below handle answer)
+abbrev pub waits : Heir → TaskHandle Output → Context → Next
+waits h handle below = then (task_polls handle) (λ answer handle. waited h below handle answer)
 
 -- the first one was spawned, or refused
-abbrev pub started : Heir → Context → Context → Result Kind Error → Next
+abbrev pub started : Heir → Context → Context → Result (TaskHandle Output) Error → Next
 started h own below (Ok handle) = waits h handle below
 started h own below (Err error) = Spends (Plainly (CloseNode own.node)) (Spends (Plainly (CloseNode below.node)) (Gives (IsOver (Err error)) h))
 
@@ -85,7 +84,7 @@ polled h Over = Gives Pending (at h Over)
 
 -- its end gives up what it holds, and closes its context
 abbrev pub ended : Heir → Stage → Last Heir Output
-ended h (Waits handle below) = followed_by (handle_spends handle) (Spends (Plainly (CloseNode below.node)) (closes h.context.node))
+ended h (Waits handle below) = followed_by (task_spends handle) (Spends (Plainly (CloseNode below.node)) (closes h.context.node))
 ended h stage = closes h.context.node
 
 abbrev pub heir_steps : TaskSteps Heir Output

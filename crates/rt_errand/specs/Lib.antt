@@ -2,3 +2,4 @@ pub mod Crew
 pub mod Errand
 pub mod Heir
 pub mod Retry
+pub mod Chief

@@ -210,25 +210,33 @@ impl RootMaker<Crew> for RootPair {
         world: &mut World<Crew, Result<u64, Error>, G>,
     ) -> Result<Crew, NoMemory> {
         let number = self.number;
-        if let Ok(child) = context.child(world, "worker") {
-            let spawned = child.spawn(
-                world,
-                |context| Crew {
-                    context,
-                    work: Work::Naps(number),
-                },
-            );
-            match spawned {
-                Ok(handle) => handle.give_up(world),
-                Err(refused) => {
-                    let Refused { back, error: _ } = refused;
-                    back.close(world);
-                }
+        let Ok(child) = context.child(world, "worker") else {
+            return Ok(first(context, number));
+        };
+        let spawned = child.spawn(
+            world,
+            |context| Crew {
+                context,
+                work: Work::Naps(number),
+            },
+        );
+        match spawned {
+            Ok(handle) => handle.give_up(world),
+            Err(refused) => {
+                let Refused { back, error: _ } = refused;
+                back.close(world);
             }
         }
-        Ok(Crew {
-            context,
-            work: Work::Hires(number),
-        })
+        Ok(first(context, number))
+    }
+}
+
+/// The first of a crew, whose worker has this number.
+fn first(context: Context, number: u64) -> Crew
+    ensures { result ≡ record { context = context; work = Work.Hires number } }
+{
+    Crew {
+        context,
+        work: Work::Hires(number),
     }
 }

@@ -125,13 +125,11 @@ impl Heir {
         ensures kept { Kept world.old world.new }
         ensures steps { Polled (waits self.old handle below) world.old world.new result self.new }
     {
-        match handle.poll(world, cx) {
-            Poll::Pending => {
-                put(&mut self.stage, Stage::Waits(handle, below));
-                Answer::Pending
-            }
-            Poll::Ready(_) => self.inherit(world, cx, handle, below),
-        }
+        let Poll::Ready(_) = handle.poll(world, cx) else {
+            put(&mut self.stage, Stage::Waits(handle, below));
+            return Answer::Pending;
+        };
+        self.inherit(world, cx, handle, below)
     }
 
     /// Gives its handle up, and goes on by the context.

@@ -24,17 +24,17 @@ fn lines(alloc: Global, journal: &Journal) -> Result<String, NoMemory> {
 
 /// What comes of a run.
 #[derive(Drop)]
-struct Expected {
-    ending: Result<Result<u64, Error>, RunError>,
-    time: Nanos,
-    lines: &'static str,
+pub(crate) struct Expected<'a> {
+    pub(crate) ending: Result<Result<u64, Error>, RunError>,
+    pub(crate) time: Nanos,
+    pub(crate) lines: &'a str,
 }
 
 /// Whether a run came to this end, with these lines.
-fn is_as_expected(
+pub(crate) fn is_as_expected(
     alloc: Global,
     run: Result<Finished<Result<u64, Error>, ChaCha12Rng>, Failure>,
-    expected: Expected,
+    expected: Expected<'_>,
 ) -> Result<bool, NoMemory> {
     let (ended, journal) = match run {
         Ok(finished) => {
@@ -59,7 +59,7 @@ fn is_as_expected(
 struct Case {
     config: Config<ChaCha12Rng>,
     root: RootErrand,
-    expected: Expected,
+    expected: Expected<'static>,
 }
 
 /// Whether an errand's run comes to what is expected.
@@ -506,7 +506,7 @@ fn refused_settings(rt: HostRuntime) -> Result<(), Fail> {
 fn crew_plays(
     alloc: Global,
     config: Config<ChaCha12Rng>,
-    expected: Expected,
+    expected: Expected<'_>,
 ) -> Result<bool, NoMemory> {
     let Ok(runner) = Runner::new(config) else {
         return Ok(false);

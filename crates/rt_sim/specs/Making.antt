@@ -9,8 +9,7 @@ use Rattle.rt_model.specs.Walk.{Step, Spends, Gives, then, followed_by}
 use Rattle.rt_world.specs.World.{World}
 use Rattle.rt_world.specs.Walked.{Rooted}
 use Rattle.rt_core.specs.Contexts.{Context, childs, spawns, root_context}
-use Rattle.rt_core.specs.Handles.{handle_spends}
-use Rattle.rt_core.specs.declared.handle.Kind.{Kind}
+use Rattle.rt_core.specs.Handles.{TaskHandle, task_spends}
 use Rattle.rt_scenario.specs.declared.scenario.ScriptText.{ScriptText}
 use Rattle.rt_sim.specs.Program.{text_at}
 use Rattle.rt_sim.specs.Script.{Script, started}
@@ -34,8 +33,8 @@ passed_over context next LacksMemory = Spends (Plainly (CloseNode context.node))
 passed_over context next error = next
 
 -- a script was spawned on a child: its handle is given up, or the child is closed
-abbrev pub spawned_beside : Context → Making → Context → Result Kind Error → Making
-spawned_beside context next child (Ok handle) = followed_by (handle_spends handle) next
+abbrev pub spawned_beside : Context → Making → Context → Result (TaskHandle ℤ) Error → Making
+spawned_beside context next child (Ok handle) = followed_by (task_spends handle) next
 spawned_beside context next child (Err error) = Spends (Plainly (CloseNode child.node)) (passed_over context next error)
 
 abbrev pub placed_beside : Context → List ScriptText → ℕ → Making → Result Context Error → Making

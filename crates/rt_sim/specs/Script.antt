@@ -13,10 +13,9 @@ use Rattle.rt_model.specs.Turns.{Heard, Plain, Plainly, with_task}
 use Rattle.rt_model.specs.Walk.{Step, Last, Does, Spends, Gives, then, followed_by}
 use Rattle.rt_model.specs.Tied.{TaskSteps}
 use Rattle.rt_core.specs.Contexts.{Context, childs, spawns as spawns_on}
-use Rattle.rt_core.specs.Handles.{handle_polls, handle_spends, handle_aborts, aborted}
+use Rattle.rt_core.specs.Handles.{TaskHandle, task_polls, task_spends, handle_aborts, aborted}
 use Rattle.rt_core.specs.Sleeper.{Sleeper}
 use Rattle.rt_core.specs.Pollers.{sleep_for, sleep_until, sleep_polls, sleep_spends, reschedule_polls, reschedule_spends, unqueued, closes}
-use Rattle.rt_core.specs.declared.handle.Kind.{Kind}
 use Rattle.rt_core.specs.declared.yields.Reschedule.{Reschedule}
 use Rattle.rt_scenario.specs.declared.line.Line.{Line}
 use Rattle.rt_scenario.specs.declared.line.Line.TheVariants.{Sleep, Until, Yield, Pend, End, EndLast, Panic, Spawn, Abort, AbortSelf, Drop, Join}
@@ -33,7 +32,7 @@ pub record Script : Type 0 where
   pub place : ℕ
   pub last : ℤ
   pub waits : Waits
-  pub handles : List (ℕ × Kind)
+  pub handles : List (ℕ × TaskHandle ℤ)
   pub places : ℕ
   pub context : Context
 
@@ -58,7 +57,7 @@ passed s value = record s { place = s.place + 1; last = value; waits = Nothing }
 abbrev pub loosed : Script → ℕ → Script
 loosed s at = record s { handles = without at s.handles }
 
-abbrev pub bound : Script → ℕ → Kind → Script
+abbrev pub bound : Script → ℕ → TaskHandle ℤ → Script
 bound s at handle = record s { handles = with_task at handle (without at s.handles) }
 
 -- with a place for this name
@@ -118,12 +117,12 @@ unfoldable pub yields : Script → (Script → Next) → ℕ → Next
 yields s on task = then (reschedule_polls (turn_in s.waits) task) (yielded s on)
 
 -- what a name holds is given up
-abbrev pub releases : Option Kind → Last Script ℤ
+abbrev pub releases : Option (TaskHandle ℤ) → Last Script ℤ
 releases None = Gives tt tt
-releases (Some handle) = handle_spends handle
+releases (Some handle) = task_spends handle
 
 -- a script was spawned on a context
-abbrev pub spawned : Script → (Script → Next) → ℕ → Context → Result Kind Error → Next
+abbrev pub spawned : Script → (Script → Next) → ℕ → Context → Result (TaskHandle ℤ) Error → Next
 spawned s on at context (Ok handle) = on (passed (bound s at handle) (pos 0))
 spawned s on at context (Err error) = Spends (Plainly (CloseNode context.node)) (refused s on error)
 
@@ -139,29 +138,29 @@ spawns s on at script =
     (then (childs s.context (name_at s.text at)) (λ made u. placed (roomed (loosed s at) at) on at script made))
 
 -- what a join of this handle was told
-abbrev pub joined : Script → (Script → Next) → ℕ → Poll (Result ℤ Error) → Kind → Next
+abbrev pub joined : Script → (Script → Next) → ℕ → Poll (Result ℤ Error) → TaskHandle ℤ → Next
 joined s on at IsPending handle = Gives Pending (bound s at handle)
-joined s on at (IsReady (Ok value)) handle = followed_by (handle_spends handle) (on (passed (loosed s at) value))
-joined s on at (IsReady (Err error)) handle = followed_by (handle_spends handle) (refused (loosed s at) on error)
+joined s on at (IsReady (Ok value)) handle = followed_by (task_spends handle) (on (passed (loosed s at) value))
+joined s on at (IsReady (Err error)) handle = followed_by (task_spends handle) (refused (loosed s at) on error)
 
 -- a handle is given up once it is joined
-abbrev pub joins_held : Script → (Script → Next) → ℕ → Option Kind → Next
+abbrev pub joins_held : Script → (Script → Next) → ℕ → Option (TaskHandle ℤ) → Next
 joins_held s on at None = on (passed s unheld)
-joins_held s on at (Some handle) = then (handle_polls handle) (joined s on at)
+joins_held s on at (Some handle) = then (task_polls handle) (joined s on at)
 
 unfoldable pub joins : Script → (Script → Next) → ℕ → Next
 joins s on at = joins_held s on at (find at s.handles)
 
-abbrev pub aborts_held : Script → (Script → Next) → ℕ → Option Kind → Next
+abbrev pub aborts_held : Script → (Script → Next) → ℕ → Option (TaskHandle ℤ) → Next
 aborts_held s on at None = on (passed s unheld)
 aborts_held s on at (Some handle) = followed_by (handle_aborts handle) (on (passed (bound s at (aborted handle)) (pos 0)))
 
 unfoldable pub aborts : Script → (Script → Next) → ℕ → Next
 aborts s on at = aborts_held s on at (find at s.handles)
 
-abbrev pub drops_held : Script → (Script → Next) → ℕ → Option Kind → Next
+abbrev pub drops_held : Script → (Script → Next) → ℕ → Option (TaskHandle ℤ) → Next
 drops_held s on at None = on (passed s unheld)
-drops_held s on at (Some handle) = followed_by (handle_spends handle) (on (passed (loosed s at) (pos 0)))
+drops_held s on at (Some handle) = followed_by (task_spends handle) (on (passed (loosed s at) (pos 0)))
 
 unfoldable pub drops : Script → (Script → Next) → ℕ → Next
 drops s on at = drops_held s on at (find at s.handles)
@@ -199,9 +198,9 @@ abbrev pub polled : Script → ℕ → ℕ → Next
 polled s time task = goes_on (lines_from s) s time task
 
 -- the handles are given up in order of their names
-unfoldable pub releases_all : List (ℕ × Kind) → Last Script ℤ → Last Script ℤ
+unfoldable pub releases_all : List (ℕ × TaskHandle ℤ) → Last Script ℤ → Last Script ℤ
 releases_all [] next = next
-releases_all (h ∷ handles) next = followed_by (handle_spends h.1) (releases_all handles next)
+releases_all (h ∷ handles) next = followed_by (task_spends h.1) (releases_all handles next)
 
 -- what it waits for is given up
 abbrev pub stops_waiting : Waits → Last Script ℤ

@@ -24,13 +24,13 @@ returns-in-Ok-Some-clause-roots g c makes more end root by two = (returns-in-Ok-
 pub returns-in-Ok-None-clause-ok : goal.returns-in-Ok-None-clause-ok
 returns-in-Ok-None-clause-ok g c makes by =
     rw (← c.self.view_is)
-    (Closed, rw c.in-Ok-None.field-0-is at (c.in-Ok-None.ensures.ok (λ number. makes (context_on number c.self.inside.name)) (λ number state post. by (context_on number c.self.inside.name) state (search rules))), rw c.closed.ensures refl)
+    (Closed, rw c.in-Ok-None.field-0-is at (c.in-Ok-None.ensures.ok (λ number. makes (context_on number c.self.inside.name)) (λ number state post. by (context_on number c.self.inside.name) state (search rules))), rw c.ready.ensures refl)
 
 pub returns-in-Ok-None-clause-steps : goal.returns-in-Ok-None-clause-steps
 unfolding spawns
 returns-in-Ok-None-clause-steps g c makes by =
     rw (← c.self.view_is)
-    (spawn-tells c.args.world.now c.spawn.new.self handle_heard (Ok c.closed.result) {C = Unit {0}} c.self.inside.node c.self.inside.execution (λ number. makes (context_on number c.self.inside.name)) (Ok None) (rw c.in-Ok-None.field-0-is at (c.in-Ok-None.ensures.ok (λ number. makes (context_on number c.self.inside.name)) (λ number state post. by (context_on number c.self.inside.name) state (search rules)))) tt (rw c.closed.ensures refl))
+    (spawn-tells c.args.world.now c.spawn.new.self handle_heard (Ok c.ready.result) {C = Unit {0}} c.self.inside.node c.self.inside.execution (λ number. makes (context_on number c.self.inside.name)) (Ok None) (rw c.in-Ok-None.field-0-is at (c.in-Ok-None.ensures.ok (λ number. makes (context_on number c.self.inside.name)) (λ number state post. by (context_on number c.self.inside.name) state (search rules)))) tt (rw c.ready.ensures refl))
 
 pub returns-in-Ok-None-clause-polls : goal.returns-in-Ok-None-clause-polls
 returns-in-Ok-None-clause-polls g c makes more end answer left by two = (returns-in-Ok-None-clause-steps g c makes by).onward more end answer left two

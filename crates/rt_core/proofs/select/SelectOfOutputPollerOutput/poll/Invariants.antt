@@ -1,0 +1,20 @@
+use Rattle.std.proofs.Common.{◌≡◌, ◌-◌, ◌≤◌, List, Result, None, length, vec_len, take, drop}
+use Rattle.rt_base.specs.declared.error.Error.{Error}
+use Rattle.rt_base.specs.declared.poll.Poll.{Poll}
+use Rattle.rt_world.specs.World.{World}
+use Rattle.rt_world.specs.Calls.{IsPolling, Kept}
+use Rattle.rt_world.specs.Walked.{Walked}
+use Rattle.rt_core.specs.Select.{polls_rest, select_polls}
+use Rattle.rt_core.specs.declared.handle.Kind.{Kind}
+use Rattle.rt_core.proofs.select.SelectOfOutputPollerOutput.poll.Given as goal
+
+abbrev pub invariant-loop-place : goal.invariant-loop-place
+invariant-loop-place g l = record {
+  polling : IsPolling l.world l.cx.task;
+  kept : Kept l.fn.world l.world;
+  long : l.fn.world.lacked ≡ None → l.world.lacked ≡ None;
+  goes : (end : World g.row.T.Denot g.row.T-Output.Denot g.row.G.Denot) (answer : Poll (Result g.row.T-Output.Denot Error)) (left : List (Kind g.row.T-Output.Denot g.row.P.Denot)) → Walked (polls_rest (λ state. g.P.Poller.polls state l.fn.world.told.state.clock.time l.cx.task) g.P.Poller.spends (take l.place l.self-inside.handles.items) (drop l.place l.self-inside.handles.items)) l.world end answer left → Walked (select_polls (λ state. g.P.Poller.polls state l.fn.world.told.state.clock.time l.cx.task) g.P.Poller.spends l.fn.self) l.fn.world end answer left;
+}
+
+abbrev pub decreases-loop-place : goal.decreases-loop-place
+decreases-loop-place g l = vec_len l.self-inside.handles - l.place

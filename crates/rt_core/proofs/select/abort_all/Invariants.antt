@@ -1,0 +1,21 @@
+use Rattle.std.proofs.Common.{◌≡◌, ◌-◌, ◌≤◌, length, vec_len, drop}
+use Rattle.rt_model.specs.Rules.{MayCall}
+use Rattle.rt_world.specs.World.{World}
+use Rattle.rt_world.specs.Calls.{Kept}
+use Rattle.rt_world.specs.Walked.{Spent}
+use Rattle.rt_core.specs.Handles.{aborted, handle_aborts}
+use Rattle.rt_core.specs.Select.{each}
+use Rattle.rt_core.proofs.Choosing.{changed}
+use Rattle.rt_core.proofs.select.abort_all.Given as goal
+
+abbrev pub invariant-loop-place : goal.invariant-loop-place
+invariant-loop-place g l = record {
+  handles : l.handles.items ≡ changed aborted l.place l.fn.handles.items;
+  calling : MayCall l.world.told.state l.world.out;
+  kept : Kept l.fn.world l.world;
+  lacked : l.world.lacked ≡ l.fn.world.lacked;
+  goes : (end : World g.row.T.Denot g.row.O.Denot g.row.G.Denot) → Spent (each handle_aborts (drop l.place l.fn.handles.items)) l.world end → Spent (each handle_aborts l.fn.handles.items) l.fn.world end;
+}
+
+abbrev pub decreases-loop-place : goal.decreases-loop-place
+decreases-loop-place g l = vec_len l.handles - l.place

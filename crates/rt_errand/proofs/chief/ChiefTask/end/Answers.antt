@@ -1,0 +1,6 @@
+use Rattle.rt_world.proofs.Walked.{spent-nothing}
+use Rattle.rt_errand.proofs.chief.ChiefTask.end.Goals as goal
+
+pub returns-in-Watches-clause-steps : goal.returns-in-Watches-clause-steps
+returns-in-Watches-clause-steps g c =
+    rw c.in-Watches.is (c.give_up.ensures.steps.ends _ _ (c.give_up-in-Watches.ensures.steps.ends _ _ (c.close.ensures.closed.ends _ _ (spent-nothing _))))
