@@ -27,6 +27,7 @@ parked-quiet c h len task same quiet lacks opened alive empty =
           let d : len - h ≡ n - held c = omega arith in
           (task, ap (λ m. let o : Option Parked = Some (record { need = m; task = task }) in o) d);
       sending = quiet.sending;
+      started = quiet.started;
     }
 
 -- a started `recv` whose bytes are held is answered by them

@@ -120,10 +120,10 @@ after_send c bytes task (Ok answer) = settled (sent c bytes) task answer
 after_send c bytes task (Err NoMemory) = c
 after_send c bytes task (Err e) = failed_send c
 
--- what the next poll of a started `send` may answer
+-- what a poll of a `send` may answer; where none is started there is nothing to wait for
 abbrev pub PollsSend : ChannelState → Result (Poll Unit) Error → Type 0
-PollsSend c (Ok (Ready done)) = is_drained c ≡ true
-PollsSend c (Ok Pending) = (is_drained c ≡ false) × (c.stream.alive ≡ true)
+PollsSend c (Ok (Ready done)) = (is_drained c || (c.stream.alive && not c.sending)) ≡ true
+PollsSend c (Ok Pending) = (is_drained c ≡ false) × (c.stream.alive ≡ true) × (c.sending ≡ true)
 PollsSend c (Err SendFailed) = (is_drained c ≡ false) × (c.stream.alive ≡ false)
 PollsSend c (Err e) = ⊥
 
@@ -248,11 +248,12 @@ pub record AreCounted (c : ChannelState) : Type 0 where
   pub taken : c.taken ≤ length c.put
 
 -- Who waits. A parked `recv` is a started one that lacks bytes, and both halves are open. A parked `send` is a started
--- one with more than the buffer size before it, and both halves are alive; its sink may have failed, since the token of
--- another network's sink, with this number, may poll here. A started `recv` that lacks bytes of an open sink is parked,
--- and so is a started `send` with more than the buffer size before it and a stream that is alive.
+-- one with more than the buffer size before it, its sink is open, and its stream alive. A started `recv` that lacks
+-- bytes of an open sink is parked, and so is a started `send` with more than the buffer size before it and a stream
+-- that is alive. Only an open sink has a `send` started.
 pub record IsQuiet (c : ChannelState) : Type 0 where
   pub receiver : (w : Parked) → c.receiver ≡ Some w → (left c < w.need) × (is_open c.sink ≡ true) × (is_open c.stream ≡ true) × (c.receiving ≡ Some (w.need + held c))
-  pub sender : (t : ℕ) → c.sender ≡ Some t → (c.buffer_size < left c) × (c.stream.alive ≡ true) × (c.sink.alive ≡ true) × (c.sending ≡ true)
+  pub sender : (t : ℕ) → c.sender ≡ Some t → (c.buffer_size < left c) × (c.stream.alive ≡ true) × (is_open c.sink ≡ true) × (c.sending ≡ true)
   pub receiving : (len : ℕ) → c.receiving ≡ Some len → held c < len → is_open c.sink ≡ true → (t : ℕ) × (c.receiver ≡ Some (record { need = len - held c; task = t }))
   pub sending : c.sending ≡ true → c.buffer_size < left c → c.stream.alive ≡ true → (t : ℕ) × (c.sender ≡ Some t)
+  pub started : c.sending ≡ true → is_open c.sink ≡ true

@@ -113,7 +113,7 @@ impl Pipe {
         }
     }
 
-    /// Polls a `send` that was started.
+    /// Polls a `send`. Where none is started it waits for nothing.
     pub fn poll_send(&mut self, task: u64) -> Result<Poll<()>, Error>
         requires { self.old.sink.alive ≡ true }
         ensures polls { PollsSend self.old result }
@@ -122,6 +122,10 @@ impl Pipe {
         if !self.stream.alive && !self.is_drained() {
             let _ = self.fail_sink();
             return Err(Error::SendFailed);
+        }
+        if !self.sending {
+            self.sender = None;
+            return Ok(Poll::Ready(()));
         }
         Ok(self.settle(task))
     }
@@ -275,7 +279,7 @@ impl Pipe {
 
     // The sender goes on, or parks.
     fn settle(&mut self, task: u64) -> Poll<()>
-        requires sink { self.old.sink.alive ≡ true }
+        requires sink { is_open self.old.sink ≡ true }
         requires stream { is_drained self.old ≡ false → self.old.stream.alive ≡ true }
         ensures answer { Settles self.old result }
         ensures after { self.new ≡ settled self.old task result }
