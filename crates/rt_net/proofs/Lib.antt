@@ -1,6 +1,4 @@
 pub mod Asked
-pub mod Indexed
-pub mod ListenerLemmas
-pub mod NotingLemmas
+pub mod Places
 pub mod Quiet
 pub mod Walked

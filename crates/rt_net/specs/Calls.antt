@@ -15,7 +15,7 @@ use Rattle.rt_net.specs.declared.reply.Reply.{Reply}
 use Rattle.rt_net.specs.declared.sink.Sink.{Sink}
 use Rattle.rt_net.specs.declared.stream.Stream.{Stream}
 use Rattle.rt_net.specs.Channel.{ChannelState, fresh, Sends, PollsSend, Receives, PollsReceive, Peeks, after_send, after_poll_send, after_recv, after_poll_recv}
-use Rattle.rt_net.specs.Network.{NetworkState, ListenerState, AtSink, AtStream, at_sink, at_stream, live_listener, addresses, fresh_listener, closed_listener, with_connection, waiting_task, with_accepted, listener_at, after_closing, woken_by_closing}
+use Rattle.rt_net.specs.Network.{NetworkState, ListenerState, AtSink, AtStream, at_sink, at_stream, live_listener, number_at, fresh_listener, closed_listener, with_connection, waiting_task, with_accepted, listener_at, after_closing, woken_by_closing}
 
 -- The tokens of new halves.
 
@@ -78,7 +78,7 @@ IsDialerAddress a = (a.ip ≡ localhost) × (32768 ≤ a.port) × (a.port < 6100
 
 -- a listener was bound at this address, at any time
 abbrev pub IsBound : NetworkState → Addr → Type 0
-IsBound s a = (n : ℕ) × (slice_get (addresses s.listeners) n ≡ Some a)
+IsBound s a = is_some (number_at s.addresses a) ≡ true
 
 abbrev pub NetBinds : NetworkState → Addr → Result Listener Error → Type 0
 NetBinds s a (Ok l) = (¬ IsDialerAddress a) × (¬ IsBound s a) × (l ≡ record { number = length s.listeners; address = a })
@@ -87,7 +87,7 @@ NetBinds s a (Err NoMemory) = Unit {0}
 NetBinds s a (Err e) = ⊥
 
 abbrev pub net_after_bind : NetworkState → Addr → Result Listener Error → NetworkState
-net_after_bind s a (Ok _) = with_listeners s (s.listeners ++ fresh_listener a ∷ [])
+net_after_bind s a (Ok _) = record s { addresses = s.addresses ++ a ∷ []; listeners = s.listeners ++ fresh_listener ∷ [] }
 net_after_bind s a (Err _) = s
 
 -- the connection from this port, whose channels are the next two: the first leads to the dialer
@@ -109,15 +109,15 @@ task_at s (Some n) = waiting_task (live_listener s.listeners n)
 
 abbrev pub NetDials : NetworkState → Addr → Result (Reply (Sink × Stream)) Error → Type 0
 NetDials s a (Ok r) =
-    (s.port < 61000) × (is_some (listener_at s.listeners a) ≡ true) × (r.wake ≡ task_at s (listener_at s.listeners a)) × (r.value ≡ (idle_sink (length s.channels + 1), idle_stream (length s.channels))) × (r.link ≡ None)
+    (s.port < 61000) × (is_some (listener_at s a) ≡ true) × (r.wake ≡ task_at s (listener_at s a)) × (r.value ≡ (idle_sink (length s.channels + 1), idle_stream (length s.channels))) × (r.link ≡ None)
 NetDials s a (Err PortsExhausted) = s.port ≡ 61000
-NetDials s a (Err ConnectionFailed) = (s.port < 61000) × (listener_at s.listeners a ≡ None)
+NetDials s a (Err ConnectionFailed) = (s.port < 61000) × (listener_at s a ≡ None)
 NetDials s a (Err NoMemory) = Unit {0}
 NetDials s a (Err e) = ⊥
 
 -- a dial that is refused where no listener is uses its port up too
 abbrev pub net_after_dial : NetworkState → Addr → Result (Reply (Sink × Stream)) Error → NetworkState
-net_after_dial s a (Ok _) = connected s (listener_at s.listeners a)
+net_after_dial s a (Ok _) = connected s (listener_at s a)
 net_after_dial s a (Err ConnectionFailed) = connected s None
 net_after_dial s a (Err _) = s
 

@@ -11,7 +11,7 @@ pub record Kept : Type 0 where
 
 -- a network without channels and listeners, whose first dialer gets port 32,768
 abbrev pub empty_net : Kept
-empty_net = record { state = record { port = 32768; listeners = []; channels = []; woken = [] }; refusals = 0 }
+empty_net = record { state = record { port = 32768; addresses = []; listeners = []; channels = []; woken = [] }; refusals = 0 }
 
 -- the network is in this state after an answer, which is counted
 abbrev pub answered : {A : Type 0} → Kept → NetworkState → Result A Error → Kept

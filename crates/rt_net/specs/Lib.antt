@@ -4,7 +4,7 @@ pub mod Channel
 pub mod Forgotten
 pub mod Kept
 pub mod Network
-pub mod Noting
 pub mod Pipe
 pub mod Refusals
+pub mod Roster
 pub mod Table

@@ -1,7 +1,7 @@
 -- The network as a record: its port counter, the listeners ever bound, and the channels ever made. A sink, a stream
 -- and a listener have the number of their place in these lists. The rules are those of the source crate's
 -- deterministic network.
-use Rattle.std.specs.Prelude.{◌≡◌, ℕ, Bool, true, false, List, [], ◌∷◌, ◌++◌, map, Option, Some, None, Result, Ok, Err, if◌then◌else◌, slice_get, slice_set, option_to_list, MatchOption, drop, ◌&&◌, ◌||◌, is_some}
+use Rattle.std.specs.Prelude.{◌≡◌, ℕ, Bool, true, false, List, [], ◌∷◌, ◌++◌, Option, Some, None, Result, Ok, Err, if◌then◌else◌, slice_get, slice_set, option_to_list, MatchOption, drop, ◌||◌, is_some}
 use Rattle.std.specs.List.{position_from}
 use Rattle.rt_base.specs.contracts.addr.AddrPartialEq.TheImpl as by_address
 use Rattle.rt_base.specs.declared.addr.Addr.{Addr}
@@ -14,22 +14,18 @@ use Rattle.rt_net.specs.Channel.{ChannelState, receiver_task, closed_sink, close
 -- `waiting` is the connections that were dialed and not accepted, in the order of their dials, and `task` the task
 -- that waits for the next
 pub record ListenerState : Type 0 where
-  pub address : Addr
   pub alive : Bool
   pub waiting : List Connection
   pub task : Option ℕ
 
--- `port` is the port of the next dialer, and `woken` the tasks that the last closing of a listener woke and that
--- were not told yet
+-- `port` is the port of the next dialer, `addresses` are those of the listeners, by their numbers, and `woken` the tasks
+-- that the last closing of a listener woke and that were not told yet
 pub record NetworkState : Type 0 where
   pub port : ℕ
+  pub addresses : List Addr
   pub listeners : List ListenerState
   pub channels : List ChannelState
   pub woken : List ℕ
-
--- the addresses ever bound
-abbrev pub addresses : List ListenerState → List Addr
-addresses ls = map (λ l. l.address) ls
 
 -- The object of a number, where it is live.
 
@@ -136,9 +132,9 @@ woken_by_closing cs (c ∷ rest) =
 
 -- Listeners.
 
--- a listener at an address, where nothing waits
-abbrev pub fresh_listener : Addr → ListenerState
-fresh_listener a = record { address = a; alive = true; waiting = []; task = None }
+-- a listener where nothing waits
+abbrev pub fresh_listener : ListenerState
+fresh_listener = record { alive = true; waiting = []; task = None }
 
 -- a listener that was closed: its address stays taken
 abbrev pub closed_listener : ListenerState → ListenerState
@@ -154,12 +150,20 @@ abbrev pub after_accept : {A : Type 0} → ListenerState → ℕ → Poll A → 
 after_accept l task (Ready _) = record l { waiting = drop 1 l.waiting; task = None }
 after_accept l task Pending = record l { task = Some task }
 
--- the number of the live listener at an address
+-- the number of the listener that was bound at an address, at any time
 abbrev pub addr_eq : Addr → Addr → Bool
 addr_eq = by_address.ghosts.eq
 
-abbrev pub listener_at : List ListenerState → Addr → Option ℕ
-listener_at ls a = position_from (λ l. l.alive && addr_eq l.address a) 0 ls
+abbrev pub number_at : List Addr → Addr → Option ℕ
+number_at xs a = position_from (λ b. addr_eq b a) 0 xs
+
+-- and where it is live
+abbrev pub if_live : List ListenerState → Option ℕ → Option ℕ
+if_live ls None = None
+if_live ls (Some n) = if is_some (live_listener ls n) then Some n else None
+
+abbrev pub listener_at : NetworkState → Addr → Option ℕ
+listener_at s a = if_live s.listeners (number_at s.addresses a)
 
 -- the task that waits for a connection
 abbrev pub waiting_task : Option ListenerState → Option ℕ

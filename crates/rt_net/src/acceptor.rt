@@ -2,19 +2,18 @@
 ghost use Rattle.std.specs.Prelude.{◌≡◌, ◌+◌, ◌*◌, ◌≤◌, [], ◌∷◌, ◌++◌, true, false, Some, None, OnErr, IfOk, OnOk, length, option_to_list};
 ghost use Rattle.rt_net.specs.Network.{Accepts, after_accept, fresh_listener, closed_listener, IsQuietListener, after_closing, woken_by_closing};
 
+use crate::Connection;
 use crate::channels::Channels;
-use crate::connection::Connection;
-use rt_base::{Addr, NoMemory, Poll};
+use rt_base::{NoMemory, Poll};
 use std::alloc::Global;
 use std::collections::VecDeque;
 use std::marker::Model;
 use std::mem;
 
-/// A listener: its address, the connections that wait in the order of their dials, and the task that waits for one.
+/// A listener: the connections that wait in the order of their dials, and the task that waits for one.
 /// Closing a connection wakes at most two tasks, and the room for them is kept.
 #[derive(Debug, Drop)]
 pub struct Acceptor {
-    address: Addr,
     alive: bool,
     waiting: VecDeque<Connection>,
     woken: VecDeque<u64>,
@@ -28,18 +27,17 @@ impl Model for Acceptor {
 
     ghost Value = { ListenerState };
 
-    ghost view = { λ a. record { address = a.address; alive = a.alive; waiting = a.waiting.items; task = a.task } };
+    ghost view = { λ a. record { alive = a.alive; waiting = a.waiting.items; task = a.task } };
 
     ghost invariant = { λ a. ((t : ℕ) → a.task ≡ Some t → (a.waiting.items ≡ []) × (a.alive ≡ true)) × (a.woken.items ≡ []) × (2 * length a.waiting.items ≤ deque_capacity a.woken) };
 }
 
 impl Acceptor {
-    /// A listener at an address, where nothing waits.
-    pub fn new(alloc: Global, address: Addr) -> Acceptor
-        ensures { result ≡ fresh_listener address }
+    /// A listener where nothing waits.
+    pub fn new(alloc: Global) -> Acceptor
+        ensures { result ≡ fresh_listener }
     {
         Acceptor {
-            address,
             alive: true,
             waiting: VecDeque::new(alloc),
             woken: VecDeque::new(alloc),

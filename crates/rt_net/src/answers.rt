@@ -2,7 +2,7 @@
 ghost use Rattle.std.specs.Prelude.{◌≡◌};
 ghost use Rattle.rt_net.specs.Refusals.{is_pending, still_waits, waits};
 
-use crate::reply::Reply;
+use crate::Reply;
 use rt_base::{Error, Poll};
 
 /// The call waits.

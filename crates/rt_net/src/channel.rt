@@ -4,9 +4,7 @@ ghost use Rattle.rt_base.specs.declared.error.Error.TheVariants.{NoMemory};
 ghost use Rattle.rt_net.specs.Calls.{opened, idle_sink, idle_stream};
 ghost use Rattle.rt_net.specs.Kept.{moved_to};
 
-use crate::net::{DEFAULT_BUFFER_SIZE, Net};
-use crate::sink::Sink;
-use crate::stream::Stream;
+use crate::{DEFAULT_BUFFER_SIZE, Net, Sink, Stream};
 use rt_base::Error;
 
 /// Makes channels in memory.

@@ -6,8 +6,8 @@ ghost use Rattle.rt_net.specs.Asked.{asked_of};
 ghost use Rattle.rt_net.specs.Channel.{fresh, Sends, PollsSend, Receives, PollsReceive, Peeks, after_send, after_poll_send, after_recv, after_poll_recv, ChannelState, AreCounted, IsQuiet};
 ghost use Rattle.rt_net.specs.Network.{live_sink, live_stream, AtSink, AtStream, at_sink, at_stream, with_given_up_send, with_given_up_recv, with_closed_sink, with_closed_stream, sink_wakes, stream_wakes, waiting_halves, is_waited_at};
 
+use crate::Reply;
 use crate::pipe::Pipe;
-use crate::reply::Reply;
 use rt_base::{Error, NoMemory, Poll};
 use rt_bufs::{IoBuf, IoBufs};
 use std::alloc::Global;
@@ -116,14 +116,9 @@ impl Channels {
         ensures link { result.link ≡ None }
     {
         if !self.has_sink(number) {
-            return Reply {
-                value: Err(Error::UnknownToken),
-                wake: None,
-                link: None,
-            };
+            return Reply::of(Err(Error::UnknownToken), None);
         }
-        let pipe = &mut self.pipes[number as usize];
-        pipe.send(bufs, task)
+        self.pipes[number as usize].send(bufs, task)
     }
 
     /// Polls the `send` of the sink of this number.
@@ -134,8 +129,7 @@ impl Channels {
         if !self.has_sink(number) {
             return Err(Error::UnknownToken);
         }
-        let pipe = &mut self.pipes[number as usize];
-        pipe.poll_send(task)
+        self.pipes[number as usize].poll_send(task)
     }
 
     /// Receives on the stream of this number.
@@ -146,8 +140,7 @@ impl Channels {
         if !self.has_stream(number) {
             return Err(Error::UnknownToken);
         }
-        let pipe = &mut self.pipes[number as usize];
-        pipe.recv(len, task)
+        self.pipes[number as usize].recv(len, task)
     }
 
     /// Polls the `recv` of the stream of this number.
@@ -158,8 +151,7 @@ impl Channels {
         if !self.has_stream(number) {
             return Err(Error::UnknownToken);
         }
-        let pipe = &mut self.pipes[number as usize];
-        pipe.poll_recv(task)
+        self.pipes[number as usize].poll_recv(task)
     }
 
     /// How many bytes the `recv` of the stream of this number asked for, where one waits.
@@ -179,8 +171,7 @@ impl Channels {
         if !self.has_stream(number) {
             return Err(Error::UnknownToken);
         }
-        let pipe = &self.pipes[number as usize];
-        pipe.peek(max_len)
+        self.pipes[number as usize].peek(max_len)
     }
 
     /// Gives the `send` of the sink of this number up.
@@ -188,8 +179,7 @@ impl Channels {
         ensures { self.new.list ≡ with_given_up_send self.old.list number }
     {
         if self.has_sink(number) {
-            let pipe = &mut self.pipes[number as usize];
-            pipe.give_up_send();
+            self.pipes[number as usize].give_up_send();
         }
     }
 
@@ -198,8 +188,7 @@ impl Channels {
         ensures { self.new.list ≡ with_given_up_recv self.old.list number }
     {
         if self.has_stream(number) {
-            let pipe = &mut self.pipes[number as usize];
-            pipe.give_up_recv();
+            self.pipes[number as usize].give_up_recv();
         }
     }
 
@@ -211,8 +200,7 @@ impl Channels {
         if !self.has_sink(number) {
             return None;
         }
-        let pipe = &mut self.pipes[number as usize];
-        pipe.close_sink()
+        self.pipes[number as usize].close_sink()
     }
 
     /// Closes the stream of this number, and answers the sender that this wakes.
@@ -223,7 +211,6 @@ impl Channels {
         if !self.has_stream(number) {
             return None;
         }
-        let pipe = &mut self.pipes[number as usize];
-        pipe.close_stream()
+        self.pipes[number as usize].close_stream()
     }
 }

@@ -5,30 +5,20 @@
 mod acceptor;
 mod answers;
 mod byte_queue;
-pub mod channel;
+mod channel;
 mod channels;
-pub mod connection;
-#[cfg(test)]
-mod ending;
+mod connection;
 mod forgotten;
-pub mod half;
-pub mod halves;
-#[cfg(test)]
-mod line;
-pub mod listener;
+mod half;
+mod halves;
+mod listener;
 mod listeners;
-pub mod net;
-pub mod network;
-#[cfg(test)]
-mod notebook;
-#[cfg(test)]
-mod noting;
+mod net;
+mod network;
 mod pipe;
-pub mod reply;
-pub mod sink;
-pub mod stream;
-#[cfg(test)]
-mod tests;
+mod reply;
+mod sink;
+mod stream;
 
 pub use channel::Channel;
 pub use connection::Connection;

@@ -9,13 +9,8 @@ ghost use Rattle.rt_base.specs.Counted.{counted, Counts};
 
 use crate::answers::{is_pending, still_waits, waits};
 use crate::channels::Channels;
-use crate::connection::Connection;
-use crate::listener::Listener;
 use crate::listeners::Listeners;
-use crate::network::Network;
-use crate::reply::Reply;
-use crate::sink::Sink;
-use crate::stream::Stream;
+use crate::{Connection, Listener, Network, Reply, Sink, Stream};
 use rt_base::{Addr, Env, Error, Ip, NoMemory, Poll};
 use rt_bufs::{IoBuf, IoBufs};
 use std::alloc::Global;
@@ -63,7 +58,7 @@ impl Model for Net {
 
     ghost Value = { Kept };
 
-    ghost view = { λ n. record { state = record { port = n.port; listeners = n.listeners; channels = n.channels.list; woken = n.woken.items }; refusals = n.refusals } };
+    ghost view = { λ n. record { state = record { port = n.port; addresses = n.listeners.addresses; listeners = n.listeners.list; channels = n.channels.list; woken = n.woken.items }; refusals = n.refusals } };
 
     ghost invariant = { λ n. n.port ≤ 61000 };
 }
@@ -179,11 +174,8 @@ impl Net {
         self.channels.add(DEFAULT_BUFFER_SIZE);
         self.channels.add(DEFAULT_BUFFER_SIZE);
         self.port += 1;
-        Ok(Reply {
-            value: (Sink::idle(from_dialer), Stream::idle(to_dialer)),
-            wake,
-            link: None,
-        })
+        let halves = (Sink::idle(from_dialer), Stream::idle(to_dialer));
+        Ok(Reply::of(halves, wake))
     }
 
     // Takes a connection.
@@ -269,12 +261,11 @@ impl Network for Net {
 
     fn send<E: Env>(
         &mut self,
-        env: &mut E,
+        _env: &mut E,
         sink: &mut Sink,
         bufs: IoBufs,
         task: u64,
     ) -> Reply<Result<Poll<()>, Error>> {
-        let _ = env;
         let reply = self.channels.send(sink.number, bufs, task);
         sink.sending = is_pending(&reply.value);
         self.count(&reply.value);
@@ -283,11 +274,10 @@ impl Network for Net {
 
     fn poll_send<E: Env>(
         &mut self,
-        env: &mut E,
+        _env: &mut E,
         sink: &mut Sink,
         task: u64,
     ) -> Result<Poll<()>, Error> {
-        let _ = env;
         let answer = self.channels.poll_send(sink.number, task);
         sink.sending = still_waits(&answer);
         self.count(&answer);
@@ -296,12 +286,11 @@ impl Network for Net {
 
     fn recv<E: Env>(
         &mut self,
-        env: &mut E,
+        _env: &mut E,
         stream: &mut Stream,
         len: usize,
         task: u64,
     ) -> Result<Reply<Poll<IoBufs>>, Error> {
-        let _ = env;
         let answer = self.channels.recv(stream.number, len, task);
         stream.receiving = waits(&answer);
         self.count(&answer);
@@ -310,11 +299,10 @@ impl Network for Net {
 
     fn poll_recv<E: Env>(
         &mut self,
-        env: &mut E,
+        _env: &mut E,
         stream: &mut Stream,
         task: u64,
     ) -> Result<Poll<IoBufs>, Error> {
-        let _ = env;
         let answer = self.channels.poll_recv(stream.number, task);
         stream.receiving = still_waits(&answer);
         self.count(&answer);
@@ -327,11 +315,10 @@ impl Network for Net {
 
     fn peek<E: Env>(
         &mut self,
-        env: &mut E,
+        _env: &mut E,
         stream: &Stream,
         max_len: usize,
     ) -> Result<IoBuf, Error> {
-        let _ = env;
         let answer = self.channels.peek(stream.number, max_len);
         self.count(&answer);
         answer
@@ -360,15 +347,13 @@ impl Network for Net {
         self.channels.close_stream(number)
     }
 
-    fn bind<E: Env>(&mut self, env: &mut E, socket: Addr) -> Result<Listener, Error> {
-        let _ = env;
+    fn bind<E: Env>(&mut self, _env: &mut E, socket: Addr) -> Result<Listener, Error> {
         let answer = self.listen(socket);
         self.count(&answer);
         answer
     }
 
-    fn dial<E: Env>(&mut self, env: &mut E, socket: Addr) -> Result<Reply<(Sink, Stream)>, Error> {
-        let _ = env;
+    fn dial<E: Env>(&mut self, _env: &mut E, socket: Addr) -> Result<Reply<(Sink, Stream)>, Error> {
         let answer = self.connect(socket);
         self.count(&answer);
         answer
@@ -376,11 +361,10 @@ impl Network for Net {
 
     fn accept<E: Env>(
         &mut self,
-        env: &mut E,
+        _env: &mut E,
         listener: &mut Listener,
         task: u64,
     ) -> Result<Poll<(Addr, Sink, Stream)>, Error> {
-        let _ = env;
         let answer = self.take(listener.number, task);
         self.count(&answer);
         answer
@@ -392,10 +376,7 @@ impl Network for Net {
         listener: &mut Listener,
         task: u64,
     ) -> Result<Poll<(Addr, Sink, Stream)>, Error> {
-        let _ = env;
-        let answer = self.take(listener.number, task);
-        self.count(&answer);
-        answer
+        self.accept(env, listener, task)
     }
 
     fn local_addr(&self, listener: &Listener) -> Addr {

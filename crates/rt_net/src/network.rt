@@ -14,8 +14,7 @@ ghost use Rattle.rt_net.specs.Asked.{HasLength};
 ghost use Rattle.rt_base.specs.Counted.{Counts, Notes};
 ghost use Rattle.rt_net.specs.Refusals.{is_pending, still_waits, waits, AreIdle, TakesIdle};
 
-use crate::halves::{Receiving, Sending};
-use crate::reply::Reply;
+use crate::{Receiving, Reply, Sending};
 use rt_base::{Addr, Env, Error, NoMemory, Poll};
 use rt_bufs::{IoBuf, IoBufs};
 

@@ -5,8 +5,7 @@ ghost use Rattle.rt_net.specs.Network.{is_waited_at};
 
 use crate::byte_queue::ByteQueue;
 use crate::forgotten::Forgotten;
-use crate::half::{Half, Parked};
-use crate::reply::Reply;
+use crate::{Half, Parked, Reply};
 use rt_base::{Error, NoMemory, Poll};
 use rt_bufs::{IoBuf, IoBufs};
 use std::alloc::Global;
@@ -101,15 +100,15 @@ impl Pipe {
     {
         if self.sink.is_spent() {
             let wake = self.fail_sink();
-            return reply(Err(Error::Closed), wake);
+            return Reply::of(Err(Error::Closed), wake);
         }
         if !self.stream.alive {
             let wake = self.fail_sink();
-            return reply(Err(Error::SendFailed), wake);
+            return Reply::of(Err(Error::SendFailed), wake);
         }
         match self.accept(&bufs) {
-            Ok(wake) => reply(Ok(self.settle(task)), wake),
-            Err(_) => reply(Err(Error::NoMemory), None),
+            Ok(wake) => Reply::of(Ok(self.settle(task)), wake),
+            Err(_) => Reply::of(Err(Error::NoMemory), None),
         }
     }
 
@@ -146,12 +145,12 @@ impl Pipe {
                 return Err(Error::RecvFailed);
             }
             self.park(len, task);
-            return Ok(reply(Poll::Pending, wake));
+            return Ok(Reply::of(Poll::Pending, wake));
         }
         let bytes = first_bytes(self.bytes.alloc(), self.bytes.as_slice(), len)?;
         let wake = self.pull(len);
         self.answer(len);
-        Ok(reply(Poll::Ready(bytes), wake))
+        Ok(Reply::of(Poll::Ready(bytes), wake))
     }
 
     /// Polls a `recv` that was started.
@@ -408,17 +407,6 @@ impl Pipe {
             Some(parked) => Some(parked.task),
             None => None,
         }
-    }
-}
-
-// An answer with the task that it wakes.
-fn reply<V>(value: V, wake: Option<u64>) -> Reply<V>
-    ensures { result ≡ record { value = value; wake = wake; link = None } }
-{
-    Reply {
-        value,
-        wake,
-        link: None,
     }
 }
 

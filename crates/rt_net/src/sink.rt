@@ -1,7 +1,7 @@
 // The sink of a channel of a `Net`.
 ghost use Rattle.std.specs.Prelude.{◌≡◌, false};
 
-use crate::halves::Sending;
+use crate::Sending;
 
 /// The half of a channel from which bytes are sent. It must be spent by `Network::close_sink`.
 #[derive(Debug)]

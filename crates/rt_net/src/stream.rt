@@ -1,7 +1,7 @@
 // The stream of a channel of a `Net`.
 ghost use Rattle.std.specs.Prelude.{◌≡◌, false};
 
-use crate::halves::Receiving;
+use crate::Receiving;
 
 /// The half of a channel at which bytes are received. It must be spent by `Network::close_stream`.
 #[derive(Debug)]

@@ -5,6 +5,6 @@ use Rattle.rt_net.proofs.listeners.Listeners.anyone_waits.Given as goal
 
 abbrev pub invariant-loop-index : goal.invariant-loop-index
 invariant-loop-index l = record {
-  found : l.found ≡ list_any has_acceptor (take l.index l.self);
-  quiet : AllWithin IsQuietListener l.self 0 l.index;
+  found : l.found ≡ list_any has_acceptor (take l.index l.self.list);
+  quiet : AllWithin IsQuietListener l.self.list 0 l.index;
 }

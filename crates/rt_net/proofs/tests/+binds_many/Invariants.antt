@@ -1,4 +1,0 @@
-use Rattle.rt_net.proofs.tests.+binds_many.Given as goal
-
-abbrev pub decreases-binds_many : goal.decreases-binds_many
-decreases-binds_many g l = l.left

@@ -1,0 +1,10 @@
+use Rattle.std.proofs.Common.{◌≡◌, ◌+◌, ◌≤◌, length, vec_len, vec_capacity, arith, rules}
+use Rattle.rt_net_tests.proofs.NotingLemmas.{chunk-fits}
+use Rattle.rt_net_tests.proofs.noting.fill.Goals as goal
+
+pub unreachable-requires : goal.unreachable-requires
+unreachable-requires c =
+    let old = c.loop-index.bytes in
+    let fits : length old.items + length c.chunk_at.result.now ≤ vec_capacity old = chunk-fits old.items c.args.bytes.now.items c.args.bufs.now.bytes c.chunk_at.result.now c.args.bufs.now.chunks c.loop-index.index (vec_capacity old) c.loop-index.invariant.added c.chunk_at.ensures.next c.chunk_count-index-end.ensures.joined c.loop-index.invariant.room in
+    let count : vec_len old ≡ length old.items = search rules in
+    absurd (omega (arith, fits, count, c.in-Err.ensures.full))

@@ -1,0 +1,10 @@
+use Rattle.std.proofs.Common.{◌≡◌, ◌+◌, ◌≤◌, ◌++◌, length, take}
+use Rattle.std.specs.Prelude.{vec_capacity}
+use Rattle.std.specs.List.{concat}
+use Rattle.rt_net_tests.proofs.noting.fill.Given as goal
+
+abbrev pub invariant-loop-index : goal.invariant-loop-index
+invariant-loop-index l = record {
+  added : l.bytes.items ≡ l.fn.bytes.items ++ concat (take l.index l.bufs.chunks);
+  room : length l.fn.bytes.items + length l.bufs.bytes ≤ vec_capacity l.bytes;
+}
