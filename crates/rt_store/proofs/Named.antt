@@ -1,12 +1,14 @@
 -- A map from owned names is one from the bytes of the names.
-use Rattle.std.proofs.Common.{◌≡◌, ℕ, Bool, true, false, cond, List, [], ◌∷◌, map, Option, Some, None, refl, ap, ◌∙◌, rules, Vec, Global}
+use Rattle.std.proofs.Common.{◌≡◌, ℕ, Bool, true, false, cond, List, [], ◌∷◌, map, Option, Some, None, refl, sym, ap, subst, ◌∙◌, rules, Vec, Global}
 use Rattle.std.specs.Cmp.Lexicographic.{slice_cmp}
 use Rattle.std.specs.Ordering.{nat_cmp, match_ordering}
 use Rattle.std.specs.declared.cmp.Ordering.{Ordering}
 use Rattle.std.specs.declared.cmp.Ordering.TheVariants.{Less, Equal, Greater}
 use Rattle.std.specs.Map.{lookup, remove_entry}
 use Rattle.std.specs.BTreeMap.{insert_entry}
-use Rattle.rt_store.specs.Directory.{is_name, at_name, put_name, without_name, numbers}
+use Rattle.std.specs.List.{AllByRecursion}
+use Rattle.std.specs.List.Sorted.{IsStrictlySortedBy}
+use Rattle.rt_store.specs.Directory.{Ascend, is_name, at_name, put_name, without_name, numbers}
 
 abbrev pub Owned : Type 0
 Owned = List (Vec ℕ Global × ℕ)
@@ -56,3 +58,20 @@ numbers_shown (e ∷ es) = ap (λ (rest : List ℕ). e.1 ∷ rest) (numbers_show
 pub names_shown : (es : Owned) → map (λ (e : List ℕ × ℕ). e.0) (shown es) ≡ map (λ (n : Vec ℕ Global). n.items) (map (λ (e : Vec ℕ Global × ℕ). e.0) es)
 names_shown [] = refl
 names_shown (e ∷ es) = ap (λ (rest : List (List ℕ)). e.0.items ∷ rest) (names_shown es)
+
+all-below : (k : Vec ℕ Global) (ks : List (Vec ℕ Global)) → AllByRecursion (λ (y : Vec ℕ Global). slice_cmp nat_cmp k.items y.items ≡ Less) ks → AllByRecursion (λ (y : List ℕ). slice_cmp nat_cmp k.items y ≡ Less) (map (λ (n : Vec ℕ Global). n.items) ks)
+all-below k [] h = h
+all-below k (x ∷ xs) h = (h.0, all-below k xs h.1)
+
+bytes-ascend : (ks : List (Vec ℕ Global)) → IsStrictlySortedBy (λ (a b : Vec ℕ Global). slice_cmp nat_cmp a.items b.items) ks → Ascend (map (λ (n : Vec ℕ Global). n.items) ks)
+unfolding IsStrictlySortedBy
+bytes-ascend [] h = h
+bytes-ascend (k ∷ ks) h = (all-below k ks h.0, bytes-ascend ks h.1)
+
+-- the names of a map ascend
+pub names_ascend : (es : Owned) → IsStrictlySortedBy (λ (a b : Vec ℕ Global). slice_cmp nat_cmp a.items b.items) (map (λ (e : Vec ℕ Global × ℕ). e.0) es) → Ascend (map (λ (e : List ℕ × ℕ). e.0) (shown es))
+names_ascend es h = subst (λ (names : List (List ℕ)). Ascend names) (sym (names_shown es)) (bytes-ascend (map (λ (e : Vec ℕ Global × ℕ). e.0) es) h)
+
+pub none_ascend : Ascend []
+unfolding IsStrictlySortedBy
+none_ascend = tt

@@ -1,5 +1,5 @@
 -- The calls of a `MemStore`: for each what it may answer, and the store after an answer of Ok.
-use Rattle.std.specs.Prelude.{◌≡◌, ◌⊎◌, ℕ, ◌+◌, ⊤, Bool, ◌&&◌, ◌||◌, ◌==◌, if◌then◌else◌, List, [], ◌∷◌, ◌++◌, length, map, take, drop, Option, Some, None, Result, Ok, Err, Vec, slice_get, slice_set, is_some, nat_lt}
+use Rattle.std.specs.Prelude.{◌≡◌, ◌⊎◌, ℕ, ◌+◌, ◌≤◌, ⊤, Bool, ◌&&◌, ◌||◌, ◌==◌, if◌then◌else◌, List, [], ◌∷◌, ◌++◌, length, map, take, drop, Option, Some, None, Result, Ok, Err, Vec, slice_get, slice_set, is_some, nat_lt}
 use Rattle.std.specs.Char.{is_ascii_alphanumeric}
 use Rattle.std.specs.Global.{Global}
 use Rattle.std.specs.List.{list_all}
@@ -19,7 +19,7 @@ use Rattle.rt_store.specs.declared.ticket.Done.{Done}
 use Rattle.rt_store.specs.declared.ticket.Done.TheVariants.{Now}
 use Rattle.rt_store.specs.declared.ticket.Ticket.{Ticket}
 use Rattle.rt_store.specs.declared.ticket.Ticket.TheVariants.{Ready, Numbered}
-use Rattle.rt_store.specs.Directory.{Names, Partitions, names_in, number_of, named, unnamed, without_partition, names_of, numbers_of}
+use Rattle.rt_store.specs.Directory.{Names, Partitions, names_in, number_of, named, unnamed, without_partition, names_of, numbers_of, Ascend}
 use Rattle.rt_store.specs.Draws.{Answers}
 use Rattle.rt_store.specs.File.{FileState, fresh_file, with_token, mutated, synced, detached}
 use Rattle.rt_store.specs.Kept.{Kept}
@@ -42,6 +42,11 @@ IsRange v k offset len b = b.bytes ≡ take len (drop offset (content_at (blob_o
 
 abbrev pub Reads : Kept → Blob → ℕ → ℕ → Result WritableChunks Error → List Noted → Type 0
 Reads v k offset len r x = Answers (refusal_at (blob_of v k) (read_refusal offset len)) v.faults.read_rate (IsRange v k offset len) r x
+
+-- at least as many bytes fit as in the buffers that were given
+abbrev pub KeepsRoom : WritableChunks → Result WritableChunks Error → Type 0
+KeepsRoom given (Ok b) = given.capacity ≤ b.capacity
+KeepsRoom given (Err e) = ⊤
 
 -- the same for several ranges
 abbrev pub many_refusal : List (ℕ × ℕ) → FileState → Option Error
@@ -89,7 +94,8 @@ started (Err e) = Ok (Ready (Err e))
 
 -- a polled sync: a copy of what a ready ticket holds, where there is memory for it; a numbered one is of no such store
 abbrev pub PollsSync : Ticket → Poll (Result Unit Error) → Type 0
-PollsSync (Ready held) p = (p ≡ poll.Ready held) ⊎ (p ≡ poll.Ready (Err NoMemory))
+PollsSync (Ready (Ok _)) p = p ≡ poll.Ready (Ok tt)
+PollsSync (Ready (Err e)) p = (p ≡ poll.Ready (Err e)) ⊎ (p ≡ poll.Ready (Err NoMemory))
 PollsSync (Numbered n) p = p ≡ poll.Ready (Err UnknownToken)
 
 abbrev pub after_poll : Kept → Ticket → Kept
@@ -214,7 +220,7 @@ after_remove s partition None = without_blobs s partition
 
 -- the names of a partition, in the order of their bytes
 abbrev pub AreNames : StoreState → List ℕ → Vec (Vec ℕ Global) Global → Type 0
-AreNames s partition a = map (λ (n : Vec ℕ Global). n.items) a.items ≡ names_of (names_in partition s.directory)
+AreNames s partition a = (map (λ (n : Vec ℕ Global). n.items) a.items ≡ names_of (names_in partition s.directory)) × Ascend (names_of (names_in partition s.directory))
 
 abbrev pub Scans : Kept → List ℕ → Result (Vec (Vec ℕ Global) Global) Error → List Noted → Type 0
 Scans v partition r x = Answers (shelf_refusal partition v.state.directory) v.faults.scan_rate (AreNames v.state partition) r x

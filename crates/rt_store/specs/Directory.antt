@@ -4,6 +4,7 @@ use Rattle.std.specs.Cmp.Lexicographic.{slice_cmp}
 use Rattle.std.specs.Ordering.{is_eq, nat_cmp}
 use Rattle.std.specs.Map.{lookup, set_value, remove_entry}
 use Rattle.std.specs.BTreeMap.{insert_entry}
+use Rattle.std.specs.List.Sorted.{IsStrictlySortedBy}
 
 -- the names are the same
 abbrev pub is_name : List ℕ → List ℕ → Bool
@@ -20,6 +21,10 @@ with_name q x es = set_value (is_name q) es x
 -- something at a name, in its place in the order
 abbrev pub put_name : {X : Type 0} → List ℕ → X → List (List ℕ × X) → List (List ℕ × X)
 put_name q x es = insert_entry (slice_cmp nat_cmp) es q x
+
+-- each name is below those after it, by their bytes
+abbrev pub Ascend : List (List ℕ) → Type 0
+Ascend names = IsStrictlySortedBy (slice_cmp nat_cmp) names
 
 -- nothing at a name
 abbrev pub without_name : {X : Type 0} → List ℕ → List (List ℕ × X) → List (List ℕ × X)

@@ -4,7 +4,7 @@ ghost use Rattle.std.specs.Borrow.{sem};
 ghost use Rattle.std.specs.Option.{option_copied};
 ghost use Rattle.rt_base.specs.Counted.{counted, Counts, Notes};
 ghost use Rattle.rt_store.specs.Answered.{CountsPoll, CountsStart};
-ghost use Rattle.rt_store.specs.Calls.{Reads, ReadsMany, ReadsInOrder, Writes, Resizes, Syncs, Saves, Opens, Removes, Scans, PollsSync, IsOpened, started, default_range, blob_of, with_blob, after_write, after_resize, after_sync, after_open, after_remove, without_blob, without_blobs, open_refusal};
+ghost use Rattle.rt_store.specs.Calls.{KeepsRoom, Reads, ReadsMany, ReadsInOrder, Writes, Resizes, Syncs, Saves, Opens, Removes, Scans, PollsSync, IsOpened, started, default_range, blob_of, with_blob, after_write, after_resize, after_sync, after_open, after_remove, without_blob, without_blobs, open_refusal};
 ghost use Rattle.rt_base.specs.declared.choice.Choice.{Choice};
 ghost use Rattle.rt_store.specs.Changes.{end_of};
 ghost use Rattle.rt_store.specs.Crash.{ChoosesAll};
@@ -220,6 +220,7 @@ impl MemStore {
         bufs: Option<IoBufsMut>,
     ) -> Result<IoBufsMut, Error>
         requires { IfSome bufs (λ b. len ≤ b.capacity) }
+        ensures room { IfSome bufs (λ b. KeepsRoom b result) }
         ensures gives { Notes (E.noted env.old) (Reads self.now blob.now offset len result) (E.noted env.new) }
         ensures spent { E.spare env.old ≤ E.spare env.new + 1 }
     {
@@ -429,6 +430,7 @@ impl MemStore {
     }
 
     // The names of a partition.
+    #[tactic(auto, using(crate::proofs::Named::none_ascend))]
     fn list<E: Env>(&self, env: &mut E, partition: &str) -> Result<Vec<Vec<u8>>, Error>
         ensures gives { Notes (E.noted env.old) (Scans self.now partition.now result) (E.noted env.new) }
         ensures spent { E.spare env.old ≤ E.spare env.new + 1 }
@@ -523,7 +525,7 @@ impl Storage for MemStore {
 
     ghost use Rattle.std.specs.Prelude.{◌≡◌, [], Result};
     ghost use Rattle.rt_base.specs.declared.error.Error.{Error};
-    ghost use Rattle.rt_store.specs.Calls.{Reads, ReadsMany, ReadsInOrder, Writes, Resizes, Syncs, Saves, Opens, OpensVersioned, Removes, Scans, PollsSync, started, after_write, after_resize, after_sync, after_open, after_remove, after_poll, default_range, with_blob};
+    ghost use Rattle.rt_store.specs.Calls.{KeepsRoom, Reads, ReadsMany, ReadsInOrder, Writes, Resizes, Syncs, Saves, Opens, OpensVersioned, Removes, Scans, PollsSync, started, after_write, after_resize, after_sync, after_open, after_remove, after_poll, default_range, with_blob};
     ghost use Rattle.rt_store.specs.File.{closed};
     ghost use Rattle.rt_store.specs.Kept.{answered, moved_to};
 
@@ -541,7 +543,7 @@ impl Storage for MemStore {
 
     ghost reads = { λ v k offset len options r w x. Reads v k offset len r x × (w ≡ answered v v.state r) };
 
-    ghost reads_into = { λ v k offset len bufs options r w x. Reads v k offset len r x × (w ≡ answered v v.state r) };
+    ghost reads_into = { λ v k offset len bufs options r w x. Reads v k offset len r x × KeepsRoom bufs r × (w ≡ answered v v.state r) };
 
     ghost reads_many = { λ v k rs options r w x. ReadsMany v k rs r x × (w ≡ answered v v.state r) };
 

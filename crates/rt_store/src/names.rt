@@ -1,11 +1,11 @@
 // Names in the order of their bytes, each with a number.
 ghost use Rattle.std.specs.Prelude.{◌≡◌, ◌+◌, ◌<◌, ◌≤◌, ℕ, [], List, map, IfOk, None, Vec, ⊤};
 ghost use Rattle.std.specs.Global.{Global};
-ghost use Rattle.std.specs.BTreeMap.{insert_entry, keys};
+ghost use Rattle.std.specs.BTreeMap.{insert_entry, keys, IsOrdered};
 ghost use Rattle.std.specs.Cmp.Lexicographic.{slice_cmp};
 ghost use Rattle.std.specs.Ordering.{nat_cmp};
 ghost use Rattle.rt_base.specs.Counted.{Notes};
-ghost use Rattle.rt_store.specs.Directory.{at_name, put_name, without_name, numbers};
+ghost use Rattle.rt_store.specs.Directory.{Ascend, at_name, put_name, without_name, numbers};
 ghost use Rattle.rt_store.specs.Draws.{Answers, if_ok};
 
 use crate::draws::passes;
@@ -55,9 +55,9 @@ impl Names {
     }
 
     /// A copy of each name, in order.
-    #[tactic(auto, using(crate::proofs::Named::names_shown))]
     pub fn list(&self, alloc: Global) -> Result<Vec<Vec<u8>>, NoMemory>
-        ensures { IfOk result (λ names. map (λ (n : Vec ℕ Global). n.items) names.items ≡ map (λ (e : List ℕ × ℕ). e.0) self.now) }
+        ensures ascend { Ascend (map (λ (e : List ℕ × ℕ). e.0) self.now) }
+        ensures names { IfOk result (λ names. map (λ (n : Vec ℕ Global). n.items) names.items ≡ map (λ (e : List ℕ × ℕ). e.0) self.now) }
     {
         copies(alloc, &self.numbers)
     }
@@ -130,7 +130,8 @@ fn put_number<E: Env>(
 
 // A copy of each name, in order.
 fn copies(alloc: Global, numbers: &BTreeMap<Vec<u8>, u64>) -> Result<Vec<Vec<u8>>, NoMemory>
-    ensures { IfOk result (λ names. map (λ (n : Vec ℕ Global). n.items) names.items ≡ map (λ (n : Vec ℕ Global). n.items) (keys numbers.now)) }
+    ensures ascend { IsOrdered (λ a b. slice_cmp nat_cmp a.items b.items) numbers.now }
+    ensures names { IfOk result (λ names. map (λ (n : Vec ℕ Global). n.items) names.items ≡ map (λ (n : Vec ℕ Global). n.items) (keys numbers.now)) }
 {
     let mut names = Vec::with_capacity(alloc, numbers.len())?;
     for name in numbers.keys() {
