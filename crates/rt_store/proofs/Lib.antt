@@ -1,3 +1,4 @@
+mod Audited
 mod Collected
 mod Counting
 mod Crashing

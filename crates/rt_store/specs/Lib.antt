@@ -1,4 +1,5 @@
 pub mod Answered
+pub mod Audit
 pub mod Calls
 pub mod Changes
 pub mod Content

@@ -1,5 +1,5 @@
 // The names of blobs, by partition.
-ghost use Rattle.std.specs.Prelude.{◌≡◌, ◌+◌, ◌*◌, ◌<◌, ◌≤◌, ◌++◌, List, [], None, ⊤, length, slice_get, vec_len, vec_capacity};
+ghost use Rattle.std.specs.Prelude.{◌≡◌, ◌+◌, ◌*◌, ◌<◌, ◌≤◌, ◌++◌, List, [], None, ⊤, length, map, slice_get, vec_len, vec_capacity};
 ghost use Rattle.std.specs.Option.{option_copied};
 ghost use Rattle.rt_base.specs.Counted.{Notes};
 ghost use Rattle.rt_base.specs.declared.choice.Choice.{Choice};
@@ -14,6 +14,7 @@ use crate::files::Files;
 use crate::names::{Names, copy};
 use rt_base::{Choice, Env, Error, NoEnv};
 use std::alloc::Global;
+use std::collections::btree_map::Iter;
 use std::marker::Model;
 
 /// The partitions that are there, each with its shelf of names.
@@ -71,8 +72,15 @@ impl Directory {
         }
     }
 
-    // The names of a shelf, where it is there.
-    fn shelf(&self, shelf: u64) -> Option<&Names>
+    /// The partitions with the numbers of their shelves, in order.
+    pub fn partitions(&self) -> Iter<'_, Vec<u8>, u64>
+        ensures { map (λ e. (e.0.items, e.1)) result ≡ self.now.shelf }
+    {
+        self.partitions.entries()
+    }
+
+    /// The names of a shelf, where it is there.
+    pub fn shelf(&self, shelf: u64) -> Option<&Names>
         ensures { option_copied result ≡ slice_get self.now.shelves shelf }
     {
         self.shelves.get(shelf as usize)

@@ -76,6 +76,13 @@ impl Files {
         &self.files[place as usize]
     }
 
+    /// The blob of a number, where it is there.
+    pub fn find(&self, place: u64) -> Option<&File>
+        ensures { option_copied result ≡ slice_get self.now place }
+    {
+        self.files.get(place as usize)
+    }
+
     /// Gives a blob that is there a live token.
     pub fn set_token(&mut self, place: u64, token: u64)
         requires { is_some (slice_get self.old place) ≡ true }

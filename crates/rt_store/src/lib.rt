@@ -2,6 +2,7 @@
 //! leave.
 #![tactic(auto)]
 
+mod auditing;
 pub mod blob;
 mod change;
 pub mod collecting;

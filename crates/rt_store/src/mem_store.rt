@@ -3,7 +3,9 @@ ghost use Rattle.std.specs.Prelude.{◌≡◌, ◌+◌, ◌*◌, ◌<◌, ◌≤
 ghost use Rattle.std.specs.Borrow.{sem};
 ghost use Rattle.std.specs.Option.{option_copied};
 ghost use Rattle.rt_base.specs.Counted.{counted, Counts, Notes};
+ghost use Rattle.rt_audit.specs.Digest.{fields_digest};
 ghost use Rattle.rt_store.specs.Answered.{CountsPoll, CountsStart};
+ghost use Rattle.rt_store.specs.Audit.{audit_fields};
 ghost use Rattle.rt_store.specs.Calls.{KeepsRoom, Reads, ReadsMany, ReadsInOrder, Writes, Resizes, Syncs, Saves, Opens, Removes, Scans, PollsSync, IsOpened, started, default_range, blob_of, with_blob, after_write, after_resize, after_sync, after_open, after_remove, without_blob, without_blobs, open_refusal};
 ghost use Rattle.rt_base.specs.declared.choice.Choice.{Choice};
 ghost use Rattle.rt_store.specs.Changes.{end_of};
@@ -16,6 +18,7 @@ ghost use Rattle.rt_store.specs.Leading.{IsCoherent};
 ghost use Rattle.rt_store.specs.Store.{count_later, end_refusal, refusal_at};
 ghost use Rattle.rt_store.specs.Whole.{after_admit, after_crash, snapshot_of, store_of};
 
+use crate::auditing::audit_all;
 use crate::blob::Blob;
 use crate::directory::Directory;
 use crate::faults::FaultConfig;
@@ -28,6 +31,7 @@ use crate::snapshot::Snapshot;
 use crate::storage::Storage;
 use crate::store::{draw, range_of, take_draw};
 use crate::ticket::{Done, Ticket};
+use rt_audit::AuditHasher;
 use rt_base::{
     BlobVersion, Choice, DEFAULT_BLOB_VERSION, Env, Error, NoMemory, Poll, ReadOptions,
     WriteOptions,
@@ -186,6 +190,17 @@ impl MemStore {
             let fewer = self.files.admit(place);
             self.later -= fewer;
         }
+    }
+
+    /// The digest of all blobs that weren't removed: the checksum of the fields partition, name, version and content of
+    /// each, in the order of partitions and names. At any time each of them has exactly one name.
+    pub fn audit(&self) -> [u8; 4]
+        ensures digest { result ≡ fields_digest (audit_fields self.now.state) }
+        ensures names { IsCoherent self.now.state }
+    {
+        let mut hasher = AuditHasher::new();
+        audit_all(&self.directory, &self.files, &mut hasher);
+        hasher.finalize()
     }
 
     /// How many faults were injected.

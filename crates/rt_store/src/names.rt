@@ -12,7 +12,7 @@ use crate::draws::passes;
 use rt_base::{Env, Error, IoKind, NoMemory};
 use std::alloc::Global;
 use std::collections::BTreeMap;
-use std::collections::btree_map::{Entry, Values};
+use std::collections::btree_map::{Entry, Iter, Values};
 use std::marker::Model;
 
 /// The names that are there, each with its number.
@@ -52,6 +52,13 @@ impl Names {
         ensures { result ≡ numbers self.now }
     {
         self.numbers.values()
+    }
+
+    /// The names with their numbers, in order.
+    pub fn entries(&self) -> Iter<'_, Vec<u8>, u64>
+        ensures { map (λ e. (e.0.items, e.1)) result ≡ self.now }
+    {
+        self.numbers.iter()
     }
 
     /// A copy of each name, in order.
