@@ -3,6 +3,7 @@ pub mod Durable
 pub mod Flat
 pub mod Memory
 pub mod Mocks
+pub mod Pending
 pub mod Pieces
 pub mod Reading
 pub mod Steps

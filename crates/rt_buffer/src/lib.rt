@@ -3,9 +3,12 @@
 #![tactic(auto)]
 
 mod ahead;
+mod deferred_sync;
 mod held;
 #[cfg(test)]
 mod mock_tests;
+mod parked;
+mod pending_syncs;
 mod pieces;
 mod read;
 mod sync_fault;
@@ -18,7 +21,12 @@ mod write;
 mod write_fault;
 mod write_op;
 
+pub use deferred_sync::{
+    DeferredSync, drive_pending_syncs, fail_pending_syncs, next_pending_sync,
+    release_next_pending_syncs, release_pending_syncs,
+};
 pub use held::Held;
+pub use pending_syncs::PendingSyncs;
 pub use pieces::Pieces;
 pub use read::Read;
 pub use sync_fault::{SyncFaultBlob, SyncFaultContext};
