@@ -138,8 +138,11 @@ polls_show v (Ready r) k task p new u x did = rw did.1 refl
 polls_show v (Numbered n) k task p new u x did = rw did.1 refl
 
 polls_wait : (v : Kept) (t : Ticket) (k : Blob) (task : ℕ) (new : Kept) (u : Ticket) (x : List Noted) → MemoryPolls v t task poll.Pending new u x → memory_promised new u k ≡ Some (memory_bytes new k)
-polls_wait v (Ready r) k task new u x (inl is, did, same, none) = absurd (cc)
-polls_wait v (Ready r) k task new u x (inr is, did, same, none) = absurd (cc)
+polls_wait v (Ready (Ok o)) k task new u x did =
+    let done : Result Unit Error = Ok tt in
+    absurd (let is : poll.Pending ≡ poll.Ready done = did.0 in cc)
+polls_wait v (Ready (Err e)) k task new u x (inl is, did, same, none) = absurd (cc)
+polls_wait v (Ready (Err e)) k task new u x (inr is, did, same, none) = absurd (cc)
 polls_wait v (Numbered n) k task new u x did = absurd (let is : poll.Pending ≡ poll.Ready (Err UnknownToken) = did.0 in cc)
 
 polls_done : (v : Kept) (t : Ticket) (k : Blob) (task : ℕ) (u : Unit) (new : Kept) (held : Ticket) (x : List Noted) → memory_promised v t k ≡ Some (memory_bytes v k) → MemoryPolls v t task (poll.Ready (Ok u)) new held x → memory_left new k ≡ Some (memory_bytes new k)
