@@ -12,7 +12,7 @@ use Rattle.rt_walk.proofs.Members.{list_any-number}
 
 -- a change that keeps numbers, parents and births
 
-links-kept : (g : NodeState → NodeState) → ((x : NodeState) → (g x).number ≡ x.number) → ((x : NodeState) → (g x).parent ≡ x.parent) → (xs : List NodeState) (ends : List ℕ) → links (told_by (map g xs) ends) ≡ links (told_by xs ends)
+pub links-kept : (g : NodeState → NodeState) → ((x : NodeState) → (g x).number ≡ x.number) → ((x : NodeState) → (g x).parent ≡ x.parent) → (xs : List NodeState) (ends : List ℕ) → links (told_by (map g xs) ends) ≡ links (told_by xs ends)
 links-kept g number parent [] ends = refl
 links-kept g number parent (x ∷ xs) ends = rw (number x, parent x, links-kept g number parent xs ends) refl
 
@@ -30,7 +30,7 @@ ended-kept : (g : NodeState → NodeState) → ((x : NodeState) → (g x).number
 ended-kept g number parent born ended xs ends h n =
     h n ∙ sym (rw (born-kept g number born xs ends n, links-kept g number parent xs ends) refl)
 
-same-on : {X : Type 0} → (f : NodeState → X) (change : NodeState → NodeState) (n : ℕ) → ((x : NodeState) → f (change x) ≡ f x) → (x : NodeState) → f (on_number n change x) ≡ f x
+pub same-on : {X : Type 0} → (f : NodeState → X) (change : NodeState → NodeState) (n : ℕ) → ((x : NodeState) → f (change x) ≡ f x) → (x : NodeState) → f (on_number n change x) ≡ f x
 same-on f change n keeps x = elim (eqb x.number n) as (λ b. f (cond b (change x) x) ≡ f x) [ true ↦ keeps x | false ↦ refl ]
 
 pub ended-given_up : (ended : List ℕ) (xs ys : List NodeState) (ends : List ℕ) (n : ℕ) → ys ≡ map (on_number n given_up) xs → AreEnded ended (told_by xs ends) → AreEnded ended (told_by ys ends)
@@ -51,7 +51,7 @@ any-alone : (xs : List (ℕ × Option ℕ)) (n m : ℕ) (ends : List ℕ) → li
 any-alone xs n m [] = refl
 any-alone xs n m (e ∷ ends) = rw (below-alone e n xs, any-alone xs n m ends) refl
 
-neither : (a b : Bool) → (a || b) ≡ false → (a ≡ false) × (b ≡ false)
+pub neither : (a b : Bool) → (a || b) ≡ false → (a ≡ false) × (b ≡ false)
 neither true b e = (cc, cc)
 neither false b e = (refl, e)
 

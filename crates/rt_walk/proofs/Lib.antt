@@ -4,7 +4,7 @@ pub mod Prefixes
 pub mod Quiet
 pub mod Tables
 pub mod Ended
-pub mod Walks
+pub mod Families
 pub mod Placed
 pub mod Rows
 pub mod Rising

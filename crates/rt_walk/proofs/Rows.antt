@@ -6,11 +6,11 @@ use Rattle.std.proofs.lemmas.List.{map-append}
 use Rattle.std.specs.List.{find, slice_get, slice_set}
 use Rattle.rt_super.specs.Ancestry.{NodeState}
 use Rattle.rt_walk.specs.Places.{first_place, AreDistinct}
-use Rattle.rt_walk.specs.Nodes.{numbers_of, on_number}
+use Rattle.rt_walk.specs.Nodes.{links_of, numbers_of, on_number}
 use Rattle.rt_model.specs.Lists.{has_number}
 use Rattle.rt_super.specs.Ancestry.{is_known, is_ended, new_node}
 use Rattle.rt_walk.specs.Nodes.{told_by, AreEnded}
-use Rattle.rt_walk.proofs.Ended.{ended-born, ended-child}
+use Rattle.rt_walk.proofs.Ended.{ended-born, ended-child, links-kept, same-on}
 use Rattle.rt_walk.proofs.Placed.{none-suc, pred-of, has-none, distinct-more}
 
 pub row-none : (k : ℕ) (xs : List NodeState) → first_place k (numbers_of xs) ≡ None → find (λ x. eqb x.number k) xs ≡ None
@@ -98,6 +98,9 @@ numbers-changed change k same xs = numbers-kept (on_number k change) one xs
   where
     one : (x : NodeState) → (on_number k change x).number ≡ x.number
     one x = elim (eqb x.number k) as (λ b. (cond b (change x) x).number ≡ x.number) [ true ↦ same x | false ↦ refl ]
+
+pub links-changed : (change : NodeState → NodeState) (k : ℕ) → ((x : NodeState) → (change x).number ≡ x.number) → ((x : NodeState) → (change x).parent ≡ x.parent) → (xs : List NodeState) → links_of (map (on_number k change) xs) ≡ links_of xs
+links-changed change k number parent xs = links-kept (on_number k change) (same-on (λ x. x.number) change k number) (same-on (λ x. x.parent) change k parent) xs []
 
 -- a row that was read is put back with a change
 pub put-at : (change : NodeState → NodeState) (k i : ℕ) (xs : List NodeState) (y z : NodeState) → AreDistinct (numbers_of xs) → first_place k (numbers_of xs) ≡ Some i → y ≡ get_or xs i y → z ≡ change y → slice_set xs i z ≡ map (on_number k change) xs

@@ -1,56 +1,35 @@
 //! What stands below a node.
 
-ghost use Rattle.std.specs.Prelude.{◌≡◌, ◌∷◌, ◌++◌, ◌<◌, [], ℕ, List, IfOk, IfSome, OnOk, drop, length};
-ghost use Rattle.rt_super.specs.Ancestry.{NodeState, nodes_below, subtree};
-ghost use Rattle.rt_walk.specs.Nodes.{links_of, IsNextChild};
+ghost use Rattle.std.specs.Prelude.{◌≡◌, ◌++◌, IfOk, OnOk, reverse};
+ghost use Rattle.rt_super.specs.Ancestry.{links, subtree};
 
-use crate::nodes::NodeRow;
+use crate::nodes::Nodes;
 use rt_base::NoMemory;
 use std::alloc::Global;
 
 /// A node, and then what stands below it: each child, the eldest first, and before the next child what stands below it.
-pub fn subtree(alloc: Global, rows: &[NodeRow], node: u64) -> Result<Vec<u64>, NoMemory>
-    ensures { IfOk result (λ numbers. numbers.items ≡ subtree (links_of rows.now) node) }
+/// It takes no call of its own for each level.
+pub fn subtree(alloc: Global, nodes: &Nodes, node: u64) -> Result<Vec<u64>, NoMemory>
+    ensures { IfOk result (λ numbers. numbers.items ≡ subtree (links nodes.now) node) }
 {
-    let mut numbers = vec![in alloc; node]?;
-    add_below(alloc, rows, node, &mut numbers)?;
+    let mut numbers = Vec::new(alloc);
+    // nodes that are to come, each with what stands below it, the next one last
+    let mut pending = vec![in alloc; node]?;
+    while let Some(next) = pending.pop() {
+        numbers.push(next)?;
+        push_turned(nodes.children(next), &mut pending)?;
+    }
     Ok(numbers)
 }
 
-/// Adds what stands below a node, without a call of its own for each level.
-fn add_below(
-    alloc: Global,
-    rows: &[NodeRow],
-    node: u64,
-    numbers: &mut Vec<u64>,
-) -> Result<(), NoMemory>
-    ensures { OnOk result (numbers.new.items ≡ numbers.old.items ++ nodes_below node (links_of rows.now)) }
+/// Adds numbers, the first one last.
+fn push_turned(numbers: &[u64], pending: &mut Vec<u64>) -> Result<(), NoMemory>
+    ensures { OnOk result (pending.new.items ≡ pending.old.items ++ reverse numbers.now) }
 {
-    // parents whose children from this place on are to come, the next one last
-    let mut pending = vec![in alloc; (node, 0)]?;
-    while let Some((parent, from)) = pending.pop() {
-        if let Some((place, number)) = next_child(rows, parent, from) {
-            numbers.push(number)?;
-            pending.push((parent, place + 1))?;
-            pending.push((number, place + 1))?;
-        }
+    let mut left = numbers.len();
+    while left > 0 {
+        left -= 1;
+        pending.push(numbers[left])?;
     }
     Ok(())
-}
-
-/// The place of the next child of a node from this place on, and its number.
-#[tactic(auto, using(crate::proofs::Walks::child_laws))]
-fn next_child(rows: &[NodeRow], parent: u64, from: usize) -> Option<(usize, u64)>
-    ensures next { IsNextChild rows.now parent from result }
-    ensures within { IfSome result (λ child. child.0 < length rows.now) }
-{
-    let mut place = from;
-    while place < rows.len() {
-        let row = &rows[place];
-        if row.is_child(parent) {
-            return Some((place, row.number()));
-        }
-        place += 1;
-    }
-    None
 }

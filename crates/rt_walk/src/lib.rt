@@ -3,6 +3,7 @@
 
 mod below;
 mod called;
+mod family;
 mod first;
 mod left;
 mod marks;

@@ -1,12 +1,14 @@
 //! The nodes that a journal tells.
 
 ghost use Rattle.std.specs.Prelude.{◌≡◌, ◌<◌, ◌∷◌, ◌++◌, ◌&&◌, [], ℕ, List, IfOk, OnOk, vec_len, vec_capacity, filter, filter_map, is_some, map, not, ◌==◌, if◌then◌else◌};
-ghost use Rattle.rt_super.specs.Ancestry.{NodeState, TreeRecord, new_node, first_record, is_child, is_known, is_live, is_ended, newly_ended, node_at, subtree, task_on, tasks_on, with_child, with_task, with_release, with_end};
+ghost use Rattle.std.specs.List.{flat_map};
+ghost use Rattle.rt_super.specs.Ancestry.{NodeState, TreeRecord, new_node, first_record, links, nodes_below, is_known, is_live, is_ended, newly_ended, node_at, subtree, task_on, tasks_on, with_child, with_task, with_release, with_end};
 ghost use Rattle.rt_model.specs.Effects.{flagged_by, unflagged};
 ghost use Rattle.rt_model.specs.Rules.{is_free};
 ghost use Rattle.std.specs.Option.{option_copied};
 
 use crate::below::subtree;
+use crate::family::Family;
 use crate::places::Places;
 use rt_base::NoMemory;
 use std::alloc::Global;
@@ -14,7 +16,7 @@ use std::marker::Model;
 
 /// A node, as a journal tells it.
 #[derive(Drop)]
-pub struct NodeRow {
+struct NodeRow {
     number: u64,
     parent: Option<u64>,
     born_ended: bool,
@@ -30,31 +32,13 @@ impl Model for NodeRow {
     ghost view = { λ n. record { number = n.number; parent = n.parent; born_ended = n.born_ended; live = n.live; task = n.task } };
 }
 
-impl NodeRow {
-    /// The node's number.
-    pub fn number(&self) -> u64
-        ensures { result ≡ self.now.number }
-    {
-        self.number
-    }
-
-    /// Whether this is the node's parent.
-    pub fn is_child(&self, parent: u64) -> bool
-        ensures { result ≡ is_child parent self.now.parent }
-    {
-        match self.parent {
-            None => false,
-            Some(other) => parent == other,
-        }
-    }
-}
-
 /// The nodes that were made, by the numbers that the journal tells. So the tree of a run, which numbers them itself, can't
 /// stand here.
 #[derive(Drop)]
 pub struct Nodes {
     rows: Vec<NodeRow>,
     places: Places,
+    family: Family,
     /// The nodes whose end was asked for.
     ends: Vec<u64>,
     /// The nodes that have ended.
@@ -91,6 +75,7 @@ impl Nodes {
         Ok(Nodes {
             rows,
             places,
+            family: Family::new(alloc),
             ends: Vec::new(alloc),
             ended: Places::new(alloc),
         })
@@ -145,11 +130,11 @@ impl Nodes {
         self.ended.has(node)
     }
 
-    /// A child was made. It answers `NoMemory` also where a node with this number was made before.
+    /// A child was made. It answers `NoMemory` also where the number was told before, as a node's or as a parent's.
     pub fn add_child(&mut self, number: u64, parent: u64) -> Result<(), NoMemory>
         ensures { OnOk result (self.new ≡ with_child self.old number parent) }
     {
-        if self.places.has(number) {
+        if self.places.has(number) || !self.family.may_add(parent, number) {
             return Err(NoMemory);
         }
         self.rows.reserve(1)?;
@@ -160,6 +145,8 @@ impl Nodes {
             push_row(&mut self.rows, &mut self.places, number, None, true);
             return Ok(());
         }
+        let alloc = *self.rows.allocator();
+        self.family.add(alloc, parent, number)?;
         push_row(
             &mut self.rows,
             &mut self.places,
@@ -192,6 +179,14 @@ impl Nodes {
         }
     }
 
+    /// The children of a node, the eldest first.
+    pub fn children(&self, node: u64) -> &[u64]
+        ensures { nodes_below node (links self.now) ≡ flat_map (subtree (links self.now)) result.now }
+    {
+        let children = self.family.children(node);
+        children
+    }
+
     /// Ends a node and all below it. Answers the tasks on those that hadn't ended, an ancestor's before its descendants'.
     pub fn end(&mut self, node: u64) -> Result<Vec<u64>, NoMemory>
         ensures flagged { IfOk result (λ flagged. flagged.items ≡ flagged_by self.old node) }
@@ -213,7 +208,7 @@ impl Nodes {
     fn newly_ended(&self, node: u64) -> Result<Vec<u64>, NoMemory>
         ensures { IfOk result (λ fresh. fresh.items ≡ newly_ended self.now node) }
     {
-        let below = subtree(*self.rows.allocator(), self.rows.as_slice(), node)?;
+        let below = subtree(*self.rows.allocator(), self, node)?;
         self.without_ended(below.as_slice())
     }
 

@@ -10,4 +10,6 @@ invariant_of-self-2 c =
       ended = ended-by c.args.self.now c.self.inside.ended.numbers c.push_all.new.self.numbers c.in_ok-fresh.fresh.items c.self.inside.rows.items c.self.inside.ends.items c.push_reserved.new.self.items c.args.node c.self.view_is c.in_ok-fresh.ensures pushed ends c.self.invariant.ended;
       placed = c.self.invariant.placed;
       distinct = c.self.invariant.distinct;
+      children = c.self.invariant.children;
+      elders = c.self.invariant.elders;
     }

@@ -2,9 +2,10 @@ use Rattle.std.proofs.Common.{◌≡◌, ◌∙◌, ap, sym, refl, map, Some, No
 use Rattle.std.specs.List.{slice_set}
 use Rattle.rt_super.specs.Ancestry.{NodeState}
 use Rattle.rt_walk.specs.Places.{first_place}
-use Rattle.rt_walk.specs.Nodes.{numbers_of, on_number, put_on, told_by}
+use Rattle.rt_walk.specs.Nodes.{children_of, links_of, numbers_of, on_number, put_on, told_by}
 use Rattle.rt_walk.proofs.Ended.{ended-put_on}
-use Rattle.rt_walk.proofs.Rows.{put-at, change-none, numbers-changed}
+use Rattle.rt_walk.proofs.Families.{elders-same}
+use Rattle.rt_walk.proofs.Rows.{put-at, change-none, numbers-changed, links-changed}
 use Rattle.rt_walk.proofs.nodes.Nodes.put_task.Goals as goal
 
 pub invariant_of-self : goal.invariant_of-self
@@ -14,10 +15,13 @@ invariant_of-self c =
     let there : first_place c.args.node (numbers_of xs) ≡ Some c.in-Some.place = ap (first_place c.args.node) (sym c.self.invariant.placed) ∙ sym c.in-Some.ensures in
     let distinct = rw c.self.invariant.placed at c.self.invariant.distinct in
     let is = put-at (put_on c.args.task) c.args.node c.in-Some.place xs c.index_mut.result.now _ distinct there c.index_mut.ensures.value (ap (put_on c.args.task) c.behind-self.view_is) in
+    let links = ap links_of is ∙ links-changed (put_on c.args.task) c.args.node (λ x. refl) (λ x. refl) xs in
     record {
       ended = ended-put_on i.ended.numbers xs _ i.ends.items c.args.node c.args.task is c.self.invariant.ended;
       placed = c.self.invariant.placed ∙ sym (ap numbers_of is ∙ numbers-changed (put_on c.args.task) c.args.node (λ x. refl) xs);
       distinct = c.self.invariant.distinct;
+      children = λ node. c.self.invariant.children node ∙ ap (λ all. children_of all node) (sym links);
+      elders = elders-same (links_of xs) _ links c.self.invariant.elders;
     }
 
 pub returns-in-Some : goal.returns-in-Some
