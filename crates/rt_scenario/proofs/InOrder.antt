@@ -1,14 +1,18 @@
 -- Places of names in order.
-use Rattle.std.proofs.Common.{◌≡◌, ℕ, zero, suc, ◌≤◌, Bool, true, false, List, [], ◌∷◌, length, get_or, ⊎_elim, refl, ap, arith}
+use Rattle.std.proofs.Common.{◌≡◌, ℕ, zero, suc, ◌<◌, ◌≤◌, Bool, true, false, cond, List, [], ◌∷◌, length, get_or, Option, Some, ⊎_elim, refl, sym, ap, subst, ◌∙◌, arith}
 use Rattle.std.specs.declared.cmp.Ordering.{Ordering}
 use Rattle.std.specs.declared.cmp.Ordering.TheVariants.{Less, Equal, Greater}
-use Rattle.std.specs.Ordering.{is_lt}
+use Rattle.std.specs.Map.{update}
+use Rattle.std.specs.Option.{IfSome}
+use Rattle.std.specs.Ordering.{is_lt, ordering_reverse}
+use Rattle.std.specs.Str.{bytes_eq}
 use Rattle.std.specs.List.{filter}
 use Rattle.std.specs.List.Sorted.{IsStrictlySortedBy, IsPartitionedBy, IsPartitionPoint}
-use Rattle.std.specs.Cmp.Lexicographic.{nat_list_cmp_total}
+use Rattle.std.specs.Cmp.Lexicographic.{nat_list_cmp_total, same_text}
 use Rattle.std.proofs.lemmas.Bool.{cases_lt}
 use Rattle.std.proofs.lemmas.Map.Keys.{Less-from_sorted}
 use Rattle.rt_base.specs.Attributes.{text_cmp}
+use Rattle.rt_scenario.specs.Scripts.{place_of}
 
 less : (r : Ordering) → is_lt r ≡ true → r ≡ Less
 less Less e = refl
@@ -29,3 +33,40 @@ count_parted p [] zero small parts = refl
 count_parted p [] (suc i) small parts = absurd (omega (arith, small))
 count_parted p (x ∷ xs) zero small parts = rw (parts.1 0 x (omega arith) (omega arith)) (count_parted p xs zero (omega arith) ((λ k d low high. absurd (omega (arith, high))), (λ k d low high. parts.1 (suc k) d (omega arith) (omega (arith, high)))))
 count_parted p (x ∷ xs) (suc i) small parts = rw (parts.0 0 x (omega arith) (omega arith)) (ap suc (count_parted p xs i (omega (arith, small)) ((λ k d low high. parts.0 (suc k) d (omega arith) (omega (arith, high))), (λ k d low high. parts.1 (suc k) d (omega (arith, low)) (omega (arith, high))))))
+
+same_at : (xs : List (List ℕ)) (i : ℕ) (d e : List ℕ) → i < length xs → get_or xs i d ≡ get_or xs i e
+same_at [] i d e h = absurd (omega (arith, h))
+same_at (x ∷ xs) zero d e h = refl
+same_at (x ∷ xs) (suc i) d e h = same_at xs i d e (omega (arith, h))
+
+itself : (r : Ordering) → r ≡ ordering_reverse r → is_lt r ≡ false
+itself Less e = absurd (cc)
+itself Equal e = refl
+itself Greater e = refl
+
+-- no name comes before one that stands before it
+not_under : (names : List (List ℕ)) (i k : ℕ) (e : List ℕ) → IsStrictlySortedBy text_cmp names → i ≤ k → k < length names → is_lt (text_cmp (get_or names k e) (get_or names i e)) ≡ false
+not_under names i k e sorted low inside =
+    ⊎_elim
+    (λ before. ap is_lt (nat_list_cmp_total.antisymm (get_or names k e) (get_or names i e) ∙ ap ordering_reverse (Less-from_sorted text_cmp names i k e sorted before inside)))
+    (λ after. let same : i ≡ k = omega (arith, low, after) in rw same (itself (text_cmp (get_or names k e) (get_or names k e)) (nat_list_cmp_total.antisymm (get_or names k e) (get_or names k e))))
+    (cases_lt i k)
+
+-- as many stand before a name among names in order as its place says
+pub own_place : (names : List (List ℕ)) (i : ℕ) (d : List ℕ) → IsStrictlySortedBy text_cmp names → i < length names → place_of names (get_or names i d) ≡ i
+own_place names i d sorted inside =
+    count_parted (λ other. is_lt (text_cmp other (get_or names i d))) names i (omega (arith, inside)) (
+      (λ k e low high. ap is_lt (ap (text_cmp (get_or names k e)) (same_at names i d e inside) ∙ Less-from_sorted text_cmp names k i e sorted high inside)),
+      (λ k e low high. ap (λ name. is_lt (text_cmp (get_or names k e) name)) (same_at names i d e inside) ∙ not_under names i k e sorted low high),
+    )
+
+-- a name more is found at its own place
+pub place_more : (names : List (List ℕ)) (old : List ℕ → Option ℕ) (name : List ℕ) (i : ℕ) → ((q : List ℕ) → IfSome (old q) (λ p. p ≡ place_of names q)) → place_of names name ≡ i → (q : List ℕ) (new : Option ℕ) → new ≡ update bytes_eq old name (Some i) q → IfSome new (λ p. p ≡ place_of names q)
+place_more names old name i holds own q new e = subst (λ o. IfSome o (λ p. p ≡ place_of names q)) (sym e) (by (bytes_eq name q) refl)
+  where
+    by : (b : Bool) → bytes_eq name q ≡ b → IfSome (cond b (Some i) (old q)) (λ p. p ≡ place_of names q)
+    by true f = sym own ∙ ap (place_of names) (same_text name q (sym f))
+    by false f = holds q
+
+pub found_place : (names : List (List ℕ)) (name : List ℕ) (o : Option ℕ) (place : ℕ) → IfSome o (λ p. p ≡ place_of names name) → o ≡ Some place → place ≡ place_of names name
+found_place names name o place holds e = subst (λ x. IfSome x (λ p. p ≡ place_of names name)) e holds

@@ -4,5 +4,6 @@ pub mod Digits
 pub mod InOrder
 pub mod Placed
 pub mod Scripts
+pub mod Seen
 pub mod Spaces
 pub mod Totals

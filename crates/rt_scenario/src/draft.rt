@@ -24,8 +24,9 @@ use crate::tasks::{MAX_TASKS, tasks_at, tasks_of};
 use crate::word::{Word, switch_of};
 use rt_base::{Items, MAX_TIME, Nanos, Text};
 use std::alloc::Global;
-use std::collections::BTreeMap;
+use std::collections::HashMap;
 use std::marker::Model;
+use std::{mem, str};
 
 /// The greatest number of bytes of a line, without its LF.
 const LINE_LEN: usize = 4096;
@@ -37,15 +38,17 @@ pub struct Draft {
     catch: Option<bool>,
     closed: Vec<ScriptText>,
     tasks: Vec<u64>,
-    places: BTreeMap<String, usize>,
+    places: HashMap<String, usize>,
     current: Option<OpenScript>,
+    /// Room for the lines of the next script.
+    spare: Vec<NamedLine>,
     /// The places of the scripts that are run, the root first.
     run: Vec<usize>,
 }
 
 impl Model for Draft {
     ghost use Rattle.std.specs.Prelude.{◌≡◌, ℕ, List, None, IfSome, length};
-    ghost use Rattle.std.specs.BTreeMap.{get_by_text};
+    ghost use Rattle.std.specs.HashMap.{get_by_text};
     ghost use Rattle.std.specs.List.{All};
     ghost use Rattle.rt_scenario.specs.Capped.{capped_tasks};
     ghost use Rattle.rt_scenario.specs.Scenario.{Draft, script_at, CanRun};
@@ -67,8 +70,9 @@ impl Draft {
             catch: None,
             closed: Vec::new(alloc),
             tasks: Vec::new(alloc),
-            places: BTreeMap::new(alloc),
+            places: HashMap::new(alloc),
             current: None,
+            spare: Vec::new(alloc),
             run: Vec::new(alloc),
         }
     }
@@ -87,6 +91,7 @@ impl Draft {
             tasks: _,
             places: _,
             current,
+            spare: _,
             run,
         } = self;
         if current.is_some() || run.is_empty() {
@@ -140,6 +145,8 @@ impl Draft {
         ensures { Answers (after_words self.old (words_of text.now)) result self.new }
     {
         let (first, args) = split_word(text);
+        // Printable bytes are ASCII.
+        let first = unsafe { str::from_utf8_unchecked(first) };
         let Some(word) = Word::of(first) else {
             return Err(Stop::Breaks(Kind::Unknown));
         };
@@ -245,7 +252,8 @@ impl Draft {
         }
         let alloc = *self.closed.allocator();
         let name = Text::of(String::from_str(alloc, name)?);
-        self.current = Some(OpenScript::new(alloc, name));
+        let spare = mem::replace(&mut self.spare, Vec::new(alloc));
+        self.current = Some(OpenScript::new(alloc, name, spare));
         Ok(())
     }
 
@@ -356,7 +364,11 @@ impl Draft {
         ensures { Answers (done_row self.old) result self.new }
     {
         match self.current.take() {
-            Some(current) => self.declare(current.close()?),
+            Some(current) => {
+                let (script, spare) = current.close()?;
+                self.spare = spare;
+                self.declare(script)
+            }
             None => Ok(()),
         }
     }

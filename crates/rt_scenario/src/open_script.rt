@@ -5,7 +5,7 @@ ghost use Rattle.rt_base.specs.Attributes.{text_cmp};
 ghost use Rattle.rt_scenario.specs.Scripts.{placed, closed_script};
 ghost use Rattle.rt_scenario.specs.Scenario.{with_line, with_panic};
 
-use crate::handles::handles_of;
+use crate::handles::{handles_of, places_of};
 use crate::line::Line;
 use crate::named_line::NamedLine;
 use crate::scenario::ScriptText;
@@ -30,12 +30,15 @@ impl Model for OpenScript {
 }
 
 impl OpenScript {
-    pub fn new(alloc: Global, name: Text) -> OpenScript
+    /// A script without lines, which keeps them in the room of `spare`.
+    pub fn new(alloc: Global, name: Text, spare: Vec<NamedLine>) -> OpenScript
         ensures { result ≡ record { name = name; lines = []; words = [] } }
     {
+        let mut lines = spare;
+        lines.clear();
         OpenScript {
             name,
-            lines: Vec::new(alloc),
+            lines,
             words: Vec::new(alloc),
         }
     }
@@ -59,20 +62,25 @@ impl OpenScript {
         Ok(())
     }
 
-    /// The script as it stands, with the places of its handles.
-    pub fn close(self) -> Result<ScriptText, NoMemory>
-        ensures { IfOk result (λ script. script ≡ closed_script self) }
+    /// The script as it stands, with the places of its handles; and the room of its lines.
+    pub fn close(self) -> Result<(ScriptText, Vec<NamedLine>), NoMemory>
+        ensures { IfOk result (λ closed. closed.0 ≡ closed_script self) }
     {
-        let OpenScript { name, lines, words } = self;
-        let alloc = *lines.allocator();
-        let handles = handles_of(alloc, lines.as_slice())?;
-        let lines = placed_lines(alloc, lines.as_slice(), handles.as_slice())?;
-        Ok(ScriptText {
+        let OpenScript {
+            name,
+            lines: named,
+            words,
+        } = self;
+        let alloc = *named.allocator();
+        let handles = handles_of(alloc, named.as_slice())?;
+        let lines = placed_lines(alloc, named.as_slice(), handles.as_slice())?;
+        let script = ScriptText {
             name,
             lines: Items::of(lines),
             handles: Items::of(handles),
             words: Items::of(words),
-        })
+        };
+        Ok((script, named))
     }
 }
 
@@ -80,10 +88,11 @@ fn placed_lines(alloc: Global, lines: &[NamedLine], handles: &[Text]) -> Result<
     requires { IsStrictlySortedBy text_cmp handles.now }
     ensures { IfOk result (λ list. list.items ≡ map (placed handles.now) lines.now) }
 {
-    let mut list = Vec::new(alloc);
+    let places = places_of(alloc, handles)?;
+    let mut list = Vec::with_capacity(alloc, lines.len())?;
     let mut rest = lines;
     while let Some((line, tail)) = rest.split_first() {
-        list.push(line.placed(handles))?;
+        list.push(line.placed(handles, &places))?;
         rest = tail;
     }
     Ok(list)

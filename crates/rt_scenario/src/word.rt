@@ -23,39 +23,39 @@ pub enum Word {
 }
 
 impl Word {
-    /// The word that these bytes are.
-    pub fn of(text: &[u8]) -> Option<Word>
+    /// The word that this text is.
+    pub fn of(text: &str) -> Option<Word>
         ensures { result ≡ word_of text.now }
     {
-        let word = if text == b"timeout".as_slice() {
+        let word = if text == "timeout" {
             Word::Timeout
-        } else if text == b"catch".as_slice() {
+        } else if text == "catch" {
             Word::Catch
-        } else if text == b"script".as_slice() {
+        } else if text == "script" {
             Word::Script
-        } else if text == b"sleep".as_slice() {
+        } else if text == "sleep" {
             Word::Sleep
-        } else if text == b"until".as_slice() {
+        } else if text == "until" {
             Word::Until
-        } else if text == b"yield".as_slice() {
+        } else if text == "yield" {
             Word::Yield
-        } else if text == b"pend".as_slice() {
+        } else if text == "pend" {
             Word::Pend
-        } else if text == b"end".as_slice() {
+        } else if text == "end" {
             Word::End
-        } else if text == b"panic".as_slice() {
+        } else if text == "panic" {
             Word::Panic
-        } else if text == b"spawn".as_slice() {
+        } else if text == "spawn" {
             Word::Spawn
-        } else if text == b"abort".as_slice() {
+        } else if text == "abort" {
             Word::Abort
-        } else if text == b"drop".as_slice() {
+        } else if text == "drop" {
             Word::Drop
-        } else if text == b"join".as_slice() {
+        } else if text == "join" {
             Word::Join
-        } else if text == b"done".as_slice() {
+        } else if text == "done" {
             Word::Done
-        } else if text == b"run".as_slice() {
+        } else if text == "run" {
             Word::Run
         } else {
             return None;

@@ -7,4 +7,4 @@ pub declare-requires-clause-places : goal.declare-requires-clause-places
 declare-requires-clause-places c =
     let scripts = length c.self.inside.closed.items in
     let begun : IsBegun scripts c.in-Some.current = search rules in
-    subst (λ s. HasPlaces scripts s) (sym c.in_ok-close-in-Some.ensures) (closed_has scripts c.in-Some.current begun)
+    subst (λ s. HasPlaces scripts s) (sym c.in_ok-script-in-Some.ensures) (closed_has scripts c.in-Some.current begun)

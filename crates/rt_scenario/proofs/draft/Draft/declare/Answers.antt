@@ -1,8 +1,8 @@
 use Rattle.std.proofs.Common.{◌≡◌, ◌+◌, None, Some, ◌++◌, ◌∷◌, [], length, sym, ap, subst, ◌∙◌, rules, string_bytes}
-use Rattle.std.specs.BTreeMap.{get_by_text}
+use Rattle.std.specs.HashMap.{get_by_text}
 use Rattle.std.specs.List.{All}
 use Rattle.std.specs.Option.{IfSome}
-use Rattle.std.proofs.lemmas.Map.Text.{btree_map_updates_text}
+use Rattle.std.proofs.lemmas.Map.Text.{hash_map_updates_text}
 use Rattle.rt_scenario.specs.Capped.{capped, capped_tasks}
 use Rattle.rt_scenario.specs.Scenario.{CanRun, script_at}
 use Rattle.rt_scenario.specs.Scripts.{Begun, tasks_at, spawned_in}
@@ -32,7 +32,7 @@ invariant_of-self-2 c =
     let none : c.self.inside.current ≡ None = ap (λ d. d.current) c.self.view_is ∙ c.requires.between in (
       (λ name.
           opened closed script key _ (λ q. get_by_text places q) named last absent c.self.invariant.0 name _
-          (btree_map_updates_text key places c.insert.new.self (Some c.len.result) c.in_ok-insert.ensures.updates name)
+          (hash_map_updates_text key places c.insert.new.self (Some c.len.result) c.in_ok-insert.ensures.updates name)
           ∙ ap (λ l. script_at l name) (sym pushed)),
       (c.push_reserved-2.ensures.items
           ∙ ap (λ l. l ++ c.tasks_of-tasks.result ∷ []) (c.in_ok-reserve-2.ensures.items ∙ c.self.invariant.1)

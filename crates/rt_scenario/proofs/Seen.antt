@@ -1,0 +1,74 @@
+-- Names that are taken in often.
+use Rattle.std.proofs.Common.{◌≡◌, ℕ, Bool, true, false, cond, List, [], ◌∷◌, length, Option, Some, None, is_none, refl, sym, ap, subst, ◌∙◌, arith}
+use Rattle.std.specs.declared.cmp.Ordering.{Ordering}
+use Rattle.std.specs.declared.cmp.Ordering.TheVariants.{Less, Equal, Greater}
+use Rattle.std.specs.BTreeSet.{insert_key}
+use Rattle.std.specs.Map.{update}
+use Rattle.std.specs.Option.{IfSome}
+use Rattle.std.specs.Ordering.{is_eq, ordering_reverse, match_ordering}
+use Rattle.std.specs.Str.{bytes_eq}
+use Rattle.std.specs.Cmp.Lexicographic.{nat_list_cmp_total, same_text}
+use Rattle.std.proofs.lemmas.Map.Text.{is_eq-slice_cmp}
+use Rattle.rt_base.specs.Attributes.{text_cmp}
+
+-- the name is there: to take it in changes nothing
+abbrev pub Has : List (List ℕ) → List ℕ → Type 0
+Has names name = insert_key text_cmp names name ≡ names
+
+equal : (r : Ordering) → r ≡ ordering_reverse r → r ≡ Equal
+equal Less e = absurd (cc)
+equal Equal e = refl
+equal Greater e = absurd (cc)
+
+itself : (name : List ℕ) → text_cmp name name ≡ Equal
+itself name = equal (text_cmp name name) (nat_list_cmp_total.antisymm name name)
+
+turned : (a b : List ℕ) (r : Ordering) → text_cmp a b ≡ r → text_cmp b a ≡ ordering_reverse r
+turned a b r e = nat_list_cmp_total.antisymm b a ∙ ap ordering_reverse e
+
+same : (a b : List ℕ) → text_cmp a b ≡ Equal → a ≡ b
+same a b e = same_text a b (sym (sym (is_eq-slice_cmp a b) ∙ ap is_eq e))
+
+-- a name that was taken in is there
+pub has_own : (names : List (List ℕ)) (k : List ℕ) → Has (insert_key text_cmp names k) k
+has_own [] k = rw (itself k) refl
+has_own (x ∷ xs) k = by (text_cmp k x) refl (has_own xs k)
+  where
+    by : (r : Ordering) → text_cmp k x ≡ r → Has (insert_key text_cmp xs k) k → Has (match_ordering r (k ∷ x ∷ xs) (x ∷ xs) (x ∷ insert_key text_cmp xs k)) k
+    by Less e more = rw (itself k) refl
+    by Equal e more = rw e refl
+    by Greater e more = rw e (ap (λ l. x ∷ l) more)
+
+behind : (q k x : List ℕ) (xs : List (List ℕ)) → text_cmp k q ≡ Less → Has (x ∷ xs) q → Has (k ∷ x ∷ xs) q
+behind q k x xs e h = rw (turned k q Less e) (ap (λ l. k ∷ l) h)
+
+-- a name that is there stays there where one more is taken in
+pub has_kept : (q k : List ℕ) (names : List (List ℕ)) → Has names q → Has (insert_key text_cmp names k) q
+has_kept q k [] h = absurd (omega (arith, ap length h))
+has_kept q k (x ∷ xs) h = by (text_cmp q x) refl (text_cmp k x) refl (has_kept q k xs) h
+  where
+    by : (r : Ordering) → text_cmp q x ≡ r → (s : Ordering) → text_cmp k x ≡ s → (Has xs q → Has (insert_key text_cmp xs k) q) → match_ordering r (q ∷ x ∷ xs) (x ∷ xs) (x ∷ insert_key text_cmp xs q) ≡ x ∷ xs → Has (match_ordering s (k ∷ x ∷ xs) (x ∷ xs) (x ∷ insert_key text_cmp xs k)) q
+    by Less e s f more g = absurd (omega (arith, ap length g))
+    by Equal e Less f more g = behind q k x xs (ap (text_cmp k) (same q x e) ∙ f) h
+    by Equal e Equal f more g = h
+    by Equal e Greater f more g = rw e refl
+    by Greater e Less f more g = behind q k x xs (nat_list_cmp_total.trans k x q f (turned q x Greater e)) h
+    by Greater e Equal f more g = h
+    by Greater e Greater f more g = let rest : insert_key text_cmp xs q ≡ xs = cc in rw e (ap (λ l. x ∷ l) (more rest))
+
+-- what was seen is there
+pub was_seen : {V : Type 0} (o : Option V) (P : Type 0) → IfSome o (λ _. P) → is_none o ≡ false → P
+was_seen None P h e = absurd (cc)
+was_seen (Some v) P h e = h
+
+-- a name more is seen
+pub seen_more : {V : Type 0} (names more : List (List ℕ)) (old : List ℕ → Option V) (name : List ℕ) (v : V) → ((q : List ℕ) → IfSome (old q) (λ _. Has names q)) → ((q : List ℕ) → Has names q → Has more q) → Has more name → (q : List ℕ) (new : Option V) → new ≡ update bytes_eq old name (Some v) q → IfSome new (λ _. Has more q)
+seen_more {V} names more old name v holds kept own q new e = subst (λ o. IfSome o (λ _. Has more q)) (sym e) (by (bytes_eq name q) refl)
+  where
+    stays : (o : Option V) → IfSome o (λ _. Has names q) → IfSome o (λ _. Has more q)
+    stays None h = tt
+    stays (Some w) h = kept q h
+
+    by : (b : Bool) → bytes_eq name q ≡ b → IfSome (cond b (Some v) (old q)) (λ _. Has more q)
+    by true f = subst (Has more) (same_text name q (sym f)) own
+    by false f = stays (old q) (holds q)
