@@ -1,5 +1,5 @@
 // A writer of a blob that holds the last bytes back.
-ghost use Rattle.std.specs.Prelude.{◌≡◌, ◌+◌, ◌-◌, ◌^◌, ◌<◌, ◌≤◌, ℕ, [], List, Ok, Err, IfOk, OnErr, OnOk, length, take, drop, if◌then◌else◌, ◌||◌, ◌&&◌, not, true, false, Option, Some, None};
+ghost use Rattle.std.specs.Prelude.{◌≡◌, ◌+◌, ◌-◌, ◌^◌, ◌<◌, ◌≤◌, ℕ, [], List, Ok, Err, IfOk, OnErr, OnOk, length, take, drop, if◌then◌else◌, ◌||◌, ◌&&◌, not, true, false, Option, Some, None, MatchResult};
 ghost use Rattle.rt_base.specs.Counted.{Notes};
 ghost use Rattle.rt_base.specs.declared.error.Error.{Error};
 ghost use Rattle.rt_buffer.specs.Calls.{calls};
@@ -77,7 +77,7 @@ impl<S: Storage> Write<S> {
         ensures overflow { 2 ^ 64 ≤ offset + len → (result ≡ Err Error.OffsetOverflow) × (store.new ≡ store.old) × (env.new ≡ env.old) }
         ensures insufficient { offset + len < 2 ^ 64 → end_of self.now.held.tip < offset + len → (result ≡ Err Error.BlobInsufficientLength) × (store.new ≡ store.old) × (env.new ≡ env.old) }
         ensures from_tip { offset + len ≤ end_of self.now.held.tip → self.now.held.tip.offset ≤ offset → ReadsTip self.now.held.tip offset len result × (store.new ≡ store.old) × (env.new ≡ env.old) }
-        ensures nothing { offset ≤ end_of self.now.held.tip → len ≡ 0 → IfOk result (λ b. b.bytes ≡ []) × (store.new ≡ store.old) × (env.new ≡ env.old) }
+        ensures nothing { offset ≤ end_of self.now.held.tip → len ≡ 0 → MatchResult result (λ b. b.bytes ≡ []) (λ e. e ≡ Error.NoMemory) × (store.new ≡ store.old) × (env.new ≡ env.old) }
         ensures from_blob { offset + len ≤ end_of self.now.held.tip → offset < self.now.held.tip.offset → 0 < len →
             Notes (E.noted env.old) (λ x. ReadsThrough S.reads S.refusals self.now.blob self.now.held.tip offset len store.old result store.new x) (E.noted env.new) }
         ensures flat { (bytes : S → S.Blob → List ℕ) → HasBytes S.reads bytes → LiesOver self.now.held.tip (bytes store.old self.now.blob) →
@@ -106,6 +106,7 @@ impl<S: Storage> Write<S> {
         ensures refused { OnErr result (self.new.held.tip ≡ self.old.held.tip) }
         ensures blob { self.new.blob ≡ self.old.blob }
         ensures state { self.new.held.state ≡ self.old.held.state }
+        ensures syncs { self.new.held.syncs ≡ self.old.held.syncs }
         ensures flat { (content : List ℕ) → LiesOver self.old.held.tip content → has_bytes bytes.now ≡ true → result ≡ Ok true →
             LiesOver self.new.held.tip content × (laid_over self.new.held.tip content ≡ written offset bytes.now (laid_over self.old.held.tip content)) }
     {
