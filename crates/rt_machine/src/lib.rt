@@ -6,22 +6,12 @@ mod cause;
 mod clock;
 mod ends;
 mod event;
-#[cfg(test)]
-mod journals;
 mod labels;
 mod machine;
 mod marks;
-#[cfg(test)]
-mod numbers;
-#[cfg(test)]
-mod reading;
-#[cfg(test)]
-mod replay;
 mod results;
 mod room;
 mod run_journal;
-#[cfg(test)]
-mod tests;
 mod tokens;
 mod wakes;
 

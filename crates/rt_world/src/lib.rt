@@ -10,8 +10,6 @@ mod rounds;
 mod spawning;
 mod task;
 mod tasks;
-#[cfg(test)]
-mod tests;
 mod visits;
 mod world;
 

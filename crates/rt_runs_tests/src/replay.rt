@@ -1,0 +1,363 @@
+//! Runs whose maker and tasks call and answer what a journal says, for tests.
+
+ghost use Rattle.std.specs.Prelude.{◌≡◌, ◌≤◌, ◌⊎◌, ◌∷◌, [], IfOk, IfSome, OnOk, drop, true, Some, None};
+ghost use Rattle.rt_base.specs.declared.time.TheConstants.{MAX_TIME};
+ghost use Rattle.rt_audit.specs.declared.finish.FinishCause.TheVariants.{NoMemory as OutOfMemory};
+ghost use Rattle.rt_model.specs.Lists.{has_number};
+ghost use Rattle.rt_model.specs.State.{Making, Visiting, Polling, Ending, Over, Closing};
+ghost use Rattle.rt_model.specs.Causes.{from_running, reached};
+ghost use Rattle.rt_model.specs.Effects.{left_of, cause_of};
+ghost use Rattle.rt_model.specs.Rules.{MayCall, MayClose, MayRound};
+ghost use Rattle.rt_machine.specs.Ends.{open_in};
+
+use crate::numbers::{add_number, ends_next, has_number, remove_number};
+use rt_audit::{AnswerKind, FinishCause, Journal};
+use rt_base::{Error, MAX_TIME, Nanos, NoMemory};
+use rt_machine::Machine;
+use rt_model::{Begin, Outcome};
+use std::alloc::Global;
+use std::marker::Model;
+
+/// What a journal says: a call, or that a part is over and how it is answered.
+#[derive(Clone, Copy)]
+pub enum Said<'a> {
+    Child(u64, &'a str),
+    CloseNode(u64),
+    Spawn(u64),
+    Abort(u64),
+    AbortTask(u64),
+    Wake(u64),
+    Join(u64),
+    GiveUp(u64),
+    /// A sleep, with its alarm where it has one.
+    SleepPoll(Nanos, Option<u64>),
+    Answer(AnswerKind),
+}
+
+/// A machine, who runs, and what is still to come.
+#[derive(Drop)]
+struct Replay<'a> {
+    machine: Machine,
+    running: Vec<u64>,
+    said: &'a [Said<'a>],
+    at: usize,
+}
+
+impl<'a> Model for Replay<'a> {
+    ghost use Rattle.std.specs.Prelude.{◌≡◌};
+    ghost use Rattle.rt_machine.specs.Places.{Seen};
+
+    ghost Value = { Seen };
+
+    ghost view = { λ r. r.machine };
+
+    ghost invariant = { λ r. r.running.items ≡ r.machine.told.state.running };
+}
+
+/// Whether a call lacked memory. Any other refusal is in the journal.
+fn told<T: Drop>(answer: Result<T, Error>) -> Result<(), NoMemory> {
+    match answer {
+        Err(Error::NoMemory) => Err(NoMemory),
+        _ => Ok(()),
+    }
+}
+
+#[tactic(auto, using(rt_machine::proofs::Replays::replay_laws, rt_machine::proofs::Counts::count_laws, rt_machine::proofs::Replays::number_laws), unfolding(rt_model::specs::Effects::after, rt_model::specs::State::begun))]
+impl<'a> Replay<'a> {
+    /// What is said next.
+    fn next(&mut self) -> Option<Said<'a>>
+        ensures { self.new ≡ self.old }
+    {
+        let said = *self.said.get(self.at)?;
+        self.at = self.at.saturating_add(1);
+        Some(said)
+    }
+
+    /// Spawns a task.
+    fn spawn(&mut self, by: Option<u64>, node: u64) -> Result<(), NoMemory>
+        requires calling { MayCall self.old.told.state by }
+        requires runs { IfSome by (λ task. has_number task self.old.told.state.running ≡ true) }
+        ensures phase { self.new.told.state.phase ≡ self.old.told.state.phase }
+        ensures root { self.new.told.state.root ≡ self.old.told.state.root }
+        ensures calling { MayCall self.new.told.state by }
+        ensures runs { IfSome by (λ task. has_number task self.new.told.state.running ≡ true) }
+    {
+        self.running.reserve(1)?;
+        match self.machine.spawn(by, node) {
+            Ok(Some((task, _))) => {
+                add_number(&mut self.running, task);
+                Ok(())
+            }
+            Ok(None) => Ok(()),
+            Err(Error::NoMemory) => Err(NoMemory),
+            Err(_) => Ok(()),
+        }
+    }
+
+    /// Makes a call on a node or on the time.
+    fn call(&mut self, by: Option<u64>, said: Said<'a>) -> Result<(), NoMemory>
+        requires calling { MayCall self.old.told.state by }
+        requires runs { IfSome by (λ task. has_number task self.old.told.state.running ≡ true) }
+        ensures phase { self.new.told.state.phase ≡ self.old.told.state.phase }
+        ensures root { self.new.told.state.root ≡ self.old.told.state.root }
+        ensures calling { MayCall self.new.told.state by }
+        ensures runs { IfSome by (λ task. has_number task self.new.told.state.running ≡ true) }
+    {
+        match said {
+            Said::Child(node, label) => told(self.machine.child(by, node, label)),
+            Said::Spawn(node) => self.spawn(by, node),
+            Said::SleepPoll(due, alarm) if due <= MAX_TIME => {
+                let _ = self.machine.sleep_poll(by, due, alarm)?;
+                Ok(())
+            }
+            Said::CloseNode(node) => {
+                self.machine.close_node(by, node);
+                Ok(())
+            }
+            said => self.call_on_task(by, said),
+        }
+    }
+
+    /// Makes a call on a task.
+    fn call_on_task(&mut self, by: Option<u64>, said: Said<'a>) -> Result<(), NoMemory>
+        requires calling { MayCall self.old.told.state by }
+        requires runs { IfSome by (λ task. has_number task self.old.told.state.running ≡ true) }
+        ensures phase { self.new.told.state.phase ≡ self.old.told.state.phase }
+        ensures root { self.new.told.state.root ≡ self.old.told.state.root }
+        ensures calling { MayCall self.new.told.state by }
+        ensures runs { IfSome by (λ task. has_number task self.new.told.state.running ≡ true) }
+    {
+        match said {
+            Said::Abort(task) => {
+                self.machine.abort(by, task);
+                Ok(())
+            }
+            Said::AbortTask(task) => told(self.machine.abort_task(by, task)),
+            Said::Wake(task) => told(self.machine.wake(by, task)),
+            Said::Join(task) => told(self.machine.join(by, task)),
+            Said::GiveUp(task) => {
+                self.machine.give_up(by, task);
+                Ok(())
+            }
+            _ => Err(NoMemory),
+        }
+    }
+
+    /// Makes the calls of a part. Answers how it is answered.
+    fn part(&mut self, by: Option<u64>) -> Result<AnswerKind, NoMemory>
+        requires calling { MayCall self.old.told.state by }
+        requires runs { IfSome by (λ task. has_number task self.old.told.state.running ≡ true) }
+        ensures phase { self.new.told.state.phase ≡ self.old.told.state.phase }
+        ensures root { self.new.told.state.root ≡ self.old.told.state.root }
+        ensures calling { MayCall self.new.told.state by }
+        ensures runs { IfSome by (λ task. has_number task self.new.told.state.running ≡ true) }
+    {
+        for _ in 0..self.said.len() {
+            match self.next() {
+                Some(Said::Answer(kind)) => return Ok(kind),
+                Some(said) => self.call(by, said)?,
+                None => return Ok(AnswerKind::Pending),
+            }
+        }
+        Ok(AnswerKind::Pending)
+    }
+
+    /// Ends a task within its visit.
+    fn end(&mut self, task: u64, own: Option<Outcome>) -> Result<(), NoMemory>
+        requires phase { self.old.told.state.phase ≡ Ending task own (left_of self.old.told.state.phase) }
+        requires runs { has_number task self.old.told.state.running ≡ true }
+        requires own { open_in own ≡ 0 }
+        ensures phase { OnOk result (self.new.told.state.phase ≡ Visiting (left_of self.old.told.state.phase)) }
+        ensures root { self.new.told.state.root ≡ self.old.told.state.root }
+    {
+        let _ = self.part(Some(task))?;
+        self.machine.end_visit(task, own);
+        remove_number(&mut self.running, task);
+        Ok(())
+    }
+
+    /// Polls a task. Answers the cause, where the run ends there.
+    fn poll(&mut self, task: u64) -> Result<Option<FinishCause>, NoMemory>
+        requires phase { self.old.told.state.phase ≡ Polling task (left_of self.old.told.state.phase) }
+        requires runs { has_number task self.old.told.state.running ≡ true }
+        ensures goes { IfOk result (λ cause. cause ≡ None → self.new.told.state.phase ≡ Visiting (left_of self.old.told.state.phase)) }
+        ensures over { IfOk result (λ cause. IfSome cause (λ cause. self.new.told.state.phase ≡ Over cause)) }
+        ensures root { self.new.told.state.root ≡ self.old.told.state.root }
+    {
+        let kind = self.part(Some(task))?;
+        let is_root = self.machine.root() == Some(task);
+        let flagged = self.machine.is_flagged(task);
+        match kind {
+            AnswerKind::Pending => {
+                self.machine.answer(task, AnswerKind::Pending);
+                if flagged {
+                    self.end(task, None)?;
+                }
+                Ok(None)
+            }
+            AnswerKind::Ready => {
+                self.machine.answer(task, AnswerKind::Ready);
+                if is_root {
+                    return Ok(Some(FinishCause::Completed));
+                }
+                self.end(task, Some(Outcome::There))?;
+                Ok(None)
+            }
+            AnswerKind::Panicked => {
+                self.machine.answer(task, AnswerKind::Panicked);
+                if is_root {
+                    return Ok(Some(FinishCause::TaskPanicked));
+                }
+                self.end(task, Some(Outcome::Exited))?;
+                Ok(None)
+            }
+            _ => {
+                self.machine.answer(task, AnswerKind::NoMemory);
+                Ok(Some(FinishCause::NoMemory))
+            }
+        }
+    }
+
+    /// Visits a task that runs. Answers the cause, where the run ends there.
+    fn visit(&mut self, task: u64) -> Result<Option<FinishCause>, NoMemory>
+        requires phase { self.old.told.state.phase ≡ Visiting (left_of self.old.told.state.phase) }
+        requires next { from_running self.old.told.state.running (left_of self.old.told.state.phase) ≡ task ∷ drop 1 (from_running self.old.told.state.running (left_of self.old.told.state.phase)) }
+        requires runs { has_number task self.old.told.state.running ≡ true }
+        ensures goes { IfOk result (λ cause. cause ≡ None → self.new.told.state.phase ≡ Visiting (drop 1 (from_running self.old.told.state.running (left_of self.old.told.state.phase)))) }
+        ensures over { IfOk result (λ cause. IfSome cause (λ cause. self.new.told.state.phase ≡ Over cause)) }
+        ensures root { self.new.told.state.root ≡ self.old.told.state.root }
+    {
+        self.machine.visit(task)?;
+        if self.machine.is_stopped(task) {
+            self.machine.answer(task, AnswerKind::Stopped);
+            return Ok(Some(FinishCause::TaskPanicked));
+        }
+        if self.machine.is_flagged(task) {
+            self.end(task, None)?;
+            return Ok(None);
+        }
+        self.poll(task)
+    }
+
+    /// Visits the tasks of a round. Answers the cause, where the run ends there.
+    fn round(&mut self, order: &[u64]) -> Result<Option<FinishCause>, NoMemory>
+        requires phase { self.old.told.state.phase ≡ Visiting order.now }
+        ensures goes { IfOk result (λ cause. cause ≡ None → self.new.told.state.phase ≡ Visiting (left_of self.new.told.state.phase)) }
+        ensures all { IfOk result (λ cause. cause ≡ None → from_running self.new.told.state.running (left_of self.new.told.state.phase) ≡ []) }
+        ensures over { IfOk result (λ cause. IfSome cause (λ cause. self.new.told.state.phase ≡ Over cause)) }
+    {
+        let mut rest = order;
+        while let Some((task, tail)) = rest.split_first() {
+            if has_number(self.running.as_slice(), *task) {
+                if let Some(cause) = self.visit(*task)? {
+                    return Ok(Some(cause));
+                }
+            }
+            rest = tail;
+        }
+        Ok(None)
+    }
+
+    /// Goes through the rounds. Answers why the run ends.
+    fn rounds(&mut self) -> Result<FinishCause, NoMemory>
+        requires { MayRound self.old.told.state.phase self.old.told.state }
+        ensures closes { IfOk result (λ cause. MayClose self.new.told.state.phase) }
+        ensures reached { IfOk result (λ cause. (cause ≡ OutOfMemory) ⊎ (reached self.new.told.state ≡ Some cause)) }
+    {
+        let mut order = Vec::new(self.machine.allocator());
+        for _ in 0..10_000 {
+            self.machine.round(&mut order)?;
+            if let Some(cause) = self.round(order.as_slice())? {
+                return Ok(cause);
+            }
+            match self.machine.clock_step() {
+                Ok(()) => {}
+                Err(cause) => return Ok(cause),
+            }
+        }
+        Err(NoMemory)
+    }
+
+    /// Takes the root in, and goes through the rounds. Answers why the run ends.
+    fn go(&mut self) -> Result<FinishCause, NoMemory>
+        requires { self.old.told.state.phase ≡ Making }
+        ensures closes { IfOk result (λ cause. MayClose self.new.told.state.phase) }
+        ensures reached { IfOk result (λ cause. (cause ≡ OutOfMemory) ⊎ (reached self.new.told.state ≡ Some cause)) }
+    {
+        if !self.machine.has_number_left() {
+            return Ok(FinishCause::TooManyTasks);
+        }
+        self.running.reserve(1)?;
+        let root = self.machine.register_root()?;
+        add_number(&mut self.running, root);
+        if self.machine.is_late() {
+            return Ok(FinishCause::Timeout);
+        }
+        self.rounds()
+    }
+
+    /// Begins the cleanup of a run that ends for this cause.
+    fn begin_cleanup(&mut self, cause: FinishCause)
+        requires closes { MayClose self.old.told.state.phase }
+        requires reached { (cause ≡ OutOfMemory) ⊎ (reached self.old.told.state ≡ Some cause) }
+        ensures phase { self.new.told.state.phase ≡ Closing (cause_of self.new.told.state.phase) }
+        ensures caused { (cause ≡ OutOfMemory) ⊎ (cause_of self.new.told.state.phase ≡ Some cause) }
+    {
+        self.machine.cleanup();
+    }
+
+    /// Ends a root that was made and not taken in, where no task runs.
+    fn end_unmade(&mut self) -> Result<(), NoMemory>
+        requires phase { self.old.told.state.phase ≡ Closing (cause_of self.old.told.state.phase) }
+        requires none { self.old.told.state.running ≡ [] }
+        ensures phase { self.new.told.state.phase ≡ self.old.told.state.phase }
+        ensures none { OnOk result (self.new.told.state.running ≡ []) }
+    {
+        if self.machine.root().is_none() {
+            let _ = self.part(None)?;
+        }
+        Ok(())
+    }
+
+    /// Ends the tasks that run, and the run for this cause.
+    fn clean(&mut self, cause: FinishCause) -> Result<(), NoMemory>
+        requires closes { MayClose self.old.told.state.phase }
+        requires reached { (cause ≡ OutOfMemory) ⊎ (reached self.old.told.state ≡ Some cause) }
+    {
+        self.begin_cleanup(cause);
+        for _ in 0..self.running.len() {
+            if let Some(task) = ends_next(self.running.as_slice(), self.machine.root()) {
+                let _ = self.part(Some(task))?;
+                self.machine.task_ended(task);
+                remove_number(&mut self.running, task);
+            }
+        }
+        if !self.running.is_empty() {
+            return Err(NoMemory);
+        }
+        self.end_unmade()?;
+        self.machine.crash();
+        self.machine.finish(cause);
+        Ok(())
+    }
+}
+
+/// The journal of a run in which this is said.
+#[tactic(auto, unfolding(rt_model::specs::Effects::after, rt_model::specs::State::begun))]
+pub fn journal_of(alloc: Global, begin: Begin, said: &[Said]) -> Result<Journal, NoMemory>
+    requires { begin.start ≤ MAX_TIME }
+{
+    let Ok(machine) = Machine::begin(alloc, Journal::new(alloc), begin) else {
+        return Err(NoMemory);
+    };
+    let mut replay = Replay {
+        machine,
+        running: Vec::new(alloc),
+        said,
+        at: 0,
+    };
+    let _ = replay.part(None)?;
+    let cause = replay.go()?;
+    replay.clean(cause)?;
+    Ok(replay.machine.into_journal())
+}

@@ -1,0 +1,212 @@
+// A run by the calls of the world. Whole runs of runners are compared in the crates above.
+
+ghost use Rattle.std.specs.Prelude.{◌≡◌, ◌≤◌, [], None, false};
+ghost use Rattle.rt_model.specs.State.{Between};
+ghost use Rattle.rt_model.specs.Rules.{MayCall};
+ghost use Rattle.rt_world.specs.Calls.{Kept};
+
+use rand_core::utils::NextWord;
+use rand_core::{Rng, utils};
+use rt_audit::{FinishCause, Journal};
+use rt_base::{Error, Execution, NoMemory};
+use rt_model::Begin;
+use rt_world::{Answer, Cx, Outcome, Task, World, WorldOf};
+use std::alloc::Global;
+use std::test::Fail;
+
+/// A generator that draws zeros.
+#[derive(Drop)]
+struct Zeros;
+
+impl NextWord<u32> for Zeros {
+    ghost step = { λ zeros. (0, zeros) };
+
+    fn next_word(&mut self) -> u32 {
+        0
+    }
+}
+
+impl Rng for Zeros {
+    ghost use Rattle.rand_core.specs.Steps.{steps_u32, stream_of};
+
+    ghost stream = { stream_of (steps_u32 (λ zeros. (0, zeros))) };
+
+    fn next_u32(&mut self) -> u32 {
+        self.next_word()
+    }
+
+    fn next_u64(&mut self) -> u64 {
+        utils::next_u64_via_u32(self)
+    }
+
+    fn fill_bytes(&mut self, dst: &mut [u8]) {
+        utils::fill_bytes_via_u32(self, dst)
+    }
+}
+
+/// A task that is ready at once.
+#[derive(Drop)]
+struct Probe;
+
+impl Outcome for Probe {
+    type Output = u64;
+}
+
+#[tactic(auto, using(rt_world::proofs::Walked::task_laws, rt_world::proofs::Walked::poller_laws))]
+impl Task for Probe {
+    ghost use Rattle.rt_audit.specs.declared.call.Call.TheVariants.{CloseNode};
+    ghost use Rattle.rt_model.specs.declared.answer.Answer.TheVariants.{Ready};
+    ghost use Rattle.rt_model.specs.Turns.{Plainly};
+    ghost use Rattle.rt_model.specs.Walk.{Spends, Gives};
+
+    ghost steps = { record { next = λ probe now task. Gives (Ready 7) probe; last = λ probe now task. Spends (Plainly (CloseNode 0)) (Gives tt tt) } };
+
+    fn poll<G: Rng>(&mut self, _world: &mut World<Self, u64, G>, _cx: &Cx) -> Answer<u64> {
+        Answer::Ready(7)
+    }
+
+    fn end<G: Rng>(self, world: &mut World<Self, u64, G>) {
+        world.close_node(0);
+    }
+}
+
+/// A run that is over: its output, its last cause, and how many entries it has.
+#[derive(Drop)]
+struct Came {
+    output: Option<u64>,
+    cause: FinishCause,
+    entries: usize,
+}
+
+/// What a world came to that was cleaned up.
+fn taken_apart(world: WorldOf<Probe, Zeros>, output: Option<u64>, cause: FinishCause) -> Came
+    requires { world.held.tasks ≡ [] }
+{
+    let (journal, _, _) = world.into_parts();
+    Came {
+        output,
+        cause,
+        entries: journal.len(),
+    }
+}
+
+/// Runs a root that was taken in to its end.
+#[tactic(auto, using(rt_world::proofs::Running::run_laws), unfolding(rt_model::specs::Effects::after))]
+fn run_root(mut world: WorldOf<Probe, Zeros>) -> Came
+    requires phase { world.told.state.phase ≡ Between }
+    requires none_out { world.out ≡ None }
+    requires unmarked { world.lacked ≡ None }
+    requires cycle { 1 ≤ world.told.state.clock.fixed.cycle }
+{
+    match world.run_rounds() {
+        Ok(output) => {
+            let cause = world.cleanup(FinishCause::Completed);
+            taken_apart(world, Some(output), cause)
+        }
+        Err(cause) => {
+            let cause = world.cleanup(cause);
+            taken_apart(world, None, cause)
+        }
+    }
+}
+
+/// Runs a root from before a run to its end. A root that can't be taken in is ended.
+#[tactic(auto, unfolding(rt_model::specs::Effects::after, rt_model::specs::State::begun))]
+fn run(alloc: Global, taken_in: bool) -> Result<Came, NoMemory> {
+    let begin = Begin {
+        start: 0,
+        cycle: 1_000_000,
+        deadline: None,
+        first: 0,
+        catch: false,
+    };
+    let Ok(mut world) = WorldOf::<Probe, Zeros>::begin(alloc, Journal::new(alloc), begin, Zeros)
+    else {
+        return Err(NoMemory);
+    };
+    if !taken_in || !world.has_number_left() {
+        let cause = world.cleanup_unmade(Some(Probe), FinishCause::NoMemory);
+        return Ok(taken_apart(world, None, cause));
+    }
+    match world.register_root(Probe) {
+        Err(root) => {
+            let cause = world.cleanup_unmade(Some(root), FinishCause::NoMemory);
+            Ok(taken_apart(world, None, cause))
+        }
+        Ok(_) => Ok(run_root(world)),
+    }
+}
+
+/// What comes of spawning a probe.
+fn spawns(world: &mut WorldOf<Probe, Zeros>, node: u64) -> Result<Option<(u64, u64)>, Error>
+    requires { MayCall world.old.told.state world.old.out }
+    ensures { Kept world.old world.new }
+{
+    match world.spawn(node, Execution::Dedicated, (), |((), _)| Probe) {
+        Ok(at) => Ok(at),
+        Err((error, ())) => Err(error),
+    }
+}
+
+/// Whether calls before a root are answered as they should be, and are written.
+#[tactic(auto, using(rt_world::proofs::Walked::close_laws), unfolding(rt_model::specs::Effects::after, rt_model::specs::State::begun))]
+fn answers_calls(alloc: Global) -> Result<bool, NoMemory> {
+    let begin = Begin {
+        start: 3,
+        cycle: 1_000_000,
+        deadline: None,
+        first: 0,
+        catch: false,
+    };
+    let Ok(mut world) = WorldOf::<Probe, Zeros>::begin(alloc, Journal::new(alloc), begin, Zeros)
+    else {
+        return Err(NoMemory);
+    };
+    let over = world.sleep_poll(3, None);
+    let waits = world.sleep_poll(5, None);
+    let refused = world.wake(9);
+    let child = world.child(0, "left");
+    let spawned = spawns(&mut world, 1);
+    let again = spawns(&mut world, 1);
+    let hinted = world.executions() == [(0, Execution::Dedicated)].as_slice();
+    let waits_for = world.join(0);
+    let flagged = world.abort_task(0);
+    let unknown = world.abort_task(1);
+    world.abort(0);
+    world.give_up(0);
+    let gone = world.join(0);
+    world.close_node(0);
+    let now = world.now();
+    let cause = world.cleanup_unmade(None, FinishCause::NoMemory);
+    let came = taken_apart(world, None, cause);
+    Ok(
+        now == 3
+            && over == Ok(None)
+            && waits == Ok(Some(0))
+            && refused == Err(Error::UnknownToken)
+            && child == Ok((1, false))
+            && spawned == Ok(Some((0, 2)))
+            && again == Err(Error::UnknownToken)
+            && hinted
+            && waits_for == Ok(None)
+            && flagged == Ok(())
+            && unknown == Err(Error::UnknownToken)
+            && gone == Err(Error::UnknownToken)
+            && came.entries == 19,
+    )
+}
+
+#[test]
+fn surface(rt: HostRuntime) -> Result<(), Fail> {
+    for (taken_in, output, cause, entries) in [
+        (true, Some(7), FinishCause::Completed, 12usize),
+        (false, None, FinishCause::NoMemory, 6),
+    ] {
+        let came = run(rt.alloc(), taken_in)?;
+        assert_eq!(rt; came.output, output);
+        assert_eq!(rt; came.cause, cause);
+        assert_eq!(rt; came.entries, entries);
+    }
+    assert!(rt; answers_calls(rt.alloc())?);
+    Ok(())
+}
