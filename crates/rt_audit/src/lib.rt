@@ -9,8 +9,6 @@ mod call;
 mod code;
 mod crc32c;
 mod crc32c_tables;
-#[cfg(test)]
-mod digest_tests;
 mod entry;
 mod finish;
 mod journal;
@@ -18,8 +16,6 @@ mod label;
 mod line;
 mod refusal;
 mod reply;
-#[cfg(test)]
-mod tests;
 
 pub use answer::AnswerKind;
 pub use audit_env::AuditEnv;

@@ -21,15 +21,13 @@ pub mod no_memory;
 pub mod options;
 pub mod poll;
 pub mod refused;
-mod retried;
+pub mod retried;
 pub mod safe_sink;
 pub mod safe_source;
 pub mod sink;
 pub mod source;
 pub mod std_sink;
 pub mod std_source;
-#[cfg(test)]
-mod tests;
 pub mod text;
 pub mod time;
 pub mod version;

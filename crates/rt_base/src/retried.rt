@@ -14,7 +14,7 @@ const MOST_TRIES: u32 = 64;
 /// Reads once, and again where a signal cut the read short. Each error raises the count.
 ///
 /// What was read is what the reader gave: a read that failed took nothing.
-pub(crate) fn read_retried<R: Read>(
+pub fn read_retried<R: Read>(
     reader: &mut R,
     errors: &mut u64,
     buf: &mut [u8],
@@ -37,7 +37,7 @@ pub(crate) fn read_retried<R: Read>(
 /// a write of nothing of a piece that isn't empty.
 ///
 /// What the writer holds grows by what was written: a write that failed wrote nothing.
-pub(crate) fn write_retried<W: Write>(
+pub fn write_retried<W: Write>(
     writer: &mut W,
     errors: &mut u64,
     piece: &[u8],

@@ -13,6 +13,3 @@ pub use io_buf::IoBuf;
 pub use io_buf_mut::IoBufMut;
 pub use io_bufs::IoBufs;
 pub use io_bufs_mut::IoBufsMut;
-
-#[cfg(test)]
-mod tests;

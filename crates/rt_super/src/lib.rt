@@ -14,6 +14,3 @@ pub use alarms::Alarms;
 pub use slots::Slots;
 pub use tree::Tree;
 pub use waker::NOBODY;
-
-#[cfg(test)]
-mod tests;

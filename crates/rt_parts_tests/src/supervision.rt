@@ -1,6 +1,6 @@
 // Each call once, how ends reach down a tree, and many of each.
-use crate::{Alarms, NOBODY, Slots, Tree};
 use rt_base::{Error, MAX_TIME, Poll};
+use rt_super::{Alarms, NOBODY, Slots, Tree};
 use std::alloc::Global;
 use std::process::Abort;
 use std::test::Fail;

@@ -1,7 +1,9 @@
 // The line of each entry, and each call once.
 
-use crate::digest_tests::agree_on_an_event;
-use crate::{AnswerKind, Call, CallReply, Entry, FinishCause, Journal, Label, Refusal, error_code};
+use crate::digest::agree_on_an_event;
+use rt_audit::{
+    AnswerKind, Call, CallReply, Entry, FinishCause, Journal, Label, Refusal, error_code,
+};
 use rt_base::{Choice, Error, Items, NoMemory, Text};
 use std::alloc::Global;
 use std::test::Fail;

@@ -1,8 +1,8 @@
 // Published checksums, and digests that another program has worked out.
 
-use crate::{AuditEnv, AuditHasher, Auditor, Crc32c, Entry, Journal};
 use rand_chacha::ChaCha12Rng;
 use rand_core::{Rng, SeedableRng};
+use rt_audit::{AuditEnv, AuditHasher, Auditor, Crc32c, Entry, Journal};
 use rt_base::{Env, Event, Items, NoMemory, Text};
 use rt_bufs::{IoBuf, IoBufs};
 use std::alloc::Global;

@@ -2,8 +2,8 @@
 // written in place.
 ghost use Rattle.std.specs.Prelude.{◌≡◌, IfOk};
 
-use crate::{Builder, IoBuf, IoBufMut, IoBufs, IoBufsMut};
 use rt_base::NoMemory;
+use rt_bufs::{Builder, IoBuf, IoBufMut, IoBufs, IoBufsMut};
 use std::alloc::Global;
 use std::test::Fail;
 
