@@ -1,4 +1,3 @@
 pub mod Append
 pub mod Walks
 pub mod Time
-pub mod Rows

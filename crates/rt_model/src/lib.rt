@@ -6,10 +6,9 @@ mod answer;
 mod begin;
 mod mark;
 mod result;
-mod table;
 
 pub use answer::Answer;
 pub use begin::Begin;
 pub use mark::Mark;
 pub use result::{Outcome, TaskResult};
-pub use table::Table;
+pub use rt_super::Table;

@@ -3,3 +3,4 @@ pub mod Walk
 pub mod Records
 pub mod Shapes
 pub mod AlarmLemmas
+pub mod Rows

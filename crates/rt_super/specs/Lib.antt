@@ -1,4 +1,5 @@
 pub mod Wakers
+pub mod Rows
 pub mod Slots
 pub mod Ancestry
 pub mod History

@@ -7,10 +7,12 @@ mod history;
 mod node;
 mod slot_state;
 mod slots;
+mod table;
 mod tree;
 mod waker;
 
 pub use alarms::Alarms;
 pub use slots::Slots;
+pub use table::Table;
 pub use tree::Tree;
 pub use waker::NOBODY;

@@ -1,7 +1,7 @@
 //! What tasks have, by their numbers.
 
 ghost use Rattle.std.specs.Prelude.{◌≡◌, ◌≤◌, ◌<◌, ◌+◌, ◌∷◌, ◌++◌, [], ℕ, None, OnOk};
-ghost use Rattle.rt_model.specs.Lists.{find, without, replaced};
+ghost use Rattle.rt_super.specs.Rows.{find, without, replaced};
 
 use rt_base::NoMemory;
 use std::alloc::Global;
@@ -16,7 +16,7 @@ pub struct Table<V> {
 
 impl<V> Model for Table<V> {
     ghost use Rattle.std.specs.Prelude.{◌-◌, ◌+◌, vec_len, vec_capacity};
-    ghost use Rattle.rt_model.specs.Rows.{Rows, rows};
+    ghost use Rattle.rt_super.specs.Rows.{Rows, rows};
 
     ghost Value = { Rows V };
 

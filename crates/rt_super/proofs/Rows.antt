@@ -1,8 +1,8 @@
 -- A list of places, and what the numbers have.
 use Rattle.std.proofs.Common.{◌≡◌, ◌<◌, ◌≤◌, ◌+◌, ◌-◌, ℕ, zero, suc, List, [], ◌∷◌, ◌++◌, refl, ap, ◌∙◌, false, arith, Option, Some, None, length, eqb}
 use Rattle.std.specs.List.{slice_get, slice_set}
-use Rattle.rt_model.specs.Lists.{find, without, replaced}
-use Rattle.rt_model.specs.Rows.{rows}
+use Rattle.rt_super.specs.Rows.{find, without, replaced}
+use Rattle.rt_super.specs.Rows.{rows}
 use Rattle.std.proofs.lemmas.Bool.{cases_Bool}
 use Rattle.std.proofs.lemmas.Option.{slice_get_past}
 use Rattle.std.proofs.Common.{◌⊎◌, inl, inr}

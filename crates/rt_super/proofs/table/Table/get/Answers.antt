@@ -1,7 +1,7 @@
 use Rattle.std.proofs.Common.{◌≤◌, ◌<◌, ◌-◌, sym, refl, arith, length}
 use Rattle.std.proofs.lemmas.Option.{slice_get_read}
-use Rattle.rt_model.proofs.Rows.{get-some}
-use Rattle.rt_model.proofs.table.Table.get.Goals as goal
+use Rattle.rt_super.proofs.Rows.{get-some}
+use Rattle.rt_super.proofs.table.Table.get.Goals as goal
 
 pub returns-in-Some : goal.returns-in-Some
 returns-in-Some g c =
