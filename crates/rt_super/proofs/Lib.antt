@@ -4,3 +4,4 @@ pub mod Records
 pub mod Shapes
 pub mod AlarmLemmas
 pub mod Rows
+pub mod TokenLemmas

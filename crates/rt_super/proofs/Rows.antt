@@ -1,8 +1,7 @@
 -- A list of places, and what the numbers have.
 use Rattle.std.proofs.Common.{◌≡◌, ◌<◌, ◌≤◌, ◌+◌, ◌-◌, ℕ, zero, suc, List, [], ◌∷◌, ◌++◌, refl, ap, ◌∙◌, false, arith, Option, Some, None, length, eqb}
 use Rattle.std.specs.List.{slice_get, slice_set}
-use Rattle.rt_super.specs.Rows.{find, without, replaced}
-use Rattle.rt_super.specs.Rows.{rows}
+use Rattle.rt_super.specs.Rows.{find, without, replaced, rows, AreRising}
 use Rattle.std.proofs.lemmas.Bool.{cases_Bool}
 use Rattle.std.proofs.lemmas.Option.{slice_get_past}
 use Rattle.std.proofs.Common.{◌⊎◌, inl, inr}
@@ -125,4 +124,14 @@ row-gone k t (Some v ∷ xs) = grind (arith, row-gone (k + 1) t xs, find-before 
 pub set-gone : {V : Type 0} (k t : ℕ) (xs : List (Option V)) (old : V) → find t (rows k xs) ≡ Some old → find t (rows k (slice_set xs (t - k) None)) ≡ None
 set-gone k t xs old h = rw (without-row k t xs old h) (row-gone k t xs)
 
-pub ruleset row_laws = (get-past, set-gone, get-some, get-none, get-before, has-place, set-row, without-row, replaced-none, without-none, push-row, skip-row)
+pub rows-rising : {V : Type 0} (k : ℕ) (xs : List (Option V)) → AreRising (rows k xs)
+rows-rising k [] = tt
+rows-rising k (None ∷ xs) = rows-rising (k + 1) xs
+rows-rising k (Some v ∷ xs) = ((λ n h. find-before (k + 1) n xs (omega (arith, h))), rows-rising (k + 1) xs)
+
+pub rows-few : {V : Type 0} (k : ℕ) (xs : List (Option V)) → length (rows k xs) ≤ length xs
+rows-few k [] = omega arith
+rows-few k (None ∷ xs) = omega (arith, rows-few (k + 1) xs)
+rows-few k (Some v ∷ xs) = omega (arith, rows-few (k + 1) xs)
+
+pub ruleset row_laws = (rows-rising, rows-few, get-past, set-gone, get-some, get-none, get-before, has-place, set-row, without-row, replaced-none, without-none, push-row, skip-row)

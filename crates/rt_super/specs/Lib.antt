@@ -8,3 +8,7 @@ pub mod Ending
 pub mod TreeInside
 pub mod Alarms
 pub mod AlarmsInside
+pub mod Signals
+pub mod Tokens
+pub mod TokensInside
+pub mod SignalsInside

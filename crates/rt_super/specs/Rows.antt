@@ -1,5 +1,5 @@
 -- What numbers have, as a list of places in their order.
-use Rattle.std.specs.Prelude.{ℕ, List, [], ◌∷◌, ◌+◌, Option, Some, None, eqb, if◌then◌else◌}
+use Rattle.std.specs.Prelude.{◌≡◌, ℕ, List, [], ◌∷◌, ◌+◌, ◌≤◌, Option, Some, None, eqb, if◌then◌else◌}
 
 -- those that have something, from a first number on
 abbrev pub rows : {V : Type 0} → ℕ → List (Option V) → List (ℕ × V)
@@ -36,3 +36,8 @@ replaced change k (x ∷ xs) = if eqb x.0 k then (k, change x.1) ∷ xs else x �
 abbrev pub those : {A : Type 0} → Option A → List A
 those None = []
 those (Some x) = x ∷ []
+
+-- each number is less than those after it
+abbrev pub AreRising : {A : Type 0} → List (ℕ × A) → Type 0
+AreRising [] = Unit {0}
+AreRising (x ∷ xs) = ((n : ℕ) → n ≤ x.0 → find n xs ≡ None) × AreRising xs

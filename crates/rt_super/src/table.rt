@@ -1,7 +1,7 @@
 //! What tasks have, by their numbers.
 
-ghost use Rattle.std.specs.Prelude.{◌≡◌, ◌≤◌, ◌<◌, ◌+◌, ◌∷◌, ◌++◌, [], ℕ, None, OnOk};
-ghost use Rattle.rt_super.specs.Rows.{find, without, replaced};
+ghost use Rattle.std.specs.Prelude.{◌≡◌, ◌≤◌, ◌<◌, ◌+◌, ◌∷◌, ◌++◌, [], ℕ, None, length, OnOk};
+ghost use Rattle.rt_super.specs.Rows.{find, without, replaced, AreRising};
 
 use rt_base::NoMemory;
 use std::alloc::Global;
@@ -47,9 +47,11 @@ impl<V: Copy> Table<V> {
         Ok(())
     }
 
-    /// No number from the next one on has anything.
+    /// No number from the next one on has anything, and those that have something are in order.
     pub fn facts(&self)
-        ensures { (task : ℕ) → self.now.next ≤ task → find task self.now.items ≡ None }
+        ensures none { (task : ℕ) → self.now.next ≤ task → find task self.now.items ≡ None }
+        ensures rising { AreRising self.now.items }
+        ensures few { length self.now.items ≤ self.now.next }
     {
         let _ = &self.places;
     }

@@ -1,0 +1,82 @@
+// The shutdown of a run.
+ghost use Rattle.std.specs.Prelude.{◌≡◌, [], IfOk, OnOk, OnErr};
+ghost use Rattle.rt_super.specs.Signals.{with_group, new_stop, stop_after, woken_by_stop, with_stop, stopped_answer, stopped_after};
+
+use crate::signals::Signals;
+use rt_base::NoMemory;
+use std::marker::Model;
+
+/// A signal of a shutdown: an open one by its number, or the value that came.
+#[derive(Debug, Drop, PartialEq, Eq)]
+pub enum Stopped {
+    Waiting(u64),
+    Resolved(i32),
+}
+
+/// A shutdown, as a group of signals of which the first `stop` decides the value.
+#[derive(Drop)]
+pub struct Stopper {
+    group: u64,
+    value: Option<i32>,
+}
+
+impl Model for Stopper {
+    ghost use Rattle.rt_super.specs.Signals.{StopRecord};
+
+    ghost Value = { StopRecord };
+
+    ghost view = { λ s. record { group = s.group; value = s.value } };
+}
+
+impl Stopper {
+    /// A shutdown that nobody began.
+    pub fn new(signals: &mut Signals) -> Result<Self, NoMemory>
+        ensures made { IfOk result (λ stopper. stopper ≡ new_stop signals.old.told) }
+        ensures added { OnOk result (signals.new.told ≡ with_group signals.old.told) }
+        ensures woken { OnOk result (signals.new.woken ≡ []) }
+        ensures refused { OnErr result (signals.new ≡ signals.old) }
+    {
+        let group = signals.add()?;
+        Ok(Stopper { group, value: None })
+    }
+
+    /// Begins the shutdown with a value, unless it began before; and answers the number of a
+    /// completion of its own.
+    pub fn stop(&mut self, signals: &mut Signals, value: i32) -> Result<u64, NoMemory>
+        ensures number { IfOk result (λ number. number ≡ signals.old.told.count) }
+        ensures begun { OnOk result (self.new ≡ with_stop self.old value) }
+        ensures told { OnOk result (signals.new.told ≡ stop_after signals.old.told self.old value) }
+        ensures woken { OnOk result (signals.new.woken ≡ woken_by_stop signals.old.told self.old value) }
+        ensures refused { OnErr result (signals.new ≡ signals.old) }
+        ensures kept { OnErr result (self.new ≡ self.old) }
+    {
+        let completion = signals.add_completion(self.group)?;
+        if self.value.is_none() {
+            self.value = Some(value);
+            signals.give(self.group, value);
+            signals.drop_signal(self.group);
+            signals.drop_completion(self.group);
+        }
+        Ok(completion)
+    }
+
+    /// A signal of the shutdown: an open one, or the value where it came.
+    pub fn stopped(&mut self, signals: &mut Signals) -> Result<Stopped, NoMemory>
+        ensures answer { IfOk result (λ stopped. stopped ≡ stopped_answer signals.old.told self.old) }
+        ensures told { OnOk result (signals.new.told ≡ stopped_after signals.old.told self.old) }
+        ensures woken { OnOk result (signals.new.woken ≡ []) }
+        ensures refused { OnErr result (signals.new ≡ signals.old) }
+        ensures kept { self.new ≡ self.old }
+    {
+        match self.value {
+            Some(value) => {
+                signals.wake_nobody();
+                Ok(Stopped::Resolved(value))
+            }
+            None => {
+                let signal = signals.add_signal(self.group)?;
+                Ok(Stopped::Waiting(signal))
+            }
+        }
+    }
+}
