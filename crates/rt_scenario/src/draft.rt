@@ -26,7 +26,7 @@ use rt_base::{Items, MAX_TIME, Nanos, Text};
 use std::alloc::Global;
 use std::collections::HashMap;
 use std::marker::Model;
-use std::{mem, str};
+use std::mem;
 
 /// The greatest number of bytes of a line, without its LF.
 const LINE_LEN: usize = 4096;
@@ -145,8 +145,6 @@ impl Draft {
         ensures { Answers (after_words self.old (words_of text.now)) result self.new }
     {
         let (first, args) = split_word(text);
-        // Printable bytes are ASCII.
-        let first = unsafe { str::from_utf8_unchecked(first) };
         let Some(word) = Word::of(first) else {
             return Err(Stop::Breaks(Kind::Unknown));
         };

@@ -24,43 +24,27 @@ pub enum Word {
 
 impl Word {
     /// The word that this text is.
-    pub fn of(text: &str) -> Option<Word>
+    pub fn of(text: &[u8]) -> Option<Word>
         ensures { result ≡ word_of text.now }
     {
-        let word = if text == "timeout" {
-            Word::Timeout
-        } else if text == "catch" {
-            Word::Catch
-        } else if text == "script" {
-            Word::Script
-        } else if text == "sleep" {
-            Word::Sleep
-        } else if text == "until" {
-            Word::Until
-        } else if text == "yield" {
-            Word::Yield
-        } else if text == "pend" {
-            Word::Pend
-        } else if text == "end" {
-            Word::End
-        } else if text == "panic" {
-            Word::Panic
-        } else if text == "spawn" {
-            Word::Spawn
-        } else if text == "abort" {
-            Word::Abort
-        } else if text == "drop" {
-            Word::Drop
-        } else if text == "join" {
-            Word::Join
-        } else if text == "done" {
-            Word::Done
-        } else if text == "run" {
-            Word::Run
-        } else {
-            return None;
-        };
-        Some(word)
+        match text {
+            b"timeout" => Some(Word::Timeout),
+            b"catch" => Some(Word::Catch),
+            b"script" => Some(Word::Script),
+            b"sleep" => Some(Word::Sleep),
+            b"until" => Some(Word::Until),
+            b"yield" => Some(Word::Yield),
+            b"pend" => Some(Word::Pend),
+            b"end" => Some(Word::End),
+            b"panic" => Some(Word::Panic),
+            b"spawn" => Some(Word::Spawn),
+            b"abort" => Some(Word::Abort),
+            b"drop" => Some(Word::Drop),
+            b"join" => Some(Word::Join),
+            b"done" => Some(Word::Done),
+            b"run" => Some(Word::Run),
+            _ => None,
+        }
     }
 }
 

@@ -2,13 +2,8 @@ use Rattle.std.proofs.Common.{◌≡◌, true, subst}
 use Rattle.std.specs.List.{list_all}
 use Rattle.std.proofs.lemmas.Bool.{and_parts}
 use Rattle.rt_scenario.specs.Scenario.{is_printable}
-use Rattle.rt_scenario.proofs.Ascii.{printable_is_utf8}
 use Rattle.rt_scenario.proofs.Cuts.{printable_words}
 use Rattle.rt_scenario.proofs.draft.Draft.take_words.Goals as goal
-
-pub from_utf8_unchecked-first-requires : goal.from_utf8_unchecked-first-requires
-from_utf8_unchecked-first-requires c =
-    printable_is_utf8 _ (and_parts _ _ (subst (λ words. list_all (list_all is_printable) words ≡ true) c.split_word.ensures.words (printable_words c.args.text.now c.requires))).0
 
 pub take-requires-clause-printable : goal.take-requires-clause-printable
 take-requires-clause-printable c =
