@@ -2,3 +2,5 @@ mod Times
 mod Linear
 mod Tabled
 mod Framed
+mod TaskTabled
+mod Fronted

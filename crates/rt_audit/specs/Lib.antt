@@ -4,3 +4,4 @@ pub mod Crc32c
 pub mod Framing
 pub mod Digest
 pub mod Journal
+pub mod TaskEvent

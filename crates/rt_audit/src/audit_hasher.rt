@@ -5,6 +5,7 @@ ghost use Rattle.std.specs.Int.{w32, w64, to_be_bytes};
 ghost use Rattle.rt_audit.specs.Crc32c.{all_ones, byte_steps, register_of};
 ghost use Rattle.rt_audit.specs.Framing.{framed_field, framed, IsFramedOneWay};
 ghost use Rattle.rt_audit.specs.Digest.{fields_digest};
+ghost use Rattle.rt_audit.specs.TaskEvent.{task_event, small_number};
 
 use crate::Crc32c;
 use rt_bufs::IoBufs;
@@ -33,6 +34,17 @@ impl AuditHasher {
         AuditHasher {
             checksum: Crc32c::new(),
         }
+    }
+
+    /// After this digest, the name of the event of a task's visit, and its number, of whose sixteen bytes the first
+    /// eight are zeros and the others these.
+    #[inline(always)]
+    pub(crate) fn of_task(digest: [u8; 4], number: [u8; 8]) -> Self
+        ensures { result ≡ register_of (framed (digest ∷ task_event ∷ small_number number ∷ [])) }
+    {
+        let mut checksum = Crc32c::at_task(digest);
+        checksum.update_word(number);
+        AuditHasher { checksum }
     }
 
     /// Takes a further field in: its length as eight bytes, the highest first, and its bytes.

@@ -1,8 +1,11 @@
 //! The digest of events, as a chain: each event's digest takes the one before it in.
 
-ghost use Rattle.std.specs.Prelude.{◌≡◌, IfOk, string_bytes};
+ghost use Rattle.std.specs.Prelude.{◌≡◌, ◌++◌, ℕ, List, IfOk, IfSome, IsTrue, string_bytes};
 ghost use Rattle.hex.specs.Hex.{encode_lower};
-ghost use Rattle.rt_audit.specs.Digest.{first_digest, event_digest};
+ghost use Rattle.rt_audit.specs.Crc32c.{register_of};
+ghost use Rattle.rt_audit.specs.Framing.{framed};
+ghost use Rattle.rt_audit.specs.Digest.{first_digest, event_digest, fields_digest};
+ghost use Rattle.rt_audit.specs.TaskEvent.{task_event, small_number};
 
 use crate::AuditHasher;
 use rt_base::{Event, Items, NoMemory};
@@ -40,17 +43,23 @@ impl Auditor {
         self.chain(event.label.as_str(), event.fields.as_slice());
     }
 
-    /// Takes an event of this label and these fields in.
+    /// Takes an event of this label and these fields in. It stands apart, so that other entries are noted in place.
+    #[inline(never)]
     pub(crate) fn chain(&mut self, label: &str, fields: &[Items<u8>])
         ensures { self.new ≡ event_digest self.old label.now fields.now }
     {
+        if is_task_event(label) {
+            if let Some((number, rest)) = fields.split_first() {
+                if let Some(low) = low_bytes(number.as_slice()) {
+                    self.digest = digest_with(AuditHasher::of_task(self.digest, low), rest);
+                    return;
+                }
+            }
+        }
         let mut hasher = AuditHasher::new();
         hasher.update(&self.digest);
         hasher.update(label.as_bytes());
-        for field in fields {
-            hasher.update(field.as_slice());
-        }
-        self.digest = hasher.finalize();
+        self.digest = digest_with(hasher, fields);
     }
 
     /// The four bytes.
@@ -77,4 +86,38 @@ impl Default for Auditor {
     fn default() -> Auditor {
         Auditor::new()
     }
+}
+
+/// Whether this is the name of the event of a task's visit.
+#[inline(always)]
+fn is_task_event(label: &str) -> bool
+    ensures { IsTrue result → label.now ≡ task_event }
+{
+    label == "process_task"
+}
+
+/// The low eight bytes of a number of sixteen, where the others are zeros.
+#[inline(always)]
+fn low_bytes(number: &[u8]) -> Option<[u8; 8]>
+    ensures { IfSome result (λ low. number.now ≡ small_number low) }
+{
+    let (high, rest) = number.split_first_chunk::<8>()?;
+    let (low, rest) = rest.split_first_chunk::<8>()?;
+    if rest.is_empty() && u64::from_le_bytes(*high) == 0 {
+        Some(*low)
+    } else {
+        None
+    }
+}
+
+/// The digest of the fields of a hasher and these.
+#[inline(always)]
+fn digest_with(hasher: AuditHasher, fields: &[Items<u8>]) -> [u8; 4]
+    ensures { (before : List (List ℕ)) → hasher ≡ register_of (framed before) → result ≡ fields_digest (before ++ fields.now) }
+{
+    let mut hasher = hasher;
+    for field in fields {
+        hasher.update(field.as_slice());
+    }
+    hasher.finalize()
 }

@@ -4,7 +4,7 @@ ghost use Rattle.std.specs.Prelude.{◌≡◌, ◌++◌, OnOk, string_bytes};
 ghost use Rattle.rt_audit.specs.Lines.{call_text};
 
 use crate::Label;
-use crate::line::{add_numbered, add_word};
+use crate::line::{add_numbered, add_space, add_word};
 use rt_base::{Nanos, NoMemory};
 
 /// A call on the world, as its line shows it.
@@ -38,7 +38,7 @@ impl Call {
         match self {
             Call::Child { node, label } => {
                 add_numbered(text, "child ", *node as u128)?;
-                add_word(text, " ")?;
+                add_space(text)?;
                 add_word(text, label.as_str())
             }
             Call::CloseNode { node } => add_numbered(text, "close-node ", *node as u128),

@@ -6,9 +6,14 @@
 
 ghost use Rattle.std.specs.Prelude.{◌≡◌, ◌++◌, [], ℕ, List, bit_xor};
 ghost use Rattle.rt_audit.specs.Crc32c.{all_ones, byte_step, byte_steps, register_of, crc32c};
+ghost use Rattle.rt_audit.specs.TaskEvent.{task_front};
 
 use crate::crc32c_tables::remainder;
+use crate::task_tables::task_remainder;
 use std::marker::Model;
+
+/// The register at the number of a task, where the digest before is four zeros.
+const AFTER_ZEROS: u32 = 0x0861_0569;
 
 /// A checksum that is fed bytes, in pieces of any size. Contracts see the register.
 #[derive(Debug, Drop)]
@@ -30,6 +35,20 @@ impl Crc32c {
         ensures { result ≡ register_of [] }
     {
         Crc32c { register: u32::MAX }
+    }
+
+    /// After this digest and what follows it in the event of a task's visit, up to the low eight bytes of its number.
+    #[inline(always)]
+    pub(crate) fn at_task(digest: [u8; 4]) -> Self
+        ensures { result ≡ register_of (task_front digest) }
+    {
+        let [first, second, third, last] = digest;
+        let register = AFTER_ZEROS
+            ^ task_remainder(last, 0)
+            ^ task_remainder(third, 1)
+            ^ task_remainder(second, 2)
+            ^ task_remainder(first, 3);
+        Crc32c { register }
     }
 
     /// Takes further bytes in.

@@ -3,7 +3,9 @@
 ghost use Rattle.std.specs.Prelude.{◌≡◌, ◌++◌, OnOk, string_bytes};
 ghost use Rattle.rt_audit.specs.Lines.{line_of, start_text, called_text};
 
-use crate::line::{add_choices, add_fields, add_numbered, add_numbers, add_optional, add_word};
+use crate::line::{
+    add_choices, add_fields, add_numbered, add_numbers, add_optional, add_space, add_word,
+};
 use crate::{AnswerKind, Call, CallReply, FinishCause};
 use rt_base::{Choice, Items, Nanos, NoMemory, Text};
 use std::alloc::Global;
@@ -110,7 +112,7 @@ impl Entry {
             Entry::Visit { task } => add_numbered(text, "visit ", *task as u128),
             Entry::Answer { task, kind } => {
                 add_numbered(text, "answer ", *task as u128)?;
-                add_word(text, " ")?;
+                add_space(text)?;
                 add_word(text, kind.word())
             }
             Entry::NodeEnd { node } => add_numbered(text, "nodeend ", *node as u128),
@@ -156,7 +158,7 @@ fn add_call(
 {
     add_word(text, "call ")?;
     add_optional(text, by.map(|task| task as u128))?;
-    add_word(text, " ")?;
+    add_space(text)?;
     call.add_to(text)?;
     add_word(text, " -> ")?;
     reply.add_to(text)

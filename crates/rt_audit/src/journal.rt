@@ -116,6 +116,7 @@ impl Journal {
 }
 
 /// The time after an entry.
+#[inline(always)]
 fn time_after(time: Nanos, entry: &Entry) -> Nanos
     ensures { result ≡ time_after time entry.now }
 {
@@ -128,6 +129,7 @@ fn time_after(time: Nanos, entry: &Entry) -> Nanos
 }
 
 /// Takes an entry in, where it is an event.
+#[inline(always)]
 fn digest_after(auditor: &mut Auditor, entry: &Entry)
     ensures { auditor.new ≡ digest_after auditor.old entry.now }
 {

@@ -14,8 +14,10 @@ mod finish;
 mod journal;
 mod label;
 mod line;
+mod moment;
 mod refusal;
 mod reply;
+mod task_tables;
 
 pub use answer::AnswerKind;
 pub use audit_env::AuditEnv;
@@ -28,5 +30,6 @@ pub use entry::Entry;
 pub use finish::FinishCause;
 pub use journal::Journal;
 pub use label::Label;
+pub use moment::Moment;
 pub use refusal::Refusal;
 pub use reply::CallReply;

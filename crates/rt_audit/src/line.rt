@@ -22,6 +22,15 @@ pub fn add_word(text: &mut String, word: &str) -> Result<(), NoMemory>
     Ok(())
 }
 
+/// A space.
+#[inline(always)]
+pub fn add_space(text: &mut String) -> Result<(), NoMemory>
+    ensures { OnOk result (string_bytes text.new ≡ string_bytes text.old ++ codes " ") }
+{
+    text.push(' ')?;
+    Ok(())
+}
+
 /// A number. Most have one digit.
 #[inline(always)]
 pub fn add_number(text: &mut String, number: u128) -> Result<(), NoMemory>
@@ -56,6 +65,7 @@ pub fn add_numbered(text: &mut String, word: &str, number: u128) -> Result<(), N
 }
 
 /// A number, or `-` where there is none.
+#[inline(always)]
 pub fn add_optional(text: &mut String, number: Option<u128>) -> Result<(), NoMemory>
     ensures { OnOk result (string_bytes text.new ≡ string_bytes text.old ++ optional_number number) }
 {
@@ -70,7 +80,8 @@ pub fn add_numbers(text: &mut String, numbers: &[u64]) -> Result<(), NoMemory>
     ensures { OnOk result (string_bytes text.new ≡ string_bytes text.old ++ numbers_text numbers.now) }
 {
     for number in numbers {
-        add_numbered(text, " ", *number as u128)?;
+        add_space(text)?;
+        add_number(text, *number as u128)?;
     }
     Ok(())
 }
@@ -82,7 +93,7 @@ fn add_field(alloc: Global, text: &mut String, bytes: &[u8]) -> Result<(), NoMem
     if bytes.is_empty() {
         return add_word(text, " -");
     }
-    add_word(text, " ")?;
+    add_space(text)?;
     if bytes.len() <= SHORT_HEX {
         return add_short_hex(text, bytes);
     }

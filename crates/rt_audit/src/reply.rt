@@ -31,6 +31,7 @@ pub enum CallReply {
 
 impl CallReply {
     /// Adds the words of a journal's line.
+    #[inline(always)]
     pub fn add_to(&self, text: &mut String) -> Result<(), NoMemory>
         ensures { OnOk result (string_bytes text.new ≡ string_bytes text.old ++ reply_text self.now) }
     {

@@ -1,17 +1,21 @@
-use Rattle.std.proofs.Common.{◌≡◌, ◌+◌, ◌++◌, List, ℕ, [], ◌∷◌, take, ◌∙◌, sym, ap, rules}
-use Rattle.std.proofs.lemmas.List.{take_more}
-use Rattle.rt_audit.specs.Crc32c.{register_of}
-use Rattle.rt_audit.specs.Framing.{framed}
+use Rattle.std.proofs.Common.{◌≡◌, ◌∷◌, [], rules}
+use Rattle.rt_audit.specs.Digest.{fields_digest}
+use Rattle.rt_audit.specs.TaskEvent.{task_event, small_number}
 use Rattle.rt_audit.proofs.auditor.Auditor.chain.Goals as goal
 
-pub loop-field-init : goal.loop-field-init
-loop-field-init c =
-    let e = c.update-2.ensures.fields (c.self.inside.digest ∷ []) (c.update.ensures.fields [] c.new-hasher.ensures) in
+pub returns-in-Some-low_bytes : goal.returns-in-Some-low_bytes
+returns-in-Some-low_bytes c =
+    let digest = c.self.inside.digest in
+    let low = c.in-Some-low_bytes.low in
+    let label_is : c.args.label.now ≡ task_event = search rules in
+    let number_is : c.as_slice.result.now ≡ small_number low = search rules in
+    let fields_are : c.args.fields.now ≡ c.as_slice.result.now ∷ c.in-Some.rest.now = search rules in
+    let e = c.digest_with-self-inside.ensures (digest ∷ task_event ∷ small_number low ∷ []) c.of_task.ensures in
     cc
 
-pub loop-field-preserved : goal.loop-field-preserved
-loop-field-preserved c =
-    let e = c.update-in-loop-field.ensures.fields (c.self.inside.digest ∷ c.args.label.now ∷ take c.loop-field.field-index c.args.fields.now) c.loop-field.invariant in
-    let more = take_more c.args.fields.now c.loop-field.field-index c.field-item.result (search rules) in
-    let g : take (c.loop-field.field-index + 1) c.args.fields.now ≡ take c.loop-field.field-index c.args.fields.now ++ c.as_slice.result.now ∷ [] = cc in
-    e ∙ ap (λ (fs : List (List ℕ)). register_of (framed (c.self.inside.digest ∷ c.args.label.now ∷ fs))) (sym g)
+pub returns : goal.returns
+returns c =
+    let digest = c.self.inside.digest in
+    let begun = c.update-2.ensures.fields (digest ∷ []) (c.update.ensures.fields [] c.new-hasher.ensures) in
+    let e = c.digest_with-self-inside-2.ensures (digest ∷ c.as_bytes.result.now ∷ []) begun in
+    cc
