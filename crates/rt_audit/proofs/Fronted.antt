@@ -1,5 +1,5 @@
 -- What stands before a task's number in the event of its visit: the digest's four bytes are looked up, each by itself.
-use Rattle.std.proofs.Common.{◌≡◌, ◌<◌, ℕ, suc, ◌+◌, ◌*◌, List, [], ◌∷◌, ◌++◌, length, get_or, take, drop, refl, sym, ap, ◌∙◌, arith, bit_xor}
+use Rattle.std.proofs.Common.{◌≡◌, ℕ, ◌+◌, ◌*◌, List, [], ◌∷◌, ◌++◌, length, get_or, take, drop, refl, sym, ap, ◌∙◌, arith, bit_xor}
 use Rattle.std.proofs.lemmas.Nat.{xor_comm}
 use Rattle.std.specs.Int.{w64, to_be_bytes, from_le_bytes}
 use lib.Bits.{xor_assoc, xor_zero_r}

@@ -4,3 +4,4 @@ mod Tabled
 mod Framed
 mod TaskTabled
 mod Fronted
+mod Zeros

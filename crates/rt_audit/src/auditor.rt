@@ -98,7 +98,7 @@ fn is_task_event(label: &str) -> bool
 
 /// The low eight bytes of a number of sixteen, where the others are zeros.
 #[inline(always)]
-fn low_bytes(number: &[u8]) -> Option<[u8; 8]>
+pub(crate) fn low_bytes(number: &[u8]) -> Option<[u8; 8]>
     ensures { IfSome result (λ low. number.now ≡ small_number low) }
 {
     let (high, rest) = number.split_first_chunk::<8>()?;

@@ -3,8 +3,10 @@
 ghost use Rattle.std.specs.Prelude.{◌≡◌, ◌++◌, ◌≤◌, length, OnOk, codes, string_bytes};
 ghost use Rattle.std.specs.Fmt.{decimal};
 ghost use Rattle.hex.specs.Hex.{encode_lower};
+ghost use Rattle.rt_audit.specs.TaskEvent.{small_number};
 ghost use Rattle.rt_audit.specs.Lines.{optional_number, numbers_text, hex_text, fields_text, choice_text, choices_text};
 
+use crate::auditor::low_bytes;
 use itoa::Buffer;
 use rt_base::{Choice, Items, NoMemory};
 use std::alloc::Global;
@@ -86,7 +88,9 @@ pub fn add_numbers(text: &mut String, numbers: &[u64]) -> Result<(), NoMemory>
     Ok(())
 }
 
-/// A space, and bytes as lower-case hex, or `-` where there are none.
+/// A space, and bytes as lower-case hex, or `-` where there are none. The high half of a task's number mostly has zeros
+/// alone.
+#[tactic(auto, using(crate::proofs::Zeros::number_then))]
 fn add_field(alloc: Global, text: &mut String, bytes: &[u8]) -> Result<(), NoMemory>
     ensures { OnOk result (string_bytes text.new ≡ string_bytes text.old ++ (codes " " ++ hex_text bytes.now)) }
 {
@@ -94,11 +98,26 @@ fn add_field(alloc: Global, text: &mut String, bytes: &[u8]) -> Result<(), NoMem
         return add_word(text, " -");
     }
     add_space(text)?;
+    if let Some(low) = low_bytes(bytes) {
+        add_low(text, low)?;
+        return Ok(());
+    }
     if bytes.len() <= SHORT_HEX {
         return add_short_hex(text, bytes);
     }
     let encoded = hex::encode(alloc, bytes)?;
     add_word(text, encoded.as_str())
+}
+
+/// Eight bytes of zeros and then these as lower-case hex.
+#[inline(always)]
+#[tactic(auto, using(crate::proofs::Zeros::zeros_then))]
+fn add_low(text: &mut String, low: [u8; 8]) -> Result<(), NoMemory>
+    ensures { OnOk result (string_bytes text.new ≡ string_bytes text.old ++ encode_lower (small_number low)) }
+{
+    add_word(text, "0000000000000000")?;
+    add_short_hex(text, &low)?;
+    Ok(())
 }
 
 /// A few bytes as lower-case hex.

@@ -13,9 +13,10 @@ pub fn task_event(alloc: Global, task: u64, label: &str) -> Result<Entry, NoMemo
 {
     let name = "process_task".to_owned(alloc)?;
     let number = (task as u128).to_be_bytes().to_vec(alloc)?;
+    let label = label.as_bytes().to_vec(alloc)?;
     let mut fields = Vec::with_capacity(alloc, 2)?;
-    fields.push(Items::of(number))?;
-    fields.push(Items::of(label.as_bytes().to_vec(alloc)?))?;
+    fields.push_reserved(Items::of(number));
+    fields.push_reserved(Items::of(label));
     Ok(Entry::Event {
         label: Text::of(name),
         fields: Items::of(fields),

@@ -9,6 +9,7 @@ use rt_base::NoMemory;
 const PHASE_PLACES: usize = 6;
 
 /// Takes places for these further entries, and for so many further wakes, beside those that are promised.
+#[inline(always)]
 pub fn take_places(
     journal: &mut RunJournal,
     ready: &mut Vec<u64>,

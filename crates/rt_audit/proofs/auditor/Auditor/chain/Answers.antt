@@ -1,5 +1,4 @@
 use Rattle.std.proofs.Common.{◌≡◌, ◌∷◌, [], rules}
-use Rattle.rt_audit.specs.Digest.{fields_digest}
 use Rattle.rt_audit.specs.TaskEvent.{task_event, small_number}
 use Rattle.rt_audit.proofs.auditor.Auditor.chain.Goals as goal
 
