@@ -1,7 +1,7 @@
 -- What a reader stands for, read by read.
-use Rattle.std.proofs.Common.{◌≡◌, ℕ, ◌+◌, ◌-◌, ◌≤◌, ◌==◌, Bool, true, false, List, [], ◌++◌, length, take, drop, Result, Ok, Err, IfOk, OnOk, OnErr, refl, sym, ap, ◌∙◌, inl, inr, arith}
+use Rattle.std.proofs.Common.{◌≡◌, ℕ, ◌+◌, ◌-◌, ◌≤◌, true, false, Bool, List, [], ◌++◌, length, take, drop, Result, Ok, Err, IfOk, OnOk, OnErr, refl, sym, ap, ◌∙◌, inl, inr, arith}
 use Rattle.std.proofs.Math.Seq.{take-add}
-use Rattle.std.proofs.lemmas.Bool.{eqb-true, cases_lt, lt-leb, le-leb}
+use Rattle.std.proofs.lemmas.Bool.{cases_lt, lt-leb, le-leb}
 use Rattle.std.proofs.lemmas.List.{drop-drop, drop-take, take-take, length-drop, drop_all}
 use Rattle.std.specs.Prelude.{nat_le}
 use Rattle.rt_base.specs.declared.error.Error.{Error}
@@ -9,7 +9,7 @@ use Rattle.rt_base.specs.declared.options.ReadOptions.{ReadOptions}
 use Rattle.rt_base.specs.Noted.{Noted}
 use Rattle.rt_bufs.specs.Chunked.{Chunked}
 use Rattle.rt_bufs.specs.WritableChunks.{WritableChunks}
-use Rattle.rt_buffer.specs.Reading.{Ahead, advanced, end_of, placed_at, sought, filled, fetch_len, no_hints, TakesHeld, Joins, GivesBytes, Gives, Fetches}
+use Rattle.rt_buffer.specs.Reading.{Ahead, advanced, end_of, placed_at, sought, filled, fetch_len, no_hints, TakesHeld, Joins, Gives, Fetches}
 use Rattle.rt_buffer.specs.Flat.{HasBytes, StandsFor}
 
 drop_part : (n k m : ℕ) (xs : List ℕ) → m ≡ n + k → drop n (take m xs) ≡ take k (drop n xs)
@@ -66,16 +66,11 @@ flat_joins a new w n f (Ok b) c s e l h j =
     (rw j.1 (rw there (stands_filled a w n f c s e l h)), j.0 ∙ first_fetched a w n f c s e h)
 flat_joins a new w n f (Err e) c s g l h j = (rw j.1 (stands_placed a (end_of a) c s), tt)
 
-flat_bytes : (a new : Ahead) (w n : ℕ) (f : List ℕ) (whole : Bool) (r : Result Chunked Error) (c : List ℕ) → whole ≡ (length f == n) → StandsFor a c → f ≡ take n (drop (end_of a) c) → w ≤ n → GivesBytes a.held f w (placed_at a (end_of a)) whole r new
-    → StandsFor new c × IfOk r (λ b. b.bytes ≡ take (length a.held + w) (drop a.position c))
-flat_bytes a new w n f true r c t s e h j = flat_joins a new w n f r c s e (eqb-true (length f) n (sym t)) h j
-flat_bytes a new w n f false r c t s e h j = (rw j.1 (stands_placed a (end_of a) c s), rw j.0 tt)
-
 flat_gives : (a new : Ahead) (w n : ℕ) (fetched : Result WritableChunks Error) (r : Result Chunked Error) (c : List ℕ) → StandsFor a c → w ≤ n
-    → ((f : WritableChunks) → fetched ≡ Ok f → f.bytes ≡ take n (drop (end_of a) c)) → Gives a.held n w (placed_at a (end_of a)) fetched r new
+    → ((f : WritableChunks) → fetched ≡ Ok f → f.bytes ≡ take n (drop (end_of a) c)) → IfOk fetched (λ b. length b.bytes ≡ n) → Gives a.held w (placed_at a (end_of a)) fetched r new
     → StandsFor new c × IfOk r (λ b. b.bytes ≡ take (length a.held + w) (drop a.position c))
-flat_gives a new w n (Ok f) r c s h e g = flat_bytes a new w n f.bytes (length f.bytes == n) r c refl s (e f refl) h g
-flat_gives a new w n (Err x) r c s h e g = (rw g.1 (stands_placed a (end_of a) c s), rw g.0 tt)
+flat_gives a new w n (Ok f) r c s h e l g = flat_joins a new w n f.bytes r c s (e f refl) l h g
+flat_gives a new w n (Err x) r c s h e l g = (rw g.1 (stands_placed a (end_of a) c s), rw g.0 tt)
 
 -- a read that fetches
 pub flat_fetched : {S B : Type 0} (reads : S → B → ℕ → ℕ → ReadOptions → Result WritableChunks Error → S → List Noted → Type 0) (refusals : S → ℕ) (bytes : S → B → List ℕ)
@@ -84,7 +79,7 @@ pub flat_fetched : {S B : Type 0} (reads : S → B → ℕ → ℕ → ReadOptio
     → StandsFor new (bytes store blob) × IfOk r (λ b. b.bytes ≡ take len (drop a.position (bytes old blob)))
 flat_fetched reads refusals bytes blob a new w len old store r x has s h e f =
     let kept : bytes store blob ≡ bytes old blob = has.keeps old blob (end_of a) (fetch_len a w) no_hints f.0 store x f.1 in
-    rw (kept, e) (flat_gives a new w (fetch_len a w) f.0 r (bytes old blob) s h (λ b is. has.answers old blob (end_of a) (fetch_len a w) no_hints b store x (rw is at f.1)) f.3)
+    rw (kept, e) (flat_gives a new w (fetch_len a w) f.0 r (bytes old blob) s h (λ b is. has.answers old blob (end_of a) (fetch_len a w) no_hints b store x (rw is at f.1)) f.3 f.4)
 
 pub stands_sought : (a : Ahead) (p : ℕ) (c : List ℕ) → StandsFor a c → StandsFor (sought a p) c
 stands_sought a p c s = elim (cases_lt p a.position) [

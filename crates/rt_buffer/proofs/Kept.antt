@@ -10,7 +10,7 @@ use Rattle.rt_base.specs.declared.poll.Poll.TheVariants as poll
 use Rattle.rt_base.specs.declared.version.BlobVersion.{BlobVersion}
 use Rattle.rt_base.specs.Noted.{Noted}
 use Rattle.rt_bufs.specs.Chunked.{Chunked}
-use Rattle.rt_store.specs.Calls.{Resizes, Saves, Syncs, Writes, PollsSync, after_poll, after_resize, after_sync, after_write, blob_of, started, with_blob}
+use Rattle.rt_store.specs.Calls.{Resizes, Saves, Syncs, Writes, PollsSync, after_poll, polled_ticket, after_resize, after_sync, after_write, blob_of, started, with_blob}
 use Rattle.rt_store.specs.Content.{resized, written}
 use Rattle.rt_store.specs.declared.blob.Blob.{Blob}
 use Rattle.rt_store.specs.declared.mutation.Mutation.{Mutation}
@@ -85,7 +85,7 @@ abbrev MemoryStarts : Kept → Blob → Result Ticket Error → Kept → List No
 MemoryStarts v k r w x = (s : Result Unit Error) × Saves v k s x × (r ≡ started s) × (w ≡ answered v (after_sync v k) s)
 
 abbrev MemoryPolls : Kept → Ticket → ℕ → Poll (Result Unit Error) → Kept → Ticket → List Noted → Type 0
-MemoryPolls v t task p w u x = PollsSync t p × (w ≡ after_poll v t) × (u ≡ t) × (x ≡ [])
+MemoryPolls v t task p w u x = PollsSync t p × (w ≡ after_poll v t) × (u ≡ polled_ticket t) × (x ≡ [])
 
 write_shown : {A : Type 0} (v : Kept) (k : Blob) (m : Mutation) (d : A) (new : Kept) (b : FileState) → blob_of v k ≡ Some b → new ≡ answered v (with_blob v k (mutated m)) (Ok d) → memory_bytes new k ≡ applied m (memory_bytes v k)
 write_shown v k m d new b is did =
@@ -186,7 +186,7 @@ crash_leaves v k content h kept b cs is =
     let left : left_of (Some b) ≡ Some content = rw is at (kept.1 ∙ ap (λ (bs : List ℕ). Some bs) kept.0.0) in
     crash_keeps b.version b.token b.removed b.content b.base b.later cs content left
 
-pub done_by : {W P : Type 0} (r : Stepped W P) (done next : W → Type 0) (waits : P → Type 0) → ((w : W) → done w → next w) → IfStepped r done waits → IfStepped r next (λ _. ⊤)
+pub done_by : {W P : Type 0} (r : Stepped W P) (done next : W → Type 0) (waits : P → Type 0) → ((w : W) → done w → next w) → IfStepped r done waits → IfStepped r next waits
 done_by (step.Done w) done next waits so h = so w h
-done_by (step.Waiting p) done next waits so h = tt
+done_by (step.Waiting p) done next waits so h = h
 done_by (step.Failed e) done next waits so h = tt

@@ -2,6 +2,7 @@ pub mod Changes
 pub mod Cut
 pub mod Durable
 pub mod Flat
+pub mod Holding
 pub mod Kept
 pub mod Laid
 pub mod Memory

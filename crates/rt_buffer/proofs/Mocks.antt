@@ -8,7 +8,9 @@ use Rattle.rt_base.specs.declared.error.Error.TheVariants.{NoMemory}
 use Rattle.rt_base.specs.declared.poll.Poll.{Poll}
 use Rattle.rt_base.specs.declared.poll.Poll.TheVariants as poll
 use Rattle.rt_buffer.specs.Mocks.{one_more}
-use Rattle.rt_store.specs.Answered.{CountsPoll, CountsStart}
+use Rattle.rt_store.specs.Answered.{CountsDone, CountsPoll, CountsStart}
+use Rattle.rt_store.specs.declared.ticket.Done.{Done}
+use Rattle.rt_store.specs.declared.ticket.Done.TheVariants.{Now, Gated}
 use Rattle.rt_store.specs.declared.ticket.Ticket.{Ticket}
 use Rattle.rt_store.specs.declared.ticket.Ticket.TheVariants.{Ready, Numbered}
 
@@ -16,6 +18,23 @@ pub counts_more : {A : Type 0} (old new more : ℕ) (r : Result A Error) → Cou
 counts_more old new more (Ok a) h = omega (arith, h)
 counts_more old new more (Err NoMemory) h = omega (arith, h)
 counts_more old new more (Err e) h = (omega (arith, h.0), λ below. omega (arith, h.1 (omega (arith, below))))
+
+pub counts_done_more : (old new more : ℕ) (r : Result Done Error) → CountsDone old new r → CountsDone (old + more) (new + more) r
+counts_done_more old new more (Ok Now) h = omega (arith, h)
+counts_done_more old new more (Ok (Gated (Ready held))) h = counts_more old new more held h
+counts_done_more old new more (Ok (Gated (Numbered n))) h = omega (arith, h)
+counts_done_more old new more (Err e) h = let r : Result Done Error = Err e in counts_more old new more r h
+
+pub counts_up : {A : Type 0} (old new : ℕ) (r : Result A Error) → Counts old new r → old ≤ new
+counts_up old new (Ok a) h = h
+counts_up old new (Err NoMemory) h = h
+counts_up old new (Err e) h = h.0
+
+pub counts_done_up : (old new : ℕ) (r : Result Done Error) → CountsDone old new r → old ≤ new
+counts_done_up old new (Ok Now) h = h
+counts_done_up old new (Ok (Gated (Ready held))) h = counts_up old new held h
+counts_done_up old new (Ok (Gated (Numbered n))) h = h
+counts_done_up old new (Err e) h = let r : Result Done Error = Err e in counts_up old new r h
 
 pub counts_start_more : (old new more : ℕ) (r : Result Ticket Error) → CountsStart old new r → CountsStart (old + more) (new + more) r
 counts_start_more old new more (Ok (Ready held)) h = counts_more old new more held h

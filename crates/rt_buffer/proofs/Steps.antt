@@ -4,7 +4,7 @@ use Rattle.rt_base.specs.declared.error.Error.{Error}
 use Rattle.rt_base.specs.declared.error.Error.TheVariants.{NoMemory}
 use Rattle.rt_base.specs.declared.poll.Poll.TheVariants as poll
 use Rattle.rt_base.specs.Noted.{Noted}
-use Rattle.rt_base.specs.Counted.{Counts, Notes}
+use Rattle.rt_base.specs.Counted.{Notes}
 use Rattle.rt_base.specs.declared.options.WriteOptions.{WriteOptions}
 use Rattle.rt_bufs.specs.Chunked.{Chunked}
 use Rattle.rt_buffer.specs.Calls.{StoreCalls}
@@ -19,6 +19,7 @@ use Rattle.rt_buffer.specs.Pieces.{Pieces, merged_chunks, passed, pieces}
 use Rattle.rt_buffer.specs.Tip.{Tip, bytes_to_write, bytes_before, drained, is_within, resized_tip}
 use Rattle.rt_buffer.specs.Writing.{has_bytes, is_clean, is_in_the_way}
 use Rattle.rt_buffer.specs.Steps.{Progress, Writer, writer, Act, Then, Keeps, Settles, WritesOut, with_state, with_tip, plain, AreBuffers, SyncsBlob, Saves, SavesBytes, SavesChanges, WritesDurably, WritesChunk, Raised, Puts, PutsAgain, PutsAll, PutsChunks, ResizesBlob, ResizesTip, Drains, Waits, Finishes, Ends, Runs, Begins, Starts, WritesAt, WritesLeft, with_handle, is_done}
+use Rattle.rt_store.specs.Answered.{CountsDone}
 use Rattle.rt_store.specs.declared.ticket.Done.{Done}
 use Rattle.rt_store.specs.declared.ticket.Done.TheVariants.{Now, Gated}
 use Rattle.rt_store.specs.declared.ticket.Ticket.{Ticket}
@@ -40,7 +41,7 @@ then_refused first next old mid a e before between refused h = (h.0, h.1, (a, mi
 
 -- a durable change, and what is done with its ticket
 pub settled_behind : {S B : Type 0} (c : StoreCalls S B) (task : ℕ) (change : Result Done Error → S → List Noted → Type 0) (first : Result Done Error) (d : Done) (old mid : S) (held : Held) (r : Progress) (new : Writer S) (before between behind : Option (List Noted))
-    → first ≡ Ok d → Notes before (λ y. change first mid y) between → Counts (c.refusals old) (c.refusals mid) first
+    → first ≡ Ok d → Notes before (λ y. change first mid y) between → CountsDone (c.refusals old) (c.refusals mid) first
     → Notes between (λ z. Settles c task d (writer mid held) r new z) behind
     → Notes before (λ x. Keeps c task change (writer old held) r new x) behind
 settled_behind c task change first d old mid held r new before between behind done h counts k =
@@ -49,14 +50,14 @@ settled_behind c task change first d old mid held r new before between behind do
 -- a write that needn't be durable
 pub out_now : {S B : Type 0} (c : StoreCalls S B) (blob : B) (offset : ℕ) (bytes : Chunked)
     (store mid : S) (held after : Held) (options : WriteOptions) (first : Result Done Error) (d : Done) (before between : Option (List Noted))
-    → first ≡ Ok d → d ≡ Now → after ≡ with_state held Dirty → options ≡ plain → Notes before (λ x. c.writes store blob offset bytes options first mid x) between → Counts (c.refusals store) (c.refusals mid) first
+    → first ≡ Ok d → d ≡ Now → after ≡ with_state held Dirty → options ≡ plain → Notes before (λ x. c.writes store blob offset bytes options first mid x) between → CountsDone (c.refusals store) (c.refusals mid) first
     → Notes before (λ x. WritesOut c blob offset bytes (writer store held) is_done (writer mid after) x) between
 out_now c blob offset bytes store mid held after options first d before between answers now same is h counts =
     (h.0, h.1, (first, mid, rw is at h.2, counts, rw (answers, now, same) (refl, refl)))
 
 pub out_gated : {S B : Type 0} (c : StoreCalls S B) (blob : B) (offset : ℕ) (bytes : Chunked)
     (store mid left : S) (held after : Held) (options : WriteOptions) (first : Result Done Error) (d : Done) (t : Ticket) (before between : Option (List Noted))
-    → first ≡ Ok d → d ≡ Gated t → after ≡ with_state held Dirty → options ≡ plain → Notes before (λ x. c.writes store blob offset bytes options first mid x) between → Counts (c.refusals store) (c.refusals mid) first → c.gives_up mid t left
+    → first ≡ Ok d → d ≡ Gated t → after ≡ with_state held Dirty → options ≡ plain → Notes before (λ x. c.writes store blob offset bytes options first mid x) between → CountsDone (c.refusals store) (c.refusals mid) first → c.gives_up mid t left
     → Notes before (λ x. WritesOut c blob offset bytes (writer store held) is_done (writer left after) x) between
 out_gated c blob offset bytes store mid left held after options first d t before between answers gated same is h counts up =
     (h.0, h.1, (first, mid, rw is at h.2, counts, rw (answers, gated) (refl, up, same)))

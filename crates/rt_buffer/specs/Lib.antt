@@ -1,6 +1,8 @@
 pub mod Calls
+pub mod Delayed
 pub mod Durable
 pub mod Flat
+pub mod Lent
 pub mod Memory
 pub mod Mocks
 pub mod Pending

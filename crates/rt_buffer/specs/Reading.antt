@@ -1,9 +1,9 @@
 -- What a reader holds of its blob, and what a read answers and leaves.
-use Rattle.std.specs.Prelude.{◌≡◌, ℕ, ◌+◌, ◌-◌, ◌*◌, ◌==◌, min, nat_le, if◌then◌else◌, Bool, true, false, List, [], ◌++◌, length, take, drop, Result, Ok, Err}
+use Rattle.std.specs.Prelude.{◌≡◌, ℕ, ◌+◌, ◌-◌, ◌*◌, min, nat_le, if◌then◌else◌, false, List, [], ◌++◌, length, take, drop, IfOk, Result, Ok, Err}
 use Rattle.std.specs.Int.{div_ceil}
 use Rattle.rt_base.specs.Counted.{Counts}
 use Rattle.rt_base.specs.declared.error.Error.{Error}
-use Rattle.rt_base.specs.declared.error.Error.TheVariants.{NoMemory, ReadFailed}
+use Rattle.rt_base.specs.declared.error.Error.TheVariants.{NoMemory}
 use Rattle.rt_base.specs.declared.options.ReadOptions.{ReadOptions}
 use Rattle.rt_base.specs.Noted.{Noted}
 use Rattle.rt_bufs.specs.Chunked.{Chunked}
@@ -57,14 +57,10 @@ abbrev pub Joins : List ℕ → List ℕ → ℕ → Ahead → Result Chunked Er
 Joins held bytes lacking a (Ok b) new = (b.bytes ≡ held ++ take lacking bytes) × (new ≡ filled a lacking bytes)
 Joins held bytes lacking a (Err e) new = (e ≡ NoMemory) × (new ≡ a)
 
--- what a fetch of so many bytes answered is handed out, where it is so many
-abbrev pub GivesBytes : List ℕ → List ℕ → ℕ → Ahead → Bool → Result Chunked Error → Ahead → Type 0
-GivesBytes held bytes lacking a true r new = Joins held bytes lacking a r new
-GivesBytes held bytes lacking a false r new = (r ≡ Err ReadFailed) × (new ≡ a)
-
-abbrev pub Gives : List ℕ → ℕ → ℕ → Ahead → Result WritableChunks Error → Result Chunked Error → Ahead → Type 0
-Gives held len lacking a (Ok fetched) r new = GivesBytes held fetched.bytes lacking a (length fetched.bytes == len) r new
-Gives held len lacking a (Err e) r new = (r ≡ Err e) × (new ≡ a)
+-- what a fetch answered is handed out
+abbrev pub Gives : List ℕ → ℕ → Ahead → Result WritableChunks Error → Result Chunked Error → Ahead → Type 0
+Gives held lacking a (Ok fetched) r new = Joins held fetched.bytes lacking a r new
+Gives held lacking a (Err e) r new = (r ≡ Err e) × (new ≡ a)
 
 -- the hints of a fetch
 abbrev pub no_hints : ReadOptions
@@ -76,7 +72,8 @@ Fetches reads refusals blob a lacking old r store new x =
     (fetched : Result WritableChunks Error)
     × reads old blob (end_of a) (fetch_len a lacking) no_hints fetched store x
     × Counts (refusals old) (refusals store) fetched
-    × Gives a.held (fetch_len a lacking) lacking (placed_at a (end_of a)) fetched r new
+    × IfOk fetched (λ b. length b.bytes ≡ fetch_len a lacking)
+    × Gives a.held lacking (placed_at a (end_of a)) fetched r new
 
 -- a change of the blob's length, and then a sync where it is done
 abbrev pub SyncsBehind : {S B : Type 0} → (S → B → Result Done Error → S → List Noted → Type 0) → B → Result Unit Error → List Noted → S → Result Done Error → S → List Noted → Type 0

@@ -22,7 +22,7 @@ use Rattle.rt_buffer.specs.declared.sync_handle.Begun.TheVariants as begun
 use Rattle.rt_buffer.specs.Pieces.{Pieces, merged_chunks}
 use Rattle.rt_buffer.specs.Writing.{ClosesWriter, has_bytes, is_in_the_way}
 use Rattle.rt_buffer.specs.Tip.{Tip, bytes_to_write, bytes_before, drained, is_within, merged, raised, resized_tip}
-use Rattle.rt_store.specs.Answered.{CountsPoll, CountsStart}
+use Rattle.rt_store.specs.Answered.{CountsDone, CountsPoll, CountsStart}
 use Rattle.rt_store.specs.declared.ticket.Done.{Done}
 use Rattle.rt_store.specs.declared.ticket.Done.TheVariants.{Now, Gated}
 use Rattle.rt_store.specs.declared.ticket.Ticket.{Ticket}
@@ -113,7 +113,7 @@ SettlesBehind c task (Err e) y mid r new x = (r ≡ Err e) × (new ≡ mid) × (
 -- a change that is durable once it is answered, with what its call may answer, leave and note
 abbrev pub Keeps : {S B : Type 0} → StoreCalls S B → ℕ → (Result Done Error → S → List Noted → Type 0) → Act S
 Keeps {S} c task change old r new x =
-    (d : Result Done Error) × (mid : S) × (y : List Noted) × change d mid y × Counts (c.refusals old.store) (c.refusals mid) d
+    (d : Result Done Error) × (mid : S) × (y : List Noted) × change d mid y × CountsDone (c.refusals old.store) (c.refusals mid) d
     × SettlesBehind c task d y (writer mid old.held) r new x
 
 -- a sync of the blob
@@ -132,7 +132,7 @@ Changed c (Err e) mid held r new = (r ≡ Err e) × (new ≡ writer mid (with_st
 
 abbrev pub WritesOut : {S B : Type 0} → StoreCalls S B → B → ℕ → Chunked → Act S
 WritesOut {S} c blob offset bytes old r new x =
-    (d : Result Done Error) × (mid : S) × c.writes old.store blob offset bytes plain d mid x × Counts (c.refusals old.store) (c.refusals mid) d
+    (d : Result Done Error) × (mid : S) × c.writes old.store blob offset bytes plain d mid x × CountsDone (c.refusals old.store) (c.refusals mid) d
     × Changed c d mid old.held r new
 
 -- buffers of the bytes that are taken out of a tip, where there is memory for them

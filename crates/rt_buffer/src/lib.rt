@@ -4,13 +4,19 @@
 
 mod ahead;
 mod deferred_sync;
+mod delayed_sync;
+#[cfg(test)]
+mod delayed_tests;
 mod held;
+mod in_memory;
 #[cfg(test)]
 mod mock_tests;
 mod parked;
 mod pending_syncs;
 mod pieces;
 mod read;
+mod shared_blob;
+mod stage;
 mod sync_fault;
 mod sync_handle;
 mod sync_state;
@@ -25,6 +31,7 @@ pub use deferred_sync::{
     DeferredSync, drive_pending_syncs, fail_pending_syncs, next_pending_sync,
     release_next_pending_syncs, release_pending_syncs,
 };
+pub use delayed_sync::{DelayedSyncBlob, DelayedSyncContext};
 pub use held::Held;
 pub use pending_syncs::PendingSyncs;
 pub use pieces::Pieces;

@@ -1,8 +1,10 @@
 // The stores that a test lets fail: the worked examples, and each call once.
 
-use crate::tests::{put, synced};
-use crate::{SyncFaultContext, Write, WriteFaultContext, WriteFaults};
-use rt_base::{Error, IoKind, NoEnv, NoMemory, Poll};
+use crate::tests::{bufs, put, synced};
+use crate::{DelayedSyncContext, SyncFaultContext, Write, WriteFaultContext, WriteFaults};
+use rt_base::{
+    DEFAULT_BLOB_VERSION, Error, IoKind, NoEnv, NoMemory, Poll, ReadOptions, WriteOptions,
+};
 use rt_store::{Done, FaultConfig, MemStore, Storage, Ticket};
 use std::alloc::Global;
 use std::test::Fail;
@@ -158,5 +160,53 @@ fn partition_sync_fails(rt: HostRuntime) -> Result<(), Fail> {
     assert!(rt; why(alloc, &mut store, "p") == Some(Error::Io(IoKind::InjectedPartitionSyncFault)));
     assert!(rt; why(alloc, &mut store, "q").is_none());
     assert_eq!(rt; store.refusals, 3);
+    Ok(())
+}
+
+/// Each call on a blob once, but for those of syncs: how many pieces were read.
+fn calls_on<S: Storage>(alloc: Global, store: &mut S, blob: &S::Blob) -> Result<usize, Error> {
+    let none = ReadOptions::default();
+    let bytes = bufs(alloc, b"abc")?;
+    let written = store.write_at(&mut NoEnv, blob, 0, bytes, WriteOptions::default());
+    if !is_now(store, written) {
+        return Err(Error::Aborted);
+    }
+    store.resize(&mut NoEnv, blob, 2)?;
+    let room = store.read_at(&mut NoEnv, blob, 0, 2, none)?;
+    if room.capacity() >= 2 {
+        let _ = store.read_at_buf(&mut NoEnv, blob, 0, 2, room, none)?;
+    }
+    let some = store.read_many(&mut NoEnv, blob, &[(0, 1), (1, 1)], none)?;
+    let all = store.start_read_many(&mut NoEnv, blob, &[(0, 2)], none)?;
+    Ok(some.len() + all.len())
+}
+
+/// Each call of a store over another one, once: how many pieces were read and names found.
+fn calls_of<S: Storage>(alloc: Global, store: &mut S) -> Result<usize, Error> {
+    S::take_room(&mut NoEnv, 4, 3, 0)?;
+    let versions = (DEFAULT_BLOB_VERSION, DEFAULT_BLOB_VERSION);
+    let (blob, _, _) = store.open_versioned(&mut NoEnv, "p", b"a", versions)?;
+    let read = calls_on(alloc, store, &blob);
+    store.close(blob);
+    let found = store.scan(&mut NoEnv, "p")?.len();
+    store.remove(&mut NoEnv, "p", None)?;
+    Ok(read? + found)
+}
+
+#[test]
+fn surface(rt: HostRuntime) -> Result<(), Fail> {
+    let alloc = rt.alloc();
+    let mut writes = write_faults(alloc)?;
+    assert_eq!(rt; calls_of(alloc, &mut writes), Ok(4));
+    let mut syncs = SyncFaultContext {
+        inner: MemStore::new(alloc, FaultConfig::default())?,
+        fail_partition: String::new(alloc),
+        refusals: 0,
+    };
+    assert_eq!(rt; calls_of(alloc, &mut syncs), Ok(4));
+    let mut delays = DelayedSyncContext::new(alloc, MemStore::new(alloc, FaultConfig::default())?);
+    let seen = calls_of(alloc, &mut delays);
+    let _ = delays.into_inner();
+    assert_eq!(rt; seen, Ok(4));
     Ok(())
 }

@@ -74,8 +74,8 @@ impl<S: Storage> Read<S> {
     /// end of a buffer.
     ///
     /// Errors: `BlobInsufficientLength` where fewer are left, and then nothing has changed; the store's refusal;
-    /// `ReadFailed` where the store answered another number of bytes; `NoMemory`. After one of the last three that came
-    /// behind the store's answer nothing is held, and the place is behind what was held.
+    /// `NoMemory`. After one of the last two that came behind the store's answer nothing is held, and the place is behind
+    /// what was held.
     pub fn read<E: Env>(&mut self, store: &mut S, env: &mut E, len: usize) -> Result<IoBufs, Error>
         ensures insufficient { remaining self.old.ahead < len → (result ≡ Err Error.BlobInsufficientLength) × (self.new ≡ self.old) × (store.new ≡ store.old) × (env.new ≡ env.old) }
         ensures from_memory { len ≤ length self.old.ahead.held → TakesHeld self.old.ahead len result self.new.ahead × (store.new ≡ store.old) × (env.new ≡ env.old) }
@@ -107,30 +107,25 @@ impl<S: Storage> Read<S> {
         let held = self.ahead.take_all();
         let position = self.ahead.position();
         let fetched = store.read_at(env, &self.blob, position, len, ReadOptions::default());
-        self.finish(held, fetched, len, lacking)
+        self.finish(held, fetched, lacking)
     }
 
-    // Hands out what was held and what a fetch of so many bytes gave.
+    // Hands out what was held and what a fetch gave.
     fn finish(
         &mut self,
         held: IoBuf,
         fetched: Result<IoBufsMut, Error>,
-        len: usize,
         lacking: usize,
     ) -> Result<IoBufs, Error>
         requires nothing { self.old.ahead.held ≡ [] }
-        requires enough { lacking ≤ len }
-        requires few { len - lacking ≤ self.old.ahead.buffer }
-        requires within { self.old.ahead.position + len ≤ self.old.ahead.size }
-        ensures gives { Gives held len lacking self.old.ahead fetched result self.new.ahead }
+        requires enough { IfOk fetched (λ b. lacking ≤ length b.bytes) }
+        requires few { IfOk fetched (λ b. length b.bytes - lacking ≤ self.old.ahead.buffer) }
+        requires within { IfOk fetched (λ b. self.old.ahead.position + length b.bytes ≤ self.old.ahead.size) }
+        ensures gives { Gives held lacking self.old.ahead fetched result self.new.ahead }
         ensures blob { self.new.blob ≡ self.old.blob }
     {
         let fetched = fetched?;
-        if fetched.len() == len {
-            self.join(held, fetched, lacking)
-        } else {
-            Err(Error::ReadFailed)
-        }
+        self.join(held, fetched, lacking)
     }
 
     // Hands out held bytes and the first of the fetched ones, and keeps the others.
@@ -169,6 +164,7 @@ impl<S: Storage> Read<S> {
     /// Errors: the store's refusals, and `NoMemory`.
     pub fn resize<E: Env>(self, store: &mut S, env: &mut E, len: u64) -> Result<Done, Error>
         ensures gives { Notes (E.noted env.old) (λ x. (left : S) × ResizesAndSyncs S.resizes S.syncs self.blob len store.old result left x × S.closes left self.blob store.new) (E.noted env.new) }
+        ensures spent { E.spare env.old ≤ E.spare env.new + (S.most + S.most) }
     {
         let Read {
             blob,
@@ -201,6 +197,7 @@ fn resize_and_sync<S: Storage, E: Env>(
     len: u64,
 ) -> Result<Done, Error>
     ensures gives { Notes (E.noted env.old) (λ x. ResizesAndSyncs S.resizes S.syncs blob.now len store.old result store.new x) (E.noted env.new) }
+    ensures spent { E.spare env.old ≤ E.spare env.new + (S.most + S.most) }
 {
     store.resize(env, blob, len)?;
     store.sync(env, blob)

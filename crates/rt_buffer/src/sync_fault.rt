@@ -54,6 +54,8 @@ impl<S: Storage> Storage for SyncFaultContext<S> {
 
     ghost most = { S.most };
 
+    ghost per_range = { S.per_range };
+
     ghost opens_versioned = { λ s p n versions r t x. S.opens_versioned s.inner p n versions (inside (λ a. (a.0.inner, a.1, a.2)) r) t.inner x × IfOk r (λ a. IsTrue a.0.is_faulty ↔ (p ≡ string_bytes s.fail_partition)) × (t.fail_partition ≡ s.fail_partition) × (t.refusals ≡ s.refusals) };
 
     ghost opens = { λ s p n r t x. S.opens s.inner p n (inside (λ a. (a.0.inner, a.1)) r) t.inner x × IfOk r (λ a. IsTrue a.0.is_faulty ↔ (p ≡ string_bytes s.fail_partition)) × (t.fail_partition ≡ s.fail_partition) × (t.refusals ≡ s.refusals) };
@@ -84,8 +86,13 @@ impl<S: Storage> Storage for SyncFaultContext<S> {
 
     ghost closes = { λ s k t. S.closes s.inner k.inner t.inner × (t.fail_partition ≡ s.fail_partition) × (t.refusals ≡ s.refusals) };
 
-    fn take_room<E: Env>(env: &mut E, more: usize) -> Result<(), NoMemory> {
-        S::take_room(env, more)
+    fn take_room<E: Env>(
+        env: &mut E,
+        calls: usize,
+        ranges: usize,
+        more: usize,
+    ) -> Result<(), NoMemory> {
+        S::take_room(env, calls, ranges, more)
     }
 
     #[tactic(auto, using(crate::proofs::Mocks::counts_more))]
@@ -177,7 +184,7 @@ impl<S: Storage> Storage for SyncFaultContext<S> {
             .start_read_many(env, &blob.inner, ranges, options)
     }
 
-    #[tactic(auto, using(crate::proofs::Mocks::counts_more))]
+    #[tactic(auto, using(crate::proofs::Mocks::counts_done_more))]
     fn write_at<E: Env>(
         &mut self,
         env: &mut E,
@@ -199,7 +206,7 @@ impl<S: Storage> Storage for SyncFaultContext<S> {
         self.inner.resize(env, &blob.inner, len)
     }
 
-    #[tactic(auto, using(crate::proofs::Mocks::counts_more))]
+    #[tactic(auto, using(crate::proofs::Mocks::counts_done_more))]
     fn sync<E: Env>(&mut self, env: &mut E, blob: &SyncFaultBlob<S>) -> Result<Done, Error> {
         if blob.is_faulty {
             return Err(self.refuse());

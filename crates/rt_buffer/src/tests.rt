@@ -1,14 +1,8 @@
 // The worked examples, and each call once.
 
-ghost use Rattle.std.specs.Prelude.{◌≡◌, IfOk, List, Some, ⊤, take, drop};
-ghost use Rattle.rt_base.specs.declared.choice.Choice.{Choice};
-ghost use Rattle.rt_buffer.specs.Durable.{IfStepped, KnowsState};
+ghost use Rattle.std.specs.Prelude.{◌≡◌, IfOk, take, drop};
 ghost use Rattle.rt_buffer.specs.Flat.{StandsFor};
-ghost use Rattle.rt_buffer.specs.Memory.{memory_bytes, memory_left, memory_promised};
-ghost use Rattle.rt_buffer.specs.Tip.{laid_over};
-ghost use Rattle.rt_buffer.specs.Writing.{LiesOver};
 ghost use Rattle.rt_store.specs.Calls.{blob_of};
-ghost use Rattle.rt_store.specs.File.{FileState, crashed};
 ghost use Rattle.rt_store.specs.Store.{content_at};
 
 use crate::{Begun, Buffer, Read, Started, Step, Stepped, SyncHandle, Write};
@@ -286,21 +280,13 @@ pub fn synced<S: Storage>(store: &mut S, writer: Write<S>) -> Result<Write<S>, E
     done(store, step)
 }
 
-/// A sync, by what each crash leaves of the blob.
-fn saved(store: &mut MemStore, writer: Write<MemStore>) -> Step<MemStore>
-    ensures { LiesOver writer.held.tip (memory_bytes store.old writer.blob) → KnowsState memory_bytes memory_left memory_promised writer.held.state store.old writer.blob →
-        IfStepped result (λ _. (blob : FileState) (choices : List Choice) → blob_of store.new writer.blob ≡ Some blob → (crashed choices blob).content ≡ laid_over writer.held.tip (memory_bytes store.old writer.blob)) (λ _. ⊤) }
-{
-    writer.sync(store, &mut NoEnv, 1)
-}
-
 /// Writes `hello world!` in three parts.
 fn write_text(alloc: Global, store: &mut MemStore, writer: Write<MemStore>) -> Result<(), Error> {
     let writer = put(alloc, store, writer, 0, b"hello")?;
     let writer = synced(store, writer)?;
     let writer = put(alloc, store, writer, 5, b" world")?;
     let writer = put(alloc, store, writer, 11, b"!")?;
-    let step = saved(store, writer);
+    let step = writer.sync_in_memory(store, &mut NoEnv, 1);
     let writer = done(store, step)?;
     let step = writer.wait_for_sync(store, &mut NoEnv, 1);
     done(store, step)?.close(store);
@@ -482,5 +468,40 @@ fn sync_is_started(rt: HostRuntime) -> Result<(), Fail> {
         }
         Err(error) => panic!(rt; "{error}"),
     }
+    Ok(())
+}
+
+const MEBIBYTE: usize = 1_048_576;
+
+/// Writes a mebibyte into a tip that has room for it, syncs it, and answers what the writer held back before and the size.
+fn write_large(alloc: Global, store: &mut MemStore, writer: Write<MemStore>) -> Result<u64, Error> {
+    let mut bytes = Vec::new(alloc);
+    let writer = match bytes.resize(MEBIBYTE, 7) {
+        Ok(()) => put(alloc, store, writer, 0, bytes.as_slice())?,
+        Err(_) => writer,
+    };
+    let size = writer.size();
+    synced(store, writer)?.close(store);
+    Ok(size)
+}
+
+/// Reads a mebibyte by one buffer, but for its last byte.
+fn read_large(store: &mut MemStore, reader: &mut Read<MemStore>) -> Result<usize, Error> {
+    let first = reader.read(store, &mut NoEnv, 1)?;
+    Ok(first.len() + reader.buffer_remaining())
+}
+
+#[test]
+fn sizes(rt: HostRuntime) -> Result<(), Fail> {
+    let alloc = rt.alloc();
+    let mut store = MemStore::new(alloc, FaultConfig::default())?;
+    let (blob, len) = store.open(&mut NoEnv, "p", b"a").expect(&rt, "room");
+    let writer = Write::new(alloc, blob, len, MEBIBYTE);
+    assert_eq!(rt; write_large(alloc, &mut store, writer), Ok(MEBIBYTE as u64));
+    let (blob, len) = store.open(&mut NoEnv, "p", b"a").expect(&rt, "room");
+    let mut reader = Read::new(alloc, blob, len, MEBIBYTE);
+    let seen = read_large(&mut store, &mut reader);
+    reader.close(&mut store);
+    assert_eq!(rt; seen, Ok(MEBIBYTE));
     Ok(())
 }

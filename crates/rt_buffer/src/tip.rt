@@ -149,7 +149,7 @@ impl Buffer {
 
     /// Puts chunks in one behind the other, up to the first that doesn't lie within its reach, and leaves the others. After
     /// `NoMemory` some are in.
-    pub fn merge_chunks(&mut self, left: &mut Pieces) -> Result<(), NoMemory>
+    pub(crate) fn merge_chunks(&mut self, left: &mut Pieces) -> Result<(), NoMemory>
         ensures tip { OnOk result (self.new ≡ (merged_chunks self.old left.old.at left.old.chunks).tip) }
         ensures left { OnOk result (left.new ≡ (merged_chunks self.old left.old.at left.old.chunks).left) }
     {
@@ -163,14 +163,14 @@ impl Buffer {
     }
 
     /// Whether it has bytes, and they begin before this place.
-    pub fn is_in_the_way(&self, end: u64) -> bool
+    pub(crate) fn is_in_the_way(&self, end: u64) -> bool
         ensures { result ≡ is_in_the_way self.now end }
     {
         !self.bytes.is_empty() && self.offset < end
     }
 
     /// Follows a write to the blob that ends here: where no bytes are held, the tip begins no earlier.
-    pub fn raise(&mut self, end: u64)
+    pub(crate) fn raise(&mut self, end: u64)
         ensures { self.new ≡ raised self.old end }
     {
         if self.bytes.is_empty() {

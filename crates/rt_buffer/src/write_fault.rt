@@ -76,6 +76,8 @@ impl<S: Storage> Storage for WriteFaultContext<S> {
 
     ghost most = { S.most };
 
+    ghost per_range = { S.per_range };
+
     ghost opens_versioned = { λ s p n versions r t x. S.opens_versioned s.inner p n versions (inside (λ a. (a.0.inner, a.1, a.2)) r) t.inner x × (t.faults ≡ s.faults) };
 
     ghost opens = { λ s p n r t x. S.opens s.inner p n (inside (λ a. (a.0.inner, a.1)) r) t.inner x × (t.faults ≡ s.faults) };
@@ -106,8 +108,13 @@ impl<S: Storage> Storage for WriteFaultContext<S> {
 
     ghost closes = { λ s k t. S.closes s.inner k.inner t.inner × (t.faults ≡ s.faults) };
 
-    fn take_room<E: Env>(env: &mut E, more: usize) -> Result<(), NoMemory> {
-        S::take_room(env, more)
+    fn take_room<E: Env>(
+        env: &mut E,
+        calls: usize,
+        ranges: usize,
+        more: usize,
+    ) -> Result<(), NoMemory> {
+        S::take_room(env, calls, ranges, more)
     }
 
     #[tactic(auto, using(crate::proofs::Mocks::counts_more))]
@@ -197,7 +204,7 @@ impl<S: Storage> Storage for WriteFaultContext<S> {
             .start_read_many(env, &blob.inner, ranges, options)
     }
 
-    #[tactic(auto, using(crate::proofs::Mocks::counts_more))]
+    #[tactic(auto, using(crate::proofs::Mocks::counts_done_more))]
     fn write_at<E: Env>(
         &mut self,
         env: &mut E,
@@ -225,7 +232,7 @@ impl<S: Storage> Storage for WriteFaultContext<S> {
         self.inner.resize(env, &blob.inner, len)
     }
 
-    #[tactic(auto, using(crate::proofs::Mocks::counts_more))]
+    #[tactic(auto, using(crate::proofs::Mocks::counts_done_more))]
     fn sync<E: Env>(&mut self, env: &mut E, blob: &WriteFaultBlob<S>) -> Result<Done, Error> {
         self.inner.sync(env, &blob.inner)
     }

@@ -3,8 +3,10 @@ mod Collected
 mod Counting
 mod Crashing
 mod Drawn
+mod Gated
 mod Leading
 mod Named
+mod Ranged
 mod Redone
 mod Refusing
 mod Undone

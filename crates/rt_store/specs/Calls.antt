@@ -13,6 +13,7 @@ use Rattle.rt_base.specs.declared.poll.Poll.TheVariants as poll
 use Rattle.rt_base.specs.Counted.{counted}
 use Rattle.rt_base.specs.Noted.{Noted}
 use Rattle.rt_bufs.specs.WritableChunks.{WritableChunks}
+use Rattle.rt_store.specs.Answered.{IsCopy}
 use Rattle.rt_store.specs.declared.blob.Blob.{Blob}
 use Rattle.rt_store.specs.declared.mutation.Mutation.TheVariants.{Write, Resize}
 use Rattle.rt_store.specs.declared.ticket.Done.{Done}
@@ -92,11 +93,14 @@ started (Err NoMemory) = Err NoMemory
 started (Err UnknownToken) = Err UnknownToken
 started (Err e) = Ok (Ready (Err e))
 
--- a polled sync: a copy of what a ready ticket holds, where there is memory for it; a numbered one is of no such store
+-- a polled sync: a copy of what a ready ticket holds; a numbered one is of no such store, and is ready with a refusal then
 abbrev pub PollsSync : Ticket → Poll (Result Unit Error) → Type 0
-PollsSync (Ready (Ok _)) p = p ≡ poll.Ready (Ok tt)
-PollsSync (Ready (Err e)) p = (p ≡ poll.Ready (Err e)) ⊎ (p ≡ poll.Ready (Err NoMemory))
+PollsSync (Ready held) p = IsCopy held p
 PollsSync (Numbered n) p = p ≡ poll.Ready (Err UnknownToken)
+
+abbrev pub polled_ticket : Ticket → Ticket
+polled_ticket (Ready held) = Ready held
+polled_ticket (Numbered n) = Ready (Err UnknownToken)
 
 abbrev pub after_poll : Kept → Ticket → Kept
 after_poll v (Ready held) = v

@@ -1,12 +1,12 @@
 // The store in memory.
-ghost use Rattle.std.specs.Prelude.{◌≡◌, ◌+◌, ◌*◌, ◌<◌, ◌≤◌, ◌++◌, ℕ, List, IfOk, IfSome, vec_len, vec_capacity, ⊤};
+ghost use Rattle.std.specs.Prelude.{◌≡◌, ◌+◌, ◌*◌, ◌<◌, ◌≤◌, ◌++◌, ℕ, List, length, IfOk, IfSome, vec_len, vec_capacity, ⊤};
 ghost use Rattle.std.specs.Borrow.{sem};
 ghost use Rattle.std.specs.Option.{option_copied};
 ghost use Rattle.rt_base.specs.Counted.{counted, Counts, Notes};
 ghost use Rattle.rt_audit.specs.Digest.{fields_digest};
-ghost use Rattle.rt_store.specs.Answered.{CountsPoll, CountsStart};
+ghost use Rattle.rt_store.specs.Answered.{CountsStart, StartsOrLacks};
 ghost use Rattle.rt_store.specs.Audit.{audit_fields};
-ghost use Rattle.rt_store.specs.Calls.{KeepsRoom, Reads, ReadsMany, ReadsInOrder, Writes, Resizes, Syncs, Saves, Opens, Removes, Scans, PollsSync, IsOpened, started, default_range, blob_of, with_blob, after_write, after_resize, after_sync, after_open, after_remove, without_blob, without_blobs, open_refusal};
+ghost use Rattle.rt_store.specs.Calls.{IsNow, KeepsRoom, Reads, ReadsMany, ReadsInOrder, Writes, Resizes, Syncs, Saves, Opens, Removes, Scans, IsOpened, started, default_range, blob_of, with_blob, after_write, after_resize, after_sync, after_open, after_remove, without_blob, without_blobs, open_refusal};
 ghost use Rattle.rt_base.specs.declared.choice.Choice.{Choice};
 ghost use Rattle.rt_store.specs.Changes.{end_of};
 ghost use Rattle.rt_store.specs.Crash.{ChoosesAll};
@@ -30,7 +30,7 @@ use crate::reading::{read_ranges, with_places};
 use crate::snapshot::Snapshot;
 use crate::storage::Storage;
 use crate::store::{draw, range_of, take_draw};
-use crate::ticket::{Done, Ticket};
+use crate::ticket::{Done, Ticket, copy_of};
 use rt_audit::AuditHasher;
 use rt_base::{
     BlobVersion, Choice, DEFAULT_BLOB_VERSION, Env, Error, NoMemory, Poll, ReadOptions,
@@ -236,6 +236,7 @@ impl MemStore {
     ) -> Result<IoBufsMut, Error>
         requires { IfSome bufs (λ b. len ≤ b.capacity) }
         ensures room { IfSome bufs (λ b. KeepsRoom b result) }
+        ensures len { IfOk result (λ b. length b.bytes ≡ len) }
         ensures gives { Notes (E.noted env.old) (Reads self.now blob.now offset len result) (E.noted env.new) }
         ensures spent { E.spare env.old ≤ E.spare env.new + 1 }
     {
@@ -306,6 +307,7 @@ impl MemStore {
         bufs: IoBufs,
         options: WriteOptions,
     ) -> Result<Done, Error>
+        ensures now { IfOk result IsNow }
         ensures gives { Notes (E.noted env.old) (Writes self.old blob.now offset bufs.bytes result) (E.noted env.new) }
         ensures after { self.new ≡ moved_to self.old (if_ok result (after_write self.old blob.now offset bufs.bytes options) self.old.state) }
         ensures spent { E.spare env.old ≤ E.spare env.new + 1 }
@@ -375,6 +377,7 @@ impl MemStore {
 
     // The same, with the answer of a call that may wait.
     fn save_now<E: Env>(&mut self, env: &mut E, blob: &Blob) -> Result<Done, Error>
+        ensures now { IfOk result IsNow }
         ensures gives { Notes (E.noted env.old) (Syncs self.old blob.now result) (E.noted env.new) }
         ensures after { self.new ≡ moved_to self.old (if_ok result (after_sync self.old blob.now) self.old.state) }
         ensures spent { E.spare env.old ≤ E.spare env.new + 1 }
@@ -508,23 +511,10 @@ impl MemStore {
     }
 }
 
-// What a ready ticket answers: a copy, where there is memory for it.
-fn answer_of(held: &Result<(), Error>) -> Poll<Result<(), Error>>
-    ensures polls { PollsSync (Ticket.Ready held.now) result }
-    ensures counts { (n : ℕ) → CountsPoll n n (Ticket.Ready held.now) result }
-{
-    match held {
-        Ok(()) => Poll::Ready(Ok(())),
-        Err(error) => match error.clone_value() {
-            Ok(copy) => Poll::Ready(Err(copy)),
-            Err(_) => Poll::Ready(Err(Error::NoMemory)),
-        },
-    }
-}
-
 // The ticket of a sync that was answered.
 fn started(answer: Result<(), Error>) -> Result<Ticket, Error>
     ensures ticket { result ≡ started answer }
+    ensures refused { StartsOrLacks result }
     ensures counts { (old new : ℕ) → Counts old new answer → CountsStart old new result }
 {
     match answer {
@@ -540,13 +530,15 @@ impl Storage for MemStore {
 
     ghost use Rattle.std.specs.Prelude.{◌≡◌, [], Result};
     ghost use Rattle.rt_base.specs.declared.error.Error.{Error};
-    ghost use Rattle.rt_store.specs.Calls.{KeepsRoom, Reads, ReadsMany, ReadsInOrder, Writes, Resizes, Syncs, Saves, Opens, OpensVersioned, Removes, Scans, PollsSync, started, after_write, after_resize, after_sync, after_open, after_remove, after_poll, default_range, with_blob};
+    ghost use Rattle.rt_store.specs.Calls.{KeepsRoom, Reads, ReadsMany, ReadsInOrder, Writes, Resizes, Syncs, Saves, Opens, OpensVersioned, Removes, Scans, PollsSync, started, after_write, after_resize, after_sync, after_open, after_remove, after_poll, polled_ticket, default_range, with_blob};
     ghost use Rattle.rt_store.specs.File.{closed};
     ghost use Rattle.rt_store.specs.Kept.{answered, moved_to};
 
     ghost refusals = { λ v. v.refusals };
 
     ghost most = { 1 };
+
+    ghost per_range = { 0 };
 
     ghost opens_versioned = { λ v p n versions r w x. OpensVersioned v p n versions r x × (w ≡ answered v (after_open v.state p n versions) r) };
 
@@ -572,14 +564,20 @@ impl Storage for MemStore {
 
     ghost starts_sync = { λ v k r w x. (s : Result Unit Error) × Saves v k s x × (r ≡ started s) × (w ≡ answered v (after_sync v k) s) };
 
-    ghost polls_sync = { λ v t task p w u x. PollsSync t p × (w ≡ after_poll v t) × (u ≡ t) × (x ≡ []) };
+    ghost polls_sync = { λ v t task p w u x. PollsSync t p × (w ≡ after_poll v t) × (u ≡ polled_ticket t) × (x ≡ []) };
 
     ghost gives_sync_up = { λ v t w. w ≡ v };
 
     ghost closes = { λ v k w. w ≡ moved_to v (with_blob v k closed) };
 
-    fn take_room<E: Env>(env: &mut E, more: usize) -> Result<(), NoMemory> {
-        let Some(entries) = more.checked_add(1) else {
+    fn take_room<E: Env>(
+        env: &mut E,
+        calls: usize,
+        ranges: usize,
+        more: usize,
+    ) -> Result<(), NoMemory> {
+        let _ = ranges;
+        let Some(entries) = more.checked_add(calls) else {
             return Err(NoMemory);
         };
         env.reserve(entries)
@@ -680,6 +678,7 @@ impl Storage for MemStore {
         answer
     }
 
+    #[tactic(auto, using(crate::proofs::Gated::counts_done))]
     fn write_at<E: Env>(
         &mut self,
         env: &mut E,
@@ -699,6 +698,7 @@ impl Storage for MemStore {
         answer
     }
 
+    #[tactic(auto, using(crate::proofs::Gated::counts_done))]
     fn sync<E: Env>(&mut self, env: &mut E, blob: &Blob) -> Result<Done, Error> {
         let answer = self.save_now(env, blob);
         self.count(&answer);
@@ -720,10 +720,11 @@ impl Storage for MemStore {
         let _ = env;
         let _ = task;
         match ticket {
-            Ticket::Ready(held) => answer_of(held),
+            Ticket::Ready(held) => Poll::Ready(copy_of(held)),
             Ticket::Numbered(_) => {
                 let answer = Err(Error::UnknownToken);
                 self.count(&answer);
+                ticket.settle(Err(Error::UnknownToken));
                 Poll::Ready(answer)
             }
         }

@@ -3,7 +3,7 @@
 // Code over any `S: Storage` is proved from this trait alone. There is one relation for each call, over the store
 // before it, the arguments, the answer, the store after it, and what the call noted in the environment. So a wrapper
 // states its own relations by those of what it wraps.
-ghost use Rattle.std.specs.Prelude.{◌≡◌, ◌≤◌, ◌+◌, ℕ, List, Option, Result, OnOk, Vec};
+ghost use Rattle.std.specs.Prelude.{◌≡◌, ◌≤◌, ◌+◌, ◌*◌, ℕ, List, length, Option, Result, IfOk, OnOk, Vec};
 ghost use Rattle.std.specs.Option.{option_copied};
 ghost use Rattle.std.specs.Global.{Global};
 ghost use Rattle.rt_base.specs.Counted.{Counts, Notes};
@@ -15,7 +15,7 @@ ghost use Rattle.rt_base.specs.declared.version.BlobVersion.{BlobVersion};
 ghost use Rattle.rt_base.specs.Noted.{Noted};
 ghost use Rattle.rt_bufs.specs.Chunked.{Chunked};
 ghost use Rattle.rt_bufs.specs.WritableChunks.{WritableChunks};
-ghost use Rattle.rt_store.specs.Answered.{CountsPoll, CountsStart};
+ghost use Rattle.rt_store.specs.Answered.{CountsDone, CountsPoll, CountsStart, PollsTicket, StartsOrLacks};
 ghost use Rattle.rt_store.specs.declared.ticket.Done.{Done};
 ghost use Rattle.rt_store.specs.declared.ticket.Ticket.{Ticket};
 
@@ -34,8 +34,10 @@ pub trait Storage {
     // How many calls were refused for another cause than being out of memory.
     ghost refusals: { Self → ℕ };
 
-    // How many entries of its environment a call uses at most.
+    // How many entries of its environment a call uses at most, and how many more for each range of a read of several.
     ghost most: { ℕ };
+
+    ghost per_range: { ℕ };
 
     ghost opens_versioned: { Self → List ℕ → List ℕ → BlobVersion × BlobVersion → Result (Self.Blob × ℕ × BlobVersion) Error → Self → List Noted → Type 0 };
 
@@ -67,9 +69,14 @@ pub trait Storage {
 
     ghost closes: { Self → Self.Blob → Self → Type 0 };
 
-    /// Takes the room in an environment of one call, and of `more` entries beside it.
-    fn take_room<E: Env>(env: &mut E, more: usize) -> Result<(), NoMemory>
-        ensures room { OnOk result (most + more ≤ E.spare env.new) }
+    /// Takes the room in an environment of so many calls, with so many ranges in all, and of `more` entries beside them.
+    fn take_room<E: Env>(
+        env: &mut E,
+        calls: usize,
+        ranges: usize,
+        more: usize,
+    ) -> Result<(), NoMemory>
+        ensures room { OnOk result (most * calls + per_range * ranges + more ≤ E.spare env.new) }
         ensures kept { E.spare env.old ≤ E.spare env.new }
         ensures noted { E.noted env.new ≡ E.noted env.old };
 
@@ -126,6 +133,7 @@ pub trait Storage {
         options: ReadOptions,
     ) -> Result<IoBufsMut, Error>
         ensures gives { Notes (E.noted env.old) (λ x. reads self.old blob.now offset len options result self.new x) (E.noted env.new) }
+        ensures len { IfOk result (λ b. length b.bytes ≡ len) }
         ensures spent { E.spare env.old ≤ E.spare env.new + most }
         ensures counts { Counts (refusals self.old) (refusals self.new) result };
 
@@ -141,6 +149,7 @@ pub trait Storage {
     ) -> Result<IoBufsMut, Error>
         requires { len ≤ bufs.capacity }
         ensures gives { Notes (E.noted env.old) (λ x. reads_into self.old blob.now offset len bufs options result self.new x) (E.noted env.new) }
+        ensures len { IfOk result (λ b. length b.bytes ≡ len) }
         ensures spent { E.spare env.old ≤ E.spare env.new + most }
         ensures counts { Counts (refusals self.old) (refusals self.new) result };
 
@@ -154,7 +163,7 @@ pub trait Storage {
         options: ReadOptions,
     ) -> Result<Vec<(usize, IoBufsMut)>, Error>
         ensures gives { Notes (E.noted env.old) (λ x. reads_many self.old blob.now ranges.now options result self.new x) (E.noted env.new) }
-        ensures spent { E.spare env.old ≤ E.spare env.new + most }
+        ensures spent { E.spare env.old ≤ E.spare env.new + (most + per_range * length ranges.now) }
         ensures counts { Counts (refusals self.old) (refusals self.new) result };
 
     /// The bytes of each range, in the order of the ranges.
@@ -166,7 +175,7 @@ pub trait Storage {
         options: ReadOptions,
     ) -> Result<Vec<IoBufsMut>, Error>
         ensures gives { Notes (E.noted env.old) (λ x. reads_in_order self.old blob.now ranges.now options result self.new x) (E.noted env.new) }
-        ensures spent { E.spare env.old ≤ E.spare env.new + most }
+        ensures spent { E.spare env.old ≤ E.spare env.new + (most + per_range * length ranges.now) }
         ensures counts { Counts (refusals self.old) (refusals self.new) result };
 
     /// Writes the bytes from `offset` on. With `SYNC` they are durable once this is done.
@@ -180,7 +189,7 @@ pub trait Storage {
     ) -> Result<Done, Error>
         ensures gives { Notes (E.noted env.old) (λ x. writes self.old blob.now offset bufs options result self.new x) (E.noted env.new) }
         ensures spent { E.spare env.old ≤ E.spare env.new + most }
-        ensures counts { Counts (refusals self.old) (refusals self.new) result };
+        ensures counts { CountsDone (refusals self.old) (refusals self.new) result };
 
     /// Cuts the blob to `len` bytes, or extends it with zeros.
     fn resize<E: Env>(&mut self, env: &mut E, blob: &Self::Blob, len: u64) -> Result<(), Error>
@@ -192,15 +201,17 @@ pub trait Storage {
     fn sync<E: Env>(&mut self, env: &mut E, blob: &Self::Blob) -> Result<Done, Error>
         ensures gives { Notes (E.noted env.old) (λ x. syncs self.old blob.now result self.new x) (E.noted env.new) }
         ensures spent { E.spare env.old ≤ E.spare env.new + most }
-        ensures counts { Counts (refusals self.old) (refusals self.new) result };
+        ensures counts { CountsDone (refusals self.old) (refusals self.new) result };
 
-    /// Starts a sync. An answer that is there at once stands in the ticket.
+    /// Starts a sync. An answer that is there at once stands in the ticket: so the call itself is refused only for want of memory, or
+    /// because the token isn't live.
     fn start_sync<E: Env>(&mut self, env: &mut E, blob: &Self::Blob) -> Result<Ticket, Error>
         ensures gives { Notes (E.noted env.old) (λ x. starts_sync self.old blob.now result self.new x) (E.noted env.new) }
         ensures spent { E.spare env.old ≤ E.spare env.new + most }
+        ensures refused { StartsOrLacks result }
         ensures counts { CountsStart (refusals self.old) (refusals self.new) result };
 
-    /// Polls a started sync. A `Ready` ticket answers a copy of what it holds.
+    /// Polls a started sync. A `Ready` ticket answers a copy of what it holds, and a `Numbered` one that is answered becomes ready.
     fn poll_sync<E: Env>(
         &mut self,
         env: &mut E,
@@ -209,6 +220,7 @@ pub trait Storage {
     ) -> Poll<Result<(), Error>>
         ensures gives { Notes (E.noted env.old) (λ x. polls_sync self.old ticket.old task result self.new ticket.new x) (E.noted env.new) }
         ensures spent { E.spare env.old ≤ E.spare env.new + most }
+        ensures ticket { PollsTicket ticket.old result ticket.new }
         ensures counts { CountsPoll (refusals self.old) (refusals self.new) ticket.old result };
 
     /// Gives a started sync up. It takes no memory.

@@ -1,5 +1,5 @@
 // The store in memory.
-ghost use Rattle.std.specs.Prelude.{◌≡◌, ◌+◌, ◌<◌, ◌≤◌, [], length, take, drop, Some, None, OnOk, MatchResult, ⊤};
+ghost use Rattle.std.specs.Prelude.{◌≡◌, ◌+◌, ◌<◌, ◌≤◌, [], length, take, drop, Some, None, IfOk, OnOk, MatchResult, ⊤};
 ghost use Rattle.rt_base.specs.Counted.{Notes};
 ghost use Rattle.rt_store.specs.Draws.{Answers};
 ghost use Rattle.rt_store.specs.Store.{read_refusal_of};
@@ -20,8 +20,10 @@ pub fn take_draw<E: Env>(env: &mut E, rate: u32) -> Result<(), NoMemory>
 }
 
 /// The `len` bytes from `offset` on.
+#[tactic(auto, using(crate::proofs::Ranged::range_len))]
 pub fn range_of(content: &[u8], offset: u64, len: usize) -> Result<&[u8], Error>
-    ensures { MatchResult result (λ bytes. (read_refusal_of offset len (length content.now) ≡ None) × (bytes.now ≡ take len (drop offset content.now))) (λ e. read_refusal_of offset len (length content.now) ≡ Some e) }
+    ensures len { IfOk result (λ bytes. length bytes.now ≡ len) }
+    ensures range { MatchResult result (λ bytes. (read_refusal_of offset len (length content.now) ≡ None) × (bytes.now ≡ take len (drop offset content.now))) (λ e. read_refusal_of offset len (length content.now) ≡ Some e) }
 {
     let Some(end) = offset.checked_add(len as u64) else {
         return Err(Error::OffsetOverflow);

@@ -540,3 +540,58 @@ fn each_rate_of_bytes(rt: HostRuntime) -> Result<(), Fail> {
     assert!(rt; has_faults(rt.alloc(), faults, 7));
     Ok(())
 }
+
+// Writes so many chunks of this many bytes, one behind the other.
+fn fill<S: Storage>(
+    alloc: Global,
+    store: &mut S,
+    blob: &S::Blob,
+    chunk: usize,
+    count: usize,
+) -> Result<(), Error> {
+    let mut at = 0u64;
+    for _ in 0..count {
+        let mut bytes = Vec::new(alloc);
+        bytes.resize(chunk, 7)?;
+        let bytes = IoBufs::from_buf(alloc, IoBuf::from_vec(bytes)?)?;
+        done(store.write_at(&mut NoEnv, blob, at, bytes, WriteOptions::default()))?;
+        at = at.saturating_add(chunk as u64);
+    }
+    Ok(())
+}
+
+// How long a blob is after these writes and a sync or not, and how many changes a crash decided over, which keeps none.
+fn filled(alloc: Global, chunk: usize, count: usize) -> Result<(u64, usize, u64), Error> {
+    let mut store = MemStore::new(alloc, FaultConfig::default())?;
+    let (blob, _) = store.open(&mut NoEnv, "p", b"n")?;
+    let answer = fill(alloc, &mut store, &blob, chunk, count);
+    store.close(blob);
+    answer?;
+    let len = make(&mut store, "p", b"n")?;
+    let choices = crash(alloc, &mut store, &mut NoEnv)?;
+    Ok((len, choices.len(), make(&mut store, "p", b"n")?))
+}
+
+// Makes so many blobs in one partition, and as many partitions.
+fn make_many<S: Storage>(alloc: Global, store: &mut S, count: usize) -> Result<usize, Error> {
+    for number in 0..count {
+        let name = format!(in alloc; "{number}")?;
+        make(store, "q", name.as_bytes())?;
+        make(store, name.as_str(), b"a")?;
+    }
+    Ok(store.scan(&mut NoEnv, "q")?.len())
+}
+
+const SIZES: [(usize, usize); 3] = [(1_048_576, 1), (1, 65_536), (64, 1_000)];
+
+#[test]
+fn sizes(rt: HostRuntime) -> Result<(), Fail> {
+    let alloc = rt.alloc();
+    for (chunk, count) in SIZES {
+        let len = chunk as u64 * count as u64;
+        assert_eq!(rt; filled(alloc, chunk, count), Ok((len, count, 0)));
+    }
+    let mut store = MemStore::new(alloc, FaultConfig::default())?;
+    assert_eq!(rt; make_many(alloc, &mut store, 1_000), Ok(1_000));
+    Ok(())
+}

@@ -1,6 +1,12 @@
 // A started sync.
+ghost use Rattle.std.specs.Prelude.{◌≡◌, ℕ, true};
+ghost use Rattle.rt_base.specs.Counted.{Counts};
+ghost use Rattle.rt_base.specs.declared.poll.Poll.{Poll};
+ghost use Rattle.rt_store.specs.Answered.{CountsPoll, IsCopy, is_numbered};
+ghost use Rattle.rt_store.specs.declared.ticket.Ticket.{Ticket};
 
 use rt_base::Error;
+use std::mem;
 
 /// A sync that was started: its answer, or the number by which a store holds it. It must be spent by
 /// `Storage::give_up_sync`.
@@ -15,4 +21,32 @@ pub enum Ticket {
 pub enum Done {
     Now,
     Gated(Ticket),
+}
+
+impl Ticket {
+    /// The ticket of a sync that is answered is ready with that.
+    pub fn settle(&mut self, answer: Result<(), Error>)
+        requires { is_numbered self.old ≡ true }
+        ensures { self.new ≡ Ticket.Ready answer }
+    {
+        match mem::replace(self, Ticket::Ready(answer)) {
+            Ticket::Numbered(_) => {}
+            Ticket::Ready(_) => unreachable!(),
+        }
+    }
+}
+
+/// The same answer, where there is memory for a copy.
+pub fn copy_of(held: &Result<(), Error>) -> Result<(), Error>
+    ensures copy { IsCopy held.now (Poll.Ready result) }
+    ensures counts { (old new : ℕ) → Counts old new held.now → Counts old new result }
+    ensures polls { (n : ℕ) → CountsPoll n n (Ticket.Ready held.now) (Poll.Ready result) }
+{
+    match held {
+        Ok(()) => Ok(()),
+        Err(error) => match error.clone_value() {
+            Ok(copy) => Err(copy),
+            Err(_) => Err(Error::NoMemory),
+        },
+    }
 }

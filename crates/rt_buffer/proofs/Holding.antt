@@ -1,0 +1,109 @@
+-- The end of a store that holds syncs back: its lists are taken apart from their ends.
+use Rattle.std.proofs.Common.{◌≡◌, ◌∙◌, ◌⊎◌, ℕ, ◌+◌, ◌≤◌, ◌<◌, ap, arith, Ok, Err, inl, inr, List, [], ◌∷◌, ◌++◌, Option, Some, Bool, true, Result, refl, sym, subst}
+use Rattle.std.proofs.Math.Nat.{add-mul, mul-add}
+use Rattle.std.specs.Prelude.{◌^◌, ◌*◌}
+use Rattle.rt_base.specs.declared.error.Error.{Error}
+use Rattle.rt_base.specs.declared.error.Error.TheVariants.{NoMemory}
+use Rattle.rt_base.specs.declared.options.WriteOptions.{WriteOptions}
+use Rattle.rt_base.specs.declared.poll.Poll.{Poll}
+use Rattle.rt_base.specs.declared.poll.Poll.TheVariants as ready
+use Rattle.rt_base.specs.Counted.{Counts, Notes}
+use Rattle.rt_base.specs.Noted.{Noted}
+use Rattle.rt_base.specs.Outside.{HasRisen}
+use Rattle.rt_bufs.specs.Chunked.{Chunked}
+use Rattle.rt_buffer.proofs.Noting.{adds_both}
+use Rattle.rt_buffer.specs.Calls.{StoreCalls}
+use Rattle.rt_buffer.specs.declared.shared_blob.SharedBlob.{SharedBlob}
+use Rattle.rt_buffer.specs.declared.stage.Hold.{Hold}
+use Rattle.rt_buffer.specs.declared.stage.Stage.{Stage}
+use Rattle.rt_buffer.specs.declared.stage.Stage.TheVariants.{Held, Passed, Out}
+use Rattle.rt_buffer.specs.Delayed.{AfterSync, ClosesAll, ClosesLast, CountsAnswer, Delayed, GivesUpAll, GivesUpLast, SyncsOr, Settles, SyncsReleased, Writes, WritesAt, WritesThen, moved, plain}
+use Rattle.rt_buffer.specs.Mocks.{one_more}
+use Rattle.rt_store.specs.Answered.{CountsDone, PollsTicket, is_numbered}
+use Rattle.rt_store.specs.declared.ticket.Done.{Done}
+use Rattle.rt_store.specs.declared.ticket.Done.TheVariants.{Now, Gated}
+use Rattle.rt_store.specs.declared.ticket.Ticket.{Ticket}
+use Rattle.rt_store.specs.declared.ticket.Ticket.TheVariants as ticket
+
+pub closes_snoc : {S B : Type 0} (c : StoreCalls S B) (bs : List (Option (SharedBlob B))) (b : Option (SharedBlob B)) (old mid new : S)
+    → ClosesLast c b old mid → ClosesAll c bs mid new → ClosesAll c (bs ++ b ∷ []) old new
+closes_snoc {S = S} c [] b old mid new h k = (old, refl, subst (λ (s : S). ClosesLast c b old s) (sym k) h)
+closes_snoc c (x ∷ xs) b old mid new h k = (k.0, closes_snoc c xs b old mid k.0 h k.1, k.2)
+
+pub gives_up_snoc : {S B : Type 0} (c : StoreCalls S B) (ks : List Stage) (k : Stage) (old mid new : S)
+    → GivesUpLast c k old mid → GivesUpAll c ks mid new → GivesUpAll c (ks ++ k ∷ []) old new
+gives_up_snoc {S = S} c [] k old mid new h rest = (old, refl, subst (λ (s : S). GivesUpLast c k old s) (sym rest) h)
+gives_up_snoc c (x ∷ xs) k old mid new h rest = (rest.0, gives_up_snoc c xs k old mid rest.0 h rest.1, rest.2)
+
+pub gives_up_none : {S B : Type 0} (c : StoreCalls S B) (k : Stage) (s : S) → ((h : Hold) × (k ≡ Held h)) ⊎ (k ≡ Out) → GivesUpLast c k s s
+gives_up_none c (Held h) s _ = refl
+gives_up_none c (Passed p) s (inl (h, e)) = cc
+gives_up_none c (Passed p) s (inr e) = cc
+gives_up_none c Out s _ = refl
+
+-- a refusal of its own, beside a count that didn't fall
+pub counts_refused : (n k m l : ℕ) (e : Error) → n ≤ k → l ≡ one_more m → m < 2 ^ 64 → CountsAnswer (n + m) (k + l) (ready.Ready (Err e))
+counts_refused n k m l NoMemory up more fits = (omega (arith, up, more, fits), omega (arith, up, more, fits))
+counts_refused n k m l e up more fits = (omega (arith, up, more, fits), (omega (arith, up, more, fits), λ below. omega (arith, up, more, fits, below)))
+
+-- a sync of the inner store, and what comes behind it
+pub synced_then : {S B : Type 0} (c : StoreCalls S B) (n task : ℕ) (h : Hold) (b : B) (opened : Option B) (s : Delayed S B) (p : Poll (Result Unit Error)) (t : Delayed S B)
+    (low : Result Done Error) (mid : S) (before between behind : Option (List Noted))
+    → opened ≡ Some b → Notes before (λ y. c.syncs s.inner b low mid y) between → Notes between (λ z. AfterSync c n task h low (moved s mid) p t z) behind
+    → Notes before (λ x. SyncsReleased c n task h opened s p t x) behind
+synced_then {B = B} c n task h b opened s p t low mid before between behind e first after =
+    let x = first.0 ++ after.0 in
+    let all : SyncsReleased c n task h (Some b) s p t x = (low, mid, first.0, after.0, first.2, after.2, refl) in
+    (x, adds_both before between behind first.0 after.0 first.1 after.1, subst (λ (o : Option B). SyncsReleased c n task h o s p t x) (sym e) all)
+
+-- a write that isn't durable, and what comes behind it
+pub written_then : {S B : Type 0} (c : StoreCalls S B) (n : ℕ) (b : B) (opened : Option B) (is_held : Bool) (offset : ℕ) (bufs : Chunked) (options : WriteOptions) (s : Delayed S B)
+    (r : Result Done Error) (t : Delayed S B) (low : Result Done Error) (mid : S) (before between behind : Option (List Noted))
+    → opened ≡ Some b → is_held ≡ true → Notes before (λ y. c.writes s.inner b offset bufs (plain options) low mid y) between
+    → Notes between (λ z. WritesThen c n b low (moved s mid) r t z) behind → Notes before (λ x. Writes c n opened is_held offset bufs options s r t x) behind
+written_then {B = B} c n b opened is_held offset bufs options s r t low mid before between behind e held first after =
+    let x = first.0 ++ after.0 in
+    let all : WritesAt c (c.writes s.inner b offset bufs options) (c.writes s.inner b offset bufs (plain options)) n b true s r t x =
+    (low, mid, first.0, after.0, first.2, after.2, refl) in
+    let there : Writes c n (Some b) true offset bufs options s r t x = inl all in
+    let held_there : Writes c n (Some b) is_held offset bufs options s r t x = subst (λ (y : Bool). Writes c n (Some b) y offset bufs options s r t x) (sym held) there in
+    (x, adds_both before between behind first.0 after.0 first.1 after.1, subst (λ (o : Option B). Writes c n o is_held offset bufs options s r t x) (sym e) held_there)
+
+risen_behind : (old mid new : ℕ) → old ≤ mid → mid ≤ new → HasRisen mid new → HasRisen old new
+risen_behind old mid new up on risen below = grind (arith, risen)
+
+-- an answer's count, behind a count that didn't fall
+counts_after : {A : Type 0} (old mid new : ℕ) (r : Result A Error) → old ≤ mid → Counts mid new r → Counts old new r
+counts_after old mid new (Ok a) up h = omega (arith, up, h)
+counts_after old mid new (Err NoMemory) up h = omega (arith, up, h)
+counts_after old mid new (Err e) up h = (omega (arith, up, h.0), risen_behind old mid new up h.0 h.1)
+
+pub counts_behind : (old mid new : ℕ) (p : Poll (Result Unit Error)) → old ≤ mid → CountsAnswer mid new p → CountsAnswer old new p
+counts_behind old mid new ready.Pending up h = omega (arith, up, h)
+counts_behind old mid new (ready.Ready r) up h = (omega (arith, up, h.0), counts_after old mid new r up h.1)
+
+pub counts_done_behind : (old mid new : ℕ) (r : Result Done Error) → old ≤ mid → CountsDone mid new r → CountsDone old new r
+counts_done_behind old mid new (Ok Now) up h = omega (arith, up, h)
+counts_done_behind old mid new (Ok (Gated (ticket.Ready held))) up h = counts_after old mid new held up h
+counts_done_behind old mid new (Ok (Gated (ticket.Numbered n))) up h = omega (arith, up, h)
+counts_done_behind old mid new (Err e) up h = let r : Result Done Error = Err e in counts_after old mid new r up h
+
+-- a write whose ticket is given up, and the sync behind it
+pub gated_then : {S B : Type 0} (c : StoreCalls S B) (n : ℕ) (b : B) (ticket : Ticket) (s : Delayed S B) (given_up : S) (r : Result Done Error) (t : Delayed S B) (between behind : Option (List Noted))
+    → c.gives_up s.inner ticket given_up → Notes between (λ z. SyncsOr c n b (moved s given_up) r t z) behind → Notes between (λ z. WritesThen c n b (Ok (Gated ticket)) s r t z) behind
+gated_then c n b ticket s given_up r t between behind gives after = (after.0, after.1, (given_up, gives, after.2))
+
+-- a ticket with a number becomes ready with what was answered
+pub settled_ticket : (old : Ticket) (q p : Poll (Result Unit Error)) (new : Ticket) → is_numbered old ≡ true → Settles old q p new → PollsTicket old p new
+settled_ticket (ticket.Ready held) q p new is h = absurd (cc)
+settled_ticket (ticket.Numbered n) ready.Pending p new is h = subst (λ (a : Poll (Result Unit Error)). PollsTicket (ticket.Numbered n) a new) (sym h.0) h.1
+settled_ticket (ticket.Numbered n) (ready.Ready (Ok u)) p new is h = subst (λ (a : Poll (Result Unit Error)). PollsTicket (ticket.Numbered n) a new) (sym h.0) (Ok u, h.1, refl)
+settled_ticket (ticket.Numbered n) (ready.Ready (Err e)) p new is (inl same, at) = subst (λ (a : Poll (Result Unit Error)). PollsTicket (ticket.Numbered n) a new) (sym same) (Err e, at, inl refl)
+settled_ticket (ticket.Numbered n) (ready.Ready (Err e)) p new is (inr lacks, at) = subst (λ (a : Poll (Result Unit Error)). PollsTicket (ticket.Numbered n) a new) (sym lacks) (Err e, at, inr refl)
+
+-- the room of twice as many calls
+pub twice_room : (m c t p k s : ℕ) → t ≡ c * 2 → m * t + p + k ≤ s → (m + m) * c + p + k ≤ s
+twice_room m c t p k s is h =
+    let twice : t ≡ c + c = omega (arith, is) in
+    let e : (m + m) * c ≡ m * t = add-mul m m c ∙ sym (mul-add m c c) ∙ ap (λ (x : ℕ). m * x) (sym twice) in
+    rw e h

@@ -1,0 +1,627 @@
+// A store whose started syncs a test holds back.
+ghost use Rattle.std.specs.Prelude.{◌≡◌, ◌+◌, ◌<◌, ◌≤◌, ◌^◌, ℕ, [], None, Some, IfSome, true, is_some, length, slice_get, vec_len};
+ghost use Rattle.rt_base.specs.Counted.{Notes};
+ghost use Rattle.rt_base.specs.declared.error.Error.{Error};
+ghost use Rattle.rt_base.specs.declared.poll.Poll.{Poll};
+ghost use Rattle.rt_buffer.specs.Calls.{calls};
+ghost use Rattle.rt_buffer.specs.Delayed.{ClosesAll, CountsAnswer, Finishes, GivesUpAll, GivesUpStage, LetsGo, PollsInner, PollsStage, Settles, SyncsOr, SyncsReleased, Writes, blob_at, delayed, held_of, passed_of};
+ghost use Rattle.rt_buffer.specs.Mocks.{one_more};
+ghost use Rattle.rt_buffer.specs.Pending.{none_pending};
+ghost use Rattle.rt_store.specs.Answered.{CountsDone, PollsTicket, is_numbered};
+
+use crate::pending_syncs::PendingSyncs;
+use crate::shared_blob::{SharedBlob, add_blob, has_place, hold, inner_of, let_go};
+use crate::stage::{Hold, Passed, Stage, add_ticket, held_at, pass_on, put_passed, take_passed};
+use rt_base::{BlobVersion, Env, Error, NoMemory, Poll, ReadOptions, WriteOptions};
+use rt_bufs::{IoBufs, IoBufsMut};
+use rt_store::ticket::copy_of;
+use rt_store::{BlobOf, Done, Storage, Ticket};
+use std::alloc::Global;
+
+/// A store that holds each started sync back until a test releases it, and once that is armed also the next sync of any
+/// kind. All else is passed on. It counts the calls that it refused itself, up to the type's end.
+///
+/// It must be spent by [`into_inner`](Self::into_inner), since a ticket keeps its blob open.
+pub struct DelayedSyncContext<S: Storage> {
+    inner: S,
+    pending: PendingSyncs,
+    blobs: Vec<Option<SharedBlob<BlobOf<S>>>>,
+    tickets: Vec<Stage>,
+    refusals: u64,
+}
+
+/// A blob of such a store. It must be spent by `Storage::close`.
+#[derive(Debug)]
+pub struct DelayedSyncBlob {
+    number: u64,
+}
+
+// Counts a call that is refused.
+fn refuse(refusals: &mut u64)
+    ensures counted { refusals.new ≡ one_more refusals.old }
+    ensures fits { refusals.old < 2 ^ 64 }
+{
+    *refusals = refusals.saturating_add(1);
+}
+
+// A call on a token of no open blob is refused.
+fn unknown(refusals: &mut u64) -> Error
+    ensures error { result ≡ Error.UnknownToken }
+    ensures counted { refusals.new ≡ one_more refusals.old }
+    ensures fits { refusals.old < 2 ^ 64 }
+{
+    refuse(refusals);
+    Error::UnknownToken
+}
+
+impl<S: Storage> DelayedSyncContext<S> {
+    ghost use Rattle.std.specs.Borrow.{sem};
+    ghost use Rattle.rt_buffer.specs.Lent.{lends_pending};
+
+    /// Nothing is held back yet.
+    pub fn new(alloc: Global, inner: S) -> DelayedSyncContext<S>
+        ensures inner { result.inner ≡ inner }
+        ensures pending { result.pending ≡ none_pending }
+        ensures blobs { result.blobs.items ≡ [] }
+        ensures tickets { result.tickets.items ≡ [] }
+        ensures refusals { result.refusals ≡ 0 }
+    {
+        DelayedSyncContext {
+            inner,
+            pending: PendingSyncs::new(alloc),
+            blobs: Vec::new(alloc),
+            tickets: Vec::new(alloc),
+            refusals: 0,
+        }
+    }
+
+    /// What is held back.
+    pub fn pending(&self) -> &PendingSyncs
+        ensures { result.now ≡ self.now.pending }
+    {
+        &self.pending
+    }
+
+    /// What is held back, to release it.
+    pub fn pending_mut(&mut self) -> &mut PendingSyncs
+        ensures* writes_back { sem 𝓛 (lends_pending S.row S.Blob.row self.entry result) }
+        ensures value { result.now ≡ self.old.pending }
+    {
+        &mut self.pending
+    }
+
+    /// The inner store.
+    pub fn inner(&self) -> &S
+        ensures { result.now ≡ self.now.inner }
+    {
+        &self.inner
+    }
+
+    /// The inner store alone: what is still held is given up, and what is still open closed.
+    pub fn into_inner(self) -> S
+        ensures { (given_up : S) × GivesUpAll (calls S.refusals S.polls_sync S.gives_sync_up S.writes S.resizes S.syncs S.starts_sync S.closes) self.tickets.items self.inner given_up × ClosesAll (calls S.refusals S.polls_sync S.gives_sync_up S.writes S.resizes S.syncs S.starts_sync S.closes) self.blobs.items given_up result }
+    {
+        let DelayedSyncContext {
+            mut inner,
+            pending: _,
+            blobs,
+            tickets,
+            refusals: _,
+        } = self;
+        give_up_all(&mut inner, tickets);
+        close_all(&mut inner, blobs);
+        inner
+    }
+}
+
+// Gives up what is left of the inner store's tickets, the last one first.
+fn give_up_all<S: Storage>(inner: &mut S, mut tickets: Vec<Stage>)
+    ensures { GivesUpAll (calls S.refusals S.polls_sync S.gives_sync_up S.writes S.resizes S.syncs S.starts_sync S.closes) tickets.items inner.old inner.new }
+{
+    while let Some(stage) = tickets.pop() {
+        match stage {
+            Stage::Passed(
+                Passed {
+                    ticket,
+                    blob: _,
+                    counts: _,
+                },
+            ) => inner.give_up_sync(ticket),
+            Stage::Held(_) | Stage::Out => {}
+        }
+    }
+    tickets.destroy_empty();
+}
+
+// Closes what is left of the inner blobs, the last one first.
+fn close_all<S: Storage>(inner: &mut S, mut blobs: Vec<Option<SharedBlob<BlobOf<S>>>>)
+    ensures { ClosesAll (calls S.refusals S.polls_sync S.gives_sync_up S.writes S.resizes S.syncs S.starts_sync S.closes) blobs.items inner.old inner.new }
+{
+    while let Some(place) = blobs.pop() {
+        if let Some(
+            SharedBlob {
+                inner: blob,
+                holders: _,
+            },
+        ) = place
+        {
+            inner.close(blob);
+        }
+    }
+    blobs.destroy_empty();
+}
+
+// Syncs, and their polls.
+impl<S: Storage> DelayedSyncContext<S> {
+    // A sync of a blob that is open: it takes the gate, or is passed on.
+    fn sync_open<E: Env>(&mut self, env: &mut E, number: u64) -> Result<Done, Error>
+        requires { is_some (blob_at self.old.blobs.items number) ≡ true }
+        ensures syncs { Notes (E.noted env.old) (λ x. IfSome (blob_at self.old.blobs.items number) (λ b. SyncsOr (calls S.refusals S.polls_sync S.gives_sync_up S.writes S.resizes S.syncs S.starts_sync S.closes) number b (delayed self.old.inner self.old.pending self.old.blobs.items self.old.tickets.items self.old.refusals) result (delayed self.new.inner self.new.pending self.new.blobs.items self.new.tickets.items self.new.refusals) x)) (E.noted env.new) }
+        ensures spent { E.spare env.old ≤ E.spare env.new + S.most }
+        ensures counts { CountsDone (S.refusals self.old.inner + self.old.refusals) (S.refusals self.new.inner + self.new.refusals) result }
+    {
+        self.tickets.reserve(1)?;
+        if !has_place(self.blobs.as_slice(), number) {
+            return Err(Error::NoMemory);
+        }
+        if let Some(gate) = self.pending.call() {
+            hold(&mut self.blobs, number);
+            let held = Hold {
+                blob: number,
+                hold: Some(gate),
+                counts: false,
+            };
+            return Ok(Done::Gated(add_ticket(&mut self.tickets, Stage::Held(held))));
+        }
+        let Some(inner) = inner_of(self.blobs.as_slice(), number) else {
+            unreachable!()
+        };
+        let answer = self.inner.sync(env, inner);
+        pass_on(&mut self.tickets, answer)
+    }
+
+    // A durable write that is counted: one that isn't durable, and then a sync.
+    fn write_then_sync<E: Env>(
+        &mut self,
+        env: &mut E,
+        number: u64,
+        offset: u64,
+        bufs: IoBufs,
+        options: WriteOptions,
+    ) -> Result<Done, Error>
+        requires { is_some (blob_at self.old.blobs.items number) ≡ true }
+        ensures writes { Notes (E.noted env.old) (λ x. Writes (calls S.refusals S.polls_sync S.gives_sync_up S.writes S.resizes S.syncs S.starts_sync S.closes) number (blob_at self.old.blobs.items number) true offset bufs options (delayed self.old.inner self.old.pending self.old.blobs.items self.old.tickets.items self.old.refusals) result (delayed self.new.inner self.new.pending self.new.blobs.items self.new.tickets.items self.new.refusals) x) (E.noted env.new) }
+        ensures spent { E.spare env.old ≤ E.spare env.new + (S.most + S.most) }
+        ensures counts { CountsDone (S.refusals self.old.inner + self.old.refusals) (S.refusals self.new.inner + self.new.refusals) result }
+    {
+        let Some(inner) = inner_of(self.blobs.as_slice(), number) else {
+            unreachable!()
+        };
+        let plain = options.without(WriteOptions::SYNC);
+        match self.inner.write_at(env, inner, offset, bufs, plain) {
+            Ok(Done::Now) => self.sync_open(env, number),
+            Ok(Done::Gated(ticket)) => {
+                self.inner.give_up_sync(ticket);
+                self.sync_open(env, number)
+            }
+            Err(error) => Err(error),
+        }
+    }
+
+    // One holds the blob no more, and the last one closes it.
+    fn let_go(&mut self, blob: Option<u64>)
+        ensures lets_go { LetsGo (calls S.refusals S.polls_sync S.gives_sync_up S.writes S.resizes S.syncs S.starts_sync S.closes) blob (delayed self.old.inner self.old.pending self.old.blobs.items self.old.tickets.items self.old.refusals) (delayed self.new.inner self.new.pending self.new.blobs.items self.new.tickets.items self.new.refusals) }
+        ensures counts { S.refusals self.old.inner ≤ S.refusals self.new.inner }
+        ensures own { self.new.refusals ≡ self.old.refusals }
+    {
+        let Some(number) = blob else {
+            return;
+        };
+        if let Some(inner) = let_go(&mut self.blobs, number) {
+            self.inner.close(inner);
+        }
+    }
+
+    // The sync of a ticket is done.
+    fn finish(&mut self, blob: Option<u64>, counts: bool, answer: &Result<(), Error>)
+        ensures finishes { Finishes (calls S.refusals S.polls_sync S.gives_sync_up S.writes S.resizes S.syncs S.starts_sync S.closes) blob counts answer.now (delayed self.old.inner self.old.pending self.old.blobs.items self.old.tickets.items self.old.refusals) (delayed self.new.inner self.new.pending self.new.blobs.items self.new.tickets.items self.new.refusals) }
+        ensures counts { S.refusals self.old.inner ≤ S.refusals self.new.inner }
+        ensures own { self.new.refusals ≡ self.old.refusals }
+    {
+        if counts && answer.is_ok() {
+            self.pending.complete();
+        }
+        self.let_go(blob);
+    }
+}
+
+// Polls of tickets with a number.
+impl<S: Storage> DelayedSyncContext<S> {
+    // A poll of an inner ticket that is out: where it is pending it is put in again.
+    fn poll_inner<E: Env>(
+        &mut self,
+        env: &mut E,
+        number: u64,
+        passed: Passed,
+        task: u64,
+    ) -> Poll<Result<(), Error>>
+        requires there { number < vec_len self.old.tickets }
+        requires none { passed_of (slice_get self.old.tickets.items number) ≡ None }
+        ensures polls { Notes (E.noted env.old) (λ x. PollsInner (calls S.refusals S.polls_sync S.gives_sync_up S.writes S.resizes S.syncs S.starts_sync S.closes) number task passed (delayed self.old.inner self.old.pending self.old.blobs.items self.old.tickets.items self.old.refusals) result (delayed self.new.inner self.new.pending self.new.blobs.items self.new.tickets.items self.new.refusals) x) (E.noted env.new) }
+        ensures spent { E.spare env.old ≤ E.spare env.new + S.most }
+        ensures counts { CountsAnswer (S.refusals self.old.inner + self.old.refusals) (S.refusals self.new.inner + self.new.refusals) result }
+    {
+        let Passed {
+            mut ticket,
+            blob,
+            counts,
+        } = passed;
+        match self.inner.poll_sync(env, &mut ticket, task) {
+            Poll::Pending => {
+                let passed = Passed {
+                    ticket,
+                    blob,
+                    counts,
+                };
+                put_passed(&mut self.tickets, number, passed);
+                Poll::Pending
+            }
+            Poll::Ready(Ok(())) => {
+                self.inner.give_up_sync(ticket);
+                self.finish(blob, counts, &Ok(()));
+                Poll::Ready(Ok(()))
+            }
+            Poll::Ready(Err(error)) => {
+                self.inner.give_up_sync(ticket);
+                refuse(&mut self.refusals);
+                self.let_go(blob);
+                Poll::Ready(Err(error))
+            }
+        }
+    }
+
+    // A sync that goes on is one of the inner store.
+    fn sync_released<E: Env>(
+        &mut self,
+        env: &mut E,
+        number: u64,
+        held: Hold,
+        task: u64,
+    ) -> Poll<Result<(), Error>>
+        requires { held_of (slice_get self.old.tickets.items number) ≡ Some held }
+        ensures polls { Notes (E.noted env.old) (λ x. SyncsReleased (calls S.refusals S.polls_sync S.gives_sync_up S.writes S.resizes S.syncs S.starts_sync S.closes) number task held (blob_at self.old.blobs.items held.blob) (delayed self.old.inner self.old.pending self.old.blobs.items self.old.tickets.items self.old.refusals) result (delayed self.new.inner self.new.pending self.new.blobs.items self.new.tickets.items self.new.refusals) x) (E.noted env.new) }
+        ensures spent { E.spare env.old ≤ E.spare env.new + (S.most + S.most) }
+        ensures counts { CountsAnswer (S.refusals self.old.inner + self.old.refusals) (S.refusals self.new.inner + self.new.refusals) result }
+    {
+        let Some(inner) = inner_of(self.blobs.as_slice(), held.blob) else {
+            refuse(&mut self.refusals);
+            return Poll::Ready(Err(Error::UnknownToken));
+        };
+        match self.inner.sync(env, inner) {
+            Ok(Done::Now) => {
+                self.finish(Some(held.blob), held.counts, &Ok(()));
+                Poll::Ready(Ok(()))
+            }
+            Ok(Done::Gated(ticket)) => {
+                let passed = Passed {
+                    ticket,
+                    blob: Some(held.blob),
+                    counts: held.counts,
+                };
+                self.poll_inner(env, number, passed, task)
+            }
+            Err(error) => {
+                self.let_go(Some(held.blob));
+                Poll::Ready(Err(error))
+            }
+        }
+    }
+
+    // A ticket with a number is given up.
+    fn give_up_numbered(&mut self, number: u64)
+        ensures gives_up { GivesUpStage (calls S.refusals S.polls_sync S.gives_sync_up S.writes S.resizes S.syncs S.starts_sync S.closes) number (slice_get self.old.tickets.items number) (delayed self.old.inner self.old.pending self.old.blobs.items self.old.tickets.items self.old.refusals) (delayed self.new.inner self.new.pending self.new.blobs.items self.new.tickets.items self.new.refusals) }
+        ensures counts { S.refusals self.old.inner + self.old.refusals ≤ S.refusals self.new.inner + self.new.refusals }
+    {
+        if let Some(held) = held_at(self.tickets.as_slice(), number) {
+            self.let_go(Some(held.blob));
+            return;
+        }
+        if let Some(
+            Passed {
+                ticket,
+                blob,
+                counts: _,
+            },
+        ) = take_passed(&mut self.tickets, number)
+        {
+            self.inner.give_up_sync(ticket);
+            self.let_go(blob);
+        }
+    }
+
+    // A poll of a ticket with a number.
+    fn poll_numbered<E: Env>(
+        &mut self,
+        env: &mut E,
+        number: u64,
+        task: u64,
+    ) -> Poll<Result<(), Error>>
+        ensures polls { Notes (E.noted env.old) (λ x. PollsStage (calls S.refusals S.polls_sync S.gives_sync_up S.writes S.resizes S.syncs S.starts_sync S.closes) number task (slice_get self.old.tickets.items number) (delayed self.old.inner self.old.pending self.old.blobs.items self.old.tickets.items self.old.refusals) result (delayed self.new.inner self.new.pending self.new.blobs.items self.new.tickets.items self.new.refusals) x) (E.noted env.new) }
+        ensures spent { E.spare env.old ≤ E.spare env.new + (S.most + S.most) }
+        ensures counts { CountsAnswer (S.refusals self.old.inner + self.old.refusals) (S.refusals self.new.inner + self.new.refusals) result }
+    {
+        if let Some(held) = held_at(self.tickets.as_slice(), number) {
+            return match self.pending.poll(held.hold, task) {
+                Poll::Pending => Poll::Pending,
+                Poll::Ready(Ok(())) => self.sync_released(env, number, held, task),
+                Poll::Ready(Err(error)) => {
+                    refuse(&mut self.refusals);
+                    self.let_go(Some(held.blob));
+                    Poll::Ready(Err(error))
+                }
+            };
+        }
+        match take_passed(&mut self.tickets, number) {
+            Some(passed) => self.poll_inner(env, number, passed, task),
+            None => {
+                refuse(&mut self.refusals);
+                Poll::Ready(Err(Error::UnknownToken))
+            }
+        }
+    }
+}
+
+// The ticket becomes ready with the answer, of which a copy is answered.
+#[tactic(auto, using(crate::proofs::Holding::settled_ticket))]
+fn settle(ticket: &mut Ticket, polled: Poll<Result<(), Error>>) -> Poll<Result<(), Error>>
+    requires { is_numbered ticket.old ≡ true }
+    ensures settles { Settles ticket.old polled result ticket.new }
+    ensures ticket { PollsTicket ticket.old result ticket.new }
+    ensures counts { (old new : ℕ) → CountsAnswer old new polled → CountsAnswer old new result }
+{
+    let Poll::Ready(answer) = polled else {
+        return Poll::Pending;
+    };
+    let copy = copy_of(&answer);
+    ticket.settle(answer);
+    Poll::Ready(copy)
+}
+
+impl<S: Storage> Storage for DelayedSyncContext<S> {
+    type Blob = DelayedSyncBlob;
+
+    ghost use Rattle.std.specs.Prelude.{◌≡◌, ◌+◌, ◌&&◌};
+    ghost use Rattle.rt_buffer.specs.Calls.{calls};
+    ghost use Rattle.rt_buffer.specs.Delayed.{GivesUp, LetsGo, OnBlob, Opens, Polls, Starts, Syncs, Writes, blob_at, delayed, moved};
+
+    ghost refusals = { λ s. S.refusals s.inner + s.refusals };
+
+    ghost most = { S.most + S.most };
+
+    ghost per_range = { S.per_range };
+
+    ghost opens_versioned = { λ s p n versions r t x. Opens (λ low. S.opens_versioned s.inner p n versions low) (λ b a. (b, a.1, a.2)) (λ a. a.0.number) (delayed s.inner s.pending s.blobs.items s.tickets.items s.refusals) r (delayed t.inner t.pending t.blobs.items t.tickets.items t.refusals) x };
+
+    ghost opens = { λ s p n r t x. Opens (λ low. S.opens s.inner p n low) (λ b a. (b, a.1)) (λ a. a.0.number) (delayed s.inner s.pending s.blobs.items s.tickets.items s.refusals) r (delayed t.inner t.pending t.blobs.items t.tickets.items t.refusals) x };
+
+    ghost removes = { λ s p n r t x. S.removes s.inner p n r t.inner x × ((delayed t.inner t.pending t.blobs.items t.tickets.items t.refusals) ≡ moved (delayed s.inner s.pending s.blobs.items s.tickets.items s.refusals) t.inner) };
+
+    ghost scans = { λ s p r t x. S.scans s.inner p r t.inner x × ((delayed t.inner t.pending t.blobs.items t.tickets.items t.refusals) ≡ moved (delayed s.inner s.pending s.blobs.items s.tickets.items s.refusals) t.inner) };
+
+    ghost reads = { λ s k offset len options r t x. OnBlob (λ b. S.reads s.inner b offset len options) (blob_at s.blobs.items k.number) (delayed s.inner s.pending s.blobs.items s.tickets.items s.refusals) r (delayed t.inner t.pending t.blobs.items t.tickets.items t.refusals) x };
+
+    ghost reads_into = { λ s k offset len bufs options r t x. OnBlob (λ b. S.reads_into s.inner b offset len bufs options) (blob_at s.blobs.items k.number) (delayed s.inner s.pending s.blobs.items s.tickets.items s.refusals) r (delayed t.inner t.pending t.blobs.items t.tickets.items t.refusals) x };
+
+    ghost reads_many = { λ s k ranges options r t x. OnBlob (λ b. S.reads_many s.inner b ranges options) (blob_at s.blobs.items k.number) (delayed s.inner s.pending s.blobs.items s.tickets.items s.refusals) r (delayed t.inner t.pending t.blobs.items t.tickets.items t.refusals) x };
+
+    ghost reads_in_order = { λ s k ranges options r t x. OnBlob (λ b. S.reads_in_order s.inner b ranges options) (blob_at s.blobs.items k.number) (delayed s.inner s.pending s.blobs.items s.tickets.items s.refusals) r (delayed t.inner t.pending t.blobs.items t.tickets.items t.refusals) x };
+
+    ghost writes = { λ s k offset bufs options r t x. Writes (calls S.refusals S.polls_sync S.gives_sync_up S.writes S.resizes S.syncs S.starts_sync S.closes) k.number (blob_at s.blobs.items k.number) (options.sync && s.pending.is_armed) offset bufs options (delayed s.inner s.pending s.blobs.items s.tickets.items s.refusals) r (delayed t.inner t.pending t.blobs.items t.tickets.items t.refusals) x };
+
+    ghost resizes = { λ s k len r t x. OnBlob (λ b. S.resizes s.inner b len) (blob_at s.blobs.items k.number) (delayed s.inner s.pending s.blobs.items s.tickets.items s.refusals) r (delayed t.inner t.pending t.blobs.items t.tickets.items t.refusals) x };
+
+    ghost syncs = { λ s k r t x. Syncs (calls S.refusals S.polls_sync S.gives_sync_up S.writes S.resizes S.syncs S.starts_sync S.closes) k.number (blob_at s.blobs.items k.number) (delayed s.inner s.pending s.blobs.items s.tickets.items s.refusals) r (delayed t.inner t.pending t.blobs.items t.tickets.items t.refusals) x };
+
+    ghost starts_sync = { λ s k r t x. Starts k.number (blob_at s.blobs.items k.number) (delayed s.inner s.pending s.blobs.items s.tickets.items s.refusals) r (delayed t.inner t.pending t.blobs.items t.tickets.items t.refusals) x };
+
+    ghost polls_sync = { λ s ticket task p t u x. Polls (calls S.refusals S.polls_sync S.gives_sync_up S.writes S.resizes S.syncs S.starts_sync S.closes) task ticket (delayed s.inner s.pending s.blobs.items s.tickets.items s.refusals) p (delayed t.inner t.pending t.blobs.items t.tickets.items t.refusals) u x };
+
+    ghost gives_sync_up = { λ s ticket t. GivesUp (calls S.refusals S.polls_sync S.gives_sync_up S.writes S.resizes S.syncs S.starts_sync S.closes) ticket (delayed s.inner s.pending s.blobs.items s.tickets.items s.refusals) (delayed t.inner t.pending t.blobs.items t.tickets.items t.refusals) };
+
+    ghost closes = { λ s k t. LetsGo (calls S.refusals S.polls_sync S.gives_sync_up S.writes S.resizes S.syncs S.starts_sync S.closes) (Some k.number) (delayed s.inner s.pending s.blobs.items s.tickets.items s.refusals) (delayed t.inner t.pending t.blobs.items t.tickets.items t.refusals) };
+
+    #[tactic(auto, using(crate::proofs::Holding::twice_room))]
+    fn take_room<E: Env>(
+        env: &mut E,
+        calls: usize,
+        ranges: usize,
+        more: usize,
+    ) -> Result<(), NoMemory> {
+        let Some(twice) = calls.checked_mul(2) else {
+            return Err(NoMemory);
+        };
+        S::take_room(env, twice, ranges, more)?;
+        Ok(())
+    }
+
+    fn open_versioned<E: Env>(
+        &mut self,
+        env: &mut E,
+        partition: &str,
+        name: &[u8],
+        versions: (BlobVersion, BlobVersion),
+    ) -> Result<(DelayedSyncBlob, u64, BlobVersion), Error> {
+        self.blobs.reserve(1)?;
+        let (inner, len, version) = self.inner.open_versioned(env, partition, name, versions)?;
+        let number = add_blob(&mut self.blobs, inner);
+        Ok((DelayedSyncBlob { number }, len, version))
+    }
+
+    fn open<E: Env>(
+        &mut self,
+        env: &mut E,
+        partition: &str,
+        name: &[u8],
+    ) -> Result<(DelayedSyncBlob, u64), Error> {
+        self.blobs.reserve(1)?;
+        let (inner, len) = self.inner.open(env, partition, name)?;
+        let number = add_blob(&mut self.blobs, inner);
+        Ok((DelayedSyncBlob { number }, len))
+    }
+
+    fn remove<E: Env>(
+        &mut self,
+        env: &mut E,
+        partition: &str,
+        name: Option<&[u8]>,
+    ) -> Result<(), Error> {
+        self.inner.remove(env, partition, name)
+    }
+
+    fn scan<E: Env>(&mut self, env: &mut E, partition: &str) -> Result<Vec<Vec<u8>>, Error> {
+        self.inner.scan(env, partition)
+    }
+
+    fn read_at<E: Env>(
+        &mut self,
+        env: &mut E,
+        blob: &DelayedSyncBlob,
+        offset: u64,
+        len: usize,
+        options: ReadOptions,
+    ) -> Result<IoBufsMut, Error> {
+        match inner_of(self.blobs.as_slice(), blob.number) {
+            Some(inner) => self.inner.read_at(env, inner, offset, len, options),
+            None => Err(unknown(&mut self.refusals)),
+        }
+    }
+
+    fn read_at_buf<E: Env>(
+        &mut self,
+        env: &mut E,
+        blob: &DelayedSyncBlob,
+        offset: u64,
+        len: usize,
+        bufs: IoBufsMut,
+        options: ReadOptions,
+    ) -> Result<IoBufsMut, Error> {
+        match inner_of(self.blobs.as_slice(), blob.number) {
+            Some(inner) => self
+                .inner
+                .read_at_buf(env, inner, offset, len, bufs, options),
+            None => Err(unknown(&mut self.refusals)),
+        }
+    }
+
+    fn read_many<E: Env>(
+        &mut self,
+        env: &mut E,
+        blob: &DelayedSyncBlob,
+        ranges: &[(u64, usize)],
+        options: ReadOptions,
+    ) -> Result<Vec<(usize, IoBufsMut)>, Error> {
+        match inner_of(self.blobs.as_slice(), blob.number) {
+            Some(inner) => self.inner.read_many(env, inner, ranges, options),
+            None => Err(unknown(&mut self.refusals)),
+        }
+    }
+
+    fn start_read_many<E: Env>(
+        &mut self,
+        env: &mut E,
+        blob: &DelayedSyncBlob,
+        ranges: &[(u64, usize)],
+        options: ReadOptions,
+    ) -> Result<Vec<IoBufsMut>, Error> {
+        match inner_of(self.blobs.as_slice(), blob.number) {
+            Some(inner) => self.inner.start_read_many(env, inner, ranges, options),
+            None => Err(unknown(&mut self.refusals)),
+        }
+    }
+
+    fn write_at<E: Env>(
+        &mut self,
+        env: &mut E,
+        blob: &DelayedSyncBlob,
+        offset: u64,
+        bufs: IoBufs,
+        options: WriteOptions,
+    ) -> Result<Done, Error> {
+        if inner_of(self.blobs.as_slice(), blob.number).is_none() {
+            return Err(unknown(&mut self.refusals));
+        }
+        self.tickets.reserve(1)?;
+        if options.contains(WriteOptions::SYNC) && self.pending.is_armed() {
+            return self.write_then_sync(env, blob.number, offset, bufs, options);
+        }
+        let Some(inner) = inner_of(self.blobs.as_slice(), blob.number) else {
+            unreachable!()
+        };
+        let answer = self.inner.write_at(env, inner, offset, bufs, options);
+        pass_on(&mut self.tickets, answer)
+    }
+
+    fn resize<E: Env>(
+        &mut self,
+        env: &mut E,
+        blob: &DelayedSyncBlob,
+        len: u64,
+    ) -> Result<(), Error> {
+        match inner_of(self.blobs.as_slice(), blob.number) {
+            Some(inner) => self.inner.resize(env, inner, len),
+            None => Err(unknown(&mut self.refusals)),
+        }
+    }
+
+    fn sync<E: Env>(&mut self, env: &mut E, blob: &DelayedSyncBlob) -> Result<Done, Error> {
+        if inner_of(self.blobs.as_slice(), blob.number).is_none() {
+            return Err(unknown(&mut self.refusals));
+        }
+        self.sync_open(env, blob.number)
+    }
+
+    fn start_sync<E: Env>(&mut self, env: &mut E, blob: &DelayedSyncBlob) -> Result<Ticket, Error> {
+        let _ = env;
+        if inner_of(self.blobs.as_slice(), blob.number).is_none() {
+            return Err(unknown(&mut self.refusals));
+        }
+        self.tickets.reserve(1)?;
+        if !has_place(self.blobs.as_slice(), blob.number) {
+            return Err(Error::NoMemory);
+        }
+        let held_by = self.pending.start()?;
+        hold(&mut self.blobs, blob.number);
+        let held = Hold {
+            blob: blob.number,
+            hold: held_by,
+            counts: true,
+        };
+        Ok(add_ticket(&mut self.tickets, Stage::Held(held)))
+    }
+
+    fn poll_sync<E: Env>(
+        &mut self,
+        env: &mut E,
+        ticket: &mut Ticket,
+        task: u64,
+    ) -> Poll<Result<(), Error>> {
+        let number = match ticket {
+            Ticket::Ready(_) => return self.inner.poll_sync(env, ticket, task),
+            Ticket::Numbered(number) => *number,
+        };
+        let polled = self.poll_numbered(env, number, task);
+        settle(ticket, polled)
+    }
+
+    fn give_up_sync(&mut self, ticket: Ticket) {
+        match ticket {
+            Ticket::Ready(held) => self.inner.give_up_sync(Ticket::Ready(held)),
+            Ticket::Numbered(number) => self.give_up_numbered(number),
+        }
+    }
+
+    fn close(&mut self, blob: DelayedSyncBlob) {
+        let DelayedSyncBlob { number } = blob;
+        self.let_go(Some(number));
+    }
+}
