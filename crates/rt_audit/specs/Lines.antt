@@ -9,9 +9,9 @@ use Rattle.rt_audit.specs.declared.answer.AnswerKind.TheVariants.{Pending as IsP
 use Rattle.rt_audit.specs.declared.finish.FinishCause.{FinishCause}
 use Rattle.rt_audit.specs.declared.finish.FinishCause.TheVariants.{Completed, Timeout, Stalled, TaskPanicked, TimeOverflow, TooManyTasks, NoMemory}
 use Rattle.rt_audit.specs.declared.call.Call.{Call}
-use Rattle.rt_audit.specs.declared.call.Call.TheVariants.{Child, CloseNode, Spawn, Abort, AbortTask, Wake as WakeCall, Join, GiveUp, SleepPoll}
+use Rattle.rt_audit.specs.declared.call.Call.TheVariants.{Child, CloseNode, Spawn, Abort, AbortTask, Wake as WakeCall, Join, GiveUp, SleepPoll, Slot, SlotSend, SlotClose, SlotPoll, SlotGiveUp, AbortWait}
 use Rattle.rt_audit.specs.declared.reply.CallReply.{CallReply}
-use Rattle.rt_audit.specs.declared.reply.CallReply.TheVariants.{Done, NodeAt, TaskAt, Closed, Pending, PendingAt, Ready, Refused}
+use Rattle.rt_audit.specs.declared.reply.CallReply.TheVariants.{Done, NodeAt, TaskAt, Closed, SlotAt, Pending, PendingAt, Ready, Refused}
 use Rattle.rt_audit.specs.declared.entry.Entry.{Entry}
 use Rattle.rt_audit.specs.declared.entry.Entry.TheVariants.{Start, Call as CallEntry, Event, Wake, Draw, Root, Round, Visit, Answer, NodeEnd, Advance, Skip, Fire, Cleanup, Crash, Finish}
 use Rattle.rt_audit.specs.Codes.{code_of}
@@ -76,6 +76,12 @@ call_text (WakeCall task) = numbered_text (codes "wake") task
 call_text (Join task) = numbered_text (codes "join") task
 call_text (GiveUp task) = numbered_text (codes "give-up") task
 call_text (SleepPoll due) = numbered_text (codes "sleep-poll") due
+call_text Slot = codes "slot"
+call_text (SlotSend slot) = numbered_text (codes "slot-send") slot
+call_text (SlotClose slot) = numbered_text (codes "slot-close") slot
+call_text (SlotPoll slot) = numbered_text (codes "slot-poll") slot
+call_text (SlotGiveUp slot) = numbered_text (codes "slot-give-up") slot
+call_text (AbortWait slot) = numbered_text (codes "abort-wait") slot
 
 abbrev pub ended_word : Bool → List ℕ
 ended_word true = codes " ended"
@@ -86,6 +92,7 @@ reply_text Done = codes "ok"
 reply_text (NodeAt node ended) = numbered_text (codes "node") node ++ ended_word ended
 reply_text (TaskAt task node) = numbered_text (codes "task") task ++ numbered_text (codes " node") node
 reply_text Closed = codes "closed"
+reply_text (SlotAt slot) = numbered_text (codes "slot") slot
 reply_text Pending = codes "pending"
 reply_text (PendingAt alarm) = numbered_text (codes "pending") alarm
 reply_text Ready = codes "ready"

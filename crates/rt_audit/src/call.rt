@@ -3,9 +3,9 @@
 ghost use Rattle.std.specs.Prelude.{◌≡◌, ◌++◌, OnOk, string_bytes};
 ghost use Rattle.rt_audit.specs.Lines.{call_text};
 
-use crate::Label;
 use crate::line::{add_numbered, add_space, add_word};
-use rt_base::{Nanos, NoMemory};
+use crate::{Label, Moment};
+use rt_base::NoMemory;
 
 /// A call on the world, as its line shows it.
 #[derive(Debug, Drop)]
@@ -26,8 +26,20 @@ pub enum Call {
     Join { task: u64 },
     /// Gives the result of a task up.
     GiveUp { task: u64 },
-    /// Polls a sleep that is over at `due`, in nanoseconds since the epoch.
-    SleepPoll { due: Nanos },
+    /// Polls a sleep that is over at `due`.
+    SleepPoll { due: Moment },
+    /// Makes a slot.
+    Slot,
+    /// Sends a result into a slot.
+    SlotSend { slot: u64 },
+    /// Closes a slot, into which nothing is sent then.
+    SlotClose { slot: u64 },
+    /// Polls a slot.
+    SlotPoll { slot: u64 },
+    /// Gives up what was to come by a slot.
+    SlotGiveUp { slot: u64 },
+    /// Aborts the wait for what comes by a slot.
+    AbortWait { slot: u64 },
 }
 
 impl Call {
@@ -48,7 +60,13 @@ impl Call {
             Call::Wake { task } => add_numbered(text, "wake ", *task as u128),
             Call::Join { task } => add_numbered(text, "join ", *task as u128),
             Call::GiveUp { task } => add_numbered(text, "give-up ", *task as u128),
-            Call::SleepPoll { due } => add_numbered(text, "sleep-poll ", *due),
+            Call::SleepPoll { due } => add_numbered(text, "sleep-poll ", due.nanos()),
+            Call::Slot => add_word(text, "slot"),
+            Call::SlotSend { slot } => add_numbered(text, "slot-send ", *slot as u128),
+            Call::SlotClose { slot } => add_numbered(text, "slot-close ", *slot as u128),
+            Call::SlotPoll { slot } => add_numbered(text, "slot-poll ", *slot as u128),
+            Call::SlotGiveUp { slot } => add_numbered(text, "slot-give-up ", *slot as u128),
+            Call::AbortWait { slot } => add_numbered(text, "abort-wait ", *slot as u128),
         }
     }
 }

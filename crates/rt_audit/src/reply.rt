@@ -19,6 +19,8 @@ pub enum CallReply {
     TaskAt { task: u64, node: u64 },
     /// The task was spawned on a node that has ended, and so it isn't run.
     Closed,
+    /// This slot was made.
+    SlotAt { slot: u64 },
     /// What was waited for isn't there.
     Pending,
     /// The sleep isn't over, and this alarm will wake its task.
@@ -46,6 +48,7 @@ impl CallReply {
                 add_numbered(text, " node ", *node as u128)
             }
             CallReply::Closed => add_word(text, "closed"),
+            CallReply::SlotAt { slot } => add_numbered(text, "slot ", *slot as u128),
             CallReply::Pending => add_word(text, "pending"),
             CallReply::PendingAt { alarm } => add_numbered(text, "pending ", *alarm as u128),
             CallReply::Ready => add_word(text, "ready"),

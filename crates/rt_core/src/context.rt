@@ -207,7 +207,7 @@ impl Context {
     pub fn close<T, O, G>(self, world: &mut World<T, O, G>)
         requires { MayCall world.old.told.state world.old.out }
         ensures kept { Kept world.old world.new }
-        ensures closed { Closes (CloseNode self.node) world.old world.new }
+        ensures closed { Closes (Plainly (CloseNode self.node)) world.old world.new }
     {
         let Context {
             node,

@@ -231,16 +231,16 @@ module _ {A O : Type 0} (p : Steps A O) where
       pub gave : (at : Step A A O (Answer O)) (answer : Answer O) (end : Held A O) (other : ℕ) → Leads at → other ≡ task → (k : Polls p s other v.held answer end) → Gave (stood_in s) now at answer k.left k.moved
       gave at answer end other l e k = leads-gave at now (stood_in s) answer k.left k.moved s.turns (taken task v.held) (p.task.next a s.clock.time task) l (polls-walk s v task other a answer end e there k)
 
-      pub polling_does : (ask : Ask A O) (on : Heard O → Step A A O (Answer O)) → Leads (Does ask on) → ((reply : CallReply) → Answers s (call_of ask) reply → Fits ask (turned (call_of ask) reply) → Completes p (after s (CallEntry (Some task) (call_of ask) reply)) v) → Completes p s v
+      pub polling_does : (ask : Ask A O) (on : Heard O → Step A A O (Answer O)) → Leads (Does ask on) → ((reply : CallReply) → Answers s (call_of ask) reply → (held : Held A O) → Fits held ask (turned (call_of ask) reply) → Completes p (after s (CallEntry (Some task) (call_of ask) reply)) v) → Completes p s v
       polling_does ask on l more = continues s v (λ cause e. cc) c
         where
           calls : (by : Option ℕ) (call : Call) (reply : CallReply) (u : Value A O) → by ≡ Some task → u ≡ v → Answers s call reply → Completes p (after s (CallEntry by call reply)) u
           calls by call reply u e k m x cause r =
               let rest : Rest p (after s (CallEntry (Some task) call reply)) u x cause = rw e at r in
-              let asks : Asks ask (turned call reply) = (called (Does ask on) call reply u x cause l k rest).0 in
-              let fits : Fits ask (turned call reply) = asks.1 in
+              let asks : Asks now ask (turned call reply) = (called (Does ask on) call reply u x cause l k rest).0 in
+              let fits : Fits now ask (turned call reply) = asks.1 in
               let same : call ≡ call_of ask = asks.0 in
-              more reply (rw same at m) (rw same at fits) x cause (rw (same, k) at rest)
+              more reply (rw same at m) now (rw same at fits) x cause (rw (same, k) at rest)
 
           c : Continues s v
           c (CallEntry by call reply) u m k w = calls by call reply u (rw is at m.1.0) k m.1.1
@@ -257,18 +257,18 @@ module _ {A O : Type 0} (p : Steps A O) where
       pub polling_sleeps : (due : ℕ) (alarm : Option ℕ) (on : Heard O → Step A A O (Answer O)) → Leads (Does (Sleeping due alarm) on) → s.clock.time < due → Completes p (after s (CallEntry (Some task) (SleepPoll due) (PendingAt (alarm_of s.alarms due alarm)))) v → Completes p s v
       polling_sleeps due alarm on l later more = polling_does (Sleeping due alarm) on l told
         where
-          told : (reply : CallReply) → Answers s (SleepPoll due) reply → Fits {A = A} {O = O} (Sleeping due alarm) (turned (SleepPoll due) reply) → Completes p (after s (CallEntry (Some task) (SleepPoll due) reply)) v
-          told IsOver m f = absurd (omega arith)
-          told (PendingAt number) m f = rw f more
-          told _ m f = absurd m
+          told : (reply : CallReply) → Answers s (SleepPoll due) reply → (held : Held A O) → Fits held (Sleeping due alarm) (turned (SleepPoll due) reply) → Completes p (after s (CallEntry (Some task) (SleepPoll due) reply)) v
+          told IsOver m held f = absurd (omega arith)
+          told (PendingAt number) m held f = rw f more
+          told _ m held f = absurd m
 
       pub polling_wakes : (due : ℕ) (alarm : Option ℕ) (on : Heard O → Step A A O (Answer O)) → Leads (Does (Sleeping due alarm) on) → due ≤ s.clock.time → Completes p (after s (CallEntry (Some task) (SleepPoll due) IsOver)) v → Completes p s v
       polling_wakes due alarm on l late more = polling_does (Sleeping due alarm) on l told
         where
-          told : (reply : CallReply) → Answers s (SleepPoll due) reply → Fits {A = A} {O = O} (Sleeping due alarm) (turned (SleepPoll due) reply) → Completes p (after s (CallEntry (Some task) (SleepPoll due) reply)) v
-          told IsOver m f = more
-          told (PendingAt number) m f = let l = m.0 in absurd (omega arith)
-          told _ m f = absurd m
+          told : (reply : CallReply) → Answers s (SleepPoll due) reply → (held : Held A O) → Fits held (Sleeping due alarm) (turned (SleepPoll due) reply) → Completes p (after s (CallEntry (Some task) (SleepPoll due) reply)) v
+          told IsOver m held f = more
+          told (PendingAt number) m held f = let l = m.0 in absurd (omega arith)
+          told _ m held f = absurd m
 
       -- an answer that is no panic, of the root or of another task
       pub polling_answers : (answer : Answer O) (next : A) → ((text : List ℕ) → answer ≢ Panicked text) → Leads (Gives answer next) → (answer ≡ Pending → Completes p (after s (AnswerEntry task IsPending)) (record v { held = put task next now })) → ((o : O) → answer ≡ Ready o → Completes p (after s (AnswerEntry task IsReady)) (given s task o (put task next now) v)) → Completes p s v

@@ -1,18 +1,18 @@
 -- What is no run that was cut off.
-use Rattle.std.proofs.Common.{◌≡◌, ℕ, inl, inr, true, false, List, [], ◌∷◌, ◌++◌, Some, refl, rules, arith, take, drop}
+use Rattle.std.proofs.Common.{◌≡◌, ℕ, inl, inr, true, false, List, [], ◌∷◌, ◌++◌, Some, refl, rules, arith, take, drop, Ok}
 use Rattle.std.proofs.lemmas.List.Sorted.{IsPermutation-refl}
 use Rattle.rt_base.specs.declared.execution.Execution.TheVariants.{Dedicated}
 use Rattle.rt_audit.specs.declared.answer.AnswerKind.TheVariants.{Ready as AnswersReady, NoMemory as LacksMemory, Ended}
 use Rattle.rt_audit.specs.declared.finish.FinishCause.TheVariants.{NoMemory}
 use Rattle.rt_audit.specs.declared.entry.Entry.TheVariants.{Call, Answer as Answered, NodeEnd, Cleanup}
 use Rattle.rt_audit.specs.declared.call.Call.{Call as CallOf}
-use Rattle.rt_audit.specs.declared.call.Call.TheVariants.{CloseNode, Spawn, SleepPoll, Wake as WakeCall}
+use Rattle.rt_audit.specs.declared.call.Call.TheVariants.{CloseNode, Spawn, SleepPoll, SlotSend, Wake as WakeCall}
 use Rattle.rt_audit.specs.declared.reply.CallReply.{CallReply}
 use Rattle.rt_audit.specs.declared.reply.CallReply.TheVariants.{Done, TaskAt, PendingAt}
 use Rattle.rt_model.specs.Lists.{find}
-use Rattle.rt_model.specs.State.{Turn, Stood, begun}
+use Rattle.rt_model.specs.State.{Turn, Stood, begun, stood_in}
 use Rattle.rt_model.specs.Effects.{after, after_all}
-use Rattle.rt_model.specs.Turns.{Held, put, with_task, with_spawned, freed_by, FreesOne, has_place}
+use Rattle.rt_model.specs.Turns.{Held, put, with_task, with_spawned, with_sent, freed_by, FreesOne, has_place}
 use Rattle.rt_model.specs.Rules.{IsLawful}
 use Rattle.rt_model.specs.Walk.{Gives, Stops, stood_before}
 use Rattle.rt_model.specs.Tied.{Value, nothing, taken}
@@ -73,9 +73,10 @@ none_in_an_end number r =
     ]
 
 -- what a call moves whose ask isn't known
-moves-some : (held : Held (Unit {0}) ℕ) (call : CallOf) (reply : CallReply) → (end : Held (Unit {0}) ℕ) × FreesOne held call reply end
-moves-some held (Spawn node) (TaskAt task number) = (with_spawned task Dedicated tt held, (Dedicated, tt, refl))
-moves-some held call reply = (freed_by held call reply, refl)
+moves-some : (stood : Stood) (held : Held (Unit {0}) ℕ) (call : CallOf) (reply : CallReply) → (end : Held (Unit {0}) ℕ) × FreesOne stood held call reply end
+moves-some stood held (Spawn node) (TaskAt task number) = (with_spawned task Dedicated tt held, (Dedicated, tt, refl))
+moves-some stood held (SlotSend slot) Done = (with_sent stood.slots slot (Ok 0) held, (Ok 0, refl))
+moves-some stood held call reply = (freed_by held call reply, refl)
 
 puts : (k : ℕ) (xs : List (ℕ × Unit {0})) → find k (with_task k tt xs) ≡ Some tt
 puts k [] = grind arith
@@ -86,7 +87,8 @@ pub lacks_within : (call : CallOf) (reply : CallReply) → IsLawful (begun small
 unfolding begun after
 lacks_within call reply lawful =
     let v : Value (Unit {0}) ℕ = record nothing { held = put 0 tt nothing.held } in
-    let m = moves-some nothing.held call reply in
+    let before = after_all (begun small_begin) (opening ++ visiting_root ++ (Call (Some 0) (SleepPoll 5) (PendingAt 0) ∷ [])) in
+    let m = moves-some (stood_in before) nothing.held call reply in
     let w : Value (Unit {0}) ℕ = record v { held = put 0 tt m.0; whole = false } in
     let end : Value (Unit {0}) ℕ = record w { held = taken 0 w.held } in
     let asked = after_all (begun small_begin) (opening ++ visiting_root ++ (Call (Some 0) (SleepPoll 5) (PendingAt 0) ∷ Call (Some 0) call reply ∷ [])) in

@@ -3,7 +3,7 @@ use Rattle.std.proofs.Common.{◌≡◌, ◌≢◌, ◌⊎◌, inl, inr, ℕ, Li
 use Rattle.std.specs.List.{AllByRecursion}
 use Rattle.std.proofs.lemmas.List.Elements.{All-from_recursion}
 use Rattle.rt_audit.specs.declared.call.Call.{Call}
-use Rattle.rt_audit.specs.declared.call.Call.TheVariants.{Wake as WakeCall, Abort, AbortTask}
+use Rattle.rt_audit.specs.declared.call.Call.TheVariants.{Wake as WakeCall, Abort, AbortTask, SlotSend, SlotClose, AbortWait}
 use Rattle.rt_audit.specs.declared.reply.CallReply.{CallReply}
 use Rattle.rt_audit.specs.declared.answer.AnswerKind.{AnswerKind}
 use Rattle.rt_audit.specs.declared.answer.AnswerKind.TheVariants.{Pending, Ready, Panicked, Stopped, NoMemory, Ended}
@@ -16,6 +16,7 @@ use Rattle.rt_model.specs.declared.mark.Mark.{Mark}
 use Rattle.rt_model.specs.declared.result.TaskResult.{TaskResult}
 use Rattle.rt_super.specs.Ancestry.{is_ended}
 use Rattle.rt_model.specs.Lists.{find, those}
+use Rattle.rt_model.specs.Slots.{Slotted}
 use Rattle.rt_model.specs.State.{State, Phase, Between, Turning, Ending, Leaving, Cleaning, Closing, Crashed, Finished, begun}
 use Rattle.rt_model.specs.Causes.{reached, ends_next}
 use Rattle.rt_model.specs.Effects.{after, after_all, is_closing, is_settled, due_called, due_answered, due_node, due_panic, due_ended, ends_in_panic, cause_of, answered, node_ended, cleans, ended}
@@ -82,15 +83,18 @@ module _ (cause : Option FinishCause) where
   answer-ends s task NoMemory k m = absurd (rw m at k)
   answer-ends s task Ended k m = (tt, ended-ends (is_settled s task) s.phase k)
 
-  owes-none : (ms : List (ℕ × Mark)) (call : Call) (reply : CallReply) → due_called true ms call reply ≡ []
-  owes-none ms (WakeCall task) reply = refl
-  owes-none ms (Abort task) reply = refl
-  owes-none ms (AbortTask task) reply = refl
-  owes-none ms _ reply = refl
+  owes-none : (ms : List (ℕ × Mark)) (ss : Slotted) (call : Call) (reply : CallReply) → due_called true ms ss call reply ≡ []
+  owes-none ms ss (WakeCall task) reply = refl
+  owes-none ms ss (Abort task) reply = refl
+  owes-none ms ss (AbortTask task) reply = refl
+  owes-none ms ss (SlotSend slot) reply = refl
+  owes-none ms ss (SlotClose slot) reply = refl
+  owes-none ms ss (AbortWait slot) reply = refl
+  owes-none ms ss _ reply = refl
 
-  owes-called : (closing : Bool) (ms : List (ℕ × Mark)) (call : Call) (reply : CallReply) → closing ≡ true → due_called closing ms call reply ≡ []
-  owes-called true ms call reply h = owes-none ms call reply
-  owes-called false ms call reply h = absurd (cc)
+  owes-called : (closing : Bool) (ms : List (ℕ × Mark)) (ss : Slotted) (call : Call) (reply : CallReply) → closing ≡ true → due_called closing ms ss call reply ≡ []
+  owes-called true ms ss call reply h = owes-none ms ss call reply
+  owes-called false ms ss call reply h = absurd (cc)
 
   owes-ended : (p : Phase) (settles : Bool) (r : Option TaskResult) → EndsFor cause p → (ends_in_panic p ≡ false) × (due_ended p settles r ≡ [])
   owes-ended (Ending task result left) settles r k = absurd k
@@ -115,7 +119,7 @@ module _ (cause : Option FinishCause) where
   ends-entry : (s : State) (e : Entry) → s.owed ≡ [] → EndsFor cause s.phase → May s e → IsOfCleanup e × ((after s e).owed ≡ []) × EndsFor cause (after s e).phase
   unfolding after
   ends-entry s (Start next now deadline cycle) o k m = absurd (rw m.1.0 at k)
-  ends-entry s (CallEntry by call reply) o k m = (tt, owes-called (is_closing s.phase) s.marks call reply (call-closing s.phase s.root (ends_next s.running s.root) by k m.1.0), k)
+  ends-entry s (CallEntry by call reply) o k m = (tt, owes-called (is_closing s.phase) s.marks s.slots call reply (call-closing s.phase s.root (ends_next s.running s.root) by k m.1.0), k)
   ends-entry s (Event label fields) o k m = absurd (rw m.1.0 at k)
   ends-entry s (Wake task) o k m = absurd (cc)
   ends-entry s (Draw value) o k m = absurd (no-round s.phase s k m.1)

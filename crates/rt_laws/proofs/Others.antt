@@ -1,17 +1,19 @@
 -- A part that lacked memory leaves the states of the other tasks as they were, but for those that it spawned, and so does each end.
-use Rattle.std.proofs.Common.{◌≡◌, ◌≢◌, inl, inr, ℕ, List, [], ◌∷◌, refl, ap, ◌∙◌, arith, All}
+use Rattle.std.proofs.Common.{◌≡◌, ◌≢◌, inl, inr, ℕ, List, [], ◌∷◌, refl, ap, ◌∙◌, arith, All, Result, Bool, true, false, if◌then◌else◌}
 use Rattle.std.specs.List.{AllByRecursion}
 use Rattle.std.proofs.lemmas.List.Elements.{recursion_from_All}
 use Rattle.std.proofs.lemmas.Bool.{cases_Bool}
 use Rattle.rt_audit.specs.declared.answer.AnswerKind.TheVariants.{NoMemory, Ended}
 use Rattle.rt_audit.specs.declared.call.Call.{Call}
-use Rattle.rt_audit.specs.declared.call.Call.TheVariants.{Spawn, Join, GiveUp}
+use Rattle.rt_audit.specs.declared.call.Call.TheVariants.{Spawn, Join, GiveUp, SlotSend, SlotPoll, SlotGiveUp, AbortWait}
 use Rattle.rt_audit.specs.declared.reply.CallReply.{CallReply}
 use Rattle.rt_audit.specs.declared.reply.CallReply.TheVariants.{Done, TaskAt, Ready}
 use Rattle.rt_audit.specs.declared.entry.Entry.TheVariants.{Answer}
 use Rattle.rt_model.specs.Lists.{find, without}
 use Rattle.rt_model.specs.State.{State, Stood, Turn, stood_in}
-use Rattle.rt_model.specs.Turns.{Ask, Spawning, Held, with_task, call_of, heard_of, moved, moved_by, freed_by, FreesOne, Frees, has_place}
+use Rattle.rt_base.specs.declared.error.Error.{Error}
+use Rattle.rt_model.specs.Slots.{Slotted, is_open}
+use Rattle.rt_model.specs.Turns.{Ask, Spawning, Sending, with_sent, Held, with_task, call_of, heard_of, moved, moved_by, freed_by, FreesOne, Frees, has_place}
 use Rattle.rt_model.specs.Walk.{Step, Does, Spends, Gives, Gave, Goes, Walks}
 use Rattle.rt_model.specs.Tied.{Steps, Value, Moves, taken}
 use Rattle.rt_laws.specs.Spawns.{Spawns}
@@ -35,22 +37,34 @@ module _ {A O : Type 0} (other : ℕ) where
   freed-same : (held : Held A O) (call : Call) (reply : CallReply) → Same held (freed_by held call reply)
   freed-same held (Join task) Ready = refl
   freed-same held (GiveUp task) Done = refl
+  freed-same held (SlotPoll slot) Ready = refl
+  freed-same held (SlotGiveUp slot) Done = refl
+  freed-same held (AbortWait slot) Done = refl
   freed-same held _ _ = refl
 
   put-same : (held : Held A O) (task number : ℕ) (a : A) → (((told : ℕ) × (TaskAt task number ≡ TaskAt other told)) → ⊥) → find other (with_task task a held.tasks) ≡ find other held.tasks
   put-same held task number a n = find-with task other a held.tasks (λ e. n (number, rw e refl))
 
-  moved-same : (held : Held A O) (ask : Ask A O) (call : Call) (reply : CallReply) → (((told : ℕ) × (reply ≡ TaskAt other told)) → ⊥) → Same held (moved_by held ask call reply)
-  moved-same held (Spawning node execution made) call (TaskAt task number) n = put-same held task number (made number) n
-  moved-same held ask call reply n = freed-same held call reply
+  sent-same : (slots : Slotted) (slot : ℕ) (sent : Result O Error) (held : Held A O) → Same held (with_sent slots slot sent held)
+  sent-same slots slot sent held = by (is_open (find slot slots.results))
+    where
+      by : (b : Bool) → find other (if b then record held { sent = with_task slot sent held.sent } else held).tasks ≡ find other held.tasks
+      by true = refl
+      by false = refl
 
-  frees-one : (held : Held A O) (call : Call) (reply : CallReply) (end : Held A O) → (((told : ℕ) × (reply ≡ TaskAt other told)) → ⊥) → FreesOne held call reply end → Same held end
-  frees-one held (Spawn node) (TaskAt task number) end n f = ap (λ (x : Held A O). find other x.tasks) f.2 ∙ put-same held task number f.1 n
-  frees-one held call reply end n f = ap (λ (x : Held A O). find other x.tasks) f ∙ freed-same held call reply
+  moved-same : (stood : Stood) (held : Held A O) (ask : Ask A O) (call : Call) (reply : CallReply) → (((told : ℕ) × (reply ≡ TaskAt other told)) → ⊥) → Same held (moved_by stood held ask call reply)
+  moved-same stood held (Spawning node execution made) call (TaskAt task number) n = put-same held task number (made number) n
+  moved-same stood held (Sending slot sent) call Done n = sent-same stood.slots slot sent held
+  moved-same stood held ask call reply n = freed-same held call reply
+
+  frees-one : (stood : Stood) (held : Held A O) (call : Call) (reply : CallReply) (end : Held A O) → (((told : ℕ) × (reply ≡ TaskAt other told)) → ⊥) → FreesOne stood held call reply end → Same held end
+  frees-one stood held (Spawn node) (TaskAt task number) end n f = ap (λ (x : Held A O). find other x.tasks) f.2 ∙ put-same held task number f.1 n
+  frees-one stood held (SlotSend slot) Done end n f = ap (λ (x : Held A O). find other x.tasks) f.1 ∙ sent-same stood.slots slot f.0 held
+  frees-one stood held call reply end n f = ap (λ (x : Held A O). find other x.tasks) f ∙ freed-same held call reply
 
   frees-same : (held : Held A O) (turns : List Turn) (end : Held A O) → AllByRecursion (SpawnsOthers other) turns → Frees held turns end → Same held end
   frees-same held [] end n f = ap (λ (x : Held A O). find other x.tasks) f
-  frees-same held (t ∷ turns) end n f = frees-same f.0 turns end n.1 f.2 ∙ frees-one held t.call t.reply f.0 n.0 f.1
+  frees-same held (t ∷ turns) end n f = frees-same f.0 turns end n.1 f.2 ∙ frees-one t.stood held t.call t.reply f.0 n.0 f.1
 
 -- and so of a walk
 module _ {A L O R : Type 0} (other : ℕ) (stood : Stood) (answer : R) (left : L) (end : Held A O) where
@@ -60,9 +74,9 @@ module _ {A L O R : Type 0} (other : ℕ) (stood : Stood) (answer : R) (left : L
   gave-keeps held (Gives given state) h = ap (λ (x : Held A O). find other x.tasks) h.2
 
   goes-keeps : (more : Held A O → Step A L O R → Type 0) → ((held : Held A O) (step : Step A L O R) → more held step → Same other held end) → (held : Held A O) (step : Step A L O R) (t : Turn) → SpawnsOthers other t → Goes more held step t → Same other held end
-  goes-keeps more on held (Does ask step) t n h = on (moved held ask t) (step (heard_of held t)) h.1 ∙ moved-same other held ask t.call t.reply n
+  goes-keeps more on held (Does ask step) t n h = on (moved held ask t) (step (heard_of held t)) h.1 ∙ moved-same other t.stood held ask t.call t.reply n
   goes-keeps more on held (Spends ask next) t n h = elim (cases_Bool (has_place t.stood (call_of ask))) [
-    | inl there ↦ on (moved held ask t) next (h.0 there).2 ∙ moved-same other held ask t.call t.reply n
+    | inl there ↦ on (moved held ask t) next (h.0 there).2 ∙ moved-same other t.stood held ask t.call t.reply n
     | inr gone ↦ goes-keeps more on held next t n (h.1 gone)
   ]
   goes-keeps more on held (Gives given state) t n h = absurd h

@@ -104,13 +104,13 @@ module _ {A O : Type 0} (p : Steps A O) where
   -- whatever is replied to this call
   abbrev pub Replied : State → Value A O → Option ℕ → Ask A O → Type 0
   Replied s v by ask =
-      (reply : CallReply) → Answers s (call_of ask) reply → Fits ask (record { call = call_of ask; reply = reply; stood = stood_in s }) → Completes p (after s (CallEntry by (call_of ask) reply)) v
+      (reply : CallReply) → Answers s (call_of ask) reply → (held : Held A O) → Fits held ask (record { call = call_of ask; reply = reply; stood = stood_in s }) → Completes p (after s (CallEntry by (call_of ask) reply)) v
 
   -- what is replied to the calls of supervision where nothing is amiss
 
   module _ (s : State) (v : Value A O) (by : Option ℕ) where
     pub child_told : (node : ℕ) (label : List ℕ) → is_live s.nodes node ≡ true → label_refusal (label_at s.labels node) label ≡ None → ((number : ℕ) → is_known s.nodes number ≡ false → Completes p (after s (CallEntry by (Child node label) (NodeAt number (is_ended s.nodes node)))) v) → Replied s v by (Plainly (Child node label))
-    child_told node label live fit more reply m f = tells reply (rw live at m)
+    child_told node label live fit more reply m held f = tells reply (rw live at m)
       where
         tells : (reply : CallReply) → ChildAnswers s node label reply → Completes p (after s (CallEntry by (Child node label) reply)) v
         tells (NodeAt number over) m = rw m.2 (more number m.1)
@@ -118,7 +118,7 @@ module _ {A O : Type 0} (p : Steps A O) where
         tells _ m = absurd m
 
     pub spawn_told : (node : ℕ) (execution : Execution) (made : ℕ → A) → is_free s.nodes node ≡ true → is_ended s.nodes node ≡ false → leb (2 ^ 64 - 1) s.numbers.next ≡ false → ((own : ℕ) → is_known s.nodes own ≡ false → Completes p (after s (CallEntry by (Spawn node) (TaskAt s.numbers.next own))) v) → Replied s v by (Spawning node execution made)
-    spawn_told node execution made free runs room more reply m f = tells reply (rw (free, room) at m)
+    spawn_told node execution made free runs room more reply m held f = tells reply (rw (free, room) at m)
       where
         tells : (reply : CallReply) → SpawnAnswers s node reply → Completes p (after s (CallEntry by (Spawn node) reply)) v
         tells (TaskAt task own) m = rw m.0 (more own m.2)
@@ -126,13 +126,13 @@ module _ {A O : Type 0} (p : Steps A O) where
         tells _ m = absurd m
 
     pub abort_told : (task : ℕ) → is_some (find task s.marks) ≡ true → Completes p (after s (CallEntry by (AbortTask task) Done)) v → Replied s v by (Plainly (AbortTask task))
-    abort_told task there more Done m f = more
-    abort_told task there more (Refused error) m f = never (is_some (find task s.marks)) there m.1
-    abort_told task there more _ m f = absurd m
+    abort_told task there more Done m held f = more
+    abort_told task there more (Refused error) m held f = never (is_some (find task s.marks)) there m.1
+    abort_told task there more _ m held f = absurd m
 
     -- of a join, by what has come of the task
     pub join_told : (task : ℕ) (r : TaskResult) → find task s.results ≡ Some r → ((reply : CallReply) → OutcomeAnswers r.outcome reply → Completes p (after s (CallEntry by (Join task) reply)) v) → Replied s v by (Plainly (Join task))
-    join_told task r there more reply m f = more reply (rw there at m)
+    join_told task r there more reply m held f = more reply (rw there at m)
 
   module _ (s : State) (v : Value A O) (owes : s.owed ≡ []) where
     abbrev turned : Call → CallReply → Turn
@@ -146,10 +146,10 @@ module _ {A O : Type 0} (p : Steps A O) where
     does : {L R : Type 0} (by : Option ℕ) (ask : Ask A O) (on : Heard O → Step A L O R) (now : Held A O) → CallsOf by (Does ask on) now → Replied s v by ask → (other : Option ℕ) (call : Call) (reply : CallReply) (u : Value A O) → other ≡ by → u ≡ v → Answers s call reply → Completes p (after s (CallEntry other call reply)) u
     does by ask on now calls more other call reply u e k m x cause r =
         let rest : Rest p (after s (CallEntry by call reply)) u x cause = rw e at r in
-        let asks : Asks ask (turned call reply) = (calls call reply u x cause k rest).0 in
-        let fits : Fits ask (turned call reply) = asks.1 in
+        let asks : Asks now ask (turned call reply) = (calls call reply u x cause k rest).0 in
+        let fits : Fits now ask (turned call reply) = asks.1 in
         let same : call ≡ call_of ask = asks.0 in
-        more reply (rw same at m) (rw same at fits) x cause (rw (same, k) at rest)
+        more reply (rw same at m) now (rw same at fits) x cause (rw (same, k) at rest)
 
     spends : {L R : Type 0} (by : Option ℕ) (ask : Ask A O) (next : Step A L O R) (now : Held A O) → CallsOf by (Spends ask next) now → has_place (stood_in s) (call_of ask) ≡ true → Completes p (after s (CallEntry by (call_of ask) Done)) v → (other : Option ℕ) (call : Call) (reply : CallReply) (u : Value A O) → other ≡ by → u ≡ v → Completes p (after s (CallEntry other call reply)) u
     spends by ask next now calls there more other call reply u e k x cause r =

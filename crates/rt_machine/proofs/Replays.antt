@@ -3,7 +3,7 @@ use Rattle.std.proofs.Common.{◌≡◌, ◌⊎◌, inl, inr, ◌∙◌, sym, ap
 use Rattle.std.specs.List.{list_any}
 use Rattle.rt_base.specs.declared.error.Error.{Error}
 use Rattle.rt_audit.specs.declared.call.Call.{Call}
-use Rattle.rt_audit.specs.declared.call.Call.TheVariants.{Child, CloseNode, Spawn, Abort, AbortTask, Wake, Join, GiveUp, SleepPoll}
+use Rattle.rt_audit.specs.declared.call.Call.TheVariants.{Child, CloseNode, Spawn, Abort, AbortTask, Wake, Join, GiveUp, SleepPoll, Slot, SlotSend, SlotClose, SlotPoll, SlotGiveUp, AbortWait}
 use Rattle.rt_audit.specs.declared.reply.CallReply.TheVariants.{Refused}
 use Rattle.rt_audit.specs.declared.finish.FinishCause.{FinishCause}
 use Rattle.rt_audit.specs.declared.finish.FinishCause.TheVariants.{NoMemory, Completed, Timeout, Stalled, TaskPanicked, TimeOverflow, TooManyTasks}
@@ -68,6 +68,12 @@ running-refused ns (Wake task) error = refl
 running-refused ns (Join task) error = refl
 running-refused ns (GiveUp task) error = refl
 running-refused ns (SleepPoll due) error = refl
+running-refused ns Slot error = refl
+running-refused ns (SlotSend slot) error = refl
+running-refused ns (SlotClose slot) error = refl
+running-refused ns (SlotPoll slot) error = refl
+running-refused ns (SlotGiveUp slot) error = refl
+running-refused ns (AbortWait slot) error = refl
 
 module _ (by : Option ℕ) (old new : Seen) (call : Call) (error : Error) where
   pub refused-phase : IsRefused by old new call error → new.told.state.phase ≡ old.told.state.phase

@@ -1,5 +1,5 @@
 -- The places that marks and results hold, when one is changed.
-use Rattle.std.proofs.Common.{◌≡◌, ◌≤◌, ◌+◌, ℕ, List, [], ◌∷◌, ◌++◌, refl, true, false, Bool, arith, Option, Some, None, option_map, is_some, length}
+use Rattle.std.proofs.Common.{◌≡◌, ◌≤◌, ◌+◌, ℕ, List, [], ◌∷◌, ◌++◌, refl, true, false, Bool, arith, Option, Some, None, option_map, is_some, length, not, if◌then◌else◌}
 use Rattle.rt_model.specs.declared.mark.Mark.{Mark}
 use Rattle.rt_model.specs.declared.result.Outcome.{Outcome}
 use Rattle.rt_model.specs.declared.result.Outcome.TheVariants.{Open, There, Exited, Closed}
@@ -8,7 +8,8 @@ use Rattle.rt_model.specs.Lists.{find, without, replaced, those}
 use Rattle.rt_model.specs.Rows.{total}
 use Rattle.rt_model.specs.Marks.{flag, flag_all, leave, is_left}
 use Rattle.rt_model.specs.Results.{may_abort, with_abort, with_outcome}
-use Rattle.rt_machine.specs.Places.{ones, mark_places, result_places, open_places}
+use Rattle.rt_model.specs.Slots.{settled, aborted}
+use Rattle.rt_machine.specs.Places.{ones, mark_places, result_places, open_places, sender_places}
 use Rattle.rt_model.specs.Effects.{marks_ended}
 use Rattle.rt_machine.specs.Ends.{open_in, waiter_in}
 use Rattle.rt_machine.specs.News.{is_new}
@@ -74,5 +75,34 @@ ended-fewer false k ms = omega arith
 pub more-places : {V : Type 0} (f : V → ℕ) (xs : List (ℕ × V)) (x : ℕ × V) → total f (xs ++ x ∷ []) ≡ total f xs + f x.1
 more-places f [] x = omega arith
 more-places f (y ∷ xs) x = omega (arith, more-places f xs x)
+
+-- the places of all when one is changed
+pub replaced-places : {V : Type 0} (f : V → ℕ) (change : V → V) (k : ℕ) (xs : List (ℕ × V)) (v : V) → find k xs ≡ Some v → total f (replaced change k xs) + f v ≡ total f xs + f (change v)
+replaced-places f change k [] v h = cc
+replaced-places f change k (x ∷ xs) v h = grind (arith, replaced-places f change k xs v)
+
+pub settled-places : (k : ℕ) (rs : List (ℕ × TaskResult)) (o : Outcome) (r : TaskResult) (waits : Option ℕ) → find k rs ≡ Some r → r.outcome ≡ Open waits → open_places o ≡ 0 → total result_places (replaced (settled o) k rs) + 1 ≡ total result_places rs
+settled-places k rs o r waits h e z =
+    let all = replaced-places result_places (settled o) k rs r h in
+    let before : result_places r ≡ 1 + ones (not r.aborted) + 1 = rw e refl in
+    let behind : result_places (settled o r) ≡ 1 + ones (not r.aborted) + open_places o = rw e refl in
+    omega (arith, all, before, behind, z)
+
+pub wait-places : (k : ℕ) (rs : List (ℕ × TaskResult)) (r : TaskResult) → find k rs ≡ Some r → may_abort (find k rs) ≡ true → total result_places (replaced aborted k rs) + 1 + open_places r.outcome ≡ total result_places rs
+wait-places k rs r h m =
+    let free : not r.aborted ≡ true = rw h at m in
+    let all = replaced-places result_places aborted k rs r h in
+    let before : result_places r ≡ 1 + 1 + open_places r.outcome = rw free refl in
+    omega (arith, all, before)
+
+-- a sender that is spent
+pub sender-fewer : (k : ℕ) (xs : List (ℕ × Unit {0})) → is_some (find k xs) ≡ true → total sender_places (without k xs) + 1 ≡ total sender_places xs
+sender-fewer k [] h = cc
+sender-fewer k (x ∷ xs) h = grind (arith, sender-fewer k xs)
+
+-- whoever is woken where no cleanup has begun
+pub owed-fewer : (closing : Bool) (ns : List ℕ) → length (if closing then [] else ns) ≤ length ns
+owed-fewer true ns = omega arith
+owed-fewer false ns = omega arith
 
 pub ruleset place_laws = (flag-places, leave-places, abort-places, settle-places, waits-places, join-places, without-fewer, more-places)

@@ -37,6 +37,7 @@ visited-once task own old new l = record {
   numbers = l.numbers;
   running = l.running;
   results = l.results ∙ results-once own task old.told.state.results;
+  slots = l.slots;
   lacked = l.lacked;
 }
 
@@ -57,6 +58,7 @@ visited-twice task own old mid new l g = record {
   numbers = g.numbers ∙ l.numbers;
   running = g.running ∙ l.running;
   results = g.results ∙ ap (λ rs. ended_results None (is_none own) task rs) l.results ∙ results-twice own task old.told.state.results;
+  slots = g.slots ∙ l.slots;
   lacked = g.lacked ∙ l.lacked;
 }
 

@@ -73,6 +73,7 @@ pub record Left (task : ℕ) (own : Option Outcome) (settles : Bool) (old new : 
   pub running : new.told.state.running ≡ without_number task old.told.state.running
   pub marks : new.told.state.marks ≡ marks_ended settles task old.told.state.marks
   pub results : new.told.state.results ≡ ended_results own settles task old.told.state.results
+  pub slots : new.told.state.slots ≡ old.told.state.slots
   pub lacked : new.lacked ≡ old.lacked
 
 -- a task that was to leave has left its visit
@@ -85,6 +86,7 @@ pub record Gone (task : ℕ) (own : Option Outcome) (old new : Seen) : Type 0 wh
   pub numbers : new.told.state.numbers ≡ old.told.state.numbers
   pub running : new.told.state.running ≡ old.told.state.running
   pub results : new.told.state.results ≡ ended_results None (is_none own) task old.told.state.results
+  pub slots : new.told.state.slots ≡ old.told.state.slots
   pub lacked : new.lacked ≡ old.lacked
 
 -- the visit of a task has ended with it
@@ -97,4 +99,5 @@ pub record Visited (task : ℕ) (own : Option Outcome) (old new : Seen) : Type 0
   pub numbers : new.told.state.numbers ≡ old.told.state.numbers
   pub running : new.told.state.running ≡ without_number task old.told.state.running
   pub results : new.told.state.results ≡ with_outcome (unwrap_or own Closed) task old.told.state.results
+  pub slots : new.told.state.slots ≡ old.told.state.slots
   pub lacked : new.lacked ≡ old.lacked

@@ -53,6 +53,10 @@ open_places _ = 0
 abbrev pub result_places : TaskResult → ℕ
 result_places r = 1 + ones (not r.aborted) + open_places r.outcome
 
+-- the sending into a slot, or its closing
+abbrev pub sender_places : Unit {0} → ℕ
+sender_places sender = 1
+
 -- the task that is visited may be left pending
 abbrev pub visit_places : Phase → ℕ
 visit_places (Entered task left) = 1
@@ -68,6 +72,8 @@ promised_by s =
     + live_count s.nodes.nodes
     + total mark_places s.marks
     + total result_places s.results
+    + total result_places s.slots.results
+    + total sender_places s.slots.senders
     + ones (not s.panicked)
     + visit_places s.phase
 
@@ -77,7 +83,7 @@ AreBelow bound [] = Unit {0}
 AreBelow bound (k ∷ ks) = (k < bound) × AreBelow bound ks
 
 -- how the fields of a machine stand for the state that its journal tells
-pub record Stands (journal : Journaled) (time next : ℕ) (root : Option ℕ) (root_left panicked closing : Bool) (tree : TreeRecord) (labels : Labelled) (ready : List ℕ) (ready_spare : ℕ) (alarms : AlarmList) (marks : Rows Mark) (results : Rows TaskResult) (promised : ℕ) : Type 0 where
+pub record Stands (journal : Journaled) (time next : ℕ) (root : Option ℕ) (root_left panicked closing : Bool) (tree : TreeRecord) (labels : Labelled) (ready : List ℕ) (ready_spare : ℕ) (alarms : AlarmList) (marks : Rows Mark) (results : Rows TaskResult) (slots : Rows TaskResult) (senders : Rows (Unit {0})) (promised : ℕ) : Type 0 where
   pub clock_is : journal.told.state.clock ≡ record { time = time; fixed = journal.told.begin }
   pub numbers_are : journal.told.state.numbers ≡ record { first = journal.told.begin.first; next = next }
   pub root_is : journal.told.state.root ≡ root
@@ -90,6 +96,7 @@ pub record Stands (journal : Journaled) (time next : ℕ) (root : Option ℕ) (r
   pub alarms_are : journal.told.state.alarms ≡ alarms
   pub marks_are : journal.told.state.marks ≡ marks.items
   pub results_are : journal.told.state.results ≡ results.items
+  pub slots_are : journal.told.state.slots ≡ record { results = slots.items; senders = senders.items; count = slots.next }
   pub none_drawn : journal.told.state.draws ≡ []
   pub none_owed : journal.told.state.owed ≡ []
   -- after the cleanup has begun every node is ended
@@ -98,6 +105,7 @@ pub record Stands (journal : Journaled) (time next : ℕ) (root : Option ℕ) (r
   pub label_next : labels.count ≡ length tree.nodes
   pub mark_next : marks.next ≡ next
   pub result_next : results.next ≡ next
+  pub sender_next : senders.next ≡ slots.next
   pub promised_is : promised_by journal.told.state ≤ promised
   pub room : promised + places journal.told.state.phase ≤ journal.spare
   -- whoever is woken by any of this has a place in the ready list

@@ -16,7 +16,7 @@ ghost use Rattle.rt_machine.specs.Causes.{error_of};
 use crate::Machine;
 use crate::cause::Cause;
 use crate::room::take_places;
-use rt_audit::{Call, CallReply, Entry, Label, Refusal};
+use rt_audit::{Call, CallReply, Entry, Label, Moment, Refusal};
 use rt_base::{Error, MetricError, Nanos, NoMemory, Text, child_label};
 use rt_super::{Alarms, NOBODY};
 
@@ -194,7 +194,9 @@ impl Machine {
         if due <= self.time {
             self.journal.note(Entry::Call {
                 by,
-                call: Call::SleepPoll { due },
+                call: Call::SleepPoll {
+                    due: Moment::new(due),
+                },
                 reply: CallReply::Ready,
             });
             return Ok(None);
@@ -207,7 +209,9 @@ impl Machine {
         self.promised += 2 * (self.alarms.len() - before);
         self.journal.note(Entry::Call {
             by,
-            call: Call::SleepPoll { due },
+            call: Call::SleepPoll {
+                due: Moment::new(due),
+            },
             reply: CallReply::PendingAt { alarm: number },
         });
         Ok(Some(number))

@@ -12,6 +12,7 @@ pub enum Cause {
     TooManyTasks,
     Exited,
     Closed,
+    Aborted,
     BadLabel,
     Reserved,
 }
@@ -26,6 +27,7 @@ impl Cause {
             Cause::TooManyTasks => Error::TooManyTasks,
             Cause::Exited => Error::Exited,
             Cause::Closed => Error::Closed,
+            Cause::Aborted => Error::Aborted,
             Cause::BadLabel => Error::Metric(MetricError::BadLabel),
             Cause::Reserved => Error::Metric(MetricError::Reserved),
         }

@@ -12,6 +12,7 @@ mod marks;
 mod results;
 mod room;
 mod run_journal;
+mod slots;
 mod tokens;
 mod wakes;
 

@@ -44,6 +44,10 @@ pub struct Machine {
     pub(crate) alarms: Alarms,
     pub(crate) marks: Table<Mark>,
     pub(crate) results: Table<TaskResult>,
+    /// How the slots stand whose receivers weren't spent.
+    pub(crate) slots: Table<TaskResult>,
+    /// The slots whose senders weren't spent.
+    pub(crate) senders: Table<()>,
     /// How many entries may still have to be written without memory, beside those of the phase.
     pub(crate) promised: usize,
 }
@@ -56,7 +60,7 @@ impl Model for Machine {
 
     ghost view = { λ m. record { told = m.journal.told; lacked = m.journal.lacked } };
 
-    ghost invariant = { λ m. Stands m.journal m.time m.next m.root m.root_left m.panicked m.closing m.tree m.labels m.ready.items (vec_capacity m.ready - vec_len m.ready) m.alarms m.marks m.results m.promised };
+    ghost invariant = { λ m. Stands m.journal m.time m.next m.root m.root_left m.panicked m.closing m.tree m.labels m.ready.items (vec_capacity m.ready - vec_len m.ready) m.alarms m.marks m.results m.slots m.senders m.promised };
 }
 
 /// A tree with its first node's label, and room for the first round.
@@ -106,6 +110,8 @@ impl Machine {
             alarms: Alarms::new(alloc),
             marks: Table::new(alloc, begin.first),
             results: Table::new(alloc, begin.first),
+            slots: Table::new(alloc, 0),
+            senders: Table::new(alloc, 0),
             promised: 2,
         })
     }

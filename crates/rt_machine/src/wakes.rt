@@ -1,6 +1,6 @@
 //! The wakes of an event.
 
-ghost use Rattle.std.specs.Prelude.{◌≡◌, ◌≤◌, ◌+◌, ◌-◌, ◌<◌, ◌∷◌, ◌++◌, ◌&&◌, not, [], ℕ, List, drop, length, vec_len, vec_capacity};
+ghost use Rattle.std.specs.Prelude.{◌≡◌, ◌≤◌, ◌+◌, ◌-◌, ◌<◌, ◌∷◌, ◌++◌, ◌&&◌, not, [], ℕ, List, drop, length, vec_len, vec_capacity, if◌then◌else◌};
 ghost use Rattle.rt_model.specs.Lists.{those, find};
 ghost use Rattle.rt_model.specs.Marks.{due_all, due_if, due_of, flag, flag_all, is_left};
 ghost use Rattle.rt_model.specs.Rows.{total};
@@ -101,6 +101,35 @@ pub fn wake_flags(
 {
     while let Some(task) = tree.next_flag() {
         wake_due(journal, ready, marks, task);
+    }
+}
+
+/// Wakes who waits for what a call has met, where somebody does and no cleanup has begun.
+#[tactic(auto, unfolding(rt_model::specs::Effects::after))]
+pub fn wake_waiter(
+    journal: &mut RunJournal,
+    ready: &mut Vec<u64>,
+    closing: bool,
+    waiter: Option<u64>,
+)
+    requires owed { journal.old.told.state.owed ≡ (if closing then [] else those waiter) }
+    requires room { length (those waiter) ≤ journal.old.spare }
+    requires seats { length (those waiter) ≤ vec_capacity ready.old - vec_len ready.old }
+    ensures state { journal.new.told.state ≡ record journal.old.told.state { ready = journal.old.told.state.ready ++ journal.old.told.state.owed; owed = [] } }
+    ensures begin { journal.new.told.begin ≡ journal.old.told.begin }
+    ensures given { journal.new.told.given ≡ journal.old.told.given }
+    ensures past { journal.new.told.past ≡ journal.old.told.past }
+    ensures lacked { journal.new.lacked ≡ journal.old.lacked }
+    ensures spare { journal.old.spare ≤ journal.new.spare + length (those waiter) }
+    ensures ready { ready.new.items ≡ ready.old.items ++ journal.old.told.state.owed }
+    ensures capacity { vec_capacity ready.new ≡ vec_capacity ready.old }
+{
+    if closing {
+        return;
+    }
+    if let Some(task) = waiter {
+        journal.note(Entry::Wake { task });
+        ready.push_reserved(task);
     }
 }
 

@@ -1,12 +1,13 @@
 -- Walks, one after another.
-use Rattle.std.proofs.Common.{◌≡◌, ℕ, List, [], ◌∷◌, ◌++◌, refl}
+use Rattle.std.proofs.Common.{◌≡◌, ℕ, List, [], ◌∷◌, ◌++◌, refl, Result}
+use Rattle.rt_base.specs.declared.error.Error.{Error}
 use Rattle.rt_base.specs.declared.execution.Execution.{Execution}
 use Rattle.rt_audit.specs.declared.call.Call.{Call}
-use Rattle.rt_audit.specs.declared.call.Call.TheVariants.{Child, CloseNode, Spawn, Abort, AbortTask, Wake, Join, GiveUp, SleepPoll}
+use Rattle.rt_audit.specs.declared.call.Call.TheVariants.{Child, CloseNode, Spawn, Abort, AbortTask, Wake, Join, GiveUp, SleepPoll, Slot, SlotSend, SlotClose, SlotPoll, SlotGiveUp, AbortWait}
 use Rattle.rt_audit.specs.declared.reply.CallReply.{CallReply}
-use Rattle.rt_audit.specs.declared.reply.CallReply.TheVariants.{Done, NodeAt, TaskAt, Closed, Pending, PendingAt, Ready, Refused}
+use Rattle.rt_audit.specs.declared.reply.CallReply.TheVariants.{Done, NodeAt, TaskAt, Closed, SlotAt, Pending, PendingAt, Ready, Refused}
 use Rattle.rt_model.specs.State.{Stood, Turn}
-use Rattle.rt_model.specs.Turns.{Ask, Plainly, Sleeping, Sending, Spawning, Held, Asks, IsPlain, Frees, FreesOne, freed_by, heard_of, moved, moved_by}
+use Rattle.rt_model.specs.Turns.{Ask, Plainly, Sleeping, Sending, Spawning, Held, Asks, IsPlain, IsPlainly, IsSpending, call_of, Frees, FreesOne, freed_by, heard_of, moved, moved_by}
 use Rattle.rt_model.specs.Walk.{Step, Does, Spends, Gives, Gave, Goes, Walks, Fronts, Lacks, Stops, then, stood_before}
 
 -- what is said of a step and of what follows from it is said, behind the next turn, of both
@@ -83,30 +84,58 @@ pub frees-append : {A O : Type 0} (ts us : List Turn) (held mid end : Held A O) 
 frees-append [] us held mid end h k = rw (← h) k
 frees-append (t ∷ ts) us held mid end h k = (h.0, h.1, frees-append ts us h.0 mid end h.2 k)
 
-frees-plain : {A O : Type 0} (held : Held A O) (call : Call) (reply : CallReply) → IsPlain call → FreesOne held call reply (freed_by held call reply)
-frees-plain held (Child node label) reply h = refl
-frees-plain held (CloseNode node) reply h = refl
-frees-plain held (Spawn node) reply h = absurd h
-frees-plain held (Abort task) reply h = refl
-frees-plain held (AbortTask task) reply h = refl
-frees-plain held (Wake task) reply h = refl
-frees-plain held (Join task) reply h = refl
-frees-plain held (GiveUp task) reply h = refl
-frees-plain held (SleepPoll due) reply h = refl
+frees-plain : {A O : Type 0} (stood : Stood) (held : Held A O) (call : Call) (reply : CallReply) → IsPlain call → FreesOne stood held call reply (freed_by held call reply)
+frees-plain stood held (Child node label) reply h = refl
+frees-plain stood held (CloseNode node) reply h = refl
+frees-plain stood held (Spawn node) reply h = absurd h
+frees-plain stood held (Abort task) reply h = refl
+frees-plain stood held (AbortTask task) reply h = refl
+frees-plain stood held (Wake task) reply h = refl
+frees-plain stood held (Join task) reply h = refl
+frees-plain stood held (GiveUp task) reply h = refl
+frees-plain stood held (SleepPoll due) reply h = refl
+frees-plain stood held Slot reply h = refl
+frees-plain stood held (SlotSend slot) reply h = absurd h
+frees-plain stood held (SlotClose slot) reply h = refl
+frees-plain stood held (SlotPoll slot) reply h = refl
+frees-plain stood held (SlotGiveUp slot) reply h = refl
+frees-plain stood held (AbortWait slot) reply h = refl
 
-frees-spawn : {A O : Type 0} (held : Held A O) (node : ℕ) (execution : Execution) (made : ℕ → A) (reply : CallReply) → FreesOne held (Spawn node) reply (moved_by held (Spawning node execution made) (Spawn node) reply)
-frees-spawn held node execution made Done = refl
-frees-spawn held node execution made (NodeAt number ended) = refl
-frees-spawn held node execution made (TaskAt task number) = (execution, made number, refl)
-frees-spawn held node execution made Closed = refl
-frees-spawn held node execution made Pending = refl
-frees-spawn held node execution made (PendingAt alarm) = refl
-frees-spawn held node execution made Ready = refl
-frees-spawn held node execution made (Refused error) = refl
+frees-spawn : {A O : Type 0} (stood : Stood) (held : Held A O) (node : ℕ) (execution : Execution) (made : ℕ → A) (reply : CallReply) → FreesOne stood held (Spawn node) reply (moved_by stood held (Spawning node execution made) (Spawn node) reply)
+frees-spawn stood held node execution made (TaskAt task number) = (execution, made number, refl)
+frees-spawn stood held node execution made Done = refl
+frees-spawn stood held node execution made (NodeAt number ended) = refl
+frees-spawn stood held node execution made Closed = refl
+frees-spawn stood held node execution made (SlotAt slot) = refl
+frees-spawn stood held node execution made Pending = refl
+frees-spawn stood held node execution made (PendingAt alarm) = refl
+frees-spawn stood held node execution made Ready = refl
+frees-spawn stood held node execution made (Refused error) = refl
+
+frees-sending : {A O : Type 0} (stood : Stood) (held : Held A O) (slot : ℕ) (sent : Result O Error) (reply : CallReply) → FreesOne stood held (SlotSend slot) reply (moved_by stood held (Sending slot sent) (SlotSend slot) reply)
+frees-sending stood held slot sent Done = (sent, refl)
+frees-sending stood held slot sent (NodeAt number ended) = refl
+frees-sending stood held slot sent (TaskAt task number) = refl
+frees-sending stood held slot sent Closed = refl
+frees-sending stood held slot sent (SlotAt other) = refl
+frees-sending stood held slot sent Pending = refl
+frees-sending stood held slot sent (PendingAt alarm) = refl
+frees-sending stood held slot sent Ready = refl
+frees-sending stood held slot sent (Refused error) = refl
+
+plainly : {O : Type 0} (sent : List (ℕ × Result O Error)) (call : Call) (reply : CallReply) → IsPlainly sent call reply → IsPlain call
+plainly sent (SlotPoll slot) reply h = tt
+plainly sent call reply h = h
+
+pub frees-spent : {A O : Type 0} (stood : Stood) (held : Held A O) (ask : Ask A O) → IsSpending ask → FreesOne stood held (call_of ask) Done (moved_by stood held ask (call_of ask) Done)
+frees-spent stood held (Plainly call) h = frees-plain stood held call Done h
+frees-spent stood held (Sending slot sent) h = frees-sending stood held slot sent Done
+frees-spent stood held (Sleeping due alarm) h = absurd h
+frees-spent stood held (Spawning node execution made) h = absurd h
 
 -- what a turn that was asked moves, its call may move
-pub frees-moved : {A O : Type 0} (held : Held A O) (ask : Ask A O) (t : Turn) → Asks ask t → FreesOne held t.call t.reply (moved held ask t)
-frees-moved held (Plainly call) t h = rw h.0 (frees-plain held call t.reply h.1)
+pub frees-moved : {A O : Type 0} (held : Held A O) (ask : Ask A O) (t : Turn) → Asks held ask t → FreesOne t.stood held t.call t.reply (moved held ask t)
+frees-moved held (Plainly call) t h = rw h.0 (frees-plain t.stood held call t.reply (plainly held.sent call t.reply h.1))
 frees-moved held (Sleeping due alarm) t h = rw h.0 refl
-frees-moved held (Sending call value) t h = rw h.0 (frees-plain held call t.reply h.1)
-frees-moved held (Spawning node execution made) t h = rw h.0 (frees-spawn held node execution made t.reply)
+frees-moved held (Sending slot sent) t h = rw h.0 (frees-sending t.stood held slot sent t.reply)
+frees-moved held (Spawning node execution made) t h = rw h.0 (frees-spawn t.stood held node execution made t.reply)

@@ -3,9 +3,9 @@ use Rattle.std.specs.Prelude.{ℕ, List, [], ◌∷◌, ◌++◌, Option, Some, 
 use Rattle.std.specs.Option.{option_map_or}
 use Rattle.rt_base.specs.Label.{prefixed}
 use Rattle.rt_audit.specs.declared.call.Call.{Call}
-use Rattle.rt_audit.specs.declared.call.Call.TheVariants.{Child, CloseNode, Spawn, Abort, AbortTask, Wake as WakeCall, Join, GiveUp, SleepPoll}
+use Rattle.rt_audit.specs.declared.call.Call.TheVariants.{Child, CloseNode, Spawn, Abort, AbortTask, Wake as WakeCall, Join, GiveUp, SleepPoll, Slot, SlotSend, SlotClose, SlotPoll, SlotGiveUp, AbortWait}
 use Rattle.rt_audit.specs.declared.reply.CallReply.{CallReply}
-use Rattle.rt_audit.specs.declared.reply.CallReply.TheVariants.{Done, NodeAt, TaskAt, Closed, Pending as StillPending, PendingAt, Ready as IsReady}
+use Rattle.rt_audit.specs.declared.reply.CallReply.TheVariants.{Done, NodeAt, TaskAt, Closed, SlotAt, Pending as StillPending, PendingAt, Ready as IsReady}
 use Rattle.rt_audit.specs.declared.answer.AnswerKind.{AnswerKind}
 use Rattle.rt_audit.specs.declared.answer.AnswerKind.TheVariants.{Pending, Ready, Panicked, Stopped, NoMemory, Ended}
 use Rattle.rt_audit.specs.declared.finish.FinishCause.{FinishCause}
@@ -21,6 +21,7 @@ use Rattle.rt_model.specs.declared.result.TaskResult.{TaskResult}
 use Rattle.rt_model.specs.Lists.{find, without, those, without_number, with_number, is_some_number}
 use Rattle.rt_model.specs.Marks.{new_mark, is_flagged, is_ended_at, flag, flag_all, due_of, due_all, leave}
 use Rattle.rt_model.specs.Results.{new_result, waiting, with_outcome, with_abort}
+use Rattle.rt_model.specs.Slots.{Slotted, with_slot, with_sent, with_polled, without_slot, with_wait_aborted}
 use Rattle.rt_model.specs.State.{Phase, Making, Between, Visiting, Entered, Polling, Halted, Ending, Leaving, Turning, Over, Cleaning, Closing, Crashed, Finished, Clock, Numbers, Turn, Stood, State, stood_in}
 use Rattle.rt_model.specs.Alarms.{slept, woken_by}
 use Rattle.rt_model.specs.Causes.{reached, from_running}
@@ -247,21 +248,41 @@ results_after s (Answer task kind) = results_answered s task kind
 results_after s (NodeEnd node) = results_left s.phase s.results
 results_after s _ = s.results
 
+-- slots
+
+abbrev pub slots_called : Slotted → Option ℕ → Call → CallReply → Slotted
+slots_called ss by Slot (SlotAt slot) = with_slot slot ss
+slots_called ss by (SlotSend slot) Done = with_sent There slot ss
+slots_called ss by (SlotClose slot) Done = with_sent IsClosed slot ss
+slots_called ss by (SlotPoll slot) StillPending = with_polled (Open by) slot ss
+slots_called ss by (SlotPoll slot) IsReady = with_polled IsClosed slot ss
+slots_called ss by (SlotGiveUp slot) Done = without_slot slot ss
+slots_called ss by (AbortWait slot) Done = with_wait_aborted slot ss
+slots_called ss by _ _ = ss
+
+abbrev pub slots_after : Slotted → Entry → Slotted
+slots_after ss (CallEntry by call reply) = slots_called ss by call reply
+slots_after ss _ = ss
+
 -- what stands after a call
 abbrev pub stood_called : Stood → Option ℕ → Call → CallReply → Stood
 stood_called s by call reply = record {
   alarms = alarms_called s.alarms by call reply;
   nodes = nodes_called s.nodes call reply;
   results = results_called s.results by call reply;
+  slots = slots_called s.slots by call reply;
 }
 
 -- whom an event must wake
 
-abbrev pub due_called : Bool → List (ℕ × Mark) → Call → CallReply → List ℕ
-due_called false ms (WakeCall task) Done = task ∷ []
-due_called false ms (Abort task) Done = due_of task ms
-due_called false ms (AbortTask task) Done = due_of task ms
-due_called _ ms _ _ = []
+abbrev pub due_called : Bool → List (ℕ × Mark) → Slotted → Call → CallReply → List ℕ
+due_called false ms ss (WakeCall task) Done = task ∷ []
+due_called false ms ss (Abort task) Done = due_of task ms
+due_called false ms ss (AbortTask task) Done = due_of task ms
+due_called false ms ss (SlotSend slot) Done = waiting (find slot ss.results)
+due_called false ms ss (SlotClose slot) Done = waiting (find slot ss.results)
+due_called false ms ss (AbortWait slot) Done = waiting (find slot ss.results)
+due_called _ ms ss _ _ = []
 
 -- a panic that is kept now wakes the root, where it was left pending once
 abbrev pub due_panic : State → List ℕ
@@ -290,7 +311,7 @@ due_node false s node = due_all (flagged_by s.nodes node) s.marks ++ due_left s.
 
 abbrev pub owed_after : State → Entry → List ℕ
 owed_after s (Wake task) = drop 1 s.owed
-owed_after s (CallEntry by call reply) = due_called (is_closing s.phase) s.marks call reply
+owed_after s (CallEntry by call reply) = due_called (is_closing s.phase) s.marks s.slots call reply
 owed_after s (Answer task kind) = due_answered s task kind
 owed_after s (NodeEnd node) = due_node (is_closing s.phase) s node
 owed_after s (Fire number) = woken_by s.alarms.alarms
@@ -409,6 +430,7 @@ after s e = record {
   labels = labels_after s.labels e;
   marks = marks_after s e;
   results = results_after s e;
+  slots = slots_after s.slots e;
   owed = owed_after s e;
   turns = turns_after s e;
 }

@@ -2,14 +2,14 @@
 use Rattle.std.specs.Prelude.{◌≡◌, ◌≢◌, ◌⊎◌, ◌<◌, ◌≤◌, ◌+◌, ◌-◌, ◌^◌, ℕ, List, [], ◌∷◌, Option, Some, None, is_some, option_map, Bool, true, false, not, ◌&&◌, leb, if◌then◌else◌, drop}
 use Rattle.std.specs.List.Sorted.{IsPermutation}
 use Rattle.rt_base.specs.declared.error.Error.{Error}
-use Rattle.rt_base.specs.declared.error.Error.TheVariants.{UnknownToken, TooManyTasks, Exited as HasExited, Closed as ErrClosed, Metric}
+use Rattle.rt_base.specs.declared.error.Error.TheVariants.{UnknownToken, TooManyTasks, Exited as HasExited, Closed as ErrClosed, Aborted, Metric}
 use Rattle.rt_base.specs.declared.metric_error.MetricError.TheVariants.{BadLabel, Reserved}
 use Rattle.rt_base.specs.Label.{is_label, is_reserved, prefixed}
 use Rattle.rt_base.specs.declared.time.TheConstants.{MAX_TIME}
 use Rattle.rt_audit.specs.declared.call.Call.{Call}
-use Rattle.rt_audit.specs.declared.call.Call.TheVariants.{Child, CloseNode, Spawn, Abort, AbortTask, Wake as WakeCall, Join, GiveUp, SleepPoll}
+use Rattle.rt_audit.specs.declared.call.Call.TheVariants.{Child, CloseNode, Spawn, Abort, AbortTask, Wake as WakeCall, Join, GiveUp, SleepPoll, Slot, SlotSend, SlotClose, SlotPoll, SlotGiveUp, AbortWait}
 use Rattle.rt_audit.specs.declared.reply.CallReply.{CallReply}
-use Rattle.rt_audit.specs.declared.reply.CallReply.TheVariants.{Done, NodeAt, TaskAt, Closed, Pending as StillPending, PendingAt, Ready as IsReady, Refused}
+use Rattle.rt_audit.specs.declared.reply.CallReply.TheVariants.{Done, NodeAt, TaskAt, Closed, SlotAt, Pending as StillPending, PendingAt, Ready as IsReady, Refused}
 use Rattle.rt_audit.specs.declared.answer.AnswerKind.{AnswerKind}
 use Rattle.rt_audit.specs.declared.answer.AnswerKind.TheVariants.{Pending, Ready, Panicked, Stopped, NoMemory, Ended}
 use Rattle.rt_audit.specs.declared.finish.FinishCause.{FinishCause}
@@ -80,6 +80,21 @@ abbrev pub JoinAnswers : Option TaskResult → CallReply → Type 0
 JoinAnswers None reply = IsRefusal UnknownToken reply
 JoinAnswers (Some r) reply = OutcomeAnswers r.outcome reply
 
+-- a result that was sent: a value, or any error
+abbrev pub IsSent : CallReply → Type 0
+IsSent IsReady = Unit {0}
+IsSent (Refused error) = Unit {0}
+IsSent _ = ⊥
+
+-- a poll of a slot
+abbrev pub SlotAnswers : Outcome → CallReply → Type 0
+SlotAnswers There reply = IsSent reply
+SlotAnswers outcome reply = OutcomeAnswers outcome reply
+
+abbrev pub ReceiveAnswers : Option TaskResult → CallReply → Type 0
+ReceiveAnswers None reply = IsRefusal UnknownToken reply
+ReceiveAnswers (Some r) reply = Unless r.aborted Aborted (SlotAnswers r.outcome) reply
+
 -- the reply is one that the call may have
 abbrev pub Answers : State → Call → CallReply → Type 0
 Answers s (Child node label) reply = Unless (not (is_live s.nodes node)) UnknownToken (ChildAnswers s node label) reply
@@ -98,6 +113,12 @@ Answers s (WakeCall task) (Refused error) = (error ≡ UnknownToken) × (WasGive
 Answers s (SleepPoll due) IsReady = due ≤ s.clock.time
 Answers s (SleepPoll due) (PendingAt alarm) =
     (s.clock.time < due) × (due ≤ MAX_TIME) × ((alarm ≡ s.alarms.count) ⊎ (is_set s.alarms.alarms due alarm ≡ true))
+Answers s Slot (SlotAt slot) = slot ≡ s.slots.count
+Answers s (SlotSend slot) Done = is_some (find slot s.slots.senders) ≡ true
+Answers s (SlotClose slot) Done = is_some (find slot s.slots.senders) ≡ true
+Answers s (SlotPoll slot) reply = ReceiveAnswers (find slot s.slots.results) reply
+Answers s (SlotGiveUp slot) Done = is_some (find slot s.slots.results) ≡ true
+Answers s (AbortWait slot) Done = may_abort (find slot s.slots.results) ≡ true
 Answers s _ _ = ⊥
 
 -- In a cleanup the task that is ended next makes the calls. Where none is left, a root makes them that was made and not taken in

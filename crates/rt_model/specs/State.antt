@@ -9,6 +9,7 @@ use Rattle.rt_model.specs.declared.begin.Begin.{Begin}
 use Rattle.rt_model.specs.declared.mark.Mark.{Mark}
 use Rattle.rt_model.specs.declared.result.Outcome.{Outcome}
 use Rattle.rt_model.specs.declared.result.TaskResult.{TaskResult}
+use Rattle.rt_model.specs.Slots.{Slotted, no_slots}
 
 -- where the run stands, which decides what may come next
 pub data Phase : Type 0 where
@@ -56,6 +57,7 @@ pub record Stood : Type 0 where
   pub alarms : AlarmList
   pub nodes : TreeRecord
   pub results : List (ℕ × TaskResult)
+  pub slots : Slotted
 
 -- a call with its reply, and what stood when it was made
 pub record Turn : Type 0 where
@@ -87,13 +89,14 @@ pub record State : Type 0 where
   pub marks : List (ℕ × Mark)
   -- the results that were not given up, by their tasks
   pub results : List (ℕ × TaskResult)
+  pub slots : Slotted
   -- the numbers that the last event must still wake
   pub owed : List ℕ
   -- the calls of the part under way
   pub turns : List Turn
 
 abbrev pub stood_in : State → Stood
-stood_in s = record { alarms = s.alarms; nodes = s.nodes; results = s.results }
+stood_in s = record { alarms = s.alarms; nodes = s.nodes; results = s.results; slots = s.slots }
 
 -- before the first entry of a run that begins so: no task, no alarm, and node 0 alone
 unfoldable pub begun : Begin → State
@@ -112,6 +115,7 @@ begun b = record {
   labels = (0, []) ∷ [];
   marks = [];
   results = [];
+  slots = no_slots;
   owed = [];
   turns = [];
 }

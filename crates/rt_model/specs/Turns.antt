@@ -1,23 +1,25 @@
 -- A call of a part: what it carries beside its entry, what is told of it, and which values it moves. Each has a line for each call.
-use Rattle.std.specs.Prelude.{◌≡◌, ℕ, List, [], ◌∷◌, ◌++◌, Option, Some, None, is_some, Bool, true, ltb, if◌then◌else◌}
+use Rattle.std.specs.Prelude.{◌≡◌, ℕ, List, [], ◌∷◌, ◌++◌, Option, Some, None, is_some, option_and_then, Result, Ok, Err, Bool, true, ltb, if◌then◌else◌}
+use Rattle.rt_base.specs.declared.error.Error.{Error}
 use Rattle.rt_base.specs.declared.execution.Execution.{Execution}
 use Rattle.rt_audit.specs.declared.call.Call.{Call}
-use Rattle.rt_audit.specs.declared.call.Call.TheVariants.{CloseNode, Spawn, Abort, Join, GiveUp, SleepPoll}
+use Rattle.rt_audit.specs.declared.call.Call.TheVariants.{CloseNode, Spawn, Abort, Join, GiveUp, SleepPoll, SlotSend, SlotClose, SlotPoll, SlotGiveUp, AbortWait}
 use Rattle.rt_audit.specs.declared.reply.CallReply.{CallReply}
-use Rattle.rt_audit.specs.declared.reply.CallReply.TheVariants.{Done, TaskAt, PendingAt, Ready as IsReady}
+use Rattle.rt_audit.specs.declared.reply.CallReply.TheVariants.{Done, TaskAt, PendingAt, Ready as IsReady, Refused}
 use Rattle.rt_super.specs.Alarms.{AlarmList}
 use Rattle.rt_super.specs.Ancestry.{is_live}
 use Rattle.rt_model.specs.Lists.{find, without}
 use Rattle.rt_model.specs.Results.{may_abort}
+use Rattle.rt_model.specs.Slots.{Slotted, is_open}
 use Rattle.rt_model.specs.State.{Stood, Turn}
 use Rattle.rt_model.specs.Alarms.{alarm_of}
 
--- a call, with what it carries and its entry doesn't keep: the alarm of a sleep, a value that is sent, or where a task that is
--- spawned asks to run, and its state by the number of its node
+-- a call, with what it carries and its entry doesn't keep: the alarm of a sleep, the result that is sent into a slot, or where a task
+-- that is spawned asks to run, and its state by the number of its node
 pub data Ask (A O : Type 0) : Type 0 where
   Plainly : (call : Call) → Ask A O
   Sleeping : (due : ℕ) → (alarm : Option ℕ) → Ask A O
-  Sending : (call : Call) → (value : O) → Ask A O
+  Sending : (slot : ℕ) → (sent : Result O Error) → Ask A O
   Spawning : (node : ℕ) → (execution : Execution) → (made : ℕ → A) → Ask A O
 
 -- what was heard of a call: its reply, or the value that a ready one hands out
@@ -25,17 +27,18 @@ pub data Heard (O : Type 0) : Type 0 where
   Plain : (reply : CallReply) → Heard O
   Handed : (value : O) → Heard O
 
--- the values that the world holds beside its entries: the tasks' states in order of their numbers, the results that wait, and where
--- each task that was spawned asked to run
+-- the values that the world holds beside its entries: the tasks' states in order of their numbers, the results that wait, what was
+-- sent into slots and wasn't taken, and where each task that was spawned asked to run
 pub record Held (A O : Type 0) : Type 0 where
   pub tasks : List (ℕ × A)
   pub results : List (ℕ × O)
+  pub sent : List (ℕ × Result O Error)
   pub executions : List (ℕ × Execution)
 
 abbrev pub call_of : {A O : Type 0} → Ask A O → Call
 call_of (Plainly call) = call
 call_of (Sleeping due alarm) = SleepPoll due
-call_of (Sending call value) = call
+call_of (Sending slot sent) = SlotSend slot
 call_of (Spawning node execution made) = Spawn node
 
 -- a pending sleep is told the number of its own alarm
@@ -47,18 +50,36 @@ IsOwn alarms due alarm _ = Unit {0}
 abbrev pub IsPlain : Call → Type 0
 IsPlain (SleepPoll due) = ⊥
 IsPlain (Spawn node) = ⊥
+IsPlain (SlotSend slot) = ⊥
 IsPlain _ = Unit {0}
 
--- the reply is one that is given to what the call carries
-abbrev pub Fits : {A O : Type 0} → Ask A O → Turn → Type 0
-Fits (Plainly call) t = IsPlain call
-Fits (Sleeping due alarm) t = IsOwn t.stood.alarms due alarm t.reply
-Fits (Sending call value) t = IsPlain call
-Fits (Spawning node execution made) t = Unit {0}
+-- a call that spends a token, of which nothing is told
+abbrev pub IsSpending : {A O : Type 0} → Ask A O → Type 0
+IsSpending (Plainly call) = IsPlain call
+IsSpending (Sending slot sent) = Unit {0}
+IsSpending _ = ⊥
+
+-- what was sent into a slot decides what its poll answers: it is ready with a value, and refused with the error that was sent
+abbrev pub IsAnswerOf : {O : Type 0} → Option (Result O Error) → CallReply → Type 0
+IsAnswerOf None reply = Unit {0}
+IsAnswerOf (Some (Ok value)) reply = reply ≡ IsReady
+IsAnswerOf (Some (Err error)) reply = reply ≡ Refused error
+
+-- a call that carries nothing beside its entry, with a reply that goes by what is held
+abbrev pub IsPlainly : {O : Type 0} → List (ℕ × Result O Error) → Call → CallReply → Type 0
+IsPlainly sent (SlotPoll slot) reply = IsAnswerOf (find slot sent) reply
+IsPlainly sent call reply = IsPlain call
+
+-- the reply is one that is given to what the call carries, and to what is held
+abbrev pub Fits : {A O : Type 0} → Held A O → Ask A O → Turn → Type 0
+Fits held (Plainly call) t = IsPlainly held.sent call t.reply
+Fits held (Sleeping due alarm) t = IsOwn t.stood.alarms due alarm t.reply
+Fits held (Sending slot sent) t = Unit {0}
+Fits held (Spawning node execution made) t = Unit {0}
 
 -- the turn is this call
-abbrev pub Asks : {A O : Type 0} → Ask A O → Turn → Type 0
-Asks ask t = (t.call ≡ call_of ask) × Fits ask t
+abbrev pub Asks : {A O : Type 0} → Held A O → Ask A O → Turn → Type 0
+Asks held ask t = (t.call ≡ call_of ask) × Fits held ask t
 
 -- the tasks with a further one in its place
 abbrev pub with_task : {A : Type 0} → ℕ → A → List (ℕ × A) → List (ℕ × A)
@@ -79,45 +100,70 @@ abbrev pub handed : {O : Type 0} → Option O → CallReply → Heard O
 handed None reply = Plain reply
 handed (Some value) reply = Handed value
 
-abbrev pub heard_by : {O : Type 0} → List (ℕ × O) → Call → CallReply → Heard O
-heard_by results (Join task) IsReady = handed (find task results) IsReady
-heard_by results _ reply = Plain reply
+-- the value that was sent, if it was one
+abbrev pub sent_value : {O : Type 0} → Result O Error → Option O
+sent_value (Ok value) = Some value
+sent_value (Err error) = None
+
+abbrev pub heard_by : {A O : Type 0} → Held A O → Call → CallReply → Heard O
+heard_by held (Join task) IsReady = handed (find task held.results) IsReady
+heard_by held (SlotPoll slot) IsReady = handed (option_and_then sent_value (find slot held.sent)) IsReady
+heard_by held _ reply = Plain reply
 
 abbrev pub heard_of : {A O : Type 0} → Held A O → Turn → Heard O
-heard_of held t = heard_by held.results t.call t.reply
+heard_of held t = heard_by held t.call t.reply
 
 -- without the result of a task
 abbrev pub freed : {A O : Type 0} → ℕ → Held A O → Held A O
 freed k held = record held { results = without k held.results }
 
--- a result that was handed out or given up is gone
+-- without what was sent into a slot
+abbrev pub unsent : {A O : Type 0} → ℕ → Held A O → Held A O
+unsent slot held = record held { sent = without slot held.sent }
+
+-- a result that was handed out or given up is gone. An error that was sent stays, since a refused call changes nothing
 abbrev pub freed_by : {A O : Type 0} → Held A O → Call → CallReply → Held A O
 freed_by held (Join task) IsReady = freed task held
 freed_by held (GiveUp task) Done = freed task held
+freed_by held (SlotPoll slot) IsReady = unsent slot held
+freed_by held (SlotGiveUp slot) Done = unsent slot held
+freed_by held (AbortWait slot) Done = unsent slot held
 freed_by held _ _ = held
 
+-- what is sent is held from then on, where the slot is open. Elsewhere it is let go
+abbrev pub with_sent : {A O : Type 0} → Slotted → ℕ → Result O Error → Held A O → Held A O
+with_sent slots slot sent held =
+    if is_open (find slot slots.results) then record held { sent = with_task slot sent held.sent } else held
+
 -- a task that was spawned is held from then on, in the state that was made for its node
-abbrev pub moved_by : {A O : Type 0} → Held A O → Ask A O → Call → CallReply → Held A O
-moved_by held (Spawning node execution made) call (TaskAt task number) = with_spawned task execution (made number) held
-moved_by held _ call reply = freed_by held call reply
+abbrev pub moved_by : {A O : Type 0} → Stood → Held A O → Ask A O → Call → CallReply → Held A O
+moved_by stood held (Spawning node execution made) call (TaskAt task number) = with_spawned task execution (made number) held
+moved_by stood held (Sending slot sent) call Done = with_sent stood.slots slot sent held
+moved_by stood held _ call reply = freed_by held call reply
 
 -- the values after a turn
 abbrev pub moved : {A O : Type 0} → Held A O → Ask A O → Turn → Held A O
-moved held ask t = moved_by held ask t.call t.reply
+moved held ask t = moved_by t.stood held ask t.call t.reply
 
--- the values behind a call whose ask isn't known: a task that it spawned has some state, and asked to run somewhere
-abbrev pub FreesOne : {A O : Type 0} → Held A O → Call → CallReply → Held A O → Type 0
-FreesOne {A = A} held (Spawn node) (TaskAt task number) end =
+-- the values behind a call whose ask isn't known: a task that it spawned has some state, and asked to run somewhere, and what it sent
+-- is some result
+abbrev pub FreesOne : {A O : Type 0} → Stood → Held A O → Call → CallReply → Held A O → Type 0
+FreesOne {A = A} stood held (Spawn node) (TaskAt task number) end =
     (execution : Execution) × (a : A) × (end ≡ with_spawned task execution a held)
-FreesOne held call reply end = end ≡ freed_by held call reply
+FreesOne {O = O} stood held (SlotSend slot) Done end = (sent : Result O Error) × (end ≡ with_sent stood.slots slot sent held)
+FreesOne stood held call reply end = end ≡ freed_by held call reply
 
 abbrev pub Frees : {A O : Type 0} → Held A O → List Turn → Held A O → Type 0
 Frees held [] end = end ≡ held
-Frees {A = A} {O = O} held (t ∷ ts) end = (mid : Held A O) × FreesOne held t.call t.reply mid × Frees mid ts end
+Frees {A = A} {O = O} held (t ∷ ts) end = (mid : Held A O) × FreesOne t.stood held t.call t.reply mid × Frees mid ts end
 
 -- the token that a call spends is there, and so is the place of its entry. Otherwise the call writes none
 abbrev pub has_place : Stood → Call → Bool
 has_place stood (CloseNode node) = is_live stood.nodes node
 has_place stood (Abort task) = may_abort (find task stood.results)
 has_place stood (GiveUp task) = is_some (find task stood.results)
+has_place stood (SlotSend slot) = is_some (find slot stood.slots.senders)
+has_place stood (SlotClose slot) = is_some (find slot stood.slots.senders)
+has_place stood (SlotGiveUp slot) = is_some (find slot stood.slots.results)
+has_place stood (AbortWait slot) = may_abort (find slot stood.slots.results)
 has_place stood _ = true

@@ -22,7 +22,7 @@ Gave stood held (Gives given state) answer left end = (given ≡ answer) × (sta
 
 -- the next call is this turn, and it goes on from there
 abbrev pub Goes : {A L O R : Type 0} → (Held A O → Step A L O R → Type 0) → Held A O → Step A L O R → Turn → Type 0
-Goes more held (Does ask on) t = Asks ask t × more (moved held ask t) (on (heard_of held t))
+Goes more held (Does ask on) t = Asks held ask t × more (moved held ask t) (on (heard_of held t))
 Goes more held (Spends ask next) t =
     (has_place t.stood (call_of ask) ≡ true → (t.call ≡ call_of ask) × (t.reply ≡ Done) × more (moved held ask t) next)
     × (has_place t.stood (call_of ask) ≡ false → Goes more held next t)

@@ -2,7 +2,7 @@
 
 use crate::digest::agree_on_an_event;
 use rt_audit::{
-    AnswerKind, Call, CallReply, Entry, FinishCause, Journal, Label, Refusal, error_code,
+    AnswerKind, Call, CallReply, Entry, FinishCause, Journal, Label, Moment, Refusal, error_code,
 };
 use rt_base::{Choice, Error, Items, NoMemory, Text};
 use std::alloc::Global;
@@ -33,7 +33,9 @@ fn add_calls(alloc: Global, text: &mut String) -> Result<(), NoMemory> {
         alloc,
         text,
         Some(3),
-        Call::SleepPoll { due: 7 },
+        Call::SleepPoll {
+            due: Moment::new(7),
+        },
         CallReply::Ready,
     )?;
     add_call(
@@ -52,7 +54,15 @@ fn add_calls(alloc: Global, text: &mut String) -> Result<(), NoMemory> {
         CallReply::Refused { error },
     )?;
     let reply = CallReply::PendingAt { alarm: 2 };
-    add_call(alloc, text, Some(0), Call::SleepPoll { due: 7 }, reply)
+    add_call(
+        alloc,
+        text,
+        Some(0),
+        Call::SleepPoll {
+            due: Moment::new(7),
+        },
+        reply,
+    )
 }
 
 fn add_spawns(alloc: Global, text: &mut String) -> Result<(), NoMemory> {

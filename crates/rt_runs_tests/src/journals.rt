@@ -42,6 +42,62 @@ crash
 finish ok
 ";
 
+/// Results are sent into slots. A send wakes who waits, and so does an abort of the wait. A value is taken once, an error stays,
+/// and what is spent is spent.
+const SLOTS: &str = "start 0 - 1000000 0
+root 0
+round 0
+visit 0
+event process_task 0 -
+call 0 slot -> slot 0
+call 0 slot -> slot 1
+call 0 child 0 h -> node 1
+call 0 spawn 1 -> task 1 node 2
+call 0 slot-poll 0 -> pending
+answer 0 pending
+advance 1000000
+round 1
+visit 1
+event process_task 1 h
+call 1 slot-send 0 -> ok
+wake 0
+silent call 1 slot-send 0
+call 1 slot-poll 1 -> pending
+answer 1 pending
+advance 2000000
+round 0
+visit 0
+event process_task 0 -
+call 0 slot-poll 0 -> ready
+call 0 slot-poll 0 -> err 2
+call 0 slot-give-up 0 -> ok
+silent call 0 slot-give-up 0
+call 0 slot-poll 0 -> err 12
+call 0 abort-wait 1 -> ok
+wake 1
+silent call 0 abort-wait 1
+call 0 slot-send 1 -> ok
+silent call 0 slot-close 1
+call 0 slot-poll 1 -> err 3
+call 0 slot -> slot 2
+call 0 slot-send 2 -> ok
+call 0 slot-poll 2 -> err 7
+call 0 slot-poll 2 -> err 7
+call 0 slot-give-up 2 -> ok
+call 0 slot -> slot 3
+call 0 slot-close 3 -> ok
+call 0 slot-poll 3 -> err 2
+answer 0 ready
+cleanup
+nodeend 0
+call 1 close-node 2 -> ok
+answer 1 ended
+call 0 close-node 0 -> ok
+answer 0 ended
+crash
+finish ok
+";
+
 /// A task aborts itself and finishes all the same.
 const ABORTS: &str = "start 0 - 1000000 0
 root 0
@@ -684,8 +740,9 @@ finish tasks
 ";
 
 /// How each run begins, and its journal. A line that begins with `silent` is a call that writes nothing.
-pub const JOURNALS: [(Begin, &str); 19] = [
+pub const JOURNALS: [(Begin, &str); 20] = [
     (BEGIN, MADE),
+    (BEGIN, SLOTS),
     (BEGIN, ABORTS),
     (BEGIN, STOPS),
     (BEGIN, ABORTED),

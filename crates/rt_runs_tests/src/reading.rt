@@ -52,6 +52,8 @@ fn call_in<'a>(words: &[&'a str]) -> Option<Said<'a>> {
         ["call", _, "sleep-poll", due, ..] => Said::SleepPoll(number(due)? as Nanos, None),
         ["call", _, "close-node", node, ..] => Said::CloseNode(number(node)?),
         ["call", _, "spawn", node, ..] => Said::Spawn(number(node)?),
+        ["call", _, "slot", ..] => Said::Slot,
+        ["call", _, "slot-poll", slot, "->", "err", "7"] => Said::SlotPoll(number(slot)?, false),
         ["call", _, word, task, ..] => return call_on_task(word, number(task)?),
         _ => return None,
     })
@@ -64,6 +66,17 @@ fn call_on_task<'a>(word: &str, task: u64) -> Option<Said<'a>> {
         "wake" => Said::Wake(task),
         "join" => Said::Join(task),
         "give-up" => Said::GiveUp(task),
+        word => return call_on_slot(word, task),
+    })
+}
+
+fn call_on_slot<'a>(word: &str, slot: u64) -> Option<Said<'a>> {
+    Some(match word {
+        "slot-send" => Said::SlotSend(slot),
+        "slot-close" => Said::SlotClose(slot),
+        "slot-poll" => Said::SlotPoll(slot, true),
+        "slot-give-up" => Said::SlotGiveUp(slot),
+        "abort-wait" => Said::AbortWait(slot),
         _ => return None,
     })
 }

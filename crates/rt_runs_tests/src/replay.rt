@@ -31,6 +31,13 @@ pub enum Said<'a> {
     GiveUp(u64),
     /// A sleep, with its alarm where it has one.
     SleepPoll(Nanos, Option<u64>),
+    Slot,
+    SlotSend(u64),
+    SlotClose(u64),
+    /// A poll of a slot, into which a value was sent, or else `SendFailed`.
+    SlotPoll(u64, bool),
+    SlotGiveUp(u64),
+    AbortWait(u64),
     Answer(AnswerKind),
 }
 
@@ -139,7 +146,61 @@ impl<'a> Replay<'a> {
                 self.machine.give_up(by, task);
                 Ok(())
             }
+            said => self.call_on_slot(by, said),
+        }
+    }
+
+    /// Makes a call on a slot.
+    fn call_on_slot(&mut self, by: Option<u64>, said: Said<'a>) -> Result<(), NoMemory>
+        requires calling { MayCall self.old.told.state by }
+        requires runs { IfSome by (λ task. has_number task self.old.told.state.running ≡ true) }
+        ensures phase { self.new.told.state.phase ≡ self.old.told.state.phase }
+        ensures root { self.new.told.state.root ≡ self.old.told.state.root }
+        ensures calling { MayCall self.new.told.state by }
+        ensures runs { IfSome by (λ task. has_number task self.new.told.state.running ≡ true) }
+    {
+        match said {
+            Said::Slot => {
+                let _ = self.machine.slot(by)?;
+                Ok(())
+            }
+            Said::SlotSend(slot) => {
+                self.machine.slot_send(by, slot);
+                Ok(())
+            }
+            Said::SlotClose(slot) => {
+                self.machine.slot_close(by, slot);
+                Ok(())
+            }
+            Said::SlotPoll(slot, value) => self.poll_slot(by, slot, value),
+            Said::SlotGiveUp(slot) => {
+                self.machine.slot_give_up(by, slot);
+                Ok(())
+            }
+            Said::AbortWait(slot) => {
+                self.machine.abort_wait(by, slot);
+                Ok(())
+            }
             _ => Err(NoMemory),
+        }
+    }
+
+    /// Polls a slot.
+    fn poll_slot(&mut self, by: Option<u64>, slot: u64, value: bool) -> Result<(), NoMemory>
+        requires calling { MayCall self.old.told.state by }
+        requires runs { IfSome by (λ task. has_number task self.old.told.state.running ≡ true) }
+        ensures phase { self.new.told.state.phase ≡ self.old.told.state.phase }
+        ensures root { self.new.told.state.root ≡ self.old.told.state.root }
+        ensures calling { MayCall self.new.told.state by }
+        ensures runs { IfSome by (λ task. has_number task self.new.told.state.running ≡ true) }
+    {
+        if !self.machine.has_sent(slot) {
+            return told(self.machine.slot_poll(by, slot));
+        }
+        if value {
+            self.machine.take_sent(by, slot)
+        } else {
+            self.machine.show_sent(by, slot, Error::SendFailed)
         }
     }
 

@@ -100,6 +100,7 @@ fn write_entries<K: Sink8>(
 }
 
 /// Puts the line of an entry into the buffer, and writes the buffer out where it is full.
+#[inline(always)]
 #[tactic(auto, using(crate::proofs::Written::written_out, crate::proofs::Written::unwritten))]
 fn write_entry<K: Sink8>(
     alloc: Global,

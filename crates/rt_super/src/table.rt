@@ -1,6 +1,6 @@
 //! What tasks have, by their numbers.
 
-ghost use Rattle.std.specs.Prelude.{◌≡◌, ◌≤◌, ◌<◌, ◌+◌, ◌∷◌, ◌++◌, [], ℕ, None, length, OnOk};
+ghost use Rattle.std.specs.Prelude.{◌≡◌, ◌≤◌, ◌<◌, ◌+◌, ◌∷◌, ◌++◌, [], ℕ, None, length, OnOk, IfSome};
 ghost use Rattle.rt_super.specs.Rows.{find, without, replaced, AreRising};
 
 use rt_base::NoMemory;
@@ -54,6 +54,13 @@ impl<V: Copy> Table<V> {
         ensures few { length self.now.items ≤ self.now.next }
     {
         let _ = &self.places;
+    }
+
+    /// The next number, where it fits.
+    pub fn next(&self) -> Option<u64>
+        ensures { IfSome result (λ next. next ≡ self.now.next) }
+    {
+        self.first.checked_add(self.places.len() as u64)
     }
 
     /// What a task has.

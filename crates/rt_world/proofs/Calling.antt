@@ -5,7 +5,7 @@ use Rattle.rt_base.specs.declared.error.Error.TheVariants.{UnknownToken, TooMany
 use Rattle.rt_base.specs.declared.no_memory.NoMemory.{NoMemory as OutOfMemory}
 use Rattle.rt_base.specs.declared.execution.Execution.{Execution}
 use Rattle.rt_audit.specs.declared.call.Call.{Call}
-use Rattle.rt_audit.specs.declared.call.Call.TheVariants.{Child, CloseNode, Spawn, Abort, AbortTask, Wake, Join, GiveUp, SleepPoll}
+use Rattle.rt_audit.specs.declared.call.Call.TheVariants.{Child, CloseNode, Spawn, Abort, AbortTask, Wake, Join, GiveUp, SleepPoll, Slot, SlotSend, SlotClose, SlotPoll, SlotGiveUp, AbortWait}
 use Rattle.rt_audit.specs.declared.reply.CallReply.{CallReply}
 use Rattle.rt_audit.specs.declared.reply.CallReply.TheVariants.{Done, NodeAt, TaskAt, Pending, PendingAt, Ready, Refused}
 use Rattle.rt_model.specs.declared.result.Outcome.{Outcome}
@@ -14,7 +14,7 @@ use Rattle.rt_model.specs.declared.result.TaskResult.{TaskResult}
 use Rattle.rt_model.specs.Lists.{find, without, has_number, replaced}
 use Rattle.rt_model.specs.Results.{new_result, may_abort, with_outcome}
 use Rattle.rt_super.specs.Ancestry.{is_live}
-use Rattle.rt_model.specs.State.{State, Stood, Phase, Ending}
+use Rattle.rt_model.specs.State.{State, Stood, Phase, Ending, stood_in}
 use Rattle.rt_model.specs.Effects.{numbers_called, running_called, results_called}
 use Rattle.rt_model.specs.Rules.{Answers, CallsAt, JoinAnswers, OutcomeAnswers, SpawnAnswers, Unless, is_free}
 use Rattle.rt_model.specs.Turns.{Ask, Plainly, Spawning, Plain, Handed, with_task, Held, call_of, moved_by}
@@ -61,7 +61,13 @@ module _ {A O : Type 0} (tasks : Roomed (ℕ × A)) (outputs : Roomed (ℕ × O)
     quiet-refused (Join task) e = (refl, refl, refl)
     quiet-refused (GiveUp task) e = (refl, refl, refl)
     quiet-refused (SleepPoll due) e = (refl, refl, refl)
-    quiet-refused _ e = (refl, refl, refl)
+    quiet-refused (Spawn node) e = (refl, refl, refl)
+    quiet-refused Slot e = (refl, refl, refl)
+    quiet-refused (SlotSend slot) e = (refl, refl, refl)
+    quiet-refused (SlotClose slot) e = (refl, refl, refl)
+    quiet-refused (SlotPoll slot) e = (refl, refl, refl)
+    quiet-refused (SlotGiveUp slot) e = (refl, refl, refl)
+    quiet-refused (AbortWait slot) e = (refl, refl, refl)
 
     seated-refused : (call : Call) (e : Error) → IsRefused by old new call e → AreSeated tasks outputs out new.told.state
     seated-refused call e (inl lack) = seated-lacking lack.1
@@ -201,7 +207,7 @@ module _ {A O G : Type 0} (old new : Seen) (held end : Held A O) (panic : Option
   abbrev behind : World A O G
   behind = record { told = new.told; lacked = new.lacked; held = end; panic = panic; out = out; rng = rng }
 
-  pub made-noted : (ask : Ask A O) (reply : CallReply) → Noted out old new (call_of ask) reply → end ≡ moved_by held ask (call_of ask) reply → Made before behind ask reply
+  pub made-noted : (ask : Ask A O) (reply : CallReply) → Noted out old new (call_of ask) reply → end ≡ moved_by (stood_in old.told.state) held ask (call_of ask) reply → Made before behind ask reply
   made-noted ask reply n e = record { answers = n.answers; turns = n.turns; held = e; lacked = n.lacked; stood = n.stood }
 
   pub child-calls : (node : ℕ) (label : List ℕ) (result : Result (ℕ × Bool) Error) → end ≡ held → IfOk result (λ made. Noted out old new (Child node label) (NodeAt made.0 made.1)) → IfErr result (λ e. IsRefused out old new (Child node label) e) → Called (Plainly (Child node label)) before behind (child_told result)

@@ -16,9 +16,9 @@ use Rattle.rt_model.specs.State.{Phase, Making, Polling, Ending, Closing, Stood,
 use Rattle.rt_model.specs.Causes.{ends_next}
 use Rattle.rt_model.specs.Rules.{CallsAt, MayCall}
 use Rattle.rt_model.specs.Alarms.{alarm_of}
-use Rattle.rt_model.specs.Turns.{Frees, Ask, Heard, Plainly, Sleeping, Spawning, Plain, Handed, Held, Asks, IsOwn, IsPlain, FreesOne, call_of, heard_of, moved, has_place}
+use Rattle.rt_model.specs.Turns.{Frees, Ask, Heard, Plainly, Sleeping, Spawning, Plain, Handed, Held, Asks, IsOwn, IsSpending, FreesOne, call_of, heard_of, moved, has_place}
 use Rattle.rt_model.specs.Walk.{Step, Last, Does, Spends, Gives, Walks, Fronts, Lacks, Stops, Breaks, then, followed_by, stood_before}
-use Rattle.rt_model.proofs.Walks.{walks-then, fronts-then, stops-then, stops-first, frees-append, frees-moved}
+use Rattle.rt_model.proofs.Walks.{walks-then, fronts-then, stops-then, stops-first, frees-append, frees-moved, frees-spent}
 use Rattle.rt_machine.specs.Calls.{turn_in, marked, sleep_reply, slept_number, spawn_reply}
 use Rattle.rt_world.specs.World.{World}
 use Rattle.rt_world.specs.Calls.{Stays, Grows, Kept, Made, IsRefused, SpentBy, Joined, lacking}
@@ -93,7 +93,7 @@ has-none false h k = cc
 
 module _ {A L O R G : Type 0} (old mid new : World A O G) (given : Option (R × L)) where
   -- a turn more in front
-  turned-before : (t : Turn) (step next : Step A L O R) → mid.told.state.turns ≡ old.told.state.turns ++ t ∷ [] → FreesOne old.held t.call t.reply mid.held → mid.lacked ≡ old.lacked → t.stood ≡ stood_in old.told.state → ((us : List Turn) (stood : Stood) (end : Held A O) (given : Option (R × L)) → EndsWith next mid.held us stood given end → EndsWith step old.held (t ∷ us) stood given end) → ((front : List Turn) (stood : Stood) → Stops next mid.held front stood → Stops step old.held (t ∷ front) stood) → Turned next mid new given → Turned step old new given
+  turned-before : (t : Turn) (step next : Step A L O R) → mid.told.state.turns ≡ old.told.state.turns ++ t ∷ [] → FreesOne t.stood old.held t.call t.reply mid.held → mid.lacked ≡ old.lacked → t.stood ≡ stood_in old.told.state → ((us : List Turn) (stood : Stood) (end : Held A O) (given : Option (R × L)) → EndsWith next mid.held us stood given end → EndsWith step old.held (t ∷ us) stood given end) → ((front : List Turn) (stood : Stood) → Stops next mid.held front stood → Stops step old.held (t ∷ front) stood) → Turned next mid new given → Turned step old new given
   turned-before t step next is frees lacked stood walk front two = record {
     more = t ∷ two.more;
     turns = two.turns ∙ ap (λ ts. ts ++ two.more) is ∙ append_assoc old.told.state.turns (t ∷ []) two.more;
@@ -112,7 +112,7 @@ module _ {A L O R G : Type 0} (old mid new : World A O G) (given : Option (R × 
         };
   }
 
-  module _ (t : Turn) (ask : Ask A O) (asks : Asks ask t) (is : mid.held ≡ moved old.held ask t) where
+  module _ (t : Turn) (ask : Ask A O) (asks : Asks old.held ask t) (is : mid.held ≡ moved old.held ask t) where
     does-ends : (on : Heard O → Step A L O R) (us : List Turn) (stood : Stood) (end : Held A O) (given : Option (R × L)) → EndsWith (on (heard_of old.held t)) mid.held us stood given end → EndsWith (Does ask on) old.held (t ∷ us) stood given end
     does-ends on us stood end None w = (asks, rw (← is) w)
     does-ends on us stood end (Some g) w = (asks, rw (← is) w)
@@ -121,7 +121,7 @@ module _ {A L O R G : Type 0} (old mid new : World A O G) (given : Option (R × 
     does-stops on front stood w = (asks, rw (← is) w)
 
   -- a call, and then what follows from what was heard of it
-  turned-made : (ask : Ask A O) (reply : CallReply) (heard : Heard O) (on : Heard O → Step A L O R) → Made old mid ask reply → Asks ask (turn_in old.told.state (call_of ask) reply) → heard ≡ heard_of old.held (turn_in old.told.state (call_of ask) reply) → Turned (on heard) mid new given → Turned (Does ask on) old new given
+  turned-made : (ask : Ask A O) (reply : CallReply) (heard : Heard O) (on : Heard O → Step A L O R) → Made old mid ask reply → Asks old.held ask (turn_in old.told.state (call_of ask) reply) → heard ≡ heard_of old.held (turn_in old.told.state (call_of ask) reply) → Turned (on heard) mid new given → Turned (Does ask on) old new given
   turned-made ask reply heard on made asks is two =
       let t = turn_in old.told.state (call_of ask) reply in
       turned-before t (Does ask on) (on heard) made.turns (rw made.held (frees-moved old.held ask t asks)) made.lacked refl
@@ -134,45 +134,45 @@ module _ {A L O R G : Type 0} (old mid new : World A O G) (given : Option (R × 
       turned-made (Sleeping due alarm) (sleep_reply told) (Plain (sleep_reply told)) on made (refl, own-alarm old.told.state.clock.time old.told.state.alarms due alarm told is) refl two
 
   -- a call that spends a token
-  module _ (call : Call) (plain : IsPlain call) (made : Made old mid (Plainly call) Done) (there : has_place (stood_in old.told.state) call ≡ true) where
-    spent-ends : (next : Step A L O R) (us : List Turn) (stood : Stood) (end : Held A O) (given : Option (R × L)) → EndsWith next mid.held us stood given end → EndsWith (Spends (Plainly call) next) old.held (turn_in old.told.state call Done ∷ us) stood given end
-    spent-ends next us stood end None w = (λ place. (refl, refl, rw (← made.held) w), λ none. absurd (has-none (has_place (stood_in old.told.state) call) there none))
-    spent-ends next us stood end (Some g) w = (λ place. (refl, refl, rw (← made.held) w), λ none. absurd (has-none (has_place (stood_in old.told.state) call) there none))
+  module _ (ask : Ask A O) (spends : IsSpending ask) (made : Made old mid ask Done) (there : has_place (stood_in old.told.state) (call_of ask) ≡ true) where
+    spent-ends : (next : Step A L O R) (us : List Turn) (stood : Stood) (end : Held A O) (given : Option (R × L)) → EndsWith next mid.held us stood given end → EndsWith (Spends ask next) old.held (turn_in old.told.state (call_of ask) Done ∷ us) stood given end
+    spent-ends next us stood end None w = (λ place. (refl, refl, rw (← made.held) w), λ none. absurd (has-none (has_place (stood_in old.told.state) (call_of ask)) there none))
+    spent-ends next us stood end (Some g) w = (λ place. (refl, refl, rw (← made.held) w), λ none. absurd (has-none (has_place (stood_in old.told.state) (call_of ask)) there none))
 
-    turned-spent : (next : Step A L O R) → Turned next mid new given → Turned (Spends (Plainly call) next) old new given
+    turned-spent : (next : Step A L O R) → Turned next mid new given → Turned (Spends ask next) old new given
     turned-spent next two =
-        let t = turn_in old.told.state call Done in
-        turned-before t (Spends (Plainly call) next) next made.turns (rw made.held (frees-moved old.held (Plainly call) t (refl, plain))) made.lacked refl
+        let t = turn_in old.told.state (call_of ask) Done in
+        turned-before t (Spends ask next) next made.turns (rw made.held (frees-spent (stood_in old.told.state) old.held ask spends)) made.lacked refl
         (λ us stood end given w. spent-ends next us stood end given w)
-        (λ front stood w. (λ place. (refl, refl, rw (← made.held) w), λ none. absurd (has-none (has_place (stood_in old.told.state) call) there none)))
+        (λ front stood w. (λ place. (refl, refl, rw (← made.held) w), λ none. absurd (has-none (has_place (stood_in old.told.state) (call_of ask)) there none)))
         two
 
 -- a token that has no place is spent by no call
-walks-gone : {A L O R : Type 0} (ts : List Turn) (stood before : Stood) (q : R) (b : L) (held end : Held A O) (call : Call) (next : Step A L O R) → stood_before ts stood ≡ before → has_place before call ≡ false → Walks next held ts stood q b end → Walks (Spends (Plainly call) next) held ts stood q b end
-walks-gone [] stood before q b held end call next stands gone w = (rw stands gone, w)
-walks-gone (t ∷ ts) stood before q b held end call next stands gone w = (λ there. absurd (has-none (has_place t.stood call) there (rw stands gone)), λ none. w)
+walks-gone : {A L O R : Type 0} (ts : List Turn) (stood before : Stood) (q : R) (b : L) (held end : Held A O) (ask : Ask A O) (next : Step A L O R) → stood_before ts stood ≡ before → has_place before (call_of ask) ≡ false → Walks next held ts stood q b end → Walks (Spends ask next) held ts stood q b end
+walks-gone [] stood before q b held end ask next stands gone w = (rw stands gone, w)
+walks-gone (t ∷ ts) stood before q b held end ask next stands gone w = (λ there. absurd (has-none (has_place t.stood (call_of ask)) there (rw stands gone)), λ none. w)
 
-fronts-gone : {A L O R : Type 0} (ts : List Turn) (stood before : Stood) (held : Held A O) (call : Call) (next : Step A L O R) → stood_before ts stood ≡ before → has_place before call ≡ false → Fronts next held ts → Fronts (Spends (Plainly call) next) held ts
-fronts-gone [] stood before held call next stands gone w = tt
-fronts-gone (t ∷ ts) stood before held call next stands gone w = (λ there. absurd (has-none (has_place t.stood call) there (rw stands gone)), λ none. w)
+fronts-gone : {A L O R : Type 0} (ts : List Turn) (stood before : Stood) (held : Held A O) (ask : Ask A O) (next : Step A L O R) → stood_before ts stood ≡ before → has_place before (call_of ask) ≡ false → Fronts next held ts → Fronts (Spends ask next) held ts
+fronts-gone [] stood before held ask next stands gone w = tt
+fronts-gone (t ∷ ts) stood before held ask next stands gone w = (λ there. absurd (has-none (has_place t.stood (call_of ask)) there (rw stands gone)), λ none. w)
 
-stops-gone : {A L O R : Type 0} (ts : List Turn) (stood before : Stood) (held : Held A O) (call : Call) (next : Step A L O R) → stood_before ts stood ≡ before → has_place before call ≡ false → Stops next held ts stood → Stops (Spends (Plainly call) next) held ts stood
-stops-gone [] stood before held call next stands gone w = (rw stands gone, w)
-stops-gone (t ∷ ts) stood before held call next stands gone w = (λ there. absurd (has-none (has_place t.stood call) there (rw stands gone)), λ none. w)
+stops-gone : {A L O R : Type 0} (ts : List Turn) (stood before : Stood) (held : Held A O) (ask : Ask A O) (next : Step A L O R) → stood_before ts stood ≡ before → has_place before (call_of ask) ≡ false → Stops next held ts stood → Stops (Spends ask next) held ts stood
+stops-gone [] stood before held ask next stands gone w = (rw stands gone, w)
+stops-gone (t ∷ ts) stood before held ask next stands gone w = (λ there. absurd (has-none (has_place t.stood (call_of ask)) there (rw stands gone)), λ none. w)
 
 module _ {A L O R G : Type 0} (old new : World A O G) (given : Option (R × L)) where
-  gone-ends : (us : List Turn) (call : Call) (next : Step A L O R) → has_place (stood_in old.told.state) call ≡ false → stood_before us (stood_in new.told.state) ≡ stood_in old.told.state → (given : Option (R × L)) → EndsWith next old.held us (stood_in new.told.state) given new.held → EndsWith (Spends (Plainly call) next) old.held us (stood_in new.told.state) given new.held
-  gone-ends us call next gone stood None w = fronts-gone us (stood_in new.told.state) (stood_in old.told.state) old.held call next stood gone w
-  gone-ends us call next gone stood (Some g) w = walks-gone us (stood_in new.told.state) (stood_in old.told.state) g.0 g.1 old.held new.held call next stood gone w
+  gone-ends : (us : List Turn) (ask : Ask A O) (next : Step A L O R) → has_place (stood_in old.told.state) (call_of ask) ≡ false → stood_before us (stood_in new.told.state) ≡ stood_in old.told.state → (given : Option (R × L)) → EndsWith next old.held us (stood_in new.told.state) given new.held → EndsWith (Spends ask next) old.held us (stood_in new.told.state) given new.held
+  gone-ends us ask next gone stood None w = fronts-gone us (stood_in new.told.state) (stood_in old.told.state) old.held ask next stood gone w
+  gone-ends us ask next gone stood (Some g) w = walks-gone us (stood_in new.told.state) (stood_in old.told.state) g.0 g.1 old.held new.held ask next stood gone w
 
-  turned-gone : (call : Call) (next : Step A L O R) → has_place (stood_in old.told.state) call ≡ false → Turned next old new given → Turned (Spends (Plainly call) next) old new given
-  turned-gone call next gone two = record {
+  turned-gone : (ask : Ask A O) (next : Step A L O R) → has_place (stood_in old.told.state) (call_of ask) ≡ false → Turned next old new given → Turned (Spends ask next) old new given
+  turned-gone ask next gone two = record {
     more = two.more;
     turns = two.turns;
     stood = two.stood;
     frees = two.frees;
     marked = two.marked;
-    ends = λ n. gone-ends two.more call next gone two.stood given (two.ends n);
+    ends = λ n. gone-ends two.more ask next gone two.stood given (two.ends n);
     broke = λ made o n.
         let k = two.broke made o n in
         record {
@@ -180,7 +180,7 @@ module _ {A L O R G : Type 0} (old new : World A O G) (given : Option (R × L)) 
           rest = k.rest;
           are = k.are;
           before = k.before;
-          walks = stops-gone k.front (stood_before k.rest (stood_in new.told.state)) (stood_in old.told.state) old.held call next (sym (stood-both k.front k.rest (stood_in new.told.state)) ∙ sym (ap (λ us. stood_before us (stood_in new.told.state)) k.are) ∙ two.stood) gone k.walks;
+          walks = stops-gone k.front (stood_before k.rest (stood_in new.told.state)) (stood_in old.told.state) old.held ask next (sym (stood-both k.front k.rest (stood_in new.told.state)) ∙ sym (ap (λ us. stood_before us (stood_in new.told.state)) k.are) ∙ two.stood) gone k.walks;
         };
   }
 
@@ -267,9 +267,9 @@ turned-behind {A = A} {L = L} {O = O} {R = R} {G = G} old mid new given later st
         }
 
 -- a token that is spent, and then what comes next
-turned-token : {A L O R G : Type 0} (old mid new : World A O G) (given : Option (R × L)) (call : Call) (next : Step A L O R) → IsPlain call → SpentBy old mid call → Turned next mid new given → (place : Bool) → has_place (stood_in old.told.state) call ≡ place → Turned (Spends (Plainly call) next) old new given
-turned-token old mid new given call next plain spent two true e = turned-spent old mid new given call plain (spent.there e) e next two
-turned-token old mid new given call next plain spent two false e = let same = spent.gone e in turned-gone old new given call next e (rw same at two)
+turned-token : {A L O R G : Type 0} (old mid new : World A O G) (given : Option (R × L)) (ask : Ask A O) (next : Step A L O R) → IsSpending ask → SpentBy old mid ask → Turned next mid new given → (place : Bool) → has_place (stood_in old.told.state) (call_of ask) ≡ place → Turned (Spends ask next) old new given
+turned-token old mid new given ask next plain spent two true e = turned-spent old mid new given ask plain (spent.there e) e next two
+turned-token old mid new given ask next plain spent two false e = let same = spent.gone e in turned-gone old new given ask next e (rw same at two)
 
 -- pollers
 module _ {A L O R M Q G : Type 0} (old mid new : World A O G) (first : Step A L O R) (more : R → L → Step A M O Q) (r : R) (a : L) (q : Q) (b : M) where
@@ -301,10 +301,10 @@ module _ {A L O R G : Type 0} (old mid new : World A O G) (q : R) (b : L) where
   walked-sleep due alarm told on is made two = (turned-sleep old mid new (Some (q, b)) due alarm told on is made two)
 
   -- a token that is spent
-  pub walked-spend : (call : Call) (next : Step A L O R) → IsPlain call → SpentBy old mid call → Walked next mid new q b → Walked (Spends (Plainly call) next) old new q b
+  pub walked-spend : (ask : Ask A O) (next : Step A L O R) → IsSpending ask → SpentBy old mid ask → Walked next mid new q b → Walked (Spends ask next) old new q b
   unfolding Walked
-  walked-spend call next plain spent two =
-      (turned-token old mid new (Some (q, b)) call next plain spent two (has_place (stood_in old.told.state) call) refl)
+  walked-spend ask next plain spent two =
+      (turned-token old mid new (Some (q, b)) ask next plain spent two (has_place (stood_in old.told.state) (call_of ask)) refl)
 
 module _ {A L O R G : Type 0} (w : World A O G) (q : R) (b : L) where
   -- an answer
@@ -323,9 +323,9 @@ module _ {A O G : Type 0} (old mid new : World A O G) where
   unfolding Spent Walked
   spent-followed first next one two = (walked-followed old mid new first next tt tt one two)
 
-  pub spent-spend : (call : Call) (next : Last A O) → IsPlain call → SpentBy old mid call → Spent next mid new → Spent (Spends (Plainly call) next) old new
+  pub spent-spend : (ask : Ask A O) (next : Last A O) → IsSpending ask → SpentBy old mid ask → Spent next mid new → Spent (Spends ask next) old new
   unfolding Spent Walked
-  spent-spend call next plain spent two = (walked-spend old mid new tt tt call next plain spent two)
+  spent-spend ask next plain spent two = (walked-spend old mid new tt tt ask next plain spent two)
 
 module _ {A L O R G : Type 0} (old mid new : World A O G) (first : Step A L O R) (more : R → L → Last A O) (r : R) (a : L) where
   pub spent-then : Walked first old mid r a → Spent (more r a) mid new → Spent (then first more) old new
@@ -351,10 +351,10 @@ module _ {A O G : Type 0} (old mid new : World A O G) (answer : Answer O) (left 
   unfolding Polled
   polled-wake task reply on made two = (turned-made old mid new (answered_by answer left) (Plainly (Wake task)) reply (Plain reply) on made (refl, tt) refl two)
 
-  pub polled-spend : (call : Call) (next : Step A A O (Answer O)) → IsPlain call → SpentBy old mid call → Polled next mid new answer left → Polled (Spends (Plainly call) next) old new answer left
+  pub polled-spend : (ask : Ask A O) (next : Step A A O (Answer O)) → IsSpending ask → SpentBy old mid ask → Polled next mid new answer left → Polled (Spends ask next) old new answer left
   unfolding Polled
-  polled-spend call next plain spent two =
-      (turned-token old mid new (answered_by answer left) call next plain spent two (has_place (stood_in old.told.state) call) refl)
+  polled-spend ask next plain spent two =
+      (turned-token old mid new (answered_by answer left) ask next plain spent two (has_place (stood_in old.told.state) (call_of ask)) refl)
 
   pub polled-sleep : (due : ℕ) (alarm told : Option ℕ) (on : Heard O → Step A A O (Answer O)) → told ≡ slept_number old.told.state.clock.time old.told.state.alarms due alarm → Made old mid (Sleeping due alarm) (sleep_reply told) → Polled (on (Plain (sleep_reply told))) mid new answer left → Polled (Does (Sleeping due alarm) on) old new answer left
   unfolding Polled
@@ -390,10 +390,10 @@ module _ {A O G : Type 0} (old mid new : World A O G) (result : Result A OutOfMe
   rooted-followed first next one two = rooted-then old mid new first (λ answer left. next) tt tt result one two
 
   -- a token that is spent
-  pub rooted-spend : (call : Call) (next : Step A A O (Unit {0})) → IsPlain call → SpentBy old mid call → Rooted next mid new result → Rooted (Spends (Plainly call) next) old new result
+  pub rooted-spend : (ask : Ask A O) (next : Step A A O (Unit {0})) → IsSpending ask → SpentBy old mid ask → Rooted next mid new result → Rooted (Spends ask next) old new result
   unfolding Rooted
-  rooted-spend call next plain spent two =
-      (turned-token old mid new (root_by result) call next plain spent two (has_place (stood_in old.told.state) call) refl)
+  rooted-spend ask next plain spent two =
+      (turned-token old mid new (root_by result) ask next plain spent two (has_place (stood_in old.told.state) (call_of ask)) refl)
 
 module _ {A O G : Type 0} (w : World A O G) where
   pub rooted-gives : (made root : A) → made ≡ root → Rooted (Gives tt made) w w (Ok root)
@@ -419,7 +419,7 @@ module _ {A O G : Type 0} (old new : World A O G) where
   }
 
   -- it was made
-  called-made : (ask : Ask A O) (reply : CallReply) (heard : Heard O) → Made old new ask reply → Asks ask (turn_in old.told.state (call_of ask) reply) → heard ≡ heard_of old.held (turn_in old.told.state (call_of ask) reply) → Called ask old new heard
+  called-made : (ask : Ask A O) (reply : CallReply) (heard : Heard O) → Made old new ask reply → Asks old.held ask (turn_in old.told.state (call_of ask) reply) → heard ≡ heard_of old.held (turn_in old.told.state (call_of ask) reply) → Called ask old new heard
   called-made ask reply heard made asks is = called-as ask heard (λ L R end given on two. turned-made old new end given ask reply heard on made asks is two)
 
   -- it lacked memory
@@ -427,7 +427,7 @@ module _ {A O G : Type 0} (old new : World A O G) where
   called-lacking ask heard is = called-as ask heard (λ L R end given on two. turned-behind old new end given given (Does ask on) (on heard) is tt two)
 
   -- it was refused
-  called-refused : (ask : Ask A O) (error : Error) → ((reply : CallReply) → Asks ask (turn_in old.told.state (call_of ask) (Refused error))) → Plain (Refused error) ≡ heard_of old.held (turn_in old.told.state (call_of ask) (Refused error)) → IsRefused old new ask error → Called ask old new (Plain (Refused error))
+  called-refused : (ask : Ask A O) (error : Error) → ((reply : CallReply) → Asks old.held ask (turn_in old.told.state (call_of ask) (Refused error))) → Plain (Refused error) ≡ heard_of old.held (turn_in old.told.state (call_of ask) (Refused error)) → IsRefused old new ask error → Called ask old new (Plain (Refused error))
   called-refused ask error asks is (inl lack) = called-lacking ask (Plain (Refused error)) lack.1
   called-refused ask error asks is (inr made) = called-made ask (Refused error) (Plain (Refused error)) made (asks (Refused error)) is
 
@@ -635,19 +635,19 @@ module _ {A O G : Type 0} (old new : World A O G) (step : Last A O) where
     makes = λ next end root two. rooted-followed old new end root step next one two;
   }
 
-module _ {A O G : Type 0} (old new : World A O G) (call : Call) where
-  pub closes-on : IsPlain call → SpentBy old new call → Closes call old new
+module _ {A O G : Type 0} (old new : World A O G) (ask : Ask A O) where
+  pub closes-on : IsSpending ask → SpentBy old new ask → Closes ask old new
   closes-on plain one = record {
     spent = one;
-    ends = λ next end two. spent-spend old new end call next plain one two;
-    onward = λ next end given state two. polled-spend old new end given state call next plain one two;
-    makes = λ next end root two. rooted-spend old new end root call next plain one two;
+    ends = λ next end two. spent-spend old new end ask next plain one two;
+    onward = λ next end given state two. polled-spend old new end given state ask next plain one two;
+    makes = λ next end root two. rooted-spend old new end root ask next plain one two;
   }
 
 -- and what is read of it
 module _ {A O G V : Type 0} (old new : World A O G) (read : Heard O → V) (value : V) where
   -- it was made
-  tells-made : (ask : Ask A O) (reply : CallReply) (heard : Heard O) → Made old new ask reply → Asks ask (turn_in old.told.state (call_of ask) reply) → heard ≡ heard_of old.held (turn_in old.told.state (call_of ask) reply) → read heard ≡ value → Goes (tells ask read) old new value tt
+  tells-made : (ask : Ask A O) (reply : CallReply) (heard : Heard O) → Made old new ask reply → Asks old.held ask (turn_in old.told.state (call_of ask) reply) → heard ≡ heard_of old.held (turn_in old.told.state (call_of ask) reply) → read heard ≡ value → Goes (tells ask read) old new value tt
   unfolding tells Walked
   tells-made ask reply heard made asks is e =
       goes-on old new (tells ask read) value tt (turned-made old new new (Some (value, tt)) ask reply heard (λ heard. Gives (read heard) tt) made asks is (turned-none new (Some (value, tt)) (Gives (read heard) tt) (e, refl, refl)))
@@ -658,7 +658,7 @@ module _ {A O G V : Type 0} (old new : World A O G) (read : Heard O → V) (valu
   tells-lacking ask is = goes-on old new (tells ask read) value tt (walked-lacking old new (tells ask read) value tt is tt)
 
   -- it was refused
-  tells-refused : (ask : Ask A O) (error : Error) → Asks ask (turn_in old.told.state (call_of ask) (Refused error)) → Plain (Refused error) ≡ heard_of old.held (turn_in old.told.state (call_of ask) (Refused error)) → IsRefused old new ask error → read (Plain (Refused error)) ≡ value → Goes (tells ask read) old new value tt
+  tells-refused : (ask : Ask A O) (error : Error) → Asks old.held ask (turn_in old.told.state (call_of ask) (Refused error)) → Plain (Refused error) ≡ heard_of old.held (turn_in old.told.state (call_of ask) (Refused error)) → IsRefused old new ask error → read (Plain (Refused error)) ≡ value → Goes (tells ask read) old new value tt
   tells-refused ask error asks is (inl lack) e = tells-lacking ask lack.1
   tells-refused ask error asks is (inr made) e = tells-made ask (Refused error) (Plain (Refused error)) made asks is e
 

@@ -46,7 +46,7 @@ pub record IsPolling {A O G : Type 0} (w : World A O G) (task : ℕ) : Type 0 wh
 pub record Made {A O G : Type 0} (old new : World A O G) (ask : Ask A O) (reply : CallReply) : Type 0 where
   pub answers : Answers old.told.state (call_of ask) reply
   pub turns : new.told.state.turns ≡ old.told.state.turns ++ turn_in old.told.state (call_of ask) reply ∷ []
-  pub held : new.held ≡ moved_by old.held ask (call_of ask) reply
+  pub held : new.held ≡ moved_by (stood_in old.told.state) old.held ask (call_of ask) reply
   pub lacked : new.lacked ≡ old.lacked
   pub stood : stood_in new.told.state ≡ stood_called (stood_in old.told.state) old.out (call_of ask) reply
 
@@ -59,9 +59,9 @@ abbrev pub IsRefused : {A O G : Type 0} → World A O G → World A O G → Ask 
 IsRefused old new ask error = ((error ≡ NoMemory) × (new ≡ lacking old)) ⊎ Made old new ask (Refused error)
 
 -- the call spends a token: where that isn't there it does nothing, and writes no entry
-pub record SpentBy {A O G : Type 0} (old new : World A O G) (call : Call) : Type 0 where
-  pub there : has_place (stood_in old.told.state) call ≡ true → Made old new (Plainly call) Done
-  pub gone : has_place (stood_in old.told.state) call ≡ false → new ≡ old
+pub record SpentBy {A O G : Type 0} (old new : World A O G) (ask : Ask A O) : Type 0 where
+  pub there : has_place (stood_in old.told.state) (call_of ask) ≡ true → Made old new ask Done
+  pub gone : has_place (stood_in old.told.state) (call_of ask) ≡ false → new ≡ old
 
 -- a result was polled: it isn't there, or this value was handed out
 abbrev pub Joined : {A O G : Type 0} → World A O G → World A O G → ℕ → Option O → Type 0

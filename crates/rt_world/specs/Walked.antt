@@ -122,11 +122,11 @@ pub record Spends {A O G : Type 0} (step : Last A O) (old new : World A O G) : T
   pub makes : (next : Step A A O (Unit {0})) (end : World A O G) (root : Result A OutOfMemory) → Rooted next new end root → Rooted (followed_by step next) old end root
 
 -- the same of a call that spends a token
-pub record Closes {A O G : Type 0} (call : Call) (old new : World A O G) : Type 0 where
-  pub spent : SpentBy old new call
-  pub ends : (next : Last A O) (end : World A O G) → Spent next new end → Spent (IsSpent (Plainly call) next) old end
-  pub onward : (next : Step A A O (Answer O)) (end : World A O G) (given : Answer O) (state : A) → Polled next new end given state → Polled (IsSpent (Plainly call) next) old end given state
-  pub makes : (next : Step A A O (Unit {0})) (end : World A O G) (root : Result A OutOfMemory) → Rooted next new end root → Rooted (IsSpent (Plainly call) next) old end root
+pub record Closes {A O G : Type 0} (ask : Ask A O) (old new : World A O G) : Type 0 where
+  pub spent : SpentBy old new ask
+  pub ends : (next : Last A O) (end : World A O G) → Spent next new end → Spent (IsSpent ask next) old end
+  pub onward : (next : Step A A O (Answer O)) (end : World A O G) (given : Answer O) (state : A) → Polled next new end given state → Polled (IsSpent ask next) old end given state
+  pub makes : (next : Step A A O (Unit {0})) (end : World A O G) (root : Result A OutOfMemory) → Rooted next new end root → Rooted (IsSpent ask next) old end root
 
 -- the steps of a poll were walked up to where they go on as others do: whoever walks those from here has walked these
 pub record Leads {A O G : Type 0} (step other : Step A A O (Answer O)) (old new : World A O G) : Type 0 where

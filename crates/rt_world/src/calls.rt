@@ -40,7 +40,7 @@ impl<T, O, G> World<T, O, G> {
     pub fn close_node(&mut self, node: u64)
         requires { MayCall self.old.told.state self.old.out }
         ensures kept { Kept self.old self.new }
-        ensures spent { SpentBy self.old self.new (CloseNode node) }
+        ensures spent { SpentBy self.old self.new (Plainly (CloseNode node)) }
         ensures lacked { self.new.lacked ≡ self.old.lacked }
     {
         self.machine.close_node(self.out, node)
@@ -51,7 +51,7 @@ impl<T, O, G> World<T, O, G> {
     pub fn abort(&mut self, task: u64)
         requires { MayCall self.old.told.state self.old.out }
         ensures kept { Kept self.old self.new }
-        ensures spent { SpentBy self.old self.new (Abort task) }
+        ensures spent { SpentBy self.old self.new (Plainly (Abort task)) }
         ensures lacked { self.new.lacked ≡ self.old.lacked }
     {
         self.machine.abort(self.out, task)
@@ -124,7 +124,7 @@ impl<T, O: Drop, G> World<T, O, G> {
     pub fn give_up(&mut self, task: u64)
         requires { MayCall self.old.told.state self.old.out }
         ensures kept { Kept self.old self.new }
-        ensures spent { SpentBy self.old self.new (GiveUp task) }
+        ensures spent { SpentBy self.old self.new (Plainly (GiveUp task)) }
         ensures lacked { self.new.lacked ≡ self.old.lacked }
     {
         if !self.machine.has_result(task) {

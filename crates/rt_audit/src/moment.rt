@@ -1,0 +1,46 @@
+//! A time in two halves.
+
+ghost use Rattle.std.specs.Prelude.{◌≡◌};
+
+use rt_base::Nanos;
+use std::marker::Model;
+
+/// The numbers of a half.
+const HALF: u128 = 0x1_0000_0000_0000_0000;
+
+/// A time in nanoseconds since the epoch, in two halves: an entry that holds one has no padding before it. Contracts
+/// see the time.
+#[derive(Debug, Drop)]
+pub struct Moment {
+    high: u64,
+    low: u64,
+}
+
+impl Model for Moment {
+    ghost use Rattle.std.specs.Prelude.{ℕ, ◌+◌, ◌*◌, ◌^◌};
+
+    ghost Value = { ℕ };
+
+    ghost view = { λ m. m.high * 2 ^ 64 + m.low };
+}
+
+impl Moment {
+    /// Keeps a time.
+    #[inline(always)]
+    pub fn new(time: Nanos) -> Moment
+        ensures { result ≡ time }
+    {
+        Moment {
+            high: (time / HALF) as u64,
+            low: (time % HALF) as u64,
+        }
+    }
+
+    /// The time.
+    #[inline(always)]
+    pub fn nanos(&self) -> Nanos
+        ensures { result ≡ self.now }
+    {
+        u128::from(self.high) * HALF + u128::from(self.low)
+    }
+}
