@@ -4,9 +4,9 @@ use Rattle.rt_base.specs.declared.error.Error.{Error}
 use Rattle.rt_audit.specs.declared.answer.AnswerKind.{AnswerKind}
 use Rattle.rt_audit.specs.declared.answer.AnswerKind.TheVariants.{Pending, Ready, Panicked, Stopped, NoMemory, Ended}
 use Rattle.rt_audit.specs.declared.call.Call.{Call}
-use Rattle.rt_audit.specs.declared.call.Call.TheVariants.{Abort, AbortTask, Child, CloseNode, GiveUp, Join, Spawn, Wake as WakeCall, SleepPoll}
+use Rattle.rt_audit.specs.declared.call.Call.TheVariants.{Abort, AbortTask, Child, CloseNode, GiveUp, Join, Spawn, Wake as WakeCall, SleepPoll, Slot, SlotSend, SlotClose, SlotPoll, SlotGiveUp, AbortWait}
 use Rattle.rt_audit.specs.declared.reply.CallReply.{CallReply}
-use Rattle.rt_audit.specs.declared.reply.CallReply.TheVariants.{Closed, Done, NodeAt, PendingAt, Ready as IsReady, Refused, TaskAt}
+use Rattle.rt_audit.specs.declared.reply.CallReply.TheVariants.{Closed, Done, NodeAt, PendingAt, Ready as IsReady, Refused, SlotAt, TaskAt}
 use Rattle.rt_audit.specs.declared.entry.Entry.{Entry}
 use Rattle.rt_audit.specs.declared.entry.Entry.TheVariants.{Call as CallEntry, Event, Wake, Draw, NodeEnd, Round, Answer, Cleanup}
 use Rattle.rt_super.specs.Ancestry.{is_ended, is_live}
@@ -46,6 +46,12 @@ answers-quiet s (WakeCall task) Done = refl
 answers-quiet s (WakeCall task) (Refused error) = refl
 answers-quiet s (SleepPoll due) IsReady = refl
 answers-quiet s (SleepPoll due) (PendingAt alarm) = refl
+answers-quiet s Slot (SlotAt slot) = refl
+answers-quiet s (SlotSend slot) Done = refl
+answers-quiet s (SlotClose slot) Done = refl
+answers-quiet s (SlotPoll slot) reply = refl
+answers-quiet s (SlotGiveUp slot) Done = refl
+answers-quiet s (AbortWait slot) Done = refl
 answers-quiet s _ _ = refl
 
 answer-quiet : (s : State) (task : ℕ) (kind : AnswerKind) → MayAnswer s task kind ≡ MayAnswer (quiet s) task kind

@@ -19,6 +19,7 @@ quiet s = record {
   labels = s.labels;
   marks = s.marks;
   results = s.results;
+  slots = s.slots;
   owed = s.owed;
   turns = [];
 }

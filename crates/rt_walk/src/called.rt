@@ -7,6 +7,7 @@ use crate::marks::{add_due, flag};
 use crate::nodes::Nodes;
 use crate::results::{note_abort, set_outcome};
 use crate::running::Running;
+use crate::slots::Slots;
 use crate::table::Table;
 use crate::told_alarms::ToldAlarms;
 use rt_audit::{Call, CallReply};
@@ -46,7 +47,7 @@ pub fn call_alarms(
 {
     match (call, reply) {
         (Call::SleepPoll { due }, CallReply::PendingAt { alarm }) => {
-            alarms.sleep(by, *due, *alarm)
+            alarms.sleep(by, due.nanos(), *alarm)
         }
         _ => Ok(()),
     }
@@ -155,11 +156,12 @@ pub fn call_results(
 pub fn add_due_called(
     closing: bool,
     marks: &Table<Mark>,
+    slots: &Slots,
     call: &Call,
     reply: &CallReply,
     due: &mut Vec<u64>,
 ) -> Result<(), NoMemory>
-    ensures { OnOk result (due.new.items ≡ due.old.items ++ due_called closing marks.now call.now reply.now) }
+    ensures { OnOk result (due.new.items ≡ due.old.items ++ due_called closing marks.now slots.now call.now reply.now) }
 {
     if closing {
         return Ok(());
@@ -168,6 +170,9 @@ pub fn add_due_called(
         (Call::Wake { task }, CallReply::Done) => due.push(*task)?,
         (Call::Abort { task }, CallReply::Done) | (Call::AbortTask { task }, CallReply::Done) =>
             add_due(marks, *task, due)?,
+        (Call::SlotSend { slot }, CallReply::Done)
+        | (Call::SlotClose { slot }, CallReply::Done)
+        | (Call::AbortWait { slot }, CallReply::Done) => slots.add_waiting(*slot, due)?,
         _ => {}
     }
     Ok(())

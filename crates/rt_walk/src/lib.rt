@@ -14,16 +14,11 @@ mod places;
 mod replies;
 mod results;
 mod running;
+mod slots;
 mod stage;
 mod step;
-#[cfg(test)]
-mod supervision_tests;
 mod table;
-#[cfg(test)]
-mod tests;
 mod told_alarms;
-#[cfg(test)]
-mod told_text;
 mod walker;
 
 pub use first::first_unlawful;

@@ -2,16 +2,16 @@
 
 ghost use Rattle.std.specs.Prelude.{◌≡◌, ◌↔◌, IfOk, OnErr, IsTrue, option_map};
 ghost use Rattle.rt_base.specs.declared.error.Error.TheVariants.{UnknownToken, Metric};
-ghost use Rattle.rt_audit.specs.declared.call.Call.TheVariants.{Abort, AbortTask, Child, CloseNode, GiveUp, SleepPoll, Spawn, Wake};
+ghost use Rattle.rt_audit.specs.declared.call.Call.TheVariants.{Abort, AbortTask, Child, CloseNode, GiveUp, SleepPoll, Slot, Spawn, Wake};
 ghost use Rattle.rt_model.specs.Lists.{find};
 ghost use Rattle.rt_walk.specs.Memory.{HasLabel};
-ghost use Rattle.rt_model.specs.Rules.{Answers, ChildAnswers, IsRefusal, JoinAnswers, OutcomeAnswers, SpawnAnswers, Unless, label_refusal};
+ghost use Rattle.rt_model.specs.Rules.{Answers, ChildAnswers, IsRefusal, IsSent, JoinAnswers, OutcomeAnswers, ReceiveAnswers, SpawnAnswers, Unless, label_refusal};
 
 use crate::Walker;
 use crate::results::may_abort;
 use rt_audit::{Call, CallReply, Label};
 use rt_base::{Error, MAX_TIME, MetricError, Nanos, NoMemory, child_label};
-use rt_model::Outcome;
+use rt_model::{Outcome, TaskResult};
 use std::alloc::Global;
 
 impl Walker {
@@ -22,20 +22,20 @@ impl Walker {
     {
         Ok(match call {
             Call::Child { node, label } => self.child_answers(*node, label, reply)?,
-            Call::CloseNode { node } => {
-                matches!(reply, CallReply::Done) && self.nodes.is_live(*node)
-            }
+            Call::CloseNode { node } => is_done(reply) && self.nodes.is_live(*node),
             Call::Spawn { node } => self.spawn_answers(*node, reply),
-            Call::Abort { task } => {
-                matches!(reply, CallReply::Done) && may_abort(&self.results, *task)
-            }
+            Call::Abort { task } => is_done(reply) && may_abort(&self.results, *task),
             Call::AbortTask { task } => self.abort_task_answers(*task, reply),
             Call::Wake { task } => self.wake_answers(*task, reply),
             Call::Join { task } => self.join_answers(*task, reply),
-            Call::GiveUp { task } => {
-                matches!(reply, CallReply::Done) && self.results.get(*task).is_some()
-            }
-            Call::SleepPoll { due } => self.sleep_answers(*due, reply),
+            Call::GiveUp { task } => is_done(reply) && self.results.get(*task).is_some(),
+            Call::SleepPoll { due } => self.sleep_answers(due.nanos(), reply),
+            Call::Slot => self.slot_answers(reply),
+            Call::SlotSend { slot } => is_done(reply) && self.slots.has_sender(*slot),
+            Call::SlotClose { slot } => is_done(reply) && self.slots.has_sender(*slot),
+            Call::SlotPoll { slot } => receive_answers(self.slots.get(*slot), reply),
+            Call::SlotGiveUp { slot } => is_done(reply) && self.slots.get(*slot).is_some(),
+            Call::AbortWait { slot } => is_done(reply) && self.slots.may_abort(*slot),
         })
     }
 
@@ -113,6 +113,15 @@ impl Walker {
         }
     }
 
+    fn slot_answers(&self, reply: &CallReply) -> bool
+        ensures { IsTrue result ↔ Answers self.now Slot reply.now }
+    {
+        match reply {
+            CallReply::SlotAt { slot } => self.slots.is_next(*slot),
+            _ => false,
+        }
+    }
+
     fn sleep_answers(&self, due: Nanos, reply: &CallReply) -> bool
         ensures { IsTrue result ↔ Answers self.now (SleepPoll due) reply.now }
     {
@@ -124,6 +133,33 @@ impl Walker {
             _ => false,
         }
     }
+}
+
+/// Whether a poll of a slot that stands so is told so.
+fn receive_answers(found: Option<TaskResult>, reply: &CallReply) -> bool
+    ensures { IsTrue result ↔ ReceiveAnswers found reply.now }
+{
+    match found {
+        None => is_unknown(reply),
+        Some(found) if found.aborted => is_aborted(reply),
+        Some(found) => match found.outcome {
+            Outcome::There => is_sent(reply),
+            outcome => outcome_answers(outcome, reply),
+        },
+    }
+}
+
+/// Whether a result that was sent may be told so: a value, or any error.
+fn is_sent(reply: &CallReply) -> bool
+    ensures { IsTrue result ↔ IsSent reply.now }
+{
+    matches!(reply, CallReply::Ready | CallReply::Refused { .. })
+}
+
+fn is_done(reply: &CallReply) -> bool
+    ensures { IsTrue result ↔ (reply.now ≡ CallReply.Done) }
+{
+    matches!(reply, CallReply::Done)
 }
 
 /// Whether a result that stands so is told so.
@@ -170,6 +206,15 @@ fn is_closed(reply: &CallReply) -> bool
 {
     match reply {
         CallReply::Refused { error } => matches!(error.error(), Error::Closed),
+        _ => false,
+    }
+}
+
+fn is_aborted(reply: &CallReply) -> bool
+    ensures { IsTrue result ↔ IsRefusal Error.Aborted reply.now }
+{
+    match reply {
+        CallReply::Refused { error } => matches!(error.error(), Error::Aborted),
         _ => false,
     }
 }

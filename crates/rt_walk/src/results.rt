@@ -47,7 +47,11 @@ pub fn set_outcome(results: &mut Table<TaskResult>, task: u64, outcome: Outcome)
 }
 
 /// Adds who waits for a result.
-fn add_waiting(results: &Table<TaskResult>, task: u64, due: &mut Vec<u64>) -> Result<(), NoMemory>
+pub fn add_waiting(
+    results: &Table<TaskResult>,
+    task: u64,
+    due: &mut Vec<u64>,
+) -> Result<(), NoMemory>
     ensures { OnOk result (due.new.items ≡ due.old.items ++ waiting (find task results.now)) }
 {
     if let Some(found) = results.get(task)

@@ -25,7 +25,8 @@ use std::mem;
 #[tactic(auto, unfolding(rt_model::specs::Effects::after))]
 impl Walker {
     /// Takes an entry in. It answers `NoMemory` also where no number is left for a further alarm, for a sleep of the task
-    /// `u64::MAX`, which is no task's number, and for a task or a node whose number was given before. After that answer nothing is known of the walker any more.
+    /// `u64::MAX`, which is no task's number, and for a task, a node or a slot whose number was given before. After that answer
+    /// nothing is known of the walker any more.
     #[tactic(auto, using(crate::proofs::Quiet::quiet_laws), unfolding(rt_model::specs::Effects::after))]
     pub fn step(&mut self, entry: &Entry) -> Result<(), NoMemory>
         ensures here { OnOk result (self.new ≡ quiet (after self.old entry.now)) }
@@ -71,7 +72,14 @@ impl Walker {
     {
         let alloc = self.allocator();
         let mut due = Vec::new(alloc);
-        add_due_called(self.stage.is_closing(), &self.marks, call, reply, &mut due)?;
+        add_due_called(
+            self.stage.is_closing(),
+            &self.marks,
+            &self.slots,
+            call,
+            reply,
+            &mut due,
+        )?;
         if let (Call::Spawn { .. }, CallReply::TaskAt { task, .. }) = (call, reply) {
             self.next = *task as u128 + 1;
         }
@@ -82,6 +90,7 @@ impl Walker {
         call_labels(alloc, &mut self.labels, call, reply)?;
         call_marks(&mut self.marks, call, reply)?;
         call_results(&mut self.results, by, call, reply)?;
+        self.slots.call(by, call, reply)?;
         self.owed = Left::from_vec(due);
         Ok(())
     }

@@ -15,6 +15,7 @@ use crate::left::Left;
 use crate::marks::is_ended_at;
 use crate::nodes::Nodes;
 use crate::running::Running;
+use crate::slots::Slots;
 use crate::stage::Stage;
 use crate::table::Table;
 use crate::told_alarms::ToldAlarms;
@@ -43,6 +44,7 @@ pub struct Walker {
     pub(crate) labels: Table<Text>,
     pub(crate) marks: Table<Mark>,
     pub(crate) results: Table<TaskResult>,
+    pub(crate) slots: Slots,
     pub(crate) owed: Left,
 }
 
@@ -53,7 +55,7 @@ impl Model for Walker {
 
     ghost Value = { State };
 
-    ghost view = { λ w. record { clock = record { time = w.time; fixed = w.begin }; phase = phase_of w.stage; numbers = record { first = w.begin.first; next = w.next }; root = w.root; root_left = w.root_left; panicked = w.panicked; running = w.running; ready = w.ready.items; draws = w.draws.items; alarms = w.alarms; nodes = w.nodes; labels = w.labels; marks = w.marks; results = w.results; owed = w.owed; turns = [] } };
+    ghost view = { λ w. record { clock = record { time = w.time; fixed = w.begin }; phase = phase_of w.stage; numbers = record { first = w.begin.first; next = w.next }; root = w.root; root_left = w.root_left; panicked = w.panicked; running = w.running; ready = w.ready.items; draws = w.draws.items; alarms = w.alarms; nodes = w.nodes; labels = w.labels; marks = w.marks; results = w.results; slots = w.slots; owed = w.owed; turns = [] } };
 }
 
 #[tactic(auto, unfolding(rt_model::specs::Effects::after, rt_model::specs::State::begun))]
@@ -81,6 +83,7 @@ impl Walker {
             labels,
             marks: Table::new(alloc),
             results: Table::new(alloc),
+            slots: Slots::new(alloc),
             owed: Left::new(alloc),
         })
     }

@@ -1,21 +1,33 @@
-// Journals as texts, for tests: a line for each entry, as a journal prints it.
+// Journals as texts: a line for each entry, as a journal prints it.
 
-use crate::first_unlawful;
-use rt_audit::{AnswerKind, Call, CallReply, Entry, FinishCause, Label, Refusal};
-use rt_base::{Error, Items, MetricError, Nanos, NoMemory, Text};
-use rt_model::Begin;
+use rt_audit::{AnswerKind, Call, CallReply, Entry, FinishCause, Label, Moment, Refusal};
+use rt_base::{Choice, Error, Items, MetricError, Nanos, NoMemory, Text};
 use std::alloc::Global;
 
-/// The place of the first line that may not come where it stands, or of one that can't be read.
-pub fn first_line(alloc: Global, begin: Begin, text: &str) -> Result<Option<usize>, NoMemory> {
+/// Why lines aren't read.
+#[derive(Debug, Drop)]
+pub enum Unread {
+    NoMemory,
+    /// The line at this place is no line of a journal.
+    Line(usize),
+}
+
+impl From<NoMemory> for Unread {
+    fn from(_error: NoMemory) -> Unread {
+        Unread::NoMemory
+    }
+}
+
+/// The entries of lines.
+pub fn entries_of(alloc: Global, lines: &[&str]) -> Result<Vec<Entry>, Unread> {
     let mut entries = Vec::new(alloc);
-    for line in text.lines() {
+    for (place, line) in lines.iter().enumerate() {
         match entry(alloc, line)? {
-            Some(entry) => entries.push(entry)?,
-            None => return Ok(Some(entries.len())),
+            Some(entry) => entries.push(entry).map_err(NoMemory::from)?,
+            None => return Err(Unread::Line(place)),
         }
     }
-    first_unlawful(alloc, begin, &[], entries.as_slice())
+    Ok(entries)
 }
 
 /// The entry of a line.
@@ -28,6 +40,7 @@ fn entry(alloc: Global, line: &str) -> Result<Option<Entry>, NoMemory> {
         ["call", by, rest @ ..] => called(alloc, by, rest),
         ["event", "process_task", task, label] => event(alloc, task, label),
         ["round", order @ ..] => round(alloc, order),
+        ["crash", "k"] => Ok(Some(crash(vec![in alloc; Choice::Kept]?))),
         words => Ok(plain_entry(alloc, words)),
     }
 }
@@ -35,14 +48,17 @@ fn entry(alloc: Global, line: &str) -> Result<Option<Entry>, NoMemory> {
 /// The entry of a line that takes no memory.
 fn plain_entry(alloc: Global, words: &[&str]) -> Option<Entry> {
     Some(match words {
-        ["start", now, "-", cycle, next] => Entry::Start {
+        ["start", now, deadline, cycle, next] => Entry::Start {
             next: number(next)?,
-            now: number(now)? as Nanos,
-            deadline: None,
-            cycle: number(cycle)? as Nanos,
+            now: moment(now)?,
+            deadline: deadline_of(deadline)?,
+            cycle: moment(cycle)?,
         },
         ["wake", task] => Entry::Wake {
             task: number(task)?,
+        },
+        ["draw", value] => Entry::Draw {
+            value: number(value)?,
         },
         ["root", task] => Entry::Root {
             task: number(task)?,
@@ -64,19 +80,13 @@ fn clock_entry(alloc: Global, words: &[&str]) -> Option<Entry> {
         ["nodeend", node] => Entry::NodeEnd {
             node: number(node)?,
         },
-        ["advance", now] => Entry::Advance {
-            now: number(now)? as Nanos,
-        },
-        ["skip", now] => Entry::Skip {
-            now: number(now)? as Nanos,
-        },
+        ["advance", now] => Entry::Advance { now: moment(now)? },
+        ["skip", now] => Entry::Skip { now: moment(now)? },
         ["fire", alarm] => Entry::Fire {
             alarm: number(alarm)?,
         },
         ["cleanup"] => Entry::Cleanup,
-        ["crash"] => Entry::Crash {
-            choices: Items::of(Vec::new(alloc)),
-        },
+        ["crash"] => crash(Vec::new(alloc)),
         ["finish", cause] => Entry::Finish {
             cause: cause_of(cause)?,
         },
@@ -86,6 +96,23 @@ fn clock_entry(alloc: Global, words: &[&str]) -> Option<Entry> {
 
 fn number(word: &str) -> Option<u64> {
     word.parse::<u64>().ok()
+}
+
+fn moment(word: &str) -> Option<Nanos> {
+    word.parse::<Nanos>().ok()
+}
+
+fn deadline_of(word: &str) -> Option<Option<Nanos>> {
+    if word == "-" {
+        return Some(None);
+    }
+    Some(Some(moment(word)?))
+}
+
+fn crash(choices: Vec<Choice>) -> Entry {
+    Entry::Crash {
+        choices: Items::of(choices),
+    }
 }
 
 fn kind_of(word: &str) -> Option<AnswerKind> {
@@ -103,8 +130,10 @@ fn kind_of(word: &str) -> Option<AnswerKind> {
 fn cause_of(word: &str) -> Option<FinishCause> {
     Some(match word {
         "ok" => FinishCause::Completed,
+        "timeout" => FinishCause::Timeout,
         "stalled" => FinishCause::Stalled,
         "panicked" => FinishCause::TaskPanicked,
+        "nomemory" => FinishCause::NoMemory,
         _ => return None,
     })
 }
@@ -142,6 +171,7 @@ fn called(alloc: Global, by: &str, words: &[&str]) -> Result<Option<Entry>, NoMe
     let by = number(by);
     let (call, told) = match words {
         ["child", node, label, "->", told @ ..] => (child(alloc, node, label)?, told),
+        ["slot", "->", told @ ..] => (Some(Call::Slot), told),
         [word, of, "->", told @ ..] => (call(word, of), told),
         _ => return Ok(None),
     };
@@ -161,6 +191,11 @@ fn child(alloc: Global, node: &str, label: &str) -> Result<Option<Call>, NoMemor
 }
 
 fn call(word: &str, of: &str) -> Option<Call> {
+    if word == "sleep-poll" {
+        return Some(Call::SleepPoll {
+            due: Moment::new(moment(of)?),
+        });
+    }
     let of = number(of)?;
     Some(match word {
         "close-node" => Call::CloseNode { node: of },
@@ -170,7 +205,11 @@ fn call(word: &str, of: &str) -> Option<Call> {
         "wake" => Call::Wake { task: of },
         "join" => Call::Join { task: of },
         "give-up" => Call::GiveUp { task: of },
-        "sleep-poll" => Call::SleepPoll { due: of as Nanos },
+        "slot-send" => Call::SlotSend { slot: of },
+        "slot-close" => Call::SlotClose { slot: of },
+        "slot-poll" => Call::SlotPoll { slot: of },
+        "slot-give-up" => Call::SlotGiveUp { slot: of },
+        "abort-wait" => Call::AbortWait { slot: of },
         _ => return None,
     })
 }
@@ -198,6 +237,9 @@ fn plain_reply(words: &[&str]) -> Option<CallReply> {
             node: number(node)?,
         },
         ["closed"] => CallReply::Closed,
+        ["slot", slot] => CallReply::SlotAt {
+            slot: number(slot)?,
+        },
         ["pending"] => CallReply::Pending,
         ["pending", alarm] => CallReply::PendingAt {
             alarm: number(alarm)?,
@@ -212,6 +254,7 @@ fn refused(alloc: Global, code: &str) -> Result<Option<CallReply>, NoMemory> {
     let error = match code {
         "1" => Error::Exited,
         "2" => Error::Closed,
+        "3" => Error::Aborted,
         "12" => Error::UnknownToken,
         "13" => Error::TooManyTasks,
         "label" => Error::Metric(MetricError::BadLabel),

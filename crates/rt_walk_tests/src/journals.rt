@@ -1,0 +1,545 @@
+// Journals as texts, a line for each entry.
+
+use rt_model::Begin;
+
+/// From time 0 and number 0 on, with a cycle of a millisecond.
+pub const BEGIN: Begin = Begin {
+    start: 0,
+    cycle: 1_000_000,
+    deadline: None,
+    first: 0,
+    catch: false,
+};
+
+/// With a deadline at ten milliseconds.
+pub const TIMED: Begin = Begin {
+    start: 0,
+    cycle: 1_000_000,
+    deadline: Some(10_000_000),
+    first: 0,
+    catch: false,
+};
+
+/// Where panics are caught.
+pub const CATCHING: Begin = Begin {
+    start: 0,
+    cycle: 1_000_000,
+    deadline: None,
+    first: 0,
+    catch: true,
+};
+
+/// A root that is ready at its first visit.
+pub const READY: &str = "start 0 - 1000000 0
+root 0
+round 0
+visit 0
+event process_task 0 -
+answer 0 ready
+cleanup
+nodeend 0
+call 0 close-node 0 -> ok
+answer 0 ended
+crash
+finish ok
+";
+
+/// A root that sleeps to its alarm.
+pub const SLEEP: &str = "start 0 - 1000000 0
+root 0
+round 0
+visit 0
+event process_task 0 -
+call 0 sleep-poll 10000000 -> pending 0
+answer 0 pending
+advance 1000000
+skip 10000000
+fire 0
+wake 0
+round 0
+visit 0
+event process_task 0 -
+call 0 sleep-poll 10000000 -> ready
+answer 0 ready
+cleanup
+nodeend 0
+call 0 close-node 0 -> ok
+answer 0 ended
+crash
+finish ok
+";
+
+/// A root that sleeps to the deadline.
+pub const LATE: &str = "start 0 10000000 1000000 0
+root 0
+round 0
+visit 0
+event process_task 0 -
+call 0 sleep-poll 10000000 -> pending 0
+answer 0 pending
+advance 1000000
+skip 10000000
+cleanup
+nodeend 0
+call 0 close-node 0 -> ok
+answer 0 ended
+crash
+finish timeout
+";
+
+/// A root that wakes itself twice and then waits, and ends because there is nothing to do. A draw shuffles its second round.
+pub const STALL: &str = "start 0 - 1000000 0
+root 0
+round 0
+visit 0
+event process_task 0 -
+call 0 wake 0 -> ok
+wake 0
+call 0 wake 1 -> err 12
+call 0 wake 0 -> ok
+wake 0
+answer 0 pending
+advance 1000000
+draw 7
+round 0 0
+visit 0
+event process_task 0 -
+answer 0 pending
+visit 0
+event process_task 0 -
+answer 0 pending
+advance 2000000
+cleanup
+nodeend 0
+answer 0 ended
+crash
+finish stalled
+";
+
+/// A run that is cut off before its first round.
+pub const CUT: &str = "start 0 - 1000000 0
+root 0
+cleanup
+nodeend 0
+call 0 close-node 0 -> ok
+answer 0 ended
+crash
+finish nomemory
+";
+
+/// A run that is cut off before its root is taken in.
+pub const UNMADE: &str = "start 0 - 1000000 0
+cleanup
+nodeend 0
+call - close-node 0 -> ok
+crash
+finish nomemory
+";
+
+/// The maker spawns a task, which has a smaller number than the root.
+pub const MADE: &str = "start 0 - 1000000 0
+call - child 0 side -> node 1
+call - spawn 1 -> task 0 node 2
+call - give-up 0 -> ok
+root 1
+round 0 1
+visit 0
+event process_task 0 side
+answer 0 ready
+call 0 close-node 2 -> ok
+answer 0 ended
+nodeend 1
+visit 1
+event process_task 1 -
+answer 1 ready
+cleanup
+nodeend 0
+call 1 close-node 0 -> ok
+answer 1 ended
+crash
+finish ok
+";
+
+/// A task aborts itself and finishes all the same.
+pub const ABORTS: &str = "start 0 - 1000000 0
+root 0
+round 0
+visit 0
+event process_task 0 -
+call 0 child 0 h -> node 1
+call 0 spawn 1 -> task 1 node 2
+call 0 join 1 -> pending
+answer 0 pending
+advance 1000000
+round 1
+visit 1
+event process_task 1 h
+call 1 abort-task 1 -> ok
+answer 1 ready
+call 1 close-node 2 -> ok
+answer 1 ended
+wake 0
+nodeend 1
+advance 2000000
+round 0
+visit 0
+event process_task 0 -
+call 0 join 1 -> ready
+call 0 give-up 1 -> ok
+answer 0 ready
+cleanup
+nodeend 0
+call 0 close-node 0 -> ok
+answer 0 ended
+crash
+finish ok
+";
+
+/// A task aborts itself and is left pending: it ends in that visit, and its own node's end wakes it.
+pub const STOPS: &str = "start 0 - 1000000 0
+root 0
+round 0
+visit 0
+event process_task 0 -
+call 0 abort-task 0 -> err 12
+call 0 child 0 h -> node 1
+call 0 spawn 1 -> task 1 node 2
+call 0 join 1 -> pending
+answer 0 pending
+advance 1000000
+round 1
+visit 1
+event process_task 1 h
+call 1 abort-task 1 -> ok
+answer 1 pending
+call 1 close-node 2 -> ok
+answer 1 ended
+nodeend 1
+wake 1
+wake 0
+advance 2000000
+round 1 0
+visit 0
+event process_task 0 -
+call 0 join 1 -> err 2
+call 0 give-up 1 -> ok
+answer 0 ready
+cleanup
+nodeend 0
+call 0 close-node 0 -> ok
+answer 0 ended
+crash
+finish ok
+";
+
+/// A child ends with its parent, and goes unpolled; another task goes on.
+pub const FAMILY: &str = "start 0 - 1000000 0
+root 0
+round 0
+visit 0
+event process_task 0 -
+call 0 child 0 p -> node 1
+call 0 spawn 1 -> task 1 node 2
+call 0 child 0 s -> node 3
+call 0 spawn 3 -> task 2 node 4
+call 0 join 1 -> pending
+answer 0 pending
+advance 1000000
+round 1 2
+visit 1
+event process_task 1 p
+call 1 child 2 c -> node 5
+call 1 spawn 5 -> task 3 node 6
+call 1 sleep-poll 6000000 -> pending 0
+answer 1 pending
+visit 2
+event process_task 2 s
+call 2 sleep-poll 10000000 -> pending 1
+answer 2 pending
+advance 2000000
+round 3
+visit 3
+event process_task 3 p_c
+answer 3 pending
+advance 3000000
+skip 6000000
+fire 0
+wake 1
+round 1
+visit 1
+event process_task 1 p
+call 1 sleep-poll 6000000 -> ready
+answer 1 ready
+call 1 give-up 3 -> ok
+call 1 close-node 2 -> ok
+answer 1 ended
+wake 0
+nodeend 1
+wake 1
+wake 3
+advance 7000000
+round 0 1 3
+visit 0
+event process_task 0 -
+call 0 join 1 -> ready
+call 0 give-up 1 -> ok
+call 0 join 2 -> pending
+answer 0 pending
+visit 3
+event process_task 3 p_c
+call 3 close-node 6 -> ok
+answer 3 ended
+advance 8000000
+skip 10000000
+fire 1
+wake 2
+round 2
+visit 2
+event process_task 2 s
+call 2 sleep-poll 10000000 -> ready
+answer 2 ready
+call 2 close-node 4 -> ok
+answer 2 ended
+wake 0
+nodeend 3
+wake 2
+advance 11000000
+round 0 2
+visit 0
+event process_task 0 -
+call 0 join 2 -> ready
+call 0 give-up 2 -> ok
+answer 0 ready
+cleanup
+nodeend 0
+call 0 close-node 0 -> ok
+answer 0 ended
+crash
+finish ok
+";
+
+/// A task reports a panic, which is kept. The root waits for that task, and so it is woken twice and visited once.
+pub const PANIC: &str = "start 0 - 1000000 0
+root 0
+round 0
+visit 0
+event process_task 0 -
+call 0 child 0 h -> node 1
+call 0 spawn 1 -> task 1 node 2
+call 0 join 1 -> pending
+answer 0 pending
+advance 1000000
+round 1
+visit 1
+event process_task 1 h
+answer 1 panicked
+call 1 close-node 2 -> ok
+answer 1 ended
+wake 0
+wake 0
+nodeend 1
+advance 2000000
+round 0 0
+visit 0
+event process_task 0 -
+answer 0 stopped
+cleanup
+nodeend 0
+call 0 give-up 1 -> ok
+call 0 close-node 0 -> ok
+answer 0 ended
+crash
+finish panicked
+";
+
+/// The same panic is caught.
+pub const CAUGHT: &str = "start 0 - 1000000 0
+root 0
+round 0
+visit 0
+event process_task 0 -
+call 0 child 0 h -> node 1
+call 0 spawn 1 -> task 1 node 2
+call 0 join 1 -> pending
+answer 0 pending
+advance 1000000
+round 1
+visit 1
+event process_task 1 h
+answer 1 panicked
+call 1 close-node 2 -> ok
+answer 1 ended
+wake 0
+nodeend 1
+advance 2000000
+round 0
+visit 0
+event process_task 0 -
+call 0 join 1 -> err 1
+call 0 give-up 1 -> ok
+answer 0 ready
+cleanup
+nodeend 0
+call 0 close-node 0 -> ok
+answer 0 ended
+crash
+finish ok
+";
+
+/// The root itself panics.
+pub const ROOT_PANIC: &str = "start 0 - 1000000 0
+root 0
+round 0
+visit 0
+event process_task 0 -
+answer 0 panicked
+cleanup
+nodeend 0
+call 0 close-node 0 -> ok
+answer 0 ended
+crash
+finish panicked
+";
+
+/// What calls may be told that are refused or come too late.
+pub const REFUSED: &str = "start 0 - 1000000 0
+root 0
+round 0
+visit 0
+event process_task 0 -
+call 0 child 0 runtimes -> err reserved
+call 0 child 0 9a -> err label
+call 0 child 1 a -> err 12
+call 0 spawn 1 -> err 12
+call 0 abort-task 9 -> err 12
+call 0 wake 9 -> err 12
+call 0 join 9 -> err 12
+call 0 child 0 a -> node 1
+call 0 child 1 runtime -> node 2
+call 0 spawn 2 -> task 1 node 3
+call 0 spawn 2 -> err 12
+call 0 abort 1 -> ok
+call 0 close-node 1 -> ok
+call 0 spawn 1 -> err 12
+answer 0 ready
+cleanup
+nodeend 0
+call 1 child 3 b -> node 4 ended
+call 1 spawn 4 -> closed
+call 1 spawn 4 -> err 12
+call 1 close-node 3 -> ok
+answer 1 ended
+call 0 join 1 -> err 2
+call 0 give-up 1 -> ok
+call 0 close-node 0 -> ok
+answer 0 ended
+crash
+finish ok
+";
+
+/// A cleanup ends the tasks in order of their numbers, the root last, whose number is the middle one.
+pub const CLEANUP: &str = "start 0 - 1000000 0
+call - child 0 side -> node 1
+call - spawn 1 -> task 0 node 2
+call - give-up 0 -> ok
+root 1
+round 1 0
+visit 1
+event process_task 1 -
+call 1 child 0 h -> node 3
+call 1 spawn 3 -> task 2 node 4
+answer 1 ready
+cleanup
+nodeend 0
+call 0 close-node 2 -> ok
+answer 0 ended
+call 2 close-node 4 -> ok
+answer 2 ended
+call 1 give-up 2 -> ok
+call 1 close-node 0 -> ok
+answer 1 ended
+crash
+finish ok
+";
+
+/// A task that stands on node 0 ends it before the cleanup, which then ends no node.
+pub const NODE_ENDED: &str = "start 0 - 1000000 0
+call - spawn 0 -> task 0 node 1
+root 1
+round 0 1
+visit 0
+event process_task 0 -
+answer 0 ready
+call 0 close-node 1 -> ok
+answer 0 ended
+nodeend 0
+visit 1
+event process_task 1 -
+answer 1 ready
+cleanup
+answer 1 ended
+crash
+finish ok
+";
+
+/// A task sends to the root by slots: a value and an error, one slot is closed, one was given up, and the wait for one is
+/// aborted. Each that the root waits for wakes it.
+pub const SLOTS: &str = "start 0 - 1000000 0
+root 0
+round 0
+visit 0
+event process_task 0 -
+call 0 child 0 h -> node 1
+call 0 spawn 1 -> task 1 node 2
+call 0 slot -> slot 0
+call 0 slot -> slot 1
+call 0 slot -> slot 2
+call 0 slot -> slot 3
+call 0 slot -> slot 4
+call 0 slot-poll 0 -> pending
+call 0 slot-poll 1 -> pending
+call 0 slot-poll 2 -> pending
+call 0 slot-give-up 3 -> ok
+call 0 slot-poll 3 -> err 12
+answer 0 pending
+advance 1000000
+round 1
+visit 1
+event process_task 1 h
+call 1 slot-send 0 -> ok
+wake 0
+call 1 slot-close 1 -> ok
+wake 0
+call 1 abort-wait 2 -> ok
+wake 0
+call 1 slot-send 3 -> ok
+call 1 slot-send 4 -> ok
+call 1 slot-send 2 -> ok
+answer 1 ready
+call 1 close-node 2 -> ok
+answer 1 ended
+nodeend 1
+advance 2000000
+round 0 0 0
+visit 0
+event process_task 0 -
+call 0 slot-poll 0 -> ready
+call 0 slot-poll 0 -> err 2
+call 0 slot-poll 1 -> err 2
+call 0 slot-poll 2 -> err 3
+call 0 slot-poll 4 -> err 13
+call 0 slot-poll 4 -> err 13
+call 0 slot-give-up 4 -> ok
+call 0 slot-poll 4 -> err 12
+call 0 give-up 1 -> ok
+answer 0 ready
+cleanup
+nodeend 0
+call 0 slot-give-up 0 -> ok
+call 0 slot-give-up 1 -> ok
+call 0 slot-give-up 2 -> ok
+call 0 close-node 0 -> ok
+answer 0 ended
+crash
+finish ok
+";

@@ -1,0 +1,376 @@
+// Journals that are lawful to their ends, and copies with the place of the line that is refused.
+
+use crate::copies::Change::{Instead, Missing};
+use crate::copies::{
+    ABORTS_OF_ITSELF, CLEANUPS, Change, Copied, DEADLINES, FAMILIES, FIRES, NODES, ORDERS, PANICS,
+    REFUSALS, SLEEPS, SLOT_POLLS, SLOT_SENDS, SPAWNS, SPAWNS_ON_AN_ENDED_NODE, STARTS,
+    STOPS_OF_ITSELF, VISITS, VISITS_WITH_AN_END, WAKES,
+};
+use crate::journals::{
+    ABORTS, BEGIN, CATCHING, CAUGHT, CLEANUP, CUT, FAMILY, LATE, MADE, NODE_ENDED, PANIC, READY,
+    REFUSED, ROOT_PANIC, SLEEP, SLOTS, STALL, STOPS, TIMED, UNMADE,
+};
+use crate::many::{MANY_ALARMS, MANY_TASKS, joined};
+use crate::told_text::{Unread, entries_of};
+use rt_audit::Entry;
+use rt_base::NoMemory;
+use rt_model::Begin;
+use rt_walk::{Walker, first_unlawful};
+use std::alloc::Global;
+use std::test::Fail;
+
+/// The lines of texts that follow one another.
+fn lines_of<'a>(alloc: Global, texts: &[&'a str]) -> Result<Vec<&'a str>, NoMemory> {
+    let mut lines = Vec::new(alloc);
+    for text in texts {
+        for line in text.lines() {
+            lines.push(line)?;
+        }
+    }
+    Ok(lines)
+}
+
+/// The lines with this change.
+fn changed(
+    mut lines: Vec<&'static str>,
+    at: usize,
+    change: Change,
+) -> Result<Vec<&'static str>, NoMemory> {
+    if lines.len() < at {
+        return Ok(lines);
+    }
+    if at < lines.len() && !matches!(change, Change::Before(_)) {
+        lines.remove(at);
+    }
+    match change {
+        Change::Missing => {}
+        Change::Instead(line) | Change::Before(line) => lines.insert(at, line)?,
+    }
+    Ok(lines)
+}
+
+/// The place of the first line that may not come where it stands.
+fn first_of(
+    alloc: Global,
+    begin: Begin,
+    later: &[Begin],
+    lines: &[&str],
+) -> Result<Option<usize>, Unread> {
+    let entries = entries_of(alloc, lines)?;
+    Ok(first_unlawful(alloc, begin, later, entries.as_slice())?)
+}
+
+/// Journals with what begins each.
+const JOURNALS: &[(&str, Begin, &str)] = &[
+    ("one ready root", BEGIN, READY),
+    ("a sleep to its alarm", BEGIN, SLEEP),
+    ("a deadline before the alarm", TIMED, LATE),
+    ("a root that wakes itself and stalls", BEGIN, STALL),
+    ("a run that is cut off where memory lacked", BEGIN, CUT),
+    ("a run that is cut off before its root", BEGIN, UNMADE),
+    ("a task that the maker spawned", BEGIN, MADE),
+    ("an abort of itself", BEGIN, ABORTS),
+    ("an abort of itself that is left pending", BEGIN, STOPS),
+    ("a child that ends with its parent", BEGIN, FAMILY),
+    ("a reported panic", BEGIN, PANIC),
+    ("a caught panic", CATCHING, CAUGHT),
+    ("a panic of the root", BEGIN, ROOT_PANIC),
+    (
+        "a panic of the root that isn't caught",
+        CATCHING,
+        ROOT_PANIC,
+    ),
+    ("refused calls", BEGIN, REFUSED),
+    ("a cleanup by numbers", BEGIN, CLEANUP),
+    ("a node that ended before the cleanup", BEGIN, NODE_ENDED),
+    ("slots of a sender and a receiver", BEGIN, SLOTS),
+];
+
+/// The end of the first front of a journal that isn't lawful.
+fn unlawful_front(alloc: Global, begin: Begin, text: &str) -> Result<Option<usize>, Unread> {
+    let lines = lines_of(alloc, &[text])?;
+    for end in 0..lines.len() {
+        if first_of(alloc, begin, &[], &lines[..end])?.is_some() {
+            return Ok(Some(end));
+        }
+    }
+    first_of(alloc, begin, &[], lines.as_slice())
+}
+
+#[test]
+fn whole_journals_and_their_fronts(rt: HostRuntime) -> Result<(), Fail> {
+    for (name, begin, text) in JOURNALS {
+        let front = unlawful_front(rt.alloc(), *begin, text)?;
+        assert_eq!(rt; front, None, "in {name}");
+    }
+    Ok(())
+}
+
+/// A journal, how it begins, and copies that are refused where they were changed.
+type Copies = (Begin, &'static str, &'static [Copied]);
+
+const OF_A_ROOT: &[Copies] = &[
+    (BEGIN, READY, STARTS),
+    (BEGIN, READY, VISITS),
+    (BEGIN, READY, CLEANUPS),
+    (BEGIN, SLEEP, SLEEPS),
+    (BEGIN, SLEEP, FIRES),
+    (TIMED, LATE, DEADLINES),
+    (BEGIN, STALL, WAKES),
+];
+
+const OF_TASKS: &[Copies] = &[
+    (BEGIN, MADE, SPAWNS),
+    (BEGIN, MADE, VISITS_WITH_AN_END),
+    (BEGIN, ABORTS, ABORTS_OF_ITSELF),
+    (BEGIN, STOPS, STOPS_OF_ITSELF),
+    (BEGIN, FAMILY, FAMILIES),
+];
+
+const OF_PANICS_AND_REFUSALS: &[Copies] = &[
+    (BEGIN, PANIC, PANICS),
+    (BEGIN, REFUSED, REFUSALS),
+    (BEGIN, REFUSED, SPAWNS_ON_AN_ENDED_NODE),
+    (BEGIN, CLEANUP, ORDERS),
+    (BEGIN, NODE_ENDED, NODES),
+];
+
+const OF_SLOTS: &[Copies] = &[(BEGIN, SLOTS, SLOT_POLLS), (BEGIN, SLOTS, SLOT_SENDS)];
+
+/// The first of the copies of a journal that isn't refused at its place.
+fn not_refused(
+    alloc: Global,
+    begin: Begin,
+    text: &'static str,
+    copies: &[Copied],
+) -> Result<Option<&'static str>, Unread> {
+    for (name, at, change) in copies {
+        let lines = changed(lines_of(alloc, &[text])?, *at, *change)?;
+        if first_of(alloc, begin, &[], lines.as_slice())? != Some(*at) {
+            return Ok(Some(*name));
+        }
+    }
+    Ok(None)
+}
+
+/// The first of these copies that isn't refused at its place.
+fn first_kept(alloc: Global, table: &[Copies]) -> Result<Option<&'static str>, Unread> {
+    for (begin, text, copies) in table {
+        let kept = not_refused(alloc, *begin, text, copies)?;
+        if kept.is_some() {
+            return Ok(kept);
+        }
+    }
+    Ok(None)
+}
+
+#[test]
+fn damaged_copies_of_a_root(rt: HostRuntime) -> Result<(), Fail> {
+    assert_eq!(rt; first_kept(rt.alloc(), OF_A_ROOT)?, None);
+    Ok(())
+}
+
+#[test]
+fn damaged_copies_of_tasks(rt: HostRuntime) -> Result<(), Fail> {
+    assert_eq!(rt; first_kept(rt.alloc(), OF_TASKS)?, None);
+    Ok(())
+}
+
+#[test]
+fn damaged_copies_of_panics_and_refusals(rt: HostRuntime) -> Result<(), Fail> {
+    assert_eq!(rt; first_kept(rt.alloc(), OF_PANICS_AND_REFUSALS)?, None);
+    Ok(())
+}
+
+#[test]
+fn damaged_copies_of_slots(rt: HostRuntime) -> Result<(), Fail> {
+    assert_eq!(rt; first_kept(rt.alloc(), OF_SLOTS)?, None);
+    Ok(())
+}
+
+/// Runs that follow one another, with a change, and the line that is refused.
+struct Walk {
+    name: &'static str,
+    begins: (Begin, &'static [Begin]),
+    texts: &'static [&'static str],
+    change: Option<(usize, Change)>,
+    first: Option<usize>,
+}
+
+fn walked(alloc: Global, walk: &Walk) -> Result<Option<usize>, Unread> {
+    let (begin, later) = walk.begins;
+    let mut lines = lines_of(alloc, walk.texts)?;
+    if let Some((at, change)) = walk.change {
+        lines = changed(lines, at, change)?;
+    }
+    first_of(alloc, begin, later, lines.as_slice())
+}
+
+/// What a change allows, or makes of a later line.
+const ELSEWHERE: &[Walk] = &[
+    Walk {
+        name: "a skip to before a sleep to the last moment",
+        begins: (BEGIN, &[]),
+        texts: &[SLEEP],
+        change: Some((
+            5,
+            Instead("call 0 sleep-poll 9223372036854775807999999999 -> pending 0"),
+        )),
+        first: Some(8),
+    },
+    Walk {
+        name: "a sleep of a task at its end",
+        begins: (BEGIN, &[]),
+        texts: &[MADE],
+        change: Some((9, Instead("call 0 sleep-poll 5 -> pending 0"))),
+        first: None,
+    },
+    Walk {
+        name: "a wake of a task at its end, which comes next",
+        begins: (BEGIN, &[]),
+        texts: &[MADE],
+        change: Some((9, Instead("call 0 wake 1 -> ok"))),
+        first: Some(10),
+    },
+    Walk {
+        name: "a second wake that is owed to nobody where the panic is caught",
+        begins: (CATCHING, &[]),
+        texts: &[PANIC],
+        change: None,
+        first: Some(17),
+    },
+    Walk {
+        name: "a second wake that is owed where the panic is kept",
+        begins: (BEGIN, &[]),
+        texts: &[CAUGHT],
+        change: None,
+        first: Some(17),
+    },
+];
+
+/// A run behind a completed one goes by the next beginning, from its own state: its root has its own number, and no alarm
+/// of the run before is set.
+const RUNS: &[Walk] = &[
+    Walk {
+        name: "two runs that complete, and one that doesn't",
+        begins: (BEGIN, &[BEGIN, TIMED]),
+        texts: &[READY, SLEEP, LATE],
+        change: None,
+        first: None,
+    },
+    Walk {
+        name: "another beginning for the second",
+        begins: (BEGIN, &[TIMED, TIMED]),
+        texts: &[READY, SLEEP, LATE],
+        change: None,
+        first: Some(12),
+    },
+    Walk {
+        name: "another beginning for the third",
+        begins: (BEGIN, &[BEGIN, BEGIN]),
+        texts: &[READY, SLEEP, LATE],
+        change: None,
+        first: Some(34),
+    },
+    Walk {
+        name: "the crash of the first is missing",
+        begins: (BEGIN, &[BEGIN, TIMED]),
+        texts: &[READY, SLEEP, LATE],
+        change: Some((10, Missing)),
+        first: Some(10),
+    },
+    Walk {
+        name: "the finish of the first is missing",
+        begins: (BEGIN, &[BEGIN, TIMED]),
+        texts: &[READY, SLEEP, LATE],
+        change: Some((11, Missing)),
+        first: Some(11),
+    },
+    Walk {
+        name: "the finish of the second is missing",
+        begins: (BEGIN, &[BEGIN, TIMED]),
+        texts: &[READY, SLEEP, LATE],
+        change: Some((33, Missing)),
+        first: Some(33),
+    },
+    Walk {
+        name: "the start of the second is missing",
+        begins: (BEGIN, &[BEGIN, TIMED]),
+        texts: &[READY, SLEEP, LATE],
+        change: Some((12, Missing)),
+        first: Some(12),
+    },
+    Walk {
+        name: "the start of the third is missing",
+        begins: (BEGIN, &[BEGIN, TIMED]),
+        texts: &[READY, SLEEP, LATE],
+        change: Some((34, Missing)),
+        first: Some(34),
+    },
+    Walk {
+        name: "a third run that nothing begins",
+        begins: (BEGIN, &[BEGIN]),
+        texts: &[READY, SLEEP, LATE],
+        change: None,
+        first: Some(34),
+    },
+    Walk {
+        name: "a beginning that no run has",
+        begins: (BEGIN, &[TIMED]),
+        texts: &[READY],
+        change: None,
+        first: None,
+    },
+    Walk {
+        name: "a run behind one that failed",
+        begins: (TIMED, &[BEGIN]),
+        texts: &[LATE, READY],
+        change: None,
+        first: Some(15),
+    },
+];
+
+#[test]
+fn several_runs(rt: HostRuntime) -> Result<(), Fail> {
+    for walks in [ELSEWHERE, RUNS] {
+        for walk in walks {
+            assert_eq!(rt; walked(rt.alloc(), walk)?, walk.first, "at {}", walk.name);
+        }
+    }
+    Ok(())
+}
+
+#[test]
+fn thousands(rt: HostRuntime) -> Result<(), Fail> {
+    let alloc = rt.alloc();
+    for (pieces, first, end, entries) in [
+        (MANY_ALARMS, 0, 1000, 6015),
+        (MANY_TASKS, 1, 1001, 9014),
+    ] {
+        let text = joined(alloc, pieces, first, end)?;
+        let lines = lines_of(alloc, &[text.as_str()])?;
+        assert_eq!(rt; lines.len(), entries);
+        assert_eq!(rt; first_of(alloc, BEGIN, &[], lines.as_slice())?, None);
+    }
+    Ok(())
+}
+
+/// Whether a walker takes this start in, and no second one.
+fn starts_once(alloc: Global, start: &Entry) -> Result<bool, NoMemory> {
+    let mut walker = Walker::new(alloc, BEGIN)?;
+    let may = walker.may(start)?;
+    walker.step(start)?;
+    Ok(may && !walker.may(start)?)
+}
+
+#[test]
+fn surface(rt: HostRuntime) -> Result<(), Fail> {
+    let alloc = rt.alloc();
+    let entries = entries_of(alloc, &["start 0 - 1000000 0"])?;
+    for start in &entries {
+        assert!(rt; starts_once(alloc, start)?);
+    }
+    assert_eq!(rt; entries.len(), 1);
+    assert_eq!(rt; first_unlawful(alloc, BEGIN, &[], &[])?, None);
+    Ok(())
+}
