@@ -190,7 +190,7 @@ fn calls_of<S: Storage>(alloc: Global, store: &mut S) -> Result<usize, Error> {
     store.close(blob);
     let found = store.scan(&mut NoEnv, "p")?.len();
     store.remove(&mut NoEnv, "p", None)?;
-    Ok(read? + found)
+    Ok(read?.wrapping_add(found))
 }
 
 #[test]

@@ -488,7 +488,7 @@ fn write_large(alloc: Global, store: &mut MemStore, writer: Write<MemStore>) -> 
 /// Reads a mebibyte by one buffer, but for its last byte.
 fn read_large(store: &mut MemStore, reader: &mut Read<MemStore>) -> Result<usize, Error> {
     let first = reader.read(store, &mut NoEnv, 1)?;
-    Ok(first.len() + reader.buffer_remaining())
+    Ok(first.len().wrapping_add(reader.buffer_remaining()))
 }
 
 #[test]
