@@ -1,6 +1,6 @@
 // Each call once, how ends reach down a tree, and many of each.
 use rt_base::{Error, MAX_TIME, Poll};
-use rt_super::{Alarms, NOBODY, Signals, Slots, Stopped, Stopper, Tree};
+use rt_super::{Alarms, NOBODY, Slots, Tree};
 use std::alloc::Global;
 use std::process::Abort;
 use std::test::Fail;
@@ -27,9 +27,7 @@ fn surface(rt: HostRuntime) -> Result<(), Fail> {
     tree.end(root);
     assert!(rt; tree.is_over() && tree.is_ended(root));
     surface_of_alarms(&rt, rt.alloc())?;
-    surface_of_slots(&rt, rt.alloc())?;
-    surface_of_signals(&rt, rt.alloc())?;
-    surface_of_stops(&rt, rt.alloc())
+    surface_of_slots(&rt, rt.alloc())
 }
 
 fn surface_of_alarms(rt: &impl Abort, alloc: Global) -> Result<(), Fail> {
@@ -65,38 +63,6 @@ fn surface_of_slots(rt: &impl Abort, alloc: Global) -> Result<(), Fail> {
     assert_eq!(rt; slots.poll(slot, NOBODY), Poll::Ready(None));
     slots.give_up(slot);
     assert!(rt; !slots.holds(slot));
-    Ok(())
-}
-
-fn surface_of_signals(rt: &impl Abort, alloc: Global) -> Result<(), Fail> {
-    let mut signals = Signals::new(alloc);
-    let group = signals.add()?;
-    let other = signals.clone_signal(group)?;
-    assert_eq!(rt; signals.poll_signal(other, 7), Ok(Poll::Pending));
-    assert_eq!(rt; signals.poll_completion(group, 8), Ok(Poll::Pending));
-    signals.signal(group, -5);
-    assert_eq!(rt; signals.next_woken(), Some(7));
-    assert_eq!(rt; signals.poll_signal(other, NOBODY), Ok(Poll::Ready(-5)));
-    signals.close_signal(group);
-    assert_eq!(rt; signals.next_woken(), None);
-    signals.close_signal(other);
-    assert_eq!(rt; signals.next_woken(), Some(8));
-    assert_eq!(rt; signals.poll_completion(group, 8), Ok(Poll::Ready(())));
-    signals.close_completion(group);
-    assert_eq!(rt; signals.poll_completion(group, 8), Err(Error::UnknownToken));
-    assert_eq!(rt; signals.clone_signal(group), Err(Error::UnknownToken));
-    Ok(())
-}
-
-fn surface_of_stops(rt: &impl Abort, alloc: Global) -> Result<(), Fail> {
-    let mut signals = Signals::new(alloc);
-    let given_up = signals.add()?;
-    signals.close_signaler(given_up);
-    assert_eq!(rt; signals.poll_signal(given_up, 1), Err(Error::Closed));
-    let mut stopper = Stopper::new(&mut signals)?;
-    assert_eq!(rt; stopper.stopped(&mut signals)?, Stopped::Waiting(2));
-    assert_eq!(rt; stopper.stop(&mut signals, 3)?, 3);
-    assert_eq!(rt; stopper.stopped(&mut signals)?, Stopped::Resolved(3));
     Ok(())
 }
 
@@ -217,94 +183,5 @@ fn slots_come_beside_slots_of_all_kinds(rt: HostRuntime) -> Result<(), Fail> {
         };
         assert_eq!(rt; answer, wanted);
     }
-    Ok(())
-}
-
-/// A group whose further signals wait, each in the name of its own number.
-fn hold(signals: &mut Signals, holders: u64) -> Result<u64, Error> {
-    let group = signals.add()?;
-    for _ in 0..holders {
-        let signal = signals.clone_signal(group)?;
-        let _ = signals.poll_signal(signal, signal)?;
-    }
-    Ok(group)
-}
-
-#[test]
-fn all_who_wait_are_woken_in_order_and_the_last_completes(rt: HostRuntime) -> Result<(), Fail> {
-    for holders in [0, 1, 10_000] {
-        let mut signals = Signals::new(rt.alloc());
-        let _ = hold(&mut signals, 3)?;
-        let group = hold(&mut signals, holders)?;
-        let _ = hold(&mut signals, 3)?;
-        assert_eq!(rt; signals.poll_completion(group, 1), Ok(Poll::Pending));
-        signals.signal(group, 9);
-        for signal in group + 1..group + 1 + holders {
-            assert_eq!(rt; signals.next_woken(), Some(signal));
-        }
-        assert_eq!(rt; signals.next_woken(), None);
-        for signal in group..group + holders {
-            signals.close_signal(signal);
-            assert_eq!(rt; signals.next_woken(), None);
-            assert_eq!(rt; signals.poll_signal(signal + 1, 2), Ok(Poll::Ready(9)));
-            assert_eq!(rt; signals.poll_signal(signal + 1, 2), Ok(Poll::Ready(9)));
-            assert_eq!(rt; signals.poll_completion(group, signal), Ok(Poll::Pending));
-        }
-        signals.close_signal(group + holders);
-        let last = if holders == 0 { 1 } else { group + holders - 1 };
-        assert_eq!(rt; signals.next_woken(), Some(last));
-        assert_eq!(rt; signals.poll_completion(group, 1), Ok(Poll::Ready(())));
-    }
-    Ok(())
-}
-
-#[test]
-fn the_first_stop_decides(rt: HostRuntime) -> Result<(), Fail> {
-    let mut signals = Signals::new(rt.alloc());
-    let mut stopper = Stopper::new(&mut signals)?;
-    let Stopped::Waiting(signal) = stopper.stopped(&mut signals)? else {
-        panic!(rt; "nobody stopped yet");
-    };
-    assert_eq!(rt; signals.poll_signal(signal, 1), Ok(Poll::Pending));
-    for (value, woken) in [(3, Some(1)), (4, None), (i32::MIN, None)] {
-        let completion = stopper.stop(&mut signals, value)?;
-        assert_eq!(rt; signals.next_woken(), woken);
-        assert_eq!(rt;
-            signals.poll_completion(completion, completion),
-            Ok(Poll::Pending)
-        );
-        assert_eq!(rt; signals.poll_signal(signal, 1), Ok(Poll::Ready(3)));
-        assert_eq!(rt; stopper.stopped(&mut signals)?, Stopped::Resolved(3));
-    }
-    signals.close_signal(signal);
-    for completion in signal + 1..signal + 4 {
-        assert_eq!(rt; signals.next_woken(), Some(completion));
-    }
-    assert_eq!(rt; signals.next_woken(), None);
-    let mut others = Signals::new(rt.alloc());
-    let completion = stopper.stop(&mut others, 5)?;
-    assert_eq!(rt; others.add()?, completion + 1);
-    others.signal(completion + 1, 5);
-    others.close_signal(completion + 1);
-    assert_eq!(rt; others.poll_completion(completion, 1), Ok(Poll::Pending));
-    Ok(())
-}
-
-#[test]
-fn a_given_up_signaler_closes_its_signals(rt: HostRuntime) -> Result<(), Fail> {
-    let mut signals = Signals::new(rt.alloc());
-    let group = hold(&mut signals, 100)?;
-    assert_eq!(rt; signals.poll_completion(group, 1), Ok(Poll::Pending));
-    signals.close_signaler(group);
-    for signal in group + 1..group + 101 {
-        assert_eq!(rt; signals.next_woken(), Some(signal));
-    }
-    assert_eq!(rt; signals.next_woken(), None);
-    signals.signal(group, 9);
-    let late = signals.clone_signal(group)?;
-    for signal in [group, group + 100, late] {
-        assert_eq!(rt; signals.poll_signal(signal, 1), Err(Error::Closed));
-    }
-    assert_eq!(rt; signals.poll_completion(group, 1), Err(Error::UnknownToken));
     Ok(())
 }
