@@ -14,8 +14,7 @@ use crate::shared_blob::{SharedBlob, add_blob, has_place, hold, inner_of, let_go
 use crate::stage::{Hold, Passed, Stage, add_ticket, held_at, pass_on, put_passed, take_passed};
 use rt_base::{BlobVersion, Env, Error, NoMemory, Poll, ReadOptions, WriteOptions};
 use rt_bufs::{IoBufs, IoBufsMut};
-use rt_store::ticket::copy_of;
-use rt_store::{BlobOf, Done, Storage, Ticket};
+use rt_store::{BlobOf, Done, Storage, Ticket, copy_of};
 use std::alloc::Global;
 
 /// A store that holds each started sync back until a test releases it, and once that is armed also the next sync of any

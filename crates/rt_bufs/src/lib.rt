@@ -2,11 +2,11 @@
 //! several owners. A contract sees a buffer as the list of its bytes.
 #![tactic(auto)]
 
-pub mod builder;
-pub mod io_buf;
-pub mod io_buf_mut;
-pub mod io_bufs;
-pub mod io_bufs_mut;
+mod builder;
+mod io_buf;
+mod io_buf_mut;
+mod io_bufs;
+mod io_bufs_mut;
 
 pub use builder::Builder;
 pub use io_buf::IoBuf;

@@ -1,12 +1,12 @@
 // What no clause says: printed texts, and that calls succeed where there is memory.
 
-use rt_base::retried::{read_retried, write_retried};
 use rt_base::{
     Addr, BLOB_PAGE_SIZE, BlobLayout, BlobVersion, Choice, DEFAULT_BLOB_LAYOUT,
     DEFAULT_BLOB_VERSION, Env, Error, Event, Execution, Failed, IoKind, Ip, Items, ListSink,
     ListSource, MAX_TIME, MetricError, Name, NoEnv, NoMemory, Poll, ReadOptions, Refused, SafeSink,
     SafeSource, Sink8, Source, StdSink, StdSource, Text, Unread, WriteOptions, add_attribute,
-    child_label, prefixed_name, read_whole, validate_label, write_whole,
+    child_label, prefixed_name, read_retried, read_whole, validate_label, write_retried,
+    write_whole,
 };
 use std::alloc::Global;
 use std::io;

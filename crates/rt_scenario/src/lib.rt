@@ -3,14 +3,14 @@
 
 mod draft;
 mod handles;
-pub mod kind;
-pub mod line;
+mod kind;
+mod line;
 mod named_line;
 mod names;
 mod numbers;
 mod open_script;
-pub mod reader;
-pub mod scenario;
+mod reader;
+mod scenario;
 mod split;
 mod stop;
 mod tasks;

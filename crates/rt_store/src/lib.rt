@@ -3,28 +3,28 @@
 #![tactic(auto)]
 
 mod auditing;
-pub mod blob;
+mod blob;
 mod change;
-pub mod collecting;
+mod collecting;
 mod content;
 mod crash;
 mod directory;
 mod draws;
-pub mod faults;
-pub mod file;
+mod faults;
+mod file;
 mod files;
 mod finding;
-pub mod mem_store;
-pub mod mutation;
+mod mem_store;
+mod mutation;
 mod names;
 mod opening;
 mod reading;
-pub mod snapshot;
-pub mod storage;
+mod snapshot;
+mod storage;
 mod store;
 #[cfg(test)]
 mod tests;
-pub mod ticket;
+mod ticket;
 
 pub use blob::Blob;
 pub use collecting::collect_reads;
@@ -32,4 +32,4 @@ pub use faults::{FaultConfig, PartialWriteMode, ResizeConfig, WriteConfig};
 pub use mem_store::MemStore;
 pub use snapshot::Snapshot;
 pub use storage::{BlobOf, Storage};
-pub use ticket::{Done, Ticket};
+pub use ticket::{Done, Ticket, copy_of};
