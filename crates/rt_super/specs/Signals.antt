@@ -147,9 +147,9 @@ completion_closed r completion = record r { completions = without completion r.c
 
 -- polls
 
--- what the signals of a group show: its value, each time, or that none comes any more
+-- what the signals of a group show: its value, each time, or that none comes any more. A group that isn't there never gets one
 abbrev pub shown : Option SignalGroup → Result (Poll ℤ) Error
-shown None = Err UnknownToken
+shown None = Ok Pending
 shown (Some g) = elim g.value [ Some value ↦ Ok (Ready value) | None ↦ if g.alive then Ok Pending else Err Closed ]
 
 abbrev pub signal_answer : SignalRecord → ℕ → Result (Poll ℤ) Error

@@ -107,7 +107,8 @@ impl Signals {
     }
 
     /// The value that a signal shows, each time, in the name of a task, which waits where none
-    /// came yet; with `NOBODY` nobody waits.
+    /// came yet; with `NOBODY` nobody waits. The signal of a group that was never made stays
+    /// without one.
     ///
     /// Errors: `UnknownToken` where no open signal has the number, `Closed` where the signaler was
     /// given up without a value.
@@ -120,19 +121,16 @@ impl Signals {
         let Some(token) = self.signals.get(signal) else {
             return Err(Error::UnknownToken);
         };
-        let Some(group) = self.groups.get(token.group) else {
-            return Err(Error::UnknownToken);
-        };
-        match group.value {
-            Some(value) => Ok(Poll::Ready(value)),
-            None => {
-                if !group.alive {
-                    return Err(Error::Closed);
-                }
-                self.signals.wait(signal, waker(task));
-                Ok(Poll::Pending)
+        if let Some(group) = self.groups.get(token.group) {
+            if let Some(value) = group.value {
+                return Ok(Poll::Ready(value));
+            }
+            if !group.alive {
+                return Err(Error::Closed);
             }
         }
+        self.signals.wait(signal, waker(task));
+        Ok(Poll::Pending)
     }
 
     /// Whether the value of a completion's group came and each signal of the group was given up,
