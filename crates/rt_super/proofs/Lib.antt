@@ -5,3 +5,4 @@ pub mod Shapes
 pub mod AlarmLemmas
 pub mod Rows
 pub mod TokenLemmas
+pub mod Shutdowns

@@ -1,8 +1,8 @@
 -- Signals: values that are shown once to all who hold a signal of a group. A group has a signaler, by whose number it goes; signals,
 -- which show its value; and completions, which are met once the value came and every signal was given up.
-use Rattle.std.specs.Prelude.{ℕ, ℤ, ◌+◌, ◌==◌, ◌&&◌, if◌then◌else◌, nat_lt, Bool, true, false, not, List, [], ◌∷◌, ◌++◌, map, Option, Some, None, is_some, Result, Ok, Err}
+use Rattle.std.specs.Prelude.{◌≡◌, ℕ, ℤ, ◌+◌, ◌==◌, ◌&&◌, if◌then◌else◌, nat_lt, Bool, true, false, not, List, [], ◌∷◌, ◌++◌, map, Option, Some, None, is_some, IsSome, Result, Ok, Err}
 use Rattle.std.specs.List.{list_any}
-use Rattle.std.specs.Option.{option_map_or}
+use Rattle.std.specs.Option.{option_map, option_map_or}
 use Rattle.rt_base.specs.declared.poll.Poll.{Poll}
 use Rattle.rt_base.specs.declared.poll.Poll.TheVariants.{Ready, Pending}
 use Rattle.rt_base.specs.declared.error.Error.{Error}
@@ -60,9 +60,12 @@ unwaited group ts = map (λ t. if t.1.group == group then (t.0, new_token group)
 
 -- a new group, under the next number
 
+abbrev pub new_group : SignalGroup
+new_group = record { value = None; alive = true }
+
 abbrev pub with_group : SignalRecord → SignalRecord
 with_group r = record {
-  groups = r.groups ++ (r.count, record { value = None; alive = true }) ∷ [];
+  groups = r.groups ++ (r.count, new_group) ∷ [];
   signals = r.signals ++ (r.count, new_token r.count) ∷ [];
   completions = r.completions ++ (r.count, new_token r.count) ∷ [];
   count = r.count + 1;
@@ -207,3 +210,25 @@ stopped_after r s = elim s.value [ None ↦ with_signal r s.group | Some value �
 
 abbrev pub stopped_answer : SignalRecord → StopRecord → Stopped
 stopped_answer r s = elim s.value [ None ↦ Waiting r.count | Some value ↦ Resolved value ]
+
+-- the shutdown's group is there: as it was made until the first stop, and from then on with the value of the first stop, for good
+abbrev pub IsShutdown : SignalRecord → StopRecord → Type 0
+IsShutdown r s = group_of r s.group ≡ Some (record { value = s.value; alive = not (is_some s.value) })
+
+-- each shutdown stays one
+abbrev pub KeepShutdowns : SignalRecord → SignalRecord → Type 0
+KeepShutdowns old new = (s : StopRecord) → IsShutdown old s → IsShutdown new s
+
+-- each shutdown stays one, but for one of this group that nobody stopped yet
+abbrev pub KeepOthers : ℕ → SignalRecord → SignalRecord → Type 0
+KeepOthers group old new = (s : StopRecord) → (s.group ≡ group → IsSome s.value) → IsShutdown old s → IsShutdown new s
+
+-- what the open signals of a shutdown show: the value of the first stop, once it came
+abbrev pub stop_shown : StopRecord → Result (Poll ℤ) Error
+stop_shown s = elim s.value [ None ↦ Ok Pending | Some value ↦ Ok (Ready value) ]
+
+abbrev pub signal_group : SignalRecord → ℕ → Option ℕ
+signal_group r signal = option_map (λ t. t.group) (find signal r.signals)
+
+abbrev pub ShowShutdown : SignalRecord → StopRecord → Type 0
+ShowShutdown r s = (signal : ℕ) → signal_group r signal ≡ Some s.group → signal_answer r signal ≡ stop_shown s

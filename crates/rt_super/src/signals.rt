@@ -1,9 +1,9 @@
 // Values that are shown once to all who hold a signal.
-ghost use Rattle.std.specs.Prelude.{◌≡◌, ◌≤◌, ◌+◌, ◌*◌, ◌++◌, ◌⊎◌, ◌↔◌, [], length, drop, slice_get, Err, IfOk, IfErr, OnOk, OnErr, IsNone};
+ghost use Rattle.std.specs.Prelude.{◌≡◌, ◌≤◌, ◌+◌, ◌*◌, ◌++◌, ◌⊎◌, ◌↔◌, [], length, drop, slice_get, Err, IfOk, IfErr, OnOk, OnErr, IsNone, Some};
 ghost use Rattle.std.specs.VecDeque.{deque_capacity};
 ghost use Rattle.rt_super.specs.Wakers.{waker_of};
 ghost use Rattle.rt_super.specs.Rows.{find};
-ghost use Rattle.rt_super.specs.Signals.{no_signals, with_group, with_signal, with_clone, with_completion, is_alive, completes, signaled, woken_by_value, signaler_closed, woken_by_closing, signal_closed, woken_by_last, completion_closed, signal_answer, signal_polled, completion_answer, completion_polled};
+ghost use Rattle.rt_super.specs.Signals.{no_signals, new_group, group_of, with_group, with_signal, with_clone, with_completion, is_alive, completes, signaled, woken_by_value, signaler_closed, woken_by_closing, signal_closed, woken_by_last, completion_closed, signal_answer, signal_polled, completion_answer, completion_polled, StopRecord, IsShutdown, KeepShutdowns, KeepOthers, signal_group, stop_shown};
 
 use crate::signal_group::SignalGroup;
 use crate::table::Table;
@@ -61,10 +61,13 @@ impl Signals {
     pub fn add(&mut self) -> Result<u64, NoMemory>
         ensures number { IfOk result (λ number. number ≡ self.old.told.count) }
         ensures added { OnOk result (self.new.told ≡ with_group self.old.told) }
+        ensures made { IfOk result (λ number. group_of self.new.told number ≡ Some new_group) }
+        ensures shutdowns { KeepShutdowns self.old.told self.new.told }
         ensures woken { OnOk result (self.new.woken ≡ []) }
         ensures refused { OnErr result (self.new ≡ self.old) }
     {
         let number = self.signals.count();
+        self.groups.facts();
         self.groups.reserve(1)?;
         self.signals.reserve()?;
         self.completions.reserve()?;
@@ -82,9 +85,11 @@ impl Signals {
     /// Adds an open signal of the same group, and answers its number.
     ///
     /// Errors: `UnknownToken` where no open signal has the number, `NoMemory`.
+    #[tactic(auto, using(crate::proofs::Shutdowns::clone_keeps))]
     pub fn clone_signal(&mut self, signal: u64) -> Result<u64, Error>
         ensures number { IfOk result (λ number. number ≡ self.old.told.count) }
         ensures added { OnOk result (self.new.told ≡ with_clone self.old.told signal) }
+        ensures shutdowns { KeepShutdowns self.old.told self.new.told }
         ensures woken { OnOk result (self.new.woken ≡ []) }
         ensures unknown { (result ≡ Err Error.UnknownToken) ↔ IsNone (find signal self.old.told.signals) }
         ensures causes { IfErr result (λ e. (e ≡ Error.UnknownToken) ⊎ (e ≡ Error.NoMemory)) }
@@ -100,6 +105,7 @@ impl Signals {
     /// Gives a group its value, for good. Nothing where its signaler isn't there.
     pub fn signal(&mut self, signaler: u64, value: i32)
         ensures given { self.new.told ≡ signaled self.old.told signaler value }
+        ensures shutdowns { KeepOthers signaler self.old.told self.new.told }
         ensures woken { self.new.woken ≡ woken_by_value self.old.told signaler }
     {
         self.woken.clear();
@@ -112,9 +118,12 @@ impl Signals {
     ///
     /// Errors: `UnknownToken` where no open signal has the number, `Closed` where the signaler was
     /// given up without a value.
+    #[tactic(auto, using(crate::proofs::Shutdowns::poll_keeps, crate::proofs::Shutdowns::shows))]
     pub fn poll_signal(&mut self, signal: u64, task: u64) -> Result<Poll<i32>, Error>
         ensures answer { result ≡ signal_answer self.old.told signal }
+        ensures shown { (s : StopRecord) → IsShutdown self.old.told s → signal_group self.old.told signal ≡ Some s.group → result ≡ stop_shown s }
         ensures polled { self.new.told ≡ signal_polled self.old.told signal (waker_of task) }
+        ensures shutdowns { KeepShutdowns self.old.told self.new.told }
         ensures woken { self.new.woken ≡ [] }
     {
         self.woken.clear();
@@ -137,9 +146,11 @@ impl Signals {
     /// in the name of a task, which waits where that isn't so yet; with `NOBODY` nobody waits.
     ///
     /// Error: `UnknownToken` where no live completion has the number.
+    #[tactic(auto, using(crate::proofs::Shutdowns::polled_keeps))]
     pub fn poll_completion(&mut self, completion: u64, task: u64) -> Result<Poll<()>, Error>
         ensures answer { result ≡ completion_answer self.old.told completion }
         ensures polled { self.new.told ≡ completion_polled self.old.told completion (waker_of task) }
+        ensures shutdowns { KeepShutdowns self.old.told self.new.told }
         ensures woken { self.new.woken ≡ [] }
     {
         self.woken.clear();
@@ -154,8 +165,10 @@ impl Signals {
     }
 
     /// Gives an open signal up. Nothing for any other number.
+    #[tactic(auto, using(crate::proofs::Shutdowns::close_keeps))]
     pub fn close_signal(&mut self, signal: u64)
         ensures closed { self.new.told ≡ signal_closed self.old.told signal }
+        ensures shutdowns { KeepShutdowns self.old.told self.new.told }
         ensures woken { self.new.woken ≡ woken_by_last self.old.told signal }
     {
         self.woken.clear();
@@ -166,6 +179,7 @@ impl Signals {
     /// where it isn't there.
     pub fn close_signaler(&mut self, signaler: u64)
         ensures closed { self.new.told ≡ signaler_closed self.old.told signaler }
+        ensures shutdowns { KeepOthers signaler self.old.told self.new.told }
         ensures woken { self.new.woken ≡ woken_by_closing self.old.told signaler }
     {
         self.woken.clear();
@@ -184,6 +198,7 @@ impl Signals {
     /// Gives a live completion up. Nothing for any other number.
     pub fn close_completion(&mut self, completion: u64)
         ensures closed { self.new.told ≡ completion_closed self.old.told completion }
+        ensures shutdowns { KeepShutdowns self.old.told self.new.told }
         ensures woken { self.new.woken ≡ [] }
     {
         self.woken.clear();

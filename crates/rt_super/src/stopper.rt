@@ -1,6 +1,6 @@
 // The shutdown of a run.
 ghost use Rattle.std.specs.Prelude.{◌≡◌, [], IfOk, OnOk, OnErr};
-ghost use Rattle.rt_super.specs.Signals.{with_group, new_stop, stop_after, woken_by_stop, with_stop, stopped_answer, stopped_after};
+ghost use Rattle.rt_super.specs.Signals.{with_group, new_stop, stop_after, woken_by_stop, with_stop, stopped_answer, stopped_after, IsShutdown, ShowShutdown, KeepShutdowns, KeepOthers};
 
 use crate::signals::Signals;
 use rt_base::NoMemory;
@@ -34,12 +34,15 @@ impl Stopper {
         ensures made { IfOk result (λ stopper. stopper ≡ new_stop signals.old.told) }
         ensures added { OnOk result (signals.new.told ≡ with_group signals.old.told) }
         ensures woken { OnOk result (signals.new.woken ≡ []) }
+        ensures shutdown { IfOk result (λ stopper. IsShutdown signals.new.told stopper) }
+        ensures others { KeepShutdowns signals.old.told signals.new.told }
         ensures refused { OnErr result (signals.new ≡ signals.old) }
     {
         let group = signals.add()?;
         Ok(Stopper { group, value: None })
     }
 
+    #[tactic(auto, using(crate::proofs::Shutdowns::shows))]
     /// Begins the shutdown with a value, unless it began before; and answers the number of a
     /// completion of its own.
     pub fn stop(&mut self, signals: &mut Signals, value: i32) -> Result<u64, NoMemory>
@@ -47,6 +50,9 @@ impl Stopper {
         ensures begun { OnOk result (self.new ≡ with_stop self.old value) }
         ensures told { OnOk result (signals.new.told ≡ stop_after signals.old.told self.old value) }
         ensures woken { OnOk result (signals.new.woken ≡ woken_by_stop signals.old.told self.old value) }
+        ensures shutdown { IsShutdown signals.old.told self.old → IsShutdown signals.new.told self.new }
+        ensures shown { IsShutdown signals.old.told self.old → ShowShutdown signals.new.told self.new }
+        ensures others { KeepOthers self.old.group signals.old.told signals.new.told }
         ensures refused { OnErr result (signals.new ≡ signals.old) }
         ensures kept { OnErr result (self.new ≡ self.old) }
     {
@@ -60,11 +66,14 @@ impl Stopper {
         Ok(completion)
     }
 
+    #[tactic(auto, using(crate::proofs::Shutdowns::stopped_keeps, crate::proofs::Shutdowns::shows))]
     /// A signal of the shutdown: an open one, or the value where it came.
     pub fn stopped(&mut self, signals: &mut Signals) -> Result<Stopped, NoMemory>
         ensures answer { IfOk result (λ stopped. stopped ≡ stopped_answer signals.old.told self.old) }
         ensures told { OnOk result (signals.new.told ≡ stopped_after signals.old.told self.old) }
         ensures woken { OnOk result (signals.new.woken ≡ []) }
+        ensures shutdowns { KeepShutdowns signals.old.told signals.new.told }
+        ensures shown { IsShutdown signals.old.told self.old → ShowShutdown signals.new.told self.new }
         ensures refused { OnErr result (signals.new ≡ signals.old) }
         ensures kept { self.new ≡ self.old }
     {

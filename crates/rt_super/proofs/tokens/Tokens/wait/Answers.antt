@@ -1,4 +1,4 @@
-use Rattle.std.proofs.Common.{◌≡◌, ◌∙◌, sym, ap, refl, arith}
+use Rattle.std.proofs.Common.{◌≡◌, ◌∙◌, sym, refl}
 use Rattle.rt_super.specs.TokensInside.{owners}
 use Rattle.rt_super.proofs.Rows.{replaced-none}
 use Rattle.rt_super.proofs.TokenLemmas.{owners-replaced, replaced-waiting}
