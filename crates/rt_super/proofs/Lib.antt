@@ -6,3 +6,4 @@ pub mod AlarmLemmas
 pub mod Rows
 pub mod TokenLemmas
 pub mod Shutdowns
+pub mod Waits

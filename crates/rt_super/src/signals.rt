@@ -1,9 +1,10 @@
 // Values that are shown once to all who hold a signal.
-ghost use Rattle.std.specs.Prelude.{◌≡◌, ◌≤◌, ◌+◌, ◌*◌, ◌++◌, ◌⊎◌, ◌↔◌, [], length, drop, slice_get, Err, IfOk, IfErr, OnOk, OnErr, IsNone, Some};
+ghost use Rattle.std.specs.Prelude.{◌≡◌, ◌≤◌, ◌+◌, ◌*◌, ◌++◌, ◌⊎◌, ◌↔◌, [], length, drop, slice_get, Err, IfOk, IfErr, OnOk, OnErr, IsNone, IsSome, Some, Ok, ℕ};
 ghost use Rattle.std.specs.VecDeque.{deque_capacity};
 ghost use Rattle.rt_super.specs.Wakers.{waker_of};
 ghost use Rattle.rt_super.specs.Rows.{find};
-ghost use Rattle.rt_super.specs.Signals.{no_signals, new_group, group_of, with_group, with_signal, with_clone, with_completion, is_alive, completes, signaled, woken_by_value, signaler_closed, woken_by_closing, signal_closed, woken_by_last, completion_closed, signal_answer, signal_polled, completion_answer, completion_polled, StopRecord, IsShutdown, KeepShutdowns, KeepOthers, signal_group, stop_shown};
+ghost use Rattle.rt_super.specs.declared.signal_token.SignalToken.{SignalToken};
+ghost use Rattle.rt_super.specs.Signals.{no_signals, new_group, group_of, with_group, with_signal, with_clone, with_completion, is_alive, has_value, completes, signaled, woken_by_value, signaler_closed, woken_by_closing, signal_closed, woken_by_last, completion_closed, signal_answer, signal_polled, completion_answer, completion_polled, StopRecord, IsShutdown, KeepShutdowns, KeepOthers, signal_group, stop_shown};
 
 use crate::signal_group::SignalGroup;
 use crate::table::Table;
@@ -19,7 +20,8 @@ use std::marker::Model;
 /// once the value came and each signal was given up. The signaler, the first signal and the
 /// first completion have one number, and each further one has the next.
 ///
-/// `next_woken` answers whom the last call of any other kind met.
+/// `next_woken` answers whom the last call of any other kind met. A call that is refused changes
+/// nothing, and so this list neither: take it after each call.
 ///
 /// Only `add` and `clone_signal` take memory.
 #[derive(Drop)]
@@ -205,8 +207,17 @@ impl Signals {
         self.drop_completion(completion);
     }
 
-    /// The next task whose wait the last call met. Of a group the waits by signals come first,
-    /// each kind in the order of its numbers.
+    /// Nobody waits for what is there: each signal by which somebody waits is pending, and so is
+    /// each such completion.
+    pub fn facts(&self)
+        ensures signals { (signal : ℕ) (t : SignalToken) → find signal self.now.told.signals ≡ Some t → IsSome t.waits → signal_answer self.now.told signal ≡ Ok Poll.Pending }
+        ensures completions { (completion : ℕ) (t : SignalToken) → find completion self.now.told.completions ≡ Some t → IsSome t.waits → completion_answer self.now.told completion ≡ Ok Poll.Pending }
+    {
+        let _ = &self.groups;
+    }
+
+    /// The next task whose wait the last call met that wasn't refused. Of a group the waits by
+    /// signals come first, each kind in the order of its numbers.
     pub fn next_woken(&mut self) -> Option<u64>
         ensures first { result ≡ slice_get self.old.woken 0 }
         ensures taken { self.new.woken ≡ drop 1 self.old.woken }
@@ -282,8 +293,9 @@ impl Signals {
         let Some(token) = self.signals.get(signal) else {
             return;
         };
+        let has_value = self.has_value(token.group);
         self.signals.remove(signal);
-        if self.completes(token.group) {
+        if has_value && !self.signals.is_open(token.group) {
             self.completions.meet(token.group, &mut self.woken);
         }
     }
@@ -314,14 +326,21 @@ impl Signals {
         }
     }
 
+    /// Whether a group's value came.
+    fn has_value(&self, group: u64) -> bool
+        ensures { result ≡ has_value self.now.told group }
+    {
+        match self.groups.get(group) {
+            Some(found) => found.value.is_some(),
+            None => false,
+        }
+    }
+
     /// Whether the completions of a group are met.
     fn completes(&self, group: u64) -> bool
         ensures { result ≡ completes self.now.told group }
     {
-        match self.groups.get(group) {
-            Some(found) => found.value.is_some() && !self.signals.is_open(group),
-            None => false,
-        }
+        self.has_value(group) && !self.signals.is_open(group)
     }
 }
 

@@ -13,7 +13,8 @@ pub enum Stopped {
     Resolved(i32),
 }
 
-/// A shutdown, as a group of signals of which the first `stop` decides the value.
+/// A shutdown, as a group of signals of which the first `stop` decides the value. A `stop` or
+/// `stopped` that is refused changes nothing, also not whom the call before met.
 #[derive(Drop)]
 pub struct Stopper {
     group: u64,

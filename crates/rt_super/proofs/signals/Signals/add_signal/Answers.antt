@@ -1,0 +1,14 @@
+use Rattle.std.proofs.Common.{arith}
+use Rattle.rt_super.specs.SignalsInside.{state_of}
+use Rattle.rt_super.proofs.Waits.{signal_waits}
+use Rattle.rt_super.proofs.signals.Signals.add_signal.Goals as goal
+
+pub invariant_of-self-2 : goal.invariant_of-self-2
+invariant_of-self-2 c =
+    let i = c.self.invariant in
+    record {
+      signals = omega (arith, c.in_ok-push_to.ensures.next, c.skip.ensures.next, c.reserve.ensures.next, i.signals);
+      completions = omega (arith, c.skip-2.ensures.next, c.reserve-2.ensures.next, c.skip.ensures.next, c.reserve.ensures.next, i.completions);
+      room = omega (arith, c.clear.ensures.capacity, c.in_ok-reserve_woken.ensures.room, c.count-number.ensures, c.skip.ensures.next, c.reserve.ensures.next, i.signals);
+      pending = rw (c.skip.ensures.items, c.skip-2.ensures.items, c.in_ok-push_to.ensures.items, c.reserve.ensures.items, c.reserve-2.ensures.items, i.signals) (signal_waits (state_of c.self.inside).told _ _ i.pending);
+    }
