@@ -227,8 +227,10 @@ KeepOthers group old new = (s : StopRecord) → (s.group ≡ group → IsSome s.
 abbrev pub stop_shown : StopRecord → Result (Poll ℤ) Error
 stop_shown s = elim s.value [ None ↦ Ok Pending | Some value ↦ Ok (Ready value) ]
 
+-- the group of an open signal
 abbrev pub signal_group : SignalRecord → ℕ → Option ℕ
 signal_group r signal = option_map (λ t. t.group) (find signal r.signals)
 
+-- each open signal of the shutdown shows what the shutdown says
 abbrev pub ShowShutdown : SignalRecord → StopRecord → Type 0
 ShowShutdown r s = (signal : ℕ) → signal_group r signal ≡ Some s.group → signal_answer r signal ≡ stop_shown s
