@@ -1,5 +1,5 @@
 -- A store that gates nothing.
-use Rattle.std.proofs.Common.{◌≡◌, ℕ, Result, Ok, Err}
+use Rattle.std.proofs.Common.{ℕ, Result, Ok, Err}
 use Rattle.std.specs.Prelude.{IfOk}
 use Rattle.rt_base.specs.Counted.{Counts}
 use Rattle.rt_base.specs.declared.error.Error.{Error}

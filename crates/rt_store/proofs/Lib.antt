@@ -6,6 +6,7 @@ mod Drawn
 mod Gated
 mod Leading
 mod Named
+mod Placed
 mod Ranged
 mod Redone
 mod Refusing

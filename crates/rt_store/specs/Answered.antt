@@ -11,11 +11,6 @@ use Rattle.rt_store.specs.declared.ticket.Done.TheVariants.{Now, Gated}
 use Rattle.rt_store.specs.declared.ticket.Ticket.{Ticket}
 use Rattle.rt_store.specs.declared.ticket.Ticket.TheVariants.{Ready, Numbered}
 
--- a ticket is ready and holds this answer
-abbrev pub HoldsAnswer : Ticket → Result Unit Error → Type 0
-HoldsAnswer (Ready held) r = held ≡ r
-HoldsAnswer (Numbered n) r = ⊥
-
 -- a started sync: a ticket that holds a refusal counts as one
 abbrev pub CountsStart : ℕ → ℕ → Result Ticket Error → Type 0
 CountsStart old new (Ok (Ready held)) = Counts old new held
@@ -51,7 +46,8 @@ PollsTicket (Ready held) p new = IsCopy held p × (new ≡ Ready held)
 PollsTicket (Numbered n) poll.Pending new = new ≡ Numbered n
 PollsTicket (Numbered n) (poll.Ready r) new = (held : Result Unit Error) × (new ≡ Ready held) × IsCopy held (poll.Ready r)
 
--- a polled sync: an error comes only where the count rose, or where the ticket held it before
-abbrev pub CountsPoll : ℕ → ℕ → Ticket → Poll (Result Unit Error) → Type 0
-CountsPoll old new ticket (poll.Ready r) = (old ≤ new) × (Counts old new r ⊎ HoldsAnswer ticket r)
-CountsPoll old new ticket poll.Pending = old ≤ new
+-- a polled sync: the error that a numbered ticket is ready with comes only where the count rose
+abbrev pub CountsPoll : ℕ → ℕ → Ticket → Ticket → Type 0
+CountsPoll old new (Numbered n) (Ready held) = Counts old new held
+CountsPoll old new (Numbered n) (Numbered m) = old ≤ new
+CountsPoll old new (Ready held) after = old ≤ new

@@ -1,6 +1,6 @@
 -- Reads of several ranges, and how their buffers are put into the order of the ranges.
 use Rattle.std.specs.Prelude.{◌≡◌, ℕ, ◌+◌, ◌<◌, ◌==◌, if◌then◌else◌, Bool, true, List, [], ◌∷◌, length, map, take, drop, Option, None, Some, IsSome, nat_lt, slice_get}
-use Rattle.std.specs.List.{list_all}
+use Rattle.std.specs.List.{All, list_all}
 use Rattle.rt_base.specs.declared.error.Error.{Error}
 use Rattle.rt_bufs.specs.WritableChunks.{WritableChunks}
 use Rattle.rt_store.specs.Store.{or_else, read_refusal_of}
@@ -13,6 +13,18 @@ ranges_refusal (r ∷ rs) size = or_else (read_refusal_of r.0 r.1 size) (ranges_
 -- the bytes of each range
 abbrev pub ranges_of : List (ℕ × ℕ) → List ℕ → List (List ℕ)
 ranges_of rs content = map (λ r. take r.1 (drop r.0 content)) rs
+
+-- how many bytes each range asks for
+abbrev pub lengths_of : List (ℕ × ℕ) → List ℕ
+lengths_of rs = map (λ (r : ℕ × ℕ). r.1) rs
+
+-- each buffer has as many bytes as its range asks for, in the order of the ranges
+abbrev pub HaveLengths : List (ℕ × ℕ) → List WritableChunks → Type 0
+HaveLengths rs bufs = map (λ (b : WritableChunks). length b.bytes) bufs ≡ lengths_of rs
+
+-- the same of buffers with their places
+abbrev pub HavePlacedLengths : List (ℕ × ℕ) → List (ℕ × WritableChunks) → Type 0
+HavePlacedLengths rs reads = All (λ (r : ℕ × WritableChunks). slice_get (lengths_of rs) r.0 ≡ Some (length r.1.bytes)) reads
 
 -- each with its place, from `place` on
 abbrev pub placed : {A : Type 0} → ℕ → List A → List (ℕ × A)

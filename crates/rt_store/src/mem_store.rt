@@ -15,6 +15,7 @@ ghost use Rattle.rt_store.specs.Draws.{Answers, if_ok};
 ghost use Rattle.rt_store.specs.File.{mutated};
 ghost use Rattle.rt_store.specs.Kept.{empty_store, injected_by, moved_to};
 ghost use Rattle.rt_store.specs.Leading.{IsCoherent};
+ghost use Rattle.rt_store.specs.Reading.{HaveLengths, HavePlacedLengths, IsWhole};
 ghost use Rattle.rt_store.specs.Store.{count_later, end_refusal, refusal_at};
 ghost use Rattle.rt_store.specs.Whole.{after_admit, after_crash, snapshot_of, store_of};
 
@@ -265,6 +266,7 @@ impl MemStore {
         ranges: &[(u64, usize)],
     ) -> Result<Vec<IoBufsMut>, Error>
         ensures gives { Notes (E.noted env.old) (ReadsInOrder self.now blob.now ranges.now result) (E.noted env.new) }
+        ensures len { IfOk result (λ bufs. HaveLengths ranges.now bufs.items) }
         ensures spent { E.spare env.old ≤ E.spare env.new + 1 }
     {
         let rate = self.faults.read_rate;
@@ -285,6 +287,8 @@ impl MemStore {
         ranges: &[(u64, usize)],
     ) -> Result<Vec<(usize, IoBufsMut)>, Error>
         ensures gives { Notes (E.noted env.old) (ReadsMany self.now blob.now ranges.now result) (E.noted env.new) }
+        ensures whole { IfOk result (λ reads. IsWhole (length ranges.now) reads.items) }
+        ensures len { IfOk result (λ reads. HavePlacedLengths ranges.now reads.items) }
         ensures spent { E.spare env.old ≤ E.spare env.new + 1 }
     {
         let rate = self.faults.read_rate;

@@ -1,7 +1,7 @@
 // Reads of several ranges.
-ghost use Rattle.std.specs.Prelude.{◌≡◌, [], length, IfOk};
+ghost use Rattle.std.specs.Prelude.{◌≡◌, [], ℕ, List, length, IfOk};
 ghost use Rattle.rt_store.specs.Draws.{Answers};
-ghost use Rattle.rt_store.specs.Reading.{bytes_of, placed, placed_bytes, ranges_of, ranges_refusal};
+ghost use Rattle.rt_store.specs.Reading.{HaveLengths, HavePlacedLengths, IsWhole, bytes_of, placed, placed_bytes, ranges_of, ranges_refusal};
 
 use crate::store::range_of;
 use rt_base::{Error, NoMemory};
@@ -14,7 +14,8 @@ pub fn read_ranges(
     content: &[u8],
     ranges: &[(u64, usize)],
 ) -> Result<Vec<IoBufsMut>, Error>
-    ensures { Answers (ranges_refusal ranges.now (length content.now)) 0 (λ bufs. bytes_of bufs.items ≡ ranges_of ranges.now content.now) result [] }
+    ensures gives { Answers (ranges_refusal ranges.now (length content.now)) 0 (λ bufs. bytes_of bufs.items ≡ ranges_of ranges.now content.now) result [] }
+    ensures len { IfOk result (λ bufs. HaveLengths ranges.now bufs.items) }
 {
     let mut bufs = Vec::with_capacity(alloc, ranges.len())?;
     let mut rest = ranges;
@@ -28,7 +29,9 @@ pub fn read_ranges(
 
 /// Each with its place among them.
 pub fn with_places(alloc: Global, bufs: Vec<IoBufsMut>) -> Result<Vec<(usize, IoBufsMut)>, NoMemory>
-    ensures { IfOk result (λ reads. placed_bytes reads.items ≡ placed 0 (bytes_of bufs.items)) }
+    ensures placed { IfOk result (λ reads. placed_bytes reads.items ≡ placed 0 (bytes_of bufs.items)) }
+    ensures whole { IfOk result (λ reads. IsWhole (length bufs.items) reads.items) }
+    ensures len { (ranges : List (ℕ × ℕ)) → HaveLengths ranges bufs.items → IfOk result (λ reads. HavePlacedLengths ranges reads.items) }
 {
     let mut reads = Vec::with_capacity(alloc, bufs.len())?;
     for buf in bufs {

@@ -16,6 +16,7 @@ ghost use Rattle.rt_base.specs.Noted.{Noted};
 ghost use Rattle.rt_bufs.specs.Chunked.{Chunked};
 ghost use Rattle.rt_bufs.specs.WritableChunks.{WritableChunks};
 ghost use Rattle.rt_store.specs.Answered.{CountsDone, CountsPoll, CountsStart, PollsTicket, StartsOrLacks};
+ghost use Rattle.rt_store.specs.Reading.{HaveLengths, HavePlacedLengths, IsWhole};
 ghost use Rattle.rt_store.specs.declared.ticket.Done.{Done};
 ghost use Rattle.rt_store.specs.declared.ticket.Ticket.{Ticket};
 
@@ -163,6 +164,8 @@ pub trait Storage {
         options: ReadOptions,
     ) -> Result<Vec<(usize, IoBufsMut)>, Error>
         ensures gives { Notes (E.noted env.old) (λ x. reads_many self.old blob.now ranges.now options result self.new x) (E.noted env.new) }
+        ensures whole { IfOk result (λ reads. IsWhole (length ranges.now) reads.items) }
+        ensures len { IfOk result (λ reads. HavePlacedLengths ranges.now reads.items) }
         ensures spent { E.spare env.old ≤ E.spare env.new + (most + per_range * length ranges.now) }
         ensures counts { Counts (refusals self.old) (refusals self.new) result };
 
@@ -175,6 +178,7 @@ pub trait Storage {
         options: ReadOptions,
     ) -> Result<Vec<IoBufsMut>, Error>
         ensures gives { Notes (E.noted env.old) (λ x. reads_in_order self.old blob.now ranges.now options result self.new x) (E.noted env.new) }
+        ensures len { IfOk result (λ bufs. HaveLengths ranges.now bufs.items) }
         ensures spent { E.spare env.old ≤ E.spare env.new + (most + per_range * length ranges.now) }
         ensures counts { Counts (refusals self.old) (refusals self.new) result };
 
@@ -221,7 +225,7 @@ pub trait Storage {
         ensures gives { Notes (E.noted env.old) (λ x. polls_sync self.old ticket.old task result self.new ticket.new x) (E.noted env.new) }
         ensures spent { E.spare env.old ≤ E.spare env.new + most }
         ensures ticket { PollsTicket ticket.old result ticket.new }
-        ensures counts { CountsPoll (refusals self.old) (refusals self.new) ticket.old result };
+        ensures counts { CountsPoll (refusals self.old) (refusals self.new) ticket.old ticket.new };
 
     /// Gives a started sync up. It takes no memory.
     fn give_up_sync(&mut self, ticket: Ticket)

@@ -2,7 +2,7 @@
 ghost use Rattle.std.specs.Prelude.{◌≡◌, ℕ, true};
 ghost use Rattle.rt_base.specs.Counted.{Counts};
 ghost use Rattle.rt_base.specs.declared.poll.Poll.{Poll};
-ghost use Rattle.rt_store.specs.Answered.{CountsPoll, IsCopy, is_numbered};
+ghost use Rattle.rt_store.specs.Answered.{IsCopy, is_numbered};
 ghost use Rattle.rt_store.specs.declared.ticket.Ticket.{Ticket};
 
 use rt_base::Error;
@@ -40,7 +40,6 @@ impl Ticket {
 pub fn copy_of(held: &Result<(), Error>) -> Result<(), Error>
     ensures copy { IsCopy held.now (Poll.Ready result) }
     ensures counts { (old new : ℕ) → Counts old new held.now → Counts old new result }
-    ensures polls { (n : ℕ) → CountsPoll n n (Ticket.Ready held.now) (Poll.Ready result) }
 {
     match held {
         Ok(()) => Ok(()),

@@ -13,7 +13,7 @@ returns-in_err-bufs-clause-gives g c =
     let error = c.in_err-bufs.field-0.0 in
     let refusal = refusal_at (blob_of c.args.self.now c.args.blob.now) (many_refusal c.args.ranges.now) in
     let e : refusal ≡ ranges_refusal c.args.ranges.now (length c.content.result.now) = search rules in
-    let r : Refused refusal 0 error [] = subst (λ o. Refused o 0 error []) (sym e) c.in_err-bufs.ensures in
+    let r : Refused refusal 0 error [] = subst (λ o. Refused o 0 error []) (sym e) c.in_err-bufs.ensures.gives in
     let h : Notes (g.E.Env.noted c.args.env.now) (Refused refusal rate error) (g.E.Env.noted c.take_draw.new.env) =
     noted_refusal refusal rate error (g.E.Env.noted c.args.env.now) (g.E.Env.noted c.take_draw.new.env) c.take_draw.ensures.noted r in
     search (rules, h)
