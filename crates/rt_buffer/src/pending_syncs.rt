@@ -5,6 +5,7 @@ ghost use Rattle.rt_buffer.specs.Pending.{all_released, armed, blocked, called, 
 use crate::parked::Parked;
 use rt_base::{Error, IoKind, NoMemory, Poll};
 use std::alloc::Global;
+use std::collections::VecDeque;
 use std::marker::Model;
 
 /// The syncs of a store that are held back, in the order of their starts, and counts of them, which stay at their type's
@@ -15,7 +16,7 @@ use std::marker::Model;
 #[derive(Debug, Drop)]
 pub struct PendingSyncs {
     parked: Vec<Parked>,
-    queue: Vec<u64>,
+    queue: VecDeque<u64>,
     gate: Option<u64>,
     is_armed: bool,
     is_unblocked: bool,
@@ -41,7 +42,7 @@ impl PendingSyncs {
     {
         PendingSyncs {
             parked: Vec::new(alloc),
-            queue: Vec::new(alloc),
+            queue: VecDeque::new(alloc),
             gate: None,
             is_armed: false,
             is_unblocked: false,
@@ -142,8 +143,8 @@ impl PendingSyncs {
         ensures released { OnOk result (self.new ≡ first_released (outcome fails) count self.old) }
         ensures refused { OnErr result (self.new ≡ self.old) }
     {
-        let alloc = *self.queue.allocator();
-        let (numbers, _) = self.queue.as_slice().split_at(count);
+        let alloc = *self.parked.allocator();
+        let (numbers, _) = self.queue.make_contiguous().split_at(count);
         let tasks = tasks_to_wake(alloc, self.parked.as_slice(), numbers)?;
         release_each(&mut self.parked, numbers, fails);
         drop(self.queue.drain(..count));
@@ -154,7 +155,7 @@ impl PendingSyncs {
     pub(crate) fn release_all(&mut self)
         ensures { self.new ≡ first_released (outcome false) (length self.old.queue) self.old }
     {
-        release_each(&mut self.parked, self.queue.as_slice(), false);
+        release_each(&mut self.parked, self.queue.make_contiguous(), false);
         self.queue.clear();
     }
 
@@ -164,7 +165,10 @@ impl PendingSyncs {
         ensures number { self.old.queue ≡ result ∷ self.new.queue }
         ensures rest { self.new ≡ record self.old { queue = drop 1 self.old.queue } }
     {
-        self.queue.remove(0)
+        match self.queue.pop_front() {
+            Some(number) => number,
+            None => unreachable!(),
+        }
     }
 
     /// Releases one, and answers the task to wake.
@@ -198,7 +202,7 @@ impl PendingSyncs {
             is_blocked: false,
             answer: None,
         })?;
-        self.queue.push_reserved(number);
+        self.queue.push_back_reserved(number);
         Ok(number)
     }
 
