@@ -100,14 +100,17 @@ fn armed_write_fails(rt: HostRuntime) -> Result<(), Fail> {
     Ok(())
 }
 
-/// What a sync, and a started one, of a new blob of a partition answer.
-fn syncs<S: Storage>(store: &mut S, partition: &str) -> Result<(bool, bool), Error> {
+/// Whether a sync of a new blob of a partition is done at once, and what a started one answers.
+fn syncs<S: Storage>(
+    store: &mut S,
+    partition: &str,
+) -> Result<(bool, Poll<Result<(), Error>>), Error> {
     let (blob, _) = store.open(&mut NoEnv, partition, b"a")?;
     let answer = store.sync(&mut NoEnv, &blob);
     let started = store.start_sync(&mut NoEnv, &blob);
-    let starts = is_started(store, started);
+    let polled = poll_started(store, started);
     store.close(blob);
-    Ok((is_now(store, answer), starts))
+    Ok((is_now(store, answer), polled?))
 }
 
 /// Whether a change was done at once.
@@ -122,15 +125,18 @@ fn is_now<S: Storage>(store: &mut S, answer: Result<Done, Error>) -> bool {
     }
 }
 
-/// Whether a sync was started and is done.
-fn is_started<S: Storage>(store: &mut S, answer: Result<Ticket, Error>) -> bool {
+/// What the ticket of a started sync answers.
+fn poll_started<S: Storage>(
+    store: &mut S,
+    answer: Result<Ticket, Error>,
+) -> Result<Poll<Result<(), Error>>, Error> {
     match answer {
         Ok(mut ticket) => {
             let polled = store.poll_sync(&mut NoEnv, &mut ticket, 1);
             store.give_up_sync(ticket);
-            polled == Poll::Ready(Ok(()))
+            Ok(polled)
         }
-        Err(_) => false,
+        Err(error) => Err(error),
     }
 }
 
@@ -155,9 +161,10 @@ fn partition_sync_fails(rt: HostRuntime) -> Result<(), Fail> {
         fail_partition,
         refusals: 0,
     };
-    assert!(rt; syncs(&mut store, "p") == Ok((false, false)));
-    assert!(rt; syncs(&mut store, "q") == Ok((true, true)));
-    assert!(rt; why(alloc, &mut store, "p") == Some(Error::Io(IoKind::InjectedPartitionSyncFault)));
+    let fault = || Error::Io(IoKind::InjectedPartitionSyncFault);
+    assert!(rt; syncs(&mut store, "p") == Ok((false, Poll::Ready(Err(fault())))));
+    assert!(rt; syncs(&mut store, "q") == Ok((true, Poll::Ready(Ok(())))));
+    assert!(rt; why(alloc, &mut store, "p") == Some(fault()));
     assert!(rt; why(alloc, &mut store, "q").is_none());
     assert_eq!(rt; store.refusals, 3);
     Ok(())

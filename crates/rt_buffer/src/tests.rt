@@ -6,7 +6,7 @@ ghost use Rattle.rt_store.specs.Calls.{blob_of};
 ghost use Rattle.rt_store.specs.Store.{content_at};
 
 use crate::{Begun, Buffer, Read, Started, Step, Stepped, SyncHandle, Write};
-use rt_base::{Error, NoEnv, NoMemory, Poll, WriteOptions};
+use rt_base::{Env, Error, NoEnv, NoMemory, Poll, WriteOptions};
 use rt_bufs::{IoBuf, IoBufs};
 use rt_store::{BlobOf, Done, FaultConfig, MemStore, Storage};
 use std::alloc::Global;
@@ -23,7 +23,29 @@ fn has(rt: &impl Abort, tip: &Buffer, offset: u64, bytes: &[u8]) {
 /// A write at an offset, whether it goes in, and the bytes after it.
 type Merge = (u64, &'static [u8], bool, &'static [u8]);
 
-const MERGES: [Merge; 9] = [
+const MERGES: [Merge; 4] = [
+    (53, b"XYZ", true, b"abcXYZ"),
+    (56, b"12", true, b"abcXYZ12"),
+    (58, b"", true, b"abcXYZ12"),
+    (58, b"!", false, b"abcXYZ12"),
+];
+
+#[test]
+fn tip_merges(rt: HostRuntime) -> Result<(), Fail> {
+    let mut tip = Buffer::new(rt.alloc(), 50, 8);
+    assert!(rt; tip.merge(b"abcdefgh", 50)?);
+    assert!(rt; tip.resize(53)?.is_none());
+    for (offset, bytes, within, after) in MERGES {
+        assert_eq!(rt; tip.merge(bytes, offset)?, within);
+        has(&rt, &tip, 50, after);
+    }
+    assert_eq!(rt; tip.size(), 58);
+    let mut last = Buffer::new(rt.alloc(), u64::MAX, 8);
+    assert!(rt; !last.merge(b"a", u64::MAX)?);
+    Ok(())
+}
+
+const EDGES: [Merge; 9] = [
     (10, b"abc", true, b"abc"),
     (13, b"d", true, b"abcd"),
     (11, b"XY", true, b"aXYd"),
@@ -36,9 +58,9 @@ const MERGES: [Merge; 9] = [
 ];
 
 #[test]
-fn tip_merges(rt: HostRuntime) -> Result<(), Fail> {
+fn tip_merges_at_its_edges(rt: HostRuntime) -> Result<(), Fail> {
     let mut tip = Buffer::new(rt.alloc(), 10, 8);
-    for (offset, bytes, within, after) in MERGES {
+    for (offset, bytes, within, after) in EDGES {
         assert_eq!(rt; tip.merge(bytes, offset)?, within);
         has(&rt, &tip, 10, after);
     }
@@ -425,6 +447,50 @@ fn begun(
         }
         Begun::Failed(error) => Err(error),
     }
+}
+
+/// Syncs `ab`, and writes out `cd` behind it with no sync.
+fn write_behind(alloc: Global, store: &mut MemStore, writer: Write<MemStore>) -> Result<(), Error> {
+    let writer = put(alloc, store, writer, 0, b"ab")?;
+    let writer = synced(store, writer)?;
+    let writer = put(alloc, store, writer, 2, b"cd")?;
+    put(alloc, store, writer, 4, b"e")?.close(store);
+    Ok(())
+}
+
+/// Crashes, and answers how many numbers that may draw.
+fn crash(alloc: Global, store: &mut MemStore) -> Result<usize, Error> {
+    let mut env = NoEnv;
+    let draws = store.crash_draws();
+    env.reserve(draws)?;
+    let mut choices = Vec::new(alloc);
+    choices.reserve(draws)?;
+    store.crash(&mut env, &mut choices);
+    Ok(draws)
+}
+
+/// How long the blob is.
+fn len_of(store: &mut MemStore) -> Result<u64, Error> {
+    let (blob, len) = store.open(&mut NoEnv, "p", b"a")?;
+    store.close(blob);
+    Ok(len)
+}
+
+/// How long the blob is then and after a crash, and how many numbers that may draw.
+fn crash_behind(alloc: Global, store: &mut MemStore) -> Result<(u64, u64, usize), Error> {
+    let (blob, len) = store.open(&mut NoEnv, "p", b"a")?;
+    write_behind(alloc, store, Write::new(alloc, blob, len, 2))?;
+    let before = len_of(store)?;
+    let draws = crash(alloc, store)?;
+    Ok((before, len_of(store)?, draws))
+}
+
+#[test]
+fn crash_leaves_what_was_synced(rt: HostRuntime) -> Result<(), Fail> {
+    let alloc = rt.alloc();
+    let mut store = MemStore::new(alloc, FaultConfig::default())?;
+    assert_eq!(rt; crash_behind(alloc, &mut store), Ok((4, 2, 2)));
+    Ok(())
 }
 
 /// Starts a sync, asks for it, and starts one where nothing is to be synced.
