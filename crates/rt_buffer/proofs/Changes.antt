@@ -35,14 +35,15 @@ Wrote bytes b content h (Ok poll.Pending) new = ⊥
 Wrote bytes b content h (Err e) new = ⊤
 
 changed_wrote : {S B : Type 0} (c : StoreCalls S B) (bytes : S → B → List ℕ) (left : S → B → Option (List ℕ)) (promised : S → Ticket → B → Option (List ℕ)) (keeps : KeepsBytes c bytes left promised) (b : B) (content : List ℕ) (d : Result Done Error) (mid : S) (h : Held) (r : Progress) (new : Writer S)
-    → ((e : Done) → d ≡ Ok e → bytes mid b ≡ content) → Changed c d mid h r new → Wrote bytes b content h r new
-changed_wrote c bytes left promised keeps b content (Ok Now) mid h r new facts did = rw (did.0, did.1) (facts Now refl, refl)
-changed_wrote c bytes left promised keeps b content (Ok (Gated t)) mid h r new facts did = rw did.0 (keeps.given_up_bytes mid t new.store b did.1 ∙ facts (Gated t) refl, did.2)
-changed_wrote c bytes left promised keeps b content (Err e) mid h r new facts did = rw did.0 tt
+    → ((e : Done) → d ≡ Ok e → bytes mid b ≡ content) → ((t : Ticket) (after : S) → d ≡ Ok (Gated t) → c.gives_up mid t after → bytes after b ≡ bytes mid b) → Changed c d mid h r new → Wrote bytes b content h r new
+changed_wrote c bytes left promised keeps b content (Ok Now) mid h r new facts given_up did = rw (did.0, did.1) (facts Now refl, refl)
+changed_wrote c bytes left promised keeps b content (Ok (Gated t)) mid h r new facts given_up did = rw did.0 (given_up t new.store refl did.1 ∙ facts (Gated t) refl, did.2)
+changed_wrote c bytes left promised keeps b content (Err e) mid h r new facts given_up did = rw did.0 tt
 
 writes_out : {S B : Type 0} (c : StoreCalls S B) (bytes : S → B → List ℕ) (left : S → B → Option (List ℕ)) (promised : S → Ticket → B → Option (List ℕ)) (keeps : KeepsBytes c bytes left promised) (b : B) (at : ℕ) (w : Chunked) (old : Writer S) (r : Progress) (new : Writer S) (x : List Noted) → WritesOut c b at w old r new x → Wrote bytes b (written at w.bytes (bytes old.store b)) old.held r new
 writes_out c bytes left promised keeps b at w old r new x did =
-    changed_wrote c bytes left promised keeps b (written at w.bytes (bytes old.store b)) did.0 did.1 old.held r new (λ d is. keeps.written_by old.store b at w plain d did.1 x (rw is at did.2)) did.4
+    changed_wrote c bytes left promised keeps b (written at w.bytes (bytes old.store b)) did.0 did.1 old.held r new (λ d is. keeps.written_by old.store b at w plain d did.1 x (rw is at did.2))
+    (λ t after is gives. keeps.write_given_up old.store b at w plain t did.1 x after refl (rw is at did.2) gives) did.4
 
 begins_before : (t : Tip) (at len : ℕ) → is_within t at len ≡ true → t.offset ≤ at
 begins_before t at len within = leb-true t.offset at (and_parts (nat_le t.offset at) (nat_le (at + len) (t.offset + t.capacity) && nat_lt (at + len) (2 ^ 64)) within).0

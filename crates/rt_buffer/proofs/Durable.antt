@@ -25,10 +25,12 @@ use Rattle.rt_buffer.specs.Writing.{LiesOver, has_bytes}
 use Rattle.rt_buffer.proofs.Changes.{Drained, Put, chunks_put, drains_taken, resizes_put}
 use Rattle.rt_buffer.proofs.Overlaid.{flat_drained}
 use Rattle.rt_buffer.proofs.Shown.{shows_bytes, shows_empty, shows_none}
+use Rattle.rt_store.specs.Answered.{PollsTicket}
 use Rattle.rt_store.specs.Content.{resized, written}
 use Rattle.rt_store.specs.declared.ticket.Done.{Done}
 use Rattle.rt_store.specs.declared.ticket.Done.TheVariants.{Now, Gated}
 use Rattle.rt_store.specs.declared.ticket.Ticket.{Ticket}
+use Rattle.rt_store.specs.declared.ticket.Ticket.TheVariants as ticket
 
 -- a call that is done left these bytes, and one that waits holds the sync of them
 abbrev Came : {S B : Type 0} → (S → B → List ℕ) → (S → B → Option (List ℕ)) → (S → Ticket → B → Option (List ℕ)) → B → List ℕ → Rest → Progress → Writer S → Type 0
@@ -45,19 +47,25 @@ asked_saved bytes left promised b content (Ok (poll.Ready u)) new h = ((h.0, h.1
 asked_saved bytes left promised b content (Ok poll.Pending) new h = h
 asked_saved bytes left promised b content (Err e) new h = tt
 
+-- a poll that is answered leaves a ticket that is ready
+polled_ready : (t held : Ticket) (r : Result Unit Error) → PollsTicket t (poll.Ready r) held → (a : Result Unit Error) × (held ≡ ticket.Ready a)
+polled_ready (ticket.Ready a) held r did = (a, did.1)
+polled_ready (ticket.Numbered n) held r did = (did.0, did.1)
+
 -- a started sync was asked for
 settled_asked : {S B : Type 0} (c : StoreCalls S B) (bytes : S → B → List ℕ) (left : S → B → Option (List ℕ)) (promised : S → Ticket → B → Option (List ℕ)) (keeps : KeepsBytes c bytes left promised) (b : B) (task : ℕ) (old mid : S) (t held : Ticket) (h : Held) (p : Poll (Result Unit Error)) (r : Progress) (new : Writer S) (x : List Noted)
-    → Promises bytes promised old t b → IsPast h.tip (bytes old b) → c.polls old t task p mid held x → Settled c p mid held h r new
+    → Promises bytes promised old t b → IsPast h.tip (bytes old b) → c.polls old t task p mid held x → PollsTicket t p held → Settled c p mid held h r new
     → (bytes new.store b ≡ bytes old b) × Asked bytes left promised r new.held new.store b
-settled_asked c bytes left promised keeps b task old mid t held h (poll.Ready (Ok u)) r new x hopes none polls did =
+settled_asked c bytes left promised keeps b task old mid t held h (poll.Ready (Ok u)) r new x hopes none polls keeps_ticket did =
+    let ready = polled_ready t held (Ok u) keeps_ticket in
     let kept : bytes mid b ≡ bytes old b = keeps.polled_bytes old t b task (poll.Ready (Ok u)) mid held x hopes polls in
     let saved : left mid b ≡ Some (bytes mid b) = keeps.polled old t b task u mid held x hopes polls in
-    let last : bytes new.store b ≡ bytes old b = keeps.given_up_bytes mid held new.store b did.1 ∙ kept in
-    let stays : left new.store b ≡ Some (bytes new.store b) = keeps.given_up mid held new.store b did.1 saved in
+    let last : bytes new.store b ≡ bytes old b = keeps.given_up_bytes mid ready.0 new.store b (rw ready.1 at did.1) ∙ kept in
+    let stays : left new.store b ≡ Some (bytes new.store b) = keeps.given_up mid ready.0 new.store b (rw ready.1 at did.1) saved in
     rw (did.0, did.2) (last, ((rw last none, refl, stays), stays))
-settled_asked c bytes left promised keeps b task old mid t held h (poll.Ready (Err e)) r new x hopes none polls did =
+settled_asked c bytes left promised keeps b task old mid t held h (poll.Ready (Err e)) r new x hopes none polls keeps_ticket did =
     rw (did.0, did.1) (keeps.polled_bytes old t b task (poll.Ready (Err e)) mid held x hopes polls, tt)
-settled_asked c bytes left promised keeps b task old mid t held h poll.Pending r new x hopes none polls did =
+settled_asked c bytes left promised keeps b task old mid t held h poll.Pending r new x hopes none polls keeps_ticket did =
     let kept : bytes mid b ≡ bytes old b = keeps.polled_bytes old t b task poll.Pending mid held x hopes polls in
     rw (did.0, did.1) (kept, (rw kept none, refl, keeps.polled_then old t b task mid held x hopes polls))
 
@@ -65,7 +73,7 @@ settles_saved : {S B : Type 0} (c : StoreCalls S B) (bytes : S → B → List �
     → IsPast old.held.tip (bytes old.store b) → (d ≡ Now → IsDurable bytes left old.store b) → ((t : Ticket) → d ≡ Gated t → Promises bytes promised old.store t b) → Settles c task d old r new x → Saved bytes left promised b (bytes old.store b) r new
 settles_saved c bytes left promised keeps b task Now old r new x none now hopes did = rw (did.0, did.1) ((refl, (none, refl, now refl)), now refl)
 settles_saved c bytes left promised keeps b task (Gated t) old r new x none now hopes did =
-    asked_saved bytes left promised b (bytes old.store b) r new (settled_asked c bytes left promised keeps b task old.store did.1 t did.2 (with_state old.held (Started t)) did.0 r new x (hopes t refl) none did.3 did.5)
+    asked_saved bytes left promised b (bytes old.store b) r new (settled_asked c bytes left promised keeps b task old.store did.1 t did.2 (with_state old.held (Started t)) did.0 r new x (hopes t refl) none did.3 did.4 did.6)
 
 keeps_behind : {S B : Type 0} (c : StoreCalls S B) (bytes : S → B → List ℕ) (left : S → B → Option (List ℕ)) (promised : S → Ticket → B → Option (List ℕ)) (keeps : KeepsBytes c bytes left promised) (b : B) (task : ℕ) (content : List ℕ) (d : Result Done Error) (y : List Noted) (mid : Writer S) (r : Progress) (new : Writer S) (x : List Noted)
     → IsPast mid.held.tip content
@@ -80,7 +88,7 @@ syncs_saved : {S B : Type 0} (c : StoreCalls S B) (bytes : S → B → List ℕ)
 syncs_saved c bytes left promised keeps b task old r new x none did =
     keeps_behind c bytes left promised keeps b task (bytes old.store b) did.0 did.2 (writer did.1 old.held) r new x none
     (λ d is. let syncs : c.syncs old.store b (Ok d) did.1 did.2 = rw is at did.3 in
-    (keeps.synced_bytes old.store b d did.1 did.2 syncs, (λ now. keeps.synced_now old.store b did.1 did.2 (rw now at syncs)), (λ t gated. keeps.synced_then old.store b t did.1 did.2 (rw gated at syncs))))
+    (keeps.synced_bytes old.store b (Ok d) did.1 did.2 syncs, (λ now. keeps.synced_now old.store b did.1 did.2 (rw now at syncs)), (λ t gated. keeps.synced_then old.store b t did.1 did.2 (rw gated at syncs))))
     did.5
 
 writes_saved : {S B : Type 0} (c : StoreCalls S B) (bytes : S → B → List ℕ) (left : S → B → Option (List ℕ)) (promised : S → Ticket → B → Option (List ℕ)) (keeps : KeepsBytes c bytes left promised) (b : B) (task : ℕ) (at : ℕ) (w : Chunked) (old : Writer S) (r : Progress) (new : Writer S) (x : List Noted) → IsPast old.held.tip (written at w.bytes (bytes old.store b)) → IsDurable bytes left old.store b → WritesDurably c b task at w old r new x → Saved bytes left promised b (written at w.bytes (bytes old.store b)) r new
@@ -92,15 +100,15 @@ writes_saved c bytes left promised keeps b task at w old r new x none durable di
 
 -- a write, and a sync where it is done
 changed_then : {S B : Type 0} (c : StoreCalls S B) (bytes : S → B → List ℕ) (left : S → B → Option (List ℕ)) (promised : S → Ticket → B → Option (List ℕ)) (keeps : KeepsBytes c bytes left promised) (b : B) (task : ℕ) (content : List ℕ) (d : Result Done Error) (mid : S) (h : Held) (a : Progress) (next : Writer S) (y : List Noted) (r : Progress) (new : Writer S) (x : List Noted)
-    → IsPast h.tip content → ((e : Done) → d ≡ Ok e → bytes mid b ≡ content) → Changed c d mid h a next → Behind (SyncsBlob c b task) a y next r new x → Saved bytes left promised b content r new
-changed_then c bytes left promised keeps b task content (Ok Now) mid h a next y r new x none facts did behind =
+    → IsPast h.tip content → ((e : Done) → d ≡ Ok e → bytes mid b ≡ content) → ((t : Ticket) (after : S) → d ≡ Ok (Gated t) → c.gives_up mid t after → bytes after b ≡ bytes mid b) → Changed c d mid h a next → Behind (SyncsBlob c b task) a y next r new x → Saved bytes left promised b content r new
+changed_then c bytes left promised keeps b task content (Ok Now) mid h a next y r new x none facts given_up did behind =
     let on : Behind (SyncsBlob c b task) is_done y (writer mid (with_state h Dirty)) r new x = rw (did.0, did.1) at behind in
     subst (λ (l : List ℕ). Saved bytes left promised b l r new) (facts Now refl) (syncs_saved c bytes left promised keeps b task (writer mid (with_state h Dirty)) r new on.0 (rw (facts Now refl) none) on.2)
-changed_then c bytes left promised keeps b task content (Ok (Gated t)) mid h a next y r new x none facts did behind =
+changed_then c bytes left promised keeps b task content (Ok (Gated t)) mid h a next y r new x none facts given_up did behind =
     let on : Behind (SyncsBlob c b task) is_done y next r new x = rw did.0 at behind in
-    let kept : bytes next.store b ≡ content = keeps.given_up_bytes mid t next.store b did.1 ∙ facts (Gated t) refl in
+    let kept : bytes next.store b ≡ content = given_up t next.store refl did.1 ∙ facts (Gated t) refl in
     subst (λ (l : List ℕ). Saved bytes left promised b l r new) kept (syncs_saved c bytes left promised keeps b task next r new on.0 (rw (did.2, kept) none) on.2)
-changed_then c bytes left promised keeps b task content (Err e) mid h a next y r new x none facts did behind =
+changed_then c bytes left promised keeps b task content (Err e) mid h a next y r new x none facts given_up did behind =
     let on : Behind (SyncsBlob c b task) (Err e) y next r new x = rw did.0 at behind in
     rw on.0 tt
 
@@ -108,7 +116,8 @@ then_saved : {S B : Type 0} (c : StoreCalls S B) (bytes : S → B → List ℕ) 
 then_saved c bytes left promised keeps b task at w old r new x none did =
     let out = did.3 in
     changed_then c bytes left promised keeps b task (written at w.bytes (bytes old.store b)) out.0 out.1 old.held did.0 did.1 did.2 r new x none
-    (λ d is. keeps.written_by old.store b at w plain d out.1 did.2 (rw is at out.2)) out.4 did.4
+    (λ d is. keeps.written_by old.store b at w plain d out.1 did.2 (rw is at out.2))
+    (λ t after is gives. keeps.write_given_up old.store b at w plain t out.1 did.2 after refl (rw is at out.2) gives) out.4 did.4
 
 saves_changes : {S B : Type 0} (c : StoreCalls S B) (bytes : S → B → List ℕ) (left : S → B → Option (List ℕ)) (promised : S → Ticket → B → Option (List ℕ)) (keeps : KeepsBytes c bytes left promised) (b : B) (task : ℕ) (state : SyncState) (old : Writer S) (r : Progress) (new : Writer S) (x : List Noted)
     → old.held.state ≡ state → IsPast old.held.tip (bytes old.store b) → KnowsState bytes left promised state old.store b → is_started state ≡ false → SavesChanges c b task state old r new x → Saved bytes left promised b (bytes old.store b) r new
@@ -162,16 +171,17 @@ start_came c bytes left promised keeps b content (Err e) y mid r new x d did = r
 
 -- the wait for a started sync keeps what the tip and the blob show
 tip_settles : {S B : Type 0} (c : StoreCalls S B) (bytes : S → B → List ℕ) (left : S → B → Option (List ℕ)) (promised : S → Ticket → B → Option (List ℕ)) (keeps : KeepsBytes c bytes left promised) (b : B) (task : ℕ) (content : List ℕ) (old : Writer S) (mid : S) (t held : Ticket) (p : Poll (Result Unit Error)) (r : Progress) (new : Writer S) (x : List Noted)
-    → LiesOver old.held.tip (bytes old.store b) → laid_over old.held.tip (bytes old.store b) ≡ content → Promises bytes promised old.store t b → c.polls old.store t task p mid held x → Settled c p mid held old.held r new
+    → LiesOver old.held.tip (bytes old.store b) → laid_over old.held.tip (bytes old.store b) ≡ content → Promises bytes promised old.store t b → c.polls old.store t task p mid held x → PollsTicket t p held → Settled c p mid held old.held r new
     → (r ≡ is_done → Keeping bytes left promised content work.Sync new.held new.store b × (is_started new.held.state ≡ false)) × (r ≡ Ok poll.Pending → Keeping bytes left promised content work.Sync new.held new.store b)
-tip_settles c bytes left promised keeps b task content old mid t held (poll.Ready (Ok u)) r new x lies shows hopes polls did =
+tip_settles c bytes left promised keeps b task content old mid t held (poll.Ready (Ok u)) r new x lies shows hopes polls keeps_ticket did =
+    let ready = polled_ready t held (Ok u) keeps_ticket in
     let kept : bytes mid b ≡ bytes old.store b = keeps.polled_bytes old.store t b task (poll.Ready (Ok u)) mid held x hopes polls in
     let saved : left mid b ≡ Some (bytes mid b) = keeps.polled old.store t b task u mid held x hopes polls in
-    let last : bytes new.store b ≡ bytes old.store b = keeps.given_up_bytes mid held new.store b did.1 ∙ kept in
-    let stays : left new.store b ≡ Some (bytes new.store b) = keeps.given_up mid held new.store b did.1 saved in
+    let last : bytes new.store b ≡ bytes old.store b = keeps.given_up_bytes mid ready.0 new.store b (rw ready.1 at did.1) ∙ kept in
+    let stays : left new.store b ≡ Some (bytes new.store b) = keeps.given_up mid ready.0 new.store b (rw ready.1 at did.1) saved in
     ((λ done. rw did.2 ((rw last lies, rw last shows, stays), refl)), (λ waits. absurd (cc)))
-tip_settles c bytes left promised keeps b task content old mid t held (poll.Ready (Err e)) r new x lies shows hopes polls did = ((λ done. absurd (cc)), (λ waits. absurd (cc)))
-tip_settles c bytes left promised keeps b task content old mid t held poll.Pending r new x lies shows hopes polls did =
+tip_settles c bytes left promised keeps b task content old mid t held (poll.Ready (Err e)) r new x lies shows hopes polls keeps_ticket did = ((λ done. absurd (cc)), (λ waits. absurd (cc)))
+tip_settles c bytes left promised keeps b task content old mid t held poll.Pending r new x lies shows hopes polls keeps_ticket did =
     let kept : bytes mid b ≡ bytes old.store b = keeps.polled_bytes old.store t b task poll.Pending mid held x hopes polls in
     ((λ done. absurd (cc)), (λ waits. rw did.1 (rw kept lies, rw kept shows, keeps.polled_then old.store t b task mid held x hopes polls)))
 
@@ -180,7 +190,7 @@ tip_waits : {S B : Type 0} (c : StoreCalls S B) (bytes : S → B → List ℕ) (
     → (r ≡ is_done → Keeping bytes left promised content work.Sync new.held new.store b × (is_started new.held.state ≡ false)) × (r ≡ Ok poll.Pending → Keeping bytes left promised content work.Sync new.held new.store b)
 tip_waits c bytes left promised keeps b task content Clean old r new x is lies shows knows did = ((λ done. rw (did.1, is) ((lies, shows, knows), refl)), (λ waits. absurd (cc)))
 tip_waits c bytes left promised keeps b task content Dirty old r new x is lies shows knows did = ((λ done. rw (did.1, is) ((lies, shows, tt), refl)), (λ waits. absurd (cc)))
-tip_waits c bytes left promised keeps b task content (Started t) old r new x is lies shows knows did = tip_settles c bytes left promised keeps b task content old did.1 t did.2 did.0 r new x lies shows knows did.3 did.5
+tip_waits c bytes left promised keeps b task content (Started t) old r new x is lies shows knows did = tip_settles c bytes left promised keeps b task content old did.1 t did.2 did.0 r new x lies shows knows did.3 did.4 did.6
 
 -- what the call answers
 abbrev Comes : {S B : Type 0} → (S → B → List ℕ) → (S → B → Option (List ℕ)) → (S → Ticket → B → Option (List ℕ)) → B → List ℕ → Rest → S → Stepped (B × Held) ((B × Held) × Rest) → Type 0
@@ -280,7 +290,7 @@ waits_asked : {S B : Type 0} (c : StoreCalls S B) (bytes : S → B → List ℕ)
     → (bytes new.store b ≡ bytes old.store b) × Asked bytes left promised r new.held new.store b
 waits_asked c bytes left promised keeps b task Clean old r new x is none whole knows did = rw (did.0, did.1, is) (refl, ((none, refl, knows), knows))
 waits_asked c bytes left promised keeps b task Dirty old r new x is none whole knows did = absurd (cc)
-waits_asked c bytes left promised keeps b task (Started t) old r new x is none whole knows did = settled_asked c bytes left promised keeps b task old.store did.1 t did.2 old.held did.0 r new x knows none did.3 did.5
+waits_asked c bytes left promised keeps b task (Started t) old r new x is none whole knows did = settled_asked c bytes left promised keeps b task old.store did.1 t did.2 old.held did.0 r new x knows none did.3 did.4 did.6
 
 -- a call that keeps bytes, and goes on
 pub call_keeps : {S B : Type 0} (c : StoreCalls S B) (bytes : S → B → List ℕ) (left : S → B → Option (List ℕ)) (promised : S → Ticket → B → Option (List ℕ)) (keeps : KeepsBytes c bytes left promised) (b : B) (task : ℕ) (content : List ℕ) (rest : Rest) (old : Writer S) (store : S) (s : Stepped (B × Held) ((B × Held) × Rest)) (x : List Noted)

@@ -11,6 +11,7 @@ use Rattle.rt_base.specs.Counted.{Counts, Notes}
 use Rattle.rt_base.specs.Noted.{Noted}
 use Rattle.rt_base.specs.Outside.{HasRisen}
 use Rattle.rt_bufs.specs.Chunked.{Chunked}
+use Rattle.rt_buffer.proofs.Mocks.{counts_more, counts_up}
 use Rattle.rt_buffer.proofs.Noting.{adds_both}
 use Rattle.rt_buffer.specs.Calls.{StoreCalls}
 use Rattle.rt_buffer.specs.declared.shared_blob.SharedBlob.{SharedBlob}
@@ -68,6 +69,18 @@ written_then {B = B} c n b opened is_held offset bufs options s r t low mid befo
     let there : Writes c n (Some b) true offset bufs options s r t x = inl all in
     let held_there : Writes c n (Some b) is_held offset bufs options s r t x = subst (λ (y : Bool). Writes c n (Some b) y offset bufs options s r t x) (sym held) there in
     (x, adds_both before between behind first.0 after.0 first.1 after.1, subst (λ (o : Option B). Writes c n o is_held offset bufs options s r t x) (sym e) held_there)
+
+-- an answer's count, before a count that doesn't fall
+counts_ahead : {A : Type 0} (old mid new : ℕ) (r : Result A Error) → Counts old mid r → mid ≤ new → Counts old new r
+counts_ahead old mid new (Ok a) h up = omega (arith, up, h)
+counts_ahead old mid new (Err NoMemory) h up = omega (arith, up, h)
+counts_ahead old mid new (Err e) h up = (omega (arith, up, h.0), λ below. omega (arith, up, h.1 below))
+
+-- the answer of an inner ticket, beside a count of its own that stayed
+pub counts_inner : (old mid new own same : ℕ) (r : Result Unit Error) → Counts old mid r → mid ≤ new → same ≡ own → CountsAnswer (old + own) (new + same) (ready.Ready r)
+counts_inner old mid new own same r h up stays =
+    let c : Counts (old + own) (new + own) r = counts_more old new own r (counts_ahead old mid new r h up) in
+    rw stays (counts_up (old + own) (new + own) r c, c)
 
 risen_behind : (old mid new : ℕ) → old ≤ mid → mid ≤ new → HasRisen mid new → HasRisen old new
 risen_behind old mid new up on risen below = grind (arith, risen)

@@ -1,6 +1,5 @@
 -- A store in memory keeps the bytes of its blobs.
 use Rattle.std.proofs.Common.{◌≡◌, inl, inr, ℕ, zero, suc, Bool, true, false, List, [], ◌∷◌, slice_set, slice_get, Option, Some, None, Result, Ok, Err, refl, sym, ap, ◌∙◌}
-use Rattle.std.specs.Prelude.{⊤}
 use Rattle.rt_base.specs.declared.choice.Choice.{Choice}
 use Rattle.rt_base.specs.declared.error.Error.{Error}
 use Rattle.rt_base.specs.declared.error.Error.TheVariants.{NoMemory, UnknownToken}
@@ -10,7 +9,7 @@ use Rattle.rt_base.specs.declared.poll.Poll.TheVariants as poll
 use Rattle.rt_base.specs.declared.version.BlobVersion.{BlobVersion}
 use Rattle.rt_base.specs.Noted.{Noted}
 use Rattle.rt_bufs.specs.Chunked.{Chunked}
-use Rattle.rt_store.specs.Calls.{Resizes, Saves, Syncs, Writes, PollsSync, after_poll, polled_ticket, after_resize, after_sync, after_write, blob_of, started, with_blob}
+use Rattle.rt_store.specs.Calls.{Resizes, Saves, after_resize, after_sync, blob_of, started, with_blob}
 use Rattle.rt_store.specs.Content.{resized, written}
 use Rattle.rt_store.specs.declared.blob.Blob.{Blob}
 use Rattle.rt_store.specs.declared.mutation.Mutation.{Mutation}
@@ -19,19 +18,18 @@ use Rattle.rt_store.specs.declared.ticket.Done.{Done}
 use Rattle.rt_store.specs.declared.ticket.Done.TheVariants.{Now, Gated}
 use Rattle.rt_store.specs.declared.ticket.Ticket.{Ticket}
 use Rattle.rt_store.specs.declared.ticket.Ticket.TheVariants.{Ready, Numbered}
-use Rattle.rt_store.specs.File.{FileState, applied, closed, crashed, is_settled, mutated, synced}
-use Rattle.rt_store.specs.Kept.{Kept, answered, moved_to}
+use Rattle.rt_store.specs.File.{FileState, applied, crashed, is_settled, mutated, synced}
+use Rattle.rt_store.specs.Kept.{Kept, answered}
 use Rattle.rt_store.specs.Store.{at_blob, if_open, is_token, live, refusal_at}
-use Rattle.rt_buffer.specs.Calls.{calls}
 use Rattle.rt_buffer.specs.declared.held.Held.{Held}
 use Rattle.rt_buffer.specs.declared.write_op.Rest.TheVariants as work
 use Rattle.rt_buffer.specs.declared.write_op.Stepped.{Stepped}
 use Rattle.rt_buffer.specs.declared.write_op.Stepped.TheVariants as step
 use Rattle.rt_buffer.specs.Durable.{IfStepped, Keeps, KeepsBytes}
 use Rattle.rt_buffer.specs.Steps.{durably}
-use Rattle.rt_buffer.specs.Memory.{memory_bytes, memory_left, memory_promised, left_of}
+use Rattle.rt_buffer.specs.Memory.{MemoryPolls, MemorySyncs, MemoryWrites, memory_bytes, memory_calls, memory_left, memory_promised, left_of}
 
-set_here : {A : Type 0} (xs : List A) (i : ℕ) (old new : A) → slice_get xs i ≡ Some old → slice_get (slice_set xs i new) i ≡ Some new
+pub set_here : {A : Type 0} (xs : List A) (i : ℕ) (old new : A) → slice_get xs i ≡ Some old → slice_get (slice_set xs i new) i ≡ Some new
 set_here [] i old new e = absurd (cc)
 set_here (x ∷ xs) zero old new e = refl
 set_here (x ∷ xs) (suc i) old new e = set_here xs i old new e
@@ -75,18 +73,6 @@ started_failed NoMemory t is = absurd (cc)
 started_failed UnknownToken t is = absurd (cc)
 started_failed e t is = cc
 
-abbrev MemoryWrites : Kept → Blob → ℕ → Chunked → WriteOptions → Result Done Error → Kept → List Noted → Type 0
-MemoryWrites v k offset b options r w x = Writes v k offset b.bytes r x × (w ≡ answered v (after_write v k offset b.bytes options) r)
-
-abbrev MemorySyncs : Kept → Blob → Result Done Error → Kept → List Noted → Type 0
-MemorySyncs v k r w x = Syncs v k r x × (w ≡ answered v (after_sync v k) r)
-
-abbrev MemoryStarts : Kept → Blob → Result Ticket Error → Kept → List Noted → Type 0
-MemoryStarts v k r w x = (s : Result Unit Error) × Saves v k s x × (r ≡ started s) × (w ≡ answered v (after_sync v k) s)
-
-abbrev MemoryPolls : Kept → Ticket → ℕ → Poll (Result Unit Error) → Kept → Ticket → List Noted → Type 0
-MemoryPolls v t task p w u x = PollsSync t p × (w ≡ after_poll v t) × (u ≡ polled_ticket t) × (x ≡ [])
-
 write_shown : {A : Type 0} (v : Kept) (k : Blob) (m : Mutation) (d : A) (new : Kept) (b : FileState) → blob_of v k ≡ Some b → new ≡ answered v (with_blob v k (mutated m)) (Ok d) → memory_bytes new k ≡ applied m (memory_bytes v k)
 write_shown v k m d new b is did =
     let parts = mutated_parts m b (is_settled m b) refl in
@@ -124,6 +110,10 @@ syncs_show v k d new x did =
     let s = sync_shows v k d new (unrefused (blob_of v k) _ did.0.0) did.1 in
     (s.0, s.1, did.0.2)
 
+sync_leaves : (v : Kept) (k : Blob) (r : Result Done Error) (new : Kept) (x : List Noted) → MemorySyncs v k r new x → memory_bytes new k ≡ memory_bytes v k
+sync_leaves v k (Ok d) new x did = (syncs_show v k d new x did).0
+sync_leaves v k (Err e) new x did = rw did.1 refl
+
 starts_show : (v : Kept) (k : Blob) (t : Ticket) (new : Kept) (x : List Noted) (s : Result Unit Error) → Saves v k s x → Ok t ≡ started s → new ≡ answered v (after_sync v k) s → (memory_bytes new k ≡ memory_bytes v k) × (memory_promised new t k ≡ Some (memory_bytes new k))
 starts_show v k t new x (Ok u) saves is did =
     let s = sync_shows v k u new (unrefused (blob_of v k) _ saves.0) did in
@@ -154,15 +144,14 @@ polls_done v (Numbered n) k task u new held x hopes did = absurd (let is : poll.
 not_gated : (t : Ticket) → Gated t ≡ Now → ⊥
 not_gated t is = cc
 
-pub memory_keeps : KeepsBytes (calls (λ (v : Kept). v.refusals) MemoryPolls (λ (v : Kept) (t : Ticket) (w : Kept). w ≡ v) MemoryWrites
-    (λ (v : Kept) (k : Blob) (len : ℕ) (r : Result Unit Error) (w : Kept) (x : List Noted). Resizes v k len r x × (w ≡ answered v (after_resize v k len) r))
-    MemorySyncs MemoryStarts (λ (v : Kept) (k : Blob) (w : Kept). w ≡ moved_to v (with_blob v k closed))) memory_bytes memory_left memory_promised
+pub memory_keeps : KeepsBytes memory_calls memory_bytes memory_left memory_promised
 memory_keeps = record {
   written_by = λ s b at w options d new x did. write_shows s b at w options d new x did;
   durable_now = λ s b at w new x did durable. write_keeps s b at w Now new x did durable;
   durable_then = λ s b at w t new x did durable. absurd (not_gated t did.0.2);
   resized_by = λ s b len u new x did. resize_shows s b len u new x did;
-  synced_bytes = λ s b d new x did. (syncs_show s b d new x did).0;
+  write_given_up = λ s b at w options t mid x new plain did given_up. rw given_up refl;
+  synced_bytes = λ s b r new x did. sync_leaves s b r new x did;
   synced_now = λ s b new x did. (syncs_show s b Now new x did).1;
   synced_then = λ s b t new x did. absurd (not_gated t did.0.2);
   started_bytes = λ s b t new x did. (starts_show s b t new x did.0 did.1 did.2 did.3).0;
@@ -170,8 +159,9 @@ memory_keeps = record {
   polled_bytes = λ s t b task p new held x hopes did. polls_show s t b task p new held x did;
   polled_then = λ s t b task new held x hopes did. polls_wait s t b task new held x did;
   polled = λ s t b task u new held x hopes did. polls_done s t b task u new held x hopes did;
-  given_up_bytes = λ s t new b did. rw did refl;
-  given_up = λ s t new b did durable. rw did durable;
+  ready_done = λ s u b hopes. hopes;
+  given_up_bytes = λ s a new b did. rw did refl;
+  given_up = λ s a new b did durable. rw did durable;
 }
 
 crash_keeps : (version : BlobVersion) (token : Option ℕ) (removed : Bool) (content base : List ℕ) (later : List Mutation) (cs : List Choice) (bytes : List ℕ)

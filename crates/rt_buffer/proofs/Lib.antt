@@ -1,5 +1,6 @@
 pub mod Changes
 pub mod Cut
+pub mod DelayedKept
 pub mod Durable
 pub mod Flat
 pub mod Holding

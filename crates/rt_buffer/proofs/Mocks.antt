@@ -1,12 +1,10 @@
 -- A store's count with another one added to it.
-use Rattle.std.proofs.Common.{◌≡◌, ℕ, ◌+◌, ◌≤◌, ◌<◌, Result, Ok, Err, arith, inl, inr}
+use Rattle.std.proofs.Common.{◌≡◌, ℕ, ◌+◌, ◌≤◌, ◌<◌, Result, Ok, Err, arith}
 use Rattle.std.specs.Prelude.{◌^◌}
 use Rattle.rt_base.specs.Counted.{Counts}
 use Rattle.rt_base.specs.Outside.{HasRisen}
 use Rattle.rt_base.specs.declared.error.Error.{Error}
 use Rattle.rt_base.specs.declared.error.Error.TheVariants.{NoMemory}
-use Rattle.rt_base.specs.declared.poll.Poll.{Poll}
-use Rattle.rt_base.specs.declared.poll.Poll.TheVariants as poll
 use Rattle.rt_buffer.specs.Mocks.{one_more}
 use Rattle.rt_store.specs.Answered.{CountsDone, CountsPoll, CountsStart}
 use Rattle.rt_store.specs.declared.ticket.Done.{Done}
@@ -41,9 +39,10 @@ counts_start_more old new more (Ok (Ready held)) h = counts_more old new more he
 counts_start_more old new more (Ok (Numbered n)) h = omega (arith, h)
 counts_start_more old new more (Err e) h = let r : Result Unit Error = Err e in counts_more old new more r h
 
-pub counts_poll_more : (old new more : ℕ) (ticket : Ticket) (p : Poll (Result Unit Error)) → CountsPoll old new ticket p → CountsPoll (old + more) (new + more) ticket p
-counts_poll_more old new more ticket (poll.Ready r) h = (omega (arith, h.0), elim h.1 [ inl c ↦ inl (counts_more old new more r c) | inr held ↦ inr held ])
-counts_poll_more old new more ticket poll.Pending h = omega (arith, h)
+pub counts_poll_more : (old new more : ℕ) (before after : Ticket) → CountsPoll old new before after → CountsPoll (old + more) (new + more) before after
+counts_poll_more old new more (Ready held) after h = omega (arith, h)
+counts_poll_more old new more (Numbered n) (Ready held) h = counts_more old new more held h
+counts_poll_more old new more (Numbered n) (Numbered m) h = omega (arith, h)
 
 -- one more of a count, beside another that stayed
 pub rises : (n k m l : ℕ) → k ≡ n → l ≡ one_more m → m < 2 ^ 64 → (n + m ≤ k + l) × HasRisen (n + m) (k + l)

@@ -1,5 +1,5 @@
 -- A store whose started syncs a test holds back, over an inner store.
-use Rattle.std.specs.Prelude.{◌≡◌, ◌⊎◌, ℕ, ◌+◌, ◌-◌, ◌^◌, ◌≤◌, Bool, true, false, ◌&&◌, if◌then◌else◌, List, [], ◌∷◌, ◌++◌, length, Option, Some, None, Result, Ok, Err, slice_get, slice_set, nat_le, nat_lt}
+use Rattle.std.specs.Prelude.{◌≡◌, ◌⊎◌, ℕ, ◌+◌, ◌-◌, ◌^◌, ◌≤◌, ◌==◌, Bool, true, false, if◌then◌else◌, List, [], ◌∷◌, ◌++◌, length, Option, Some, None, Result, Ok, Err, slice_get, slice_set, nat_lt}
 use Rattle.rt_base.specs.declared.error.Error.{Error}
 use Rattle.rt_base.specs.declared.error.Error.TheVariants.{NoMemory, UnknownToken}
 use Rattle.rt_base.specs.declared.poll.Poll.{Poll}
@@ -17,7 +17,7 @@ use Rattle.rt_buffer.specs.declared.stage.Stage.{Stage}
 use Rattle.rt_buffer.specs.declared.stage.Stage.TheVariants as stage
 use Rattle.rt_buffer.specs.Mocks.{one_more}
 use Rattle.rt_buffer.specs.Pending.{Pending, called, completed, gate_of, hold_answer, polled, start_hold, started}
-use Rattle.rt_store.specs.Answered.{IsCopy}
+use Rattle.rt_store.specs.Answered.{IsCopy, PollsTicket}
 use Rattle.rt_store.specs.declared.ticket.Done.{Done}
 use Rattle.rt_store.specs.declared.ticket.Done.TheVariants.{Now, Gated}
 use Rattle.rt_store.specs.declared.ticket.Ticket.{Ticket}
@@ -55,13 +55,13 @@ blob_at blobs n = inner_blob (slice_get blobs n)
 
 -- a blob that only its token holds
 abbrev pub with_blob : {S B : Type 0} → B → Delayed S B → Delayed S B
-with_blob b s = record s { blobs = s.blobs ++ Some (record { inner = b; holders = 1 }) ∷ [] }
+with_blob b s = record s { blobs = s.blobs ++ Some (record { inner = b; others = 0 }) ∷ [] }
 
 -- one more can hold it
 abbrev pub has_place_in : {B : Type 0} → Option (Option (SharedBlob B)) → Bool
 has_place_in None = true
 has_place_in (Some None) = true
-has_place_in (Some (Some b)) = nat_lt b.holders (2 ^ 64 - 1)
+has_place_in (Some (Some b)) = nat_lt b.others (2 ^ 64 - 1)
 
 abbrev pub has_place : {B : Type 0} → List (Option (SharedBlob B)) → ℕ → Bool
 has_place blobs n = has_place_in (slice_get blobs n)
@@ -70,14 +70,14 @@ has_place blobs n = has_place_in (slice_get blobs n)
 abbrev pub held_more : {B : Type 0} → List (Option (SharedBlob B)) → ℕ → Option (Option (SharedBlob B)) → List (Option (SharedBlob B))
 held_more blobs n None = blobs
 held_more blobs n (Some None) = blobs
-held_more blobs n (Some (Some b)) = slice_set blobs n (Some (record b { holders = b.holders + 1 }))
+held_more blobs n (Some (Some b)) = slice_set blobs n (Some (record b { others = b.others + 1 }))
 
 abbrev pub with_holder : {B : Type 0} → List (Option (SharedBlob B)) → ℕ → List (Option (SharedBlob B))
 with_holder blobs n = held_more blobs n (slice_get blobs n)
 
 -- one holds it no more, and the last one closes it
 abbrev pub is_last : {B : Type 0} → SharedBlob B → Bool
-is_last b = nat_le b.holders 1
+is_last b = b.others == 0
 
 abbrev pub closed_by : {B : Type 0} → Option (Option (SharedBlob B)) → Option B
 closed_by None = None
@@ -87,7 +87,7 @@ closed_by (Some (Some b)) = if is_last b then Some b.inner else None
 abbrev pub held_less : {B : Type 0} → List (Option (SharedBlob B)) → ℕ → Option (Option (SharedBlob B)) → List (Option (SharedBlob B))
 held_less blobs n None = blobs
 held_less blobs n (Some None) = blobs
-held_less blobs n (Some (Some b)) = slice_set blobs n (if is_last b then None else Some (record b { holders = b.holders - 1 }))
+held_less blobs n (Some (Some b)) = slice_set blobs n (if is_last b then None else Some (record b { others = b.others - 1 }))
 
 abbrev pub without_holder : {B : Type 0} → List (Option (SharedBlob B)) → ℕ → List (Option (SharedBlob B))
 without_holder blobs n = held_less blobs n (slice_get blobs n)
@@ -125,7 +125,7 @@ given n (Ok (Gated (Numbered m))) = Ok (Gated (Numbered n))
 given n r = r
 
 abbrev pub kept : List Stage → Result Done Error → List Stage
-kept tickets (Ok (Gated (Numbered m))) = tickets ++ stage.Passed (record { ticket = Numbered m; blob = None; counts = false }) ∷ []
+kept tickets (Ok (Gated (Numbered m))) = tickets ++ stage.Passed (record { number = m; blob = None; counts = false }) ∷ []
 kept tickets r = tickets
 
 abbrev pub PassesOn : {S B : Type 0} → (Result Done Error → S → List Noted → Type 0) → Delayed S B → Result Done Error → Delayed S B → List Noted → Type 0
@@ -182,76 +182,66 @@ abbrev pub CountsAnswer : ℕ → ℕ → Poll (Result Unit Error) → Type 0
 CountsAnswer old new (poll.Ready r) = (old ≤ new) × Counts old new r
 CountsAnswer old new poll.Pending = old ≤ new
 
-abbrev pub held_of : Option Stage → Option Hold
-held_of None = None
-held_of (Some (stage.Held h)) = Some h
-held_of (Some (stage.Passed p)) = None
-held_of (Some stage.Out) = None
+-- one that isn't there is out
+abbrev pub stage_of : Option Stage → Stage
+stage_of None = stage.Out
+stage_of (Some k) = k
 
-abbrev pub passed_of : Option Stage → Option Passed
-passed_of None = None
-passed_of (Some (stage.Held h)) = None
-passed_of (Some (stage.Passed p)) = Some p
-passed_of (Some stage.Out) = None
+-- a ticket is out: a further poll is refused, and a further end of it does nothing
+abbrev pub without_ticket : {S B : Type 0} → ℕ → Delayed S B → Delayed S B
+without_ticket n s = record s { tickets = slice_set s.tickets n stage.Out }
 
--- an inner ticket goes out
-abbrev pub taken_found : List Stage → ℕ → Option Stage → List Stage
-taken_found tickets n None = tickets
-taken_found tickets n (Some (stage.Held h)) = tickets
-taken_found tickets n (Some (stage.Passed p)) = slice_set tickets n stage.Out
-taken_found tickets n (Some stage.Out) = tickets
-
-abbrev pub after_take : List Stage → ℕ → List Stage
-after_take tickets n = taken_found tickets n (slice_get tickets n)
-
--- the sync of a blob is done: the blob is closed where nothing holds it any more
 abbrev pub counted_done : Bool → Result Unit Error → Pending → Pending
 counted_done true (Ok u) p = completed p
 counted_done true (Err e) p = p
 counted_done false r p = p
 
-abbrev pub Finishes : {S B : Type 0} → StoreCalls S B → Option ℕ → Bool → Result Unit Error → Delayed S B → Delayed S B → Type 0
-Finishes c blob counts r s t = LetsGo c blob (record s { pending = counted_done counts r s.pending }) t
+-- a ticket is answered: it is out, and its blob is closed where nothing holds it any more
+abbrev pub Finishes : {S B : Type 0} → StoreCalls S B → ℕ → Option ℕ → Bool → Result Unit Error → Delayed S B → Delayed S B → Type 0
+Finishes c n blob counts r s t = LetsGo c blob (without_ticket n (record s { pending = counted_done counts r s.pending })) t
 
--- an error that an inner ticket may have held before counts as one of its own
-abbrev pub refused_by : {S B : Type 0} → Result Unit Error → Delayed S B → Delayed S B
-refused_by (Ok u) s = s
-refused_by (Err e) s = refused s
+-- the answer of an inner ticket is taken out of that, which is given up without it
+abbrev pub AnswersInner : {S B : Type 0} → StoreCalls S B → ℕ → Option ℕ → Bool → Result Unit Error → Delayed S B → Poll (Result Unit Error) → Delayed S B → Type 0
+AnswersInner {S = S} c n blob counts r s p t = (p ≡ poll.Ready r) × (given_up : S) × c.gives_up s.inner (Ready (Ok tt)) given_up × Finishes c n blob counts r (moved s given_up) t
 
--- the inner ticket is polled, put back where it is pending, and else given up
-abbrev pub AfterInner : {S B : Type 0} → StoreCalls S B → ℕ → Passed → Ticket → Poll (Result Unit Error) → Delayed S B → Delayed S B → Type 0
-AfterInner c n k u poll.Pending s t = t ≡ record s { tickets = slice_set s.tickets n (stage.Passed (record k { ticket = u })) }
-AfterInner {S = S} c n k u (poll.Ready r) s t = (given_up : S) × c.gives_up s.inner u given_up × Finishes c k.blob k.counts r (refused_by r (moved s given_up)) t
+abbrev pub AfterInner : {S B : Type 0} → StoreCalls S B → ℕ → Passed → Ticket → Delayed S B → Poll (Result Unit Error) → Delayed S B → Type 0
+AfterInner c n k (Numbered m) s p t = (p ≡ poll.Pending) × (t ≡ s)
+AfterInner c n k (Ready r) s p t = AnswersInner c n k.blob k.counts r s p t
 
+-- the inner ticket is polled; while it has its number the answer is pending, whatever that poll says
 abbrev pub PollsInner : {S B : Type 0} → StoreCalls S B → ℕ → ℕ → Passed → Delayed S B → Poll (Result Unit Error) → Delayed S B → List Noted → Type 0
-PollsInner {S = S} c n task k s p t x = (mid : S) × (u : Ticket) × c.polls s.inner k.ticket task p mid u x × AfterInner c n k u p (moved s mid) t
+PollsInner {S = S} c n task k s p t x =
+    (low : Poll (Result Unit Error)) × (mid : S) × (u : Ticket) × c.polls s.inner (Numbered k.number) task low mid u x × PollsTicket (Numbered k.number) low u × AfterInner c n k u (moved s mid) p t
 
 -- a sync that goes on is one of the inner store
 abbrev pub AfterSync : {S B : Type 0} → StoreCalls S B → ℕ → ℕ → Hold → Result Done Error → Delayed S B → Poll (Result Unit Error) → Delayed S B → List Noted → Type 0
-AfterSync c n task h (Err e) s p t x = (p ≡ poll.Ready (Err e)) × Finishes c (Some h.blob) h.counts (Err e) s t × (x ≡ [])
-AfterSync c n task h (Ok Now) s p t x = (p ≡ poll.Ready (Ok tt)) × Finishes c (Some h.blob) h.counts (Ok tt) s t × (x ≡ [])
-AfterSync c n task h (Ok (Gated ticket)) s p t x = PollsInner c n task (record { ticket = ticket; blob = Some h.blob; counts = h.counts }) s p t x
+AfterSync c n task h (Err e) s p t x = (p ≡ poll.Ready (Err e)) × Finishes c n (Some h.blob) h.counts (Err e) s t × (x ≡ [])
+AfterSync c n task h (Ok Now) s p t x = (p ≡ poll.Ready (Ok tt)) × Finishes c n (Some h.blob) h.counts (Ok tt) s t × (x ≡ [])
+AfterSync c n task h (Ok (Gated (Ready r))) s p t x = AnswersInner c n (Some h.blob) h.counts r s p t × (x ≡ [])
+AfterSync c n task h (Ok (Gated (Numbered m))) s p t x =
+    let k : Passed = record { number = m; blob = Some h.blob; counts = h.counts } in
+    PollsInner c n task k (record s { tickets = slice_set s.tickets n (stage.Passed k) }) p t x
 
 abbrev pub SyncsReleased : {S B : Type 0} → StoreCalls S B → ℕ → ℕ → Hold → Option B → Delayed S B → Poll (Result Unit Error) → Delayed S B → List Noted → Type 0
-SyncsReleased c n task h None s p t x = (p ≡ poll.Ready (Err UnknownToken)) × (t ≡ refused s) × (x ≡ [])
+SyncsReleased c n task h None s p t x = (p ≡ poll.Ready (Err UnknownToken)) × (t ≡ refused (without_ticket n s)) × (x ≡ [])
 SyncsReleased {S = S} c n task h (Some b) s p t x =
     (low : Result Done Error) × (mid : S) × (y : List Noted) × (z : List Noted) × c.syncs s.inner b low mid y × AfterSync c n task h low (moved s mid) p t z × (x ≡ y ++ z)
 
 -- what it was released with: an error is answered without a call of the inner store
 abbrev pub AfterHold : {S B : Type 0} → StoreCalls S B → ℕ → ℕ → Hold → Poll (Result Unit Error) → Delayed S B → Poll (Result Unit Error) → Delayed S B → List Noted → Type 0
 AfterHold c n task h poll.Pending s p t x = (p ≡ poll.Pending) × (t ≡ s) × (x ≡ [])
-AfterHold c n task h (poll.Ready (Err e)) s p t x = (p ≡ poll.Ready (Err e)) × Finishes c (Some h.blob) h.counts (Err e) (refused s) t × (x ≡ [])
+AfterHold c n task h (poll.Ready (Err e)) s p t x = (p ≡ poll.Ready (Err e)) × Finishes c n (Some h.blob) h.counts (Err e) (refused s) t × (x ≡ [])
 AfterHold c n task h (poll.Ready (Ok u)) s p t x = SyncsReleased c n task h (blob_at s.blobs h.blob) s p t x
 
 abbrev pub PollsHeld : {S B : Type 0} → StoreCalls S B → ℕ → ℕ → Hold → Delayed S B → Poll (Result Unit Error) → Delayed S B → List Noted → Type 0
 PollsHeld c n task h s p t x = AfterHold c n task h (hold_answer s.pending h.hold) (record s { pending = polled h.hold task s.pending }) p t x
 
--- a number of no ticket, or of one that is ready, is refused
+-- a number of no ticket, or of one that is out, is refused
 abbrev pub PollsStage : {S B : Type 0} → StoreCalls S B → ℕ → ℕ → Option Stage → Delayed S B → Poll (Result Unit Error) → Delayed S B → List Noted → Type 0
 PollsStage c n task None s p t x = (p ≡ poll.Ready (Err UnknownToken)) × (t ≡ refused s) × (x ≡ [])
 PollsStage c n task (Some stage.Out) s p t x = (p ≡ poll.Ready (Err UnknownToken)) × (t ≡ refused s) × (x ≡ [])
 PollsStage c n task (Some (stage.Held h)) s p t x = PollsHeld c n task h s p t x
-PollsStage c n task (Some (stage.Passed k)) s p t x = PollsInner c n task k (record s { tickets = slice_set s.tickets n stage.Out }) p t x
+PollsStage c n task (Some (stage.Passed k)) s p t x = PollsInner c n task k s p t x
 
 -- the ticket becomes ready with the answer, of which the poll answers a copy where there is memory for it
 abbrev pub Settles : Ticket → Poll (Result Unit Error) → Poll (Result Unit Error) → Ticket → Type 0
@@ -259,17 +249,17 @@ Settles old poll.Pending p new = (p ≡ poll.Pending) × (new ≡ old)
 Settles old (poll.Ready r) p new = IsCopy r p × (new ≡ Ready r)
 
 abbrev pub Polls : {S B : Type 0} → StoreCalls S B → ℕ → Ticket → Delayed S B → Poll (Result Unit Error) → Delayed S B → Ticket → List Noted → Type 0
-Polls c task (Ready held) s p t u x = c.polls s.inner (Ready held) task p t.inner u x × (t ≡ moved s t.inner)
+Polls c task (Ready held) s p t u x = c.polls s.inner (Ready held) task p t.inner u x × PollsTicket (Ready held) p u × (t ≡ moved s t.inner)
 Polls c task (Numbered n) s p t u x =
     (q : Poll (Result Unit Error)) × PollsStage c n task (slice_get s.tickets n) s q t x × Settles (Numbered n) q p u
 
--- a ticket that is given up holds its blob no more, and one of the inner store is given up there
+-- a ticket that is given up is out and holds its blob no more, and one of the inner store is given up there
 abbrev pub GivesUpStage : {S B : Type 0} → StoreCalls S B → ℕ → Option Stage → Delayed S B → Delayed S B → Type 0
 GivesUpStage c n None s t = t ≡ s
 GivesUpStage c n (Some stage.Out) s t = t ≡ s
-GivesUpStage c n (Some (stage.Held h)) s t = LetsGo c (Some h.blob) s t
+GivesUpStage c n (Some (stage.Held h)) s t = LetsGo c (Some h.blob) (without_ticket n s) t
 GivesUpStage {S = S} c n (Some (stage.Passed k)) s t =
-    (given_up : S) × c.gives_up s.inner k.ticket given_up × LetsGo c k.blob (record s { inner = given_up; tickets = slice_set s.tickets n stage.Out }) t
+    (given_up : S) × c.gives_up s.inner (Numbered k.number) given_up × LetsGo c k.blob (without_ticket n (moved s given_up)) t
 
 abbrev pub GivesUp : {S B : Type 0} → StoreCalls S B → Ticket → Delayed S B → Delayed S B → Type 0
 GivesUp c (Ready held) s t = c.gives_up s.inner (Ready held) t.inner × (t ≡ moved s t.inner)
@@ -279,7 +269,7 @@ GivesUp c (Numbered n) s t = GivesUpStage c n (slice_get s.tickets n) s t
 -- first
 abbrev pub GivesUpLast : {S B : Type 0} → StoreCalls S B → Stage → S → S → Type 0
 GivesUpLast c (stage.Held h) old new = new ≡ old
-GivesUpLast c (stage.Passed k) old new = c.gives_up old k.ticket new
+GivesUpLast c (stage.Passed k) old new = c.gives_up old (Numbered k.number) new
 GivesUpLast c stage.Out old new = new ≡ old
 
 abbrev pub GivesUpAll : {S B : Type 0} → StoreCalls S B → List Stage → S → S → Type 0

@@ -24,6 +24,7 @@ use Rattle.rt_store.specs.Content.{resized, written}
 use Rattle.rt_store.specs.declared.ticket.Done.{Done}
 use Rattle.rt_store.specs.declared.ticket.Done.TheVariants.{Now, Gated}
 use Rattle.rt_store.specs.declared.ticket.Ticket.{Ticket}
+use Rattle.rt_store.specs.declared.ticket.Ticket.TheVariants as ticket
 
 -- each crash leaves exactly the bytes of the blob, where `left` is what each crash leaves, if that is one list
 abbrev pub IsDurable : {S B : Type 0} → (S → B → List ℕ) → (S → B → Option (List ℕ)) → S → B → Type 0
@@ -34,13 +35,15 @@ abbrev pub Promises : {S B : Type 0} → (S → B → List ℕ) → (S → Ticke
 Promises bytes promised s t b = promised s t b ≡ Some (bytes s b)
 
 -- `bytes` is what the blobs of a store have, `left` what each crash leaves of them, and `promised` what it leaves once a sync
--- is done: so the calls of the store keep and change them
+-- is done: so the calls of the store keep and change them. A ticket that is given up is ready, or one of a write that needn't be
+-- durable
 pub record KeepsBytes {S B : Type 0} (c : StoreCalls S B) (bytes : S → B → List ℕ) (left : S → B → Option (List ℕ)) (promised : S → Ticket → B → Option (List ℕ)) : Type 0 where
   pub written_by : (s : S) (b : B) (at : ℕ) (w : Chunked) (options : WriteOptions) (d : Done) (new : S) (x : List Noted) → c.writes s b at w options (Ok d) new x → bytes new b ≡ written at w.bytes (bytes s b)
+  pub write_given_up : (s : S) (b : B) (at : ℕ) (w : Chunked) (options : WriteOptions) (t : Ticket) (mid : S) (x : List Noted) (new : S) → options.sync ≡ false → c.writes s b at w options (Ok (Gated t)) mid x → c.gives_up mid t new → bytes new b ≡ bytes mid b
   pub durable_now : (s : S) (b : B) (at : ℕ) (w : Chunked) (new : S) (x : List Noted) → c.writes s b at w durably (Ok Now) new x → IsDurable bytes left s b → IsDurable bytes left new b
   pub durable_then : (s : S) (b : B) (at : ℕ) (w : Chunked) (t : Ticket) (new : S) (x : List Noted) → c.writes s b at w durably (Ok (Gated t)) new x → IsDurable bytes left s b → Promises bytes promised new t b
   pub resized_by : (s : S) (b : B) (len : ℕ) (u : Unit) (new : S) (x : List Noted) → c.resizes s b len (Ok u) new x → bytes new b ≡ resized len (bytes s b)
-  pub synced_bytes : (s : S) (b : B) (d : Done) (new : S) (x : List Noted) → c.syncs s b (Ok d) new x → bytes new b ≡ bytes s b
+  pub synced_bytes : (s : S) (b : B) (r : Result Done Error) (new : S) (x : List Noted) → c.syncs s b r new x → bytes new b ≡ bytes s b
   pub synced_now : (s : S) (b : B) (new : S) (x : List Noted) → c.syncs s b (Ok Now) new x → IsDurable bytes left new b
   pub synced_then : (s : S) (b : B) (t : Ticket) (new : S) (x : List Noted) → c.syncs s b (Ok (Gated t)) new x → Promises bytes promised new t b
   pub started_bytes : (s : S) (b : B) (t : Ticket) (new : S) (x : List Noted) → c.starts s b (Ok t) new x → bytes new b ≡ bytes s b
@@ -48,8 +51,9 @@ pub record KeepsBytes {S B : Type 0} (c : StoreCalls S B) (bytes : S → B → L
   pub polled_bytes : (s : S) (t : Ticket) (b : B) (task : ℕ) (p : Poll (Result Unit Error)) (new : S) (held : Ticket) (x : List Noted) → Promises bytes promised s t b → c.polls s t task p new held x → bytes new b ≡ bytes s b
   pub polled_then : (s : S) (t : Ticket) (b : B) (task : ℕ) (new : S) (held : Ticket) (x : List Noted) → Promises bytes promised s t b → c.polls s t task poll.Pending new held x → Promises bytes promised new held b
   pub polled : (s : S) (t : Ticket) (b : B) (task : ℕ) (u : Unit) (new : S) (held : Ticket) (x : List Noted) → Promises bytes promised s t b → c.polls s t task (poll.Ready (Ok u)) new held x → IsDurable bytes left new b
-  pub given_up_bytes : (s : S) (t : Ticket) (new : S) (b : B) → c.gives_up s t new → bytes new b ≡ bytes s b
-  pub given_up : (s : S) (t : Ticket) (new : S) (b : B) → c.gives_up s t new → IsDurable bytes left s b → IsDurable bytes left new b
+  pub ready_done : (s : S) (u : Unit) (b : B) → Promises bytes promised s (ticket.Ready (Ok u)) b → IsDurable bytes left s b
+  pub given_up_bytes : (s : S) (a : Result Unit Error) (new : S) (b : B) → c.gives_up s (ticket.Ready a) new → bytes new b ≡ bytes s b
+  pub given_up : (s : S) (a : Result Unit Error) (new : S) (b : B) → c.gives_up s (ticket.Ready a) new → IsDurable bytes left s b → IsDurable bytes left new b
 
 -- what a writer knows of the durability of its blob is so
 abbrev pub KnowsState : {S B : Type 0} → (S → B → List ℕ) → (S → B → Option (List ℕ)) → (S → Ticket → B → Option (List ℕ)) → SyncState → S → B → Type 0

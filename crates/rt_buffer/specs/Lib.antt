@@ -1,5 +1,6 @@
 pub mod Calls
 pub mod Delayed
+pub mod DelayedBytes
 pub mod Durable
 pub mod Flat
 pub mod Lent

@@ -1,11 +1,18 @@
 -- What each crash leaves of the blobs of a store in memory.
-use Rattle.std.specs.Prelude.{ℕ, if◌then◌else◌, List, [], Option, Some, None, Ok, Err}
-use Rattle.rt_store.specs.Calls.{blob_of}
+use Rattle.std.specs.Prelude.{◌≡◌, ℕ, if◌then◌else◌, List, [], Option, Some, None, Result, Ok, Err}
+use Rattle.rt_base.specs.declared.error.Error.{Error}
+use Rattle.rt_base.specs.declared.options.WriteOptions.{WriteOptions}
+use Rattle.rt_base.specs.declared.poll.Poll.{Poll}
+use Rattle.rt_base.specs.Noted.{Noted}
+use Rattle.rt_buffer.specs.Calls.{StoreCalls}
+use Rattle.rt_bufs.specs.Chunked.{Chunked}
+use Rattle.rt_store.specs.Calls.{PollsSync, Resizes, Saves, Syncs, Writes, after_poll, after_resize, after_sync, after_write, blob_of, polled_ticket, started, with_blob}
 use Rattle.rt_store.specs.declared.blob.Blob.{Blob}
+use Rattle.rt_store.specs.declared.ticket.Done.{Done}
 use Rattle.rt_store.specs.declared.ticket.Ticket.{Ticket}
 use Rattle.rt_store.specs.declared.ticket.Ticket.TheVariants.{Ready, Numbered}
-use Rattle.rt_store.specs.File.{FileState, has_none}
-use Rattle.rt_store.specs.Kept.{Kept}
+use Rattle.rt_store.specs.File.{FileState, closed, has_none}
+use Rattle.rt_store.specs.Kept.{Kept, answered, moved_to}
 use Rattle.rt_store.specs.Store.{content_at}
 
 abbrev pub memory_bytes : Kept → Blob → List ℕ
@@ -24,3 +31,28 @@ abbrev pub memory_promised : Kept → Ticket → Blob → Option (List ℕ)
 memory_promised v (Ready (Ok u)) k = memory_left v k
 memory_promised v (Ready (Err e)) k = Some (memory_bytes v k)
 memory_promised v (Numbered n) k = Some (memory_bytes v k)
+
+-- the calls of a store in memory that a writer makes
+abbrev pub MemoryWrites : Kept → Blob → ℕ → Chunked → WriteOptions → Result Done Error → Kept → List Noted → Type 0
+MemoryWrites v k offset b options r w x = Writes v k offset b.bytes r x × (w ≡ answered v (after_write v k offset b.bytes options) r)
+
+abbrev pub MemorySyncs : Kept → Blob → Result Done Error → Kept → List Noted → Type 0
+MemorySyncs v k r w x = Syncs v k r x × (w ≡ answered v (after_sync v k) r)
+
+abbrev pub MemoryStarts : Kept → Blob → Result Ticket Error → Kept → List Noted → Type 0
+MemoryStarts v k r w x = (s : Result Unit Error) × Saves v k s x × (r ≡ started s) × (w ≡ answered v (after_sync v k) s)
+
+abbrev pub MemoryPolls : Kept → Ticket → ℕ → Poll (Result Unit Error) → Kept → Ticket → List Noted → Type 0
+MemoryPolls v t task p w u x = PollsSync t p × (w ≡ after_poll v t) × (u ≡ polled_ticket t) × (x ≡ [])
+
+abbrev pub memory_calls : StoreCalls Kept Blob
+memory_calls = record {
+  refusals = λ v. v.refusals;
+  polls = MemoryPolls;
+  gives_up = λ v t w. w ≡ v;
+  writes = MemoryWrites;
+  resizes = λ v k len r w x. Resizes v k len r x × (w ≡ answered v (after_resize v k len) r);
+  syncs = MemorySyncs;
+  starts = MemoryStarts;
+  closes = λ v k w. w ≡ moved_to v (with_blob v k closed);
+}

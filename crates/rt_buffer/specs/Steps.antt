@@ -22,7 +22,7 @@ use Rattle.rt_buffer.specs.declared.sync_handle.Begun.TheVariants as begun
 use Rattle.rt_buffer.specs.Pieces.{Pieces, merged_chunks}
 use Rattle.rt_buffer.specs.Writing.{ClosesWriter, has_bytes, is_in_the_way}
 use Rattle.rt_buffer.specs.Tip.{Tip, bytes_to_write, bytes_before, drained, is_within, merged, raised, resized_tip}
-use Rattle.rt_store.specs.Answered.{CountsDone, CountsPoll, CountsStart}
+use Rattle.rt_store.specs.Answered.{CountsDone, CountsPoll, CountsStart, PollsTicket}
 use Rattle.rt_store.specs.declared.ticket.Done.{Done}
 use Rattle.rt_store.specs.declared.ticket.Done.TheVariants.{Now, Gated}
 use Rattle.rt_store.specs.declared.ticket.Ticket.{Ticket}
@@ -96,7 +96,7 @@ WaitsFor c task Clean old r new x = Rests old r new x
 WaitsFor c task Dirty old r new x = Rests old r new x
 WaitsFor {S} c task (Started t) old r new x =
     (p : Poll (Result Unit Error)) × (mid : S) × (held : Ticket) × c.polls old.store t task p mid held x
-    × CountsPoll (c.refusals old.store) (c.refusals mid) t p × Settled c p mid held old.held r new
+    × PollsTicket t p held × CountsPoll (c.refusals old.store) (c.refusals mid) t held × Settled c p mid held old.held r new
 
 abbrev pub Waits : {S B : Type 0} → StoreCalls S B → ℕ → Act S
 Waits c task old r new x = WaitsFor c task old.held.state old r new x

@@ -1,17 +1,20 @@
 // A store whose started syncs a test holds back.
-ghost use Rattle.std.specs.Prelude.{◌≡◌, ◌+◌, ◌<◌, ◌≤◌, ◌^◌, ℕ, [], None, Some, IfSome, true, is_some, length, slice_get, vec_len};
+ghost use Rattle.std.specs.Prelude.{◌≡◌, ◌+◌, ◌<◌, ◌≤◌, ◌^◌, ℕ, List, Option, [], None, Some, IfSome, true, is_some, slice_get};
 ghost use Rattle.rt_base.specs.Counted.{Notes};
 ghost use Rattle.rt_base.specs.declared.error.Error.{Error};
 ghost use Rattle.rt_base.specs.declared.poll.Poll.{Poll};
 ghost use Rattle.rt_buffer.specs.Calls.{calls};
-ghost use Rattle.rt_buffer.specs.Delayed.{ClosesAll, CountsAnswer, Finishes, GivesUpAll, GivesUpStage, LetsGo, PollsInner, PollsStage, Settles, SyncsOr, SyncsReleased, Writes, blob_at, delayed, held_of, passed_of};
+ghost use Rattle.rt_buffer.specs.Delayed.{AnswersInner, ClosesAll, CountsAnswer, Finishes, GivesUpAll, GivesUpStage, LetsGo, PollsInner, PollsStage, Settles, SyncsOr, SyncsReleased, Writes, blob_at, delayed, refused, without_ticket};
+ghost use Rattle.rt_buffer.specs.DelayedBytes.{delayed_bytes, delayed_calls, delayed_left, delayed_promised};
+ghost use Rattle.rt_buffer.specs.Durable.{KeepsBytes};
 ghost use Rattle.rt_buffer.specs.Mocks.{one_more};
 ghost use Rattle.rt_buffer.specs.Pending.{none_pending};
 ghost use Rattle.rt_store.specs.Answered.{CountsDone, PollsTicket, is_numbered};
+ghost use Rattle.rt_store.specs.declared.ticket.Ticket.{Ticket};
 
 use crate::pending_syncs::PendingSyncs;
 use crate::shared_blob::{SharedBlob, add_blob, has_place, hold, inner_of, let_go};
-use crate::stage::{Hold, Passed, Stage, add_ticket, held_at, pass_on, put_passed, take_passed};
+use crate::stage::{Hold, Passed, Stage, add_ticket, pass_on, set_stage, stage_at};
 use rt_base::{BlobVersion, Env, Error, NoMemory, Poll, ReadOptions, WriteOptions};
 use rt_bufs::{IoBufs, IoBufsMut};
 use rt_store::{BlobOf, Done, Storage, Ticket, copy_of};
@@ -57,13 +60,17 @@ impl<S: Storage> DelayedSyncContext<S> {
     ghost use Rattle.std.specs.Borrow.{sem};
     ghost use Rattle.rt_buffer.specs.Lent.{lends_pending};
 
-    /// Nothing is held back yet.
+    /// Nothing is held back yet. Where the inner store keeps the bytes of its blobs this one does too.
+    #[tactic(auto, using(crate::proofs::DelayedKept::delayed_keeps))]
     pub fn new(alloc: Global, inner: S) -> DelayedSyncContext<S>
         ensures inner { result.inner ≡ inner }
         ensures pending { result.pending ≡ none_pending }
         ensures blobs { result.blobs.items ≡ [] }
         ensures tickets { result.tickets.items ≡ [] }
         ensures refusals { result.refusals ≡ 0 }
+        ensures keeps { (bytes : S → S.Blob → List ℕ) → (left : S → S.Blob → Option (List ℕ)) → (promised : S → Ticket → S.Blob → Option (List ℕ)) →
+            KeepsBytes (calls S.refusals S.polls_sync S.gives_sync_up S.writes S.resizes S.syncs S.starts_sync S.closes) bytes left promised →
+            KeepsBytes (delayed_calls (calls S.refusals S.polls_sync S.gives_sync_up S.writes S.resizes S.syncs S.starts_sync S.closes)) (delayed_bytes bytes) (delayed_left left) (delayed_promised bytes promised) }
     {
         DelayedSyncContext {
             inner,
@@ -119,17 +126,10 @@ fn give_up_all<S: Storage>(inner: &mut S, mut tickets: Vec<Stage>)
 {
     while let Some(stage) = tickets.pop() {
         match stage {
-            Stage::Passed(
-                Passed {
-                    ticket,
-                    blob: _,
-                    counts: _,
-                },
-            ) => inner.give_up_sync(ticket),
+            Stage::Passed(passed) => inner.give_up_sync(Ticket::Numbered(passed.number)),
             Stage::Held(_) | Stage::Out => {}
         }
     }
-    tickets.destroy_empty();
 }
 
 // Closes what is left of the inner blobs, the last one first.
@@ -140,7 +140,7 @@ fn close_all<S: Storage>(inner: &mut S, mut blobs: Vec<Option<SharedBlob<BlobOf<
         if let Some(
             SharedBlob {
                 inner: blob,
-                holders: _,
+                others: _,
             },
         ) = place
         {
@@ -221,22 +221,49 @@ impl<S: Storage> DelayedSyncContext<S> {
         }
     }
 
-    // The sync of a ticket is done.
-    fn finish(&mut self, blob: Option<u64>, counts: bool, answer: &Result<(), Error>)
-        ensures finishes { Finishes (calls S.refusals S.polls_sync S.gives_sync_up S.writes S.resizes S.syncs S.starts_sync S.closes) blob counts answer.now (delayed self.old.inner self.old.pending self.old.blobs.items self.old.tickets.items self.old.refusals) (delayed self.new.inner self.new.pending self.new.blobs.items self.new.tickets.items self.new.refusals) }
+    // A ticket is out, and holds the blob no more.
+    fn leave(&mut self, number: u64, blob: Option<u64>)
+        ensures leaves { LetsGo (calls S.refusals S.polls_sync S.gives_sync_up S.writes S.resizes S.syncs S.starts_sync S.closes) blob (without_ticket number (delayed self.old.inner self.old.pending self.old.blobs.items self.old.tickets.items self.old.refusals)) (delayed self.new.inner self.new.pending self.new.blobs.items self.new.tickets.items self.new.refusals) }
+        ensures counts { S.refusals self.old.inner ≤ S.refusals self.new.inner }
+        ensures own { self.new.refusals ≡ self.old.refusals }
+    {
+        set_stage(&mut self.tickets, number, Stage::Out);
+        self.let_go(blob);
+    }
+
+    // A ticket is answered, and leaves.
+    fn finish(&mut self, number: u64, blob: Option<u64>, counts: bool, answer: &Result<(), Error>)
+        ensures finishes { Finishes (calls S.refusals S.polls_sync S.gives_sync_up S.writes S.resizes S.syncs S.starts_sync S.closes) number blob counts answer.now (delayed self.old.inner self.old.pending self.old.blobs.items self.old.tickets.items self.old.refusals) (delayed self.new.inner self.new.pending self.new.blobs.items self.new.tickets.items self.new.refusals) }
         ensures counts { S.refusals self.old.inner ≤ S.refusals self.new.inner }
         ensures own { self.new.refusals ≡ self.old.refusals }
     {
         if counts && answer.is_ok() {
             self.pending.complete();
         }
-        self.let_go(blob);
+        self.leave(number, blob);
+    }
+
+    // The same, with the answer of an inner ticket, out of which it was taken.
+    fn answer(
+        &mut self,
+        number: u64,
+        blob: Option<u64>,
+        counts: bool,
+        answer: Result<(), Error>,
+    ) -> Poll<Result<(), Error>>
+        ensures answers { AnswersInner (calls S.refusals S.polls_sync S.gives_sync_up S.writes S.resizes S.syncs S.starts_sync S.closes) number blob counts answer (delayed self.old.inner self.old.pending self.old.blobs.items self.old.tickets.items self.old.refusals) result (delayed self.new.inner self.new.pending self.new.blobs.items self.new.tickets.items self.new.refusals) }
+        ensures counts { S.refusals self.old.inner ≤ S.refusals self.new.inner }
+        ensures own { self.new.refusals ≡ self.old.refusals }
+    {
+        self.inner.give_up_sync(Ticket::Ready(Ok(())));
+        self.finish(number, blob, counts, &answer);
+        Poll::Ready(answer)
     }
 }
 
 // Polls of tickets with a number.
 impl<S: Storage> DelayedSyncContext<S> {
-    // A poll of an inner ticket that is out: where it is pending it is put in again.
+    // A poll of an inner ticket. Once that is ready its answer is taken out: the poll's own may be a copy that lacked memory.
     fn poll_inner<E: Env>(
         &mut self,
         env: &mut E,
@@ -244,38 +271,15 @@ impl<S: Storage> DelayedSyncContext<S> {
         passed: Passed,
         task: u64,
     ) -> Poll<Result<(), Error>>
-        requires there { number < vec_len self.old.tickets }
-        requires none { passed_of (slice_get self.old.tickets.items number) ≡ None }
         ensures polls { Notes (E.noted env.old) (λ x. PollsInner (calls S.refusals S.polls_sync S.gives_sync_up S.writes S.resizes S.syncs S.starts_sync S.closes) number task passed (delayed self.old.inner self.old.pending self.old.blobs.items self.old.tickets.items self.old.refusals) result (delayed self.new.inner self.new.pending self.new.blobs.items self.new.tickets.items self.new.refusals) x) (E.noted env.new) }
         ensures spent { E.spare env.old ≤ E.spare env.new + S.most }
         ensures counts { CountsAnswer (S.refusals self.old.inner + self.old.refusals) (S.refusals self.new.inner + self.new.refusals) result }
     {
-        let Passed {
-            mut ticket,
-            blob,
-            counts,
-        } = passed;
-        match self.inner.poll_sync(env, &mut ticket, task) {
-            Poll::Pending => {
-                let passed = Passed {
-                    ticket,
-                    blob,
-                    counts,
-                };
-                put_passed(&mut self.tickets, number, passed);
-                Poll::Pending
-            }
-            Poll::Ready(Ok(())) => {
-                self.inner.give_up_sync(ticket);
-                self.finish(blob, counts, &Ok(()));
-                Poll::Ready(Ok(()))
-            }
-            Poll::Ready(Err(error)) => {
-                self.inner.give_up_sync(ticket);
-                refuse(&mut self.refusals);
-                self.let_go(blob);
-                Poll::Ready(Err(error))
-            }
+        let mut ticket = Ticket::Numbered(passed.number);
+        let _ = self.inner.poll_sync(env, &mut ticket, task);
+        match ticket {
+            Ticket::Numbered(_) => Poll::Pending,
+            Ticket::Ready(held) => self.answer(number, passed.blob, passed.counts, held),
         }
     }
 
@@ -287,33 +291,46 @@ impl<S: Storage> DelayedSyncContext<S> {
         held: Hold,
         task: u64,
     ) -> Poll<Result<(), Error>>
-        requires { held_of (slice_get self.old.tickets.items number) ≡ Some held }
         ensures polls { Notes (E.noted env.old) (λ x. SyncsReleased (calls S.refusals S.polls_sync S.gives_sync_up S.writes S.resizes S.syncs S.starts_sync S.closes) number task held (blob_at self.old.blobs.items held.blob) (delayed self.old.inner self.old.pending self.old.blobs.items self.old.tickets.items self.old.refusals) result (delayed self.new.inner self.new.pending self.new.blobs.items self.new.tickets.items self.new.refusals) x) (E.noted env.new) }
         ensures spent { E.spare env.old ≤ E.spare env.new + (S.most + S.most) }
         ensures counts { CountsAnswer (S.refusals self.old.inner + self.old.refusals) (S.refusals self.new.inner + self.new.refusals) result }
     {
         let Some(inner) = inner_of(self.blobs.as_slice(), held.blob) else {
-            refuse(&mut self.refusals);
-            return Poll::Ready(Err(Error::UnknownToken));
+            return Poll::Ready(Err(self.lose(number)));
         };
         match self.inner.sync(env, inner) {
             Ok(Done::Now) => {
-                self.finish(Some(held.blob), held.counts, &Ok(()));
+                self.finish(number, Some(held.blob), held.counts, &Ok(()));
                 Poll::Ready(Ok(()))
             }
-            Ok(Done::Gated(ticket)) => {
+            Ok(Done::Gated(Ticket::Ready(answer))) => {
+                self.answer(number, Some(held.blob), held.counts, answer)
+            }
+            Ok(Done::Gated(Ticket::Numbered(gated))) => {
                 let passed = Passed {
-                    ticket,
+                    number: gated,
                     blob: Some(held.blob),
                     counts: held.counts,
                 };
+                set_stage(&mut self.tickets, number, Stage::Passed(passed));
                 self.poll_inner(env, number, passed, task)
             }
             Err(error) => {
-                self.let_go(Some(held.blob));
-                Poll::Ready(Err(error))
+                let answer = Err(error);
+                self.finish(number, Some(held.blob), held.counts, &answer);
+                Poll::Ready(answer)
             }
         }
+    }
+
+    // The blob of a ticket isn't there: the ticket is out.
+    fn lose(&mut self, number: u64) -> Error
+        ensures error { result ≡ Error.UnknownToken }
+        ensures lost { (delayed self.new.inner self.new.pending self.new.blobs.items self.new.tickets.items self.new.refusals) ≡ refused (without_ticket number (delayed self.old.inner self.old.pending self.old.blobs.items self.old.tickets.items self.old.refusals)) }
+        ensures fits { self.old.refusals < 2 ^ 64 }
+    {
+        self.leave(number, None);
+        unknown(&mut self.refusals)
     }
 
     // A ticket with a number is given up.
@@ -321,20 +338,13 @@ impl<S: Storage> DelayedSyncContext<S> {
         ensures gives_up { GivesUpStage (calls S.refusals S.polls_sync S.gives_sync_up S.writes S.resizes S.syncs S.starts_sync S.closes) number (slice_get self.old.tickets.items number) (delayed self.old.inner self.old.pending self.old.blobs.items self.old.tickets.items self.old.refusals) (delayed self.new.inner self.new.pending self.new.blobs.items self.new.tickets.items self.new.refusals) }
         ensures counts { S.refusals self.old.inner + self.old.refusals ≤ S.refusals self.new.inner + self.new.refusals }
     {
-        if let Some(held) = held_at(self.tickets.as_slice(), number) {
-            self.let_go(Some(held.blob));
-            return;
-        }
-        if let Some(
-            Passed {
-                ticket,
-                blob,
-                counts: _,
-            },
-        ) = take_passed(&mut self.tickets, number)
-        {
-            self.inner.give_up_sync(ticket);
-            self.let_go(blob);
+        match stage_at(self.tickets.as_slice(), number) {
+            Stage::Held(held) => self.leave(number, Some(held.blob)),
+            Stage::Passed(passed) => {
+                self.inner.give_up_sync(Ticket::Numbered(passed.number));
+                self.leave(number, passed.blob);
+            }
+            Stage::Out => {}
         }
     }
 
@@ -349,23 +359,19 @@ impl<S: Storage> DelayedSyncContext<S> {
         ensures spent { E.spare env.old ≤ E.spare env.new + (S.most + S.most) }
         ensures counts { CountsAnswer (S.refusals self.old.inner + self.old.refusals) (S.refusals self.new.inner + self.new.refusals) result }
     {
-        if let Some(held) = held_at(self.tickets.as_slice(), number) {
-            return match self.pending.poll(held.hold, task) {
+        match stage_at(self.tickets.as_slice(), number) {
+            Stage::Held(held) => match self.pending.poll(held.hold, task) {
                 Poll::Pending => Poll::Pending,
                 Poll::Ready(Ok(())) => self.sync_released(env, number, held, task),
                 Poll::Ready(Err(error)) => {
                     refuse(&mut self.refusals);
-                    self.let_go(Some(held.blob));
-                    Poll::Ready(Err(error))
+                    let answer = Err(error);
+                    self.finish(number, Some(held.blob), held.counts, &answer);
+                    Poll::Ready(answer)
                 }
-            };
-        }
-        match take_passed(&mut self.tickets, number) {
-            Some(passed) => self.poll_inner(env, number, passed, task),
-            None => {
-                refuse(&mut self.refusals);
-                Poll::Ready(Err(Error::UnknownToken))
-            }
+            },
+            Stage::Passed(passed) => self.poll_inner(env, number, passed, task),
+            Stage::Out => Poll::Ready(Err(unknown(&mut self.refusals))),
         }
     }
 }

@@ -203,3 +203,41 @@ fn each_release(rt: HostRuntime) -> Result<(), Fail> {
     assert_eq!(rt; later, Ok((1, failure())));
     Ok(())
 }
+
+/// What the ticket of a started sync answers, what its number does once it was answered, and whether the blob is open after two
+/// more ends of it.
+type Again = (Poll<Result<(), Error>>, Poll<Result<(), Error>>, bool);
+
+fn poll_again(store: &mut Delayed, blob: &DelayedSyncBlob, mut ticket: Ticket) -> Again {
+    let _ = release_pending_syncs(store.pending_mut());
+    let first = store.poll_sync(&mut NoEnv, &mut ticket, 1);
+    store.give_up_sync(ticket);
+    let mut again = Ticket::Numbered(0);
+    let second = store.poll_sync(&mut NoEnv, &mut again, 1);
+    store.give_up_sync(again);
+    store.give_up_sync(Ticket::Numbered(0));
+    (first, second, store.resize(&mut NoEnv, blob, 1).is_ok())
+}
+
+fn start_and_poll_again(store: &mut Delayed) -> Result<Again, Error> {
+    let (blob, _) = store.open(&mut NoEnv, "p", b"c")?;
+    let seen = match store.start_sync(&mut NoEnv, &blob) {
+        Ok(ticket) => Ok(poll_again(store, &blob, ticket)),
+        Err(error) => Err(error),
+    };
+    store.close(blob);
+    seen
+}
+
+#[test]
+fn answered_ticket_is_out(rt: HostRuntime) -> Result<(), Fail> {
+    let alloc = rt.alloc();
+    let mut store = DelayedSyncContext::new(alloc, MemStore::new(alloc, FaultConfig::default())?);
+    let seen = start_and_poll_again(&mut store);
+    let completions = store.pending().completions();
+    let _inner = store.into_inner();
+    let unknown = Poll::Ready(Err(Error::UnknownToken));
+    assert_eq!(rt; seen, Ok((Poll::Ready(Ok(())), unknown, true)));
+    assert_eq!(rt; completions, 1);
+    Ok(())
+}

@@ -6,10 +6,10 @@ ghost use Rattle.rt_buffer.specs.Delayed.{blob_at, closed_by, has_place, with_ho
 
 use std::mem;
 
-/// An inner blob, and how many hold it: its token, and tickets of syncs that aren't ready.
+/// An inner blob, and how many hold it beside one: its token, and tickets of syncs that aren't ready.
 pub struct SharedBlob<B> {
     pub(crate) inner: B,
-    pub(crate) holders: u64,
+    pub(crate) others: u64,
 }
 
 /// The inner blob of a token that is open.
@@ -26,10 +26,10 @@ pub fn inner_of<B>(blobs: &[Option<SharedBlob<B>>], number: u64) -> Option<&B>
 pub fn add_blob<B>(blobs: &mut Vec<Option<SharedBlob<B>>>, inner: B) -> u64
     requires { vec_len blobs.old < vec_capacity blobs.old }
     ensures number { result ≡ length blobs.old.items }
-    ensures added { blobs.new.items ≡ blobs.old.items ++ Some (record { inner = inner; holders = 1 }) ∷ [] }
+    ensures added { blobs.new.items ≡ blobs.old.items ++ Some (record { inner = inner; others = 0 }) ∷ [] }
 {
     let number = blobs.len() as u64;
-    blobs.push_reserved(Some(SharedBlob { inner, holders: 1 }));
+    blobs.push_reserved(Some(SharedBlob { inner, others: 0 }));
     number
 }
 
@@ -38,7 +38,7 @@ pub fn has_place<B>(blobs: &[Option<SharedBlob<B>>], number: u64) -> bool
     ensures { result ≡ has_place blobs.now number }
 {
     match blobs.get(number as usize) {
-        Some(Some(shared)) => shared.holders < u64::MAX,
+        Some(Some(shared)) => shared.others < u64::MAX,
         Some(None) | None => true,
     }
 }
@@ -49,12 +49,12 @@ pub fn hold<B>(blobs: &mut Vec<Option<SharedBlob<B>>>, number: u64)
     ensures { blobs.new.items ≡ with_holder blobs.old.items number }
 {
     let place = number as usize;
-    let holders = match blobs.get(place) {
-        Some(Some(shared)) => shared.holders,
+    let others = match blobs.get(place) {
+        Some(Some(shared)) => shared.others,
         Some(None) | None => return,
     };
     if let Some(shared) = &mut blobs[place] {
-        shared.holders = holders + 1;
+        shared.others = others + 1;
     }
 }
 
@@ -64,18 +64,18 @@ pub fn let_go<B>(blobs: &mut Vec<Option<SharedBlob<B>>>, number: u64) -> Option<
     ensures held { blobs.new.items ≡ without_holder blobs.old.items number }
 {
     let place = number as usize;
-    let holders = match blobs.get(place) {
-        Some(Some(shared)) => shared.holders,
+    let others = match blobs.get(place) {
+        Some(Some(shared)) => shared.others,
         Some(None) | None => return None,
     };
-    if holders > 1 {
+    if others > 0 {
         if let Some(shared) = &mut blobs[place] {
-            shared.holders = holders - 1;
+            shared.others = others - 1;
         }
         return None;
     }
     match mem::replace(&mut blobs[place], None) {
-        Some(SharedBlob { inner, holders: _ }) => Some(inner),
+        Some(SharedBlob { inner, others: _ }) => Some(inner),
         None => None,
     }
 }

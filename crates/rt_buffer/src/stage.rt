@@ -1,16 +1,15 @@
 // What became of the tickets of a store that holds syncs back, by number.
-ghost use Rattle.std.specs.Prelude.{◌≡◌, ◌<◌, ◌++◌, ◌∷◌, [], ℕ, Some, None, length, slice_get, slice_set, vec_len, vec_capacity};
+ghost use Rattle.std.specs.Prelude.{◌≡◌, ◌<◌, ◌++◌, ◌∷◌, [], ℕ, length, slice_get, slice_set, vec_len, vec_capacity};
 ghost use Rattle.rt_base.specs.declared.error.Error.{Error};
-ghost use Rattle.rt_buffer.specs.Delayed.{after_take, given, held_of, kept, passed_of};
+ghost use Rattle.rt_buffer.specs.Delayed.{given, kept, stage_of};
 ghost use Rattle.rt_buffer.specs.declared.stage.Stage.{Stage};
 ghost use Rattle.rt_store.specs.Answered.{CountsDone};
 
 use rt_base::Error;
 use rt_store::{Done, Ticket};
-use std::mem;
 
-/// A ticket is held or goes on at once, is one of the inner store, or the inner ticket is out.
-#[derive(Debug)]
+/// A ticket is held or goes on at once, is one of the inner store, or is out: answered, or given up.
+#[derive(Clone, Copy, Debug)]
 pub enum Stage {
     Held(Hold),
     Passed(Passed),
@@ -18,17 +17,17 @@ pub enum Stage {
 }
 
 /// A sync of this blob that waits for a release, if that holds it. One that was started counts once it is done.
-#[derive(Clone, Copy, Debug, PartialEq, Eq)]
+#[derive(Clone, Copy, Debug)]
 pub struct Hold {
     pub(crate) blob: u64,
     pub(crate) hold: Option<u64>,
     pub(crate) counts: bool,
 }
 
-/// A ticket of the inner store, and the blob that is kept open for it.
-#[derive(Debug)]
+/// The number of a ticket of the inner store, and the blob that is kept open for it.
+#[derive(Clone, Copy, Debug)]
 pub struct Passed {
-    pub(crate) ticket: Ticket,
+    pub(crate) number: u64,
     pub(crate) blob: Option<u64>,
     pub(crate) counts: bool,
 }
@@ -54,7 +53,7 @@ pub fn pass_on(tickets: &mut Vec<Stage>, answer: Result<Done, Error>) -> Result<
     match answer {
         Ok(Done::Gated(Ticket::Numbered(number))) => {
             let passed = Passed {
-                ticket: Ticket::Numbered(number),
+                number,
                 blob: None,
                 counts: false,
             };
@@ -66,40 +65,22 @@ pub fn pass_on(tickets: &mut Vec<Stage>, answer: Result<Done, Error>) -> Result<
     }
 }
 
-/// What holds the sync of a ticket.
-pub fn held_at(tickets: &[Stage], number: u64) -> Option<Hold>
-    ensures { result ≡ held_of (slice_get tickets.now number) }
+/// What became of a ticket. One that isn't there is out.
+pub fn stage_at(tickets: &[Stage], number: u64) -> Stage
+    ensures { result ≡ stage_of (slice_get tickets.now number) }
 {
     match tickets.get(number as usize) {
-        Some(Stage::Held(hold)) => Some(*hold),
-        Some(Stage::Passed(_)) | Some(Stage::Out) | None => None,
+        Some(stage) => *stage,
+        None => Stage::Out,
     }
 }
 
-/// Takes an inner ticket out.
-pub fn take_passed(tickets: &mut Vec<Stage>, number: u64) -> Option<Passed>
-    ensures passed { result ≡ passed_of (slice_get tickets.old.items number) }
-    ensures taken { tickets.new.items ≡ after_take tickets.old.items number }
+/// Changes what became of a ticket, where it is there.
+pub fn set_stage(tickets: &mut Vec<Stage>, number: u64, stage: Stage)
+    ensures { tickets.new.items ≡ slice_set tickets.old.items number stage }
 {
     let place = number as usize;
-    match tickets.get(place) {
-        Some(Stage::Passed(_)) => {}
-        Some(Stage::Held(_)) | Some(Stage::Out) | None => return None,
-    }
-    match mem::replace(&mut tickets[place], Stage::Out) {
-        Stage::Passed(passed) => Some(passed),
-        Stage::Held(_) | Stage::Out => unreachable!(),
-    }
-}
-
-/// Puts an inner ticket in, where none is.
-pub fn put_passed(tickets: &mut Vec<Stage>, number: u64, passed: Passed)
-    requires there { number < vec_len tickets.old }
-    requires none { passed_of (slice_get tickets.old.items number) ≡ None }
-    ensures { tickets.new.items ≡ slice_set tickets.old.items number (Stage.Passed passed) }
-{
-    match mem::replace(&mut tickets[number as usize], Stage::Passed(passed)) {
-        Stage::Held(_) | Stage::Out => {}
-        Stage::Passed(_passed) => unreachable!(),
+    if place < tickets.len() {
+        tickets[place] = stage;
     }
 }

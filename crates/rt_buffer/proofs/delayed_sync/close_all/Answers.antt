@@ -1,4 +1,4 @@
-use Rattle.std.proofs.Common.{List, ◌∷◌, [], ◌++◌, Option, Some, None, refl, sym, subst}
+use Rattle.std.proofs.Common.{List, Option, refl, sym, subst}
 use Rattle.rt_buffer.specs.Calls.{calls}
 use Rattle.rt_buffer.specs.declared.shared_blob.SharedBlob.{SharedBlob}
 use Rattle.rt_buffer.specs.Delayed.{ClosesAll, ClosesLast}

@@ -1,6 +1,5 @@
-use Rattle.std.proofs.Common.{◌≡◌, List, ◌∷◌, [], ◌++◌, refl, sym, subst}
-use Rattle.rt_buffer.specs.Calls.{StoreCalls, calls}
-use Rattle.rt_buffer.specs.declared.stage.Hold.{Hold}
+use Rattle.std.proofs.Common.{List, sym, subst}
+use Rattle.rt_buffer.specs.Calls.{calls}
 use Rattle.rt_buffer.specs.declared.stage.Stage.{Stage}
 use Rattle.rt_buffer.specs.Delayed.{GivesUpAll, GivesUpLast}
 use Rattle.rt_buffer.proofs.Holding.{gives_up_none, gives_up_snoc}

@@ -1,4 +1,4 @@
-use Rattle.std.proofs.Common.{◌≡◌, ℕ, length}
+use Rattle.std.proofs.Common.{◌≡◌, length}
 use Rattle.rt_buffer.specs.Pending.{all_released, outcome}
 use Rattle.rt_buffer.proofs.pending_syncs.release_each.Given as goal
 

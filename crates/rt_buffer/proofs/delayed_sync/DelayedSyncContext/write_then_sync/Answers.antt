@@ -1,4 +1,4 @@
-use Rattle.std.proofs.Common.{◌+◌, ◌≤◌, List, Option, Some, Ok, true, arith, refl, sym, subst}
+use Rattle.std.proofs.Common.{◌+◌, ◌≤◌, List, Option, Ok, true, arith, refl, sym, subst}
 use Rattle.std.specs.Prelude.{IfSome}
 use Rattle.rt_base.specs.Counted.{Notes}
 use Rattle.rt_base.specs.Noted.{Noted}

@@ -3,7 +3,10 @@ use Rattle.rt_buffer.specs.Tip.{laid_over}
 use Rattle.rt_buffer.proofs.Kept.{crash_leaves, done_by, memory_keeps}
 use Rattle.rt_buffer.proofs.in_memory.Write+MemStore.sync_in_memory.Goals as goal
 
-pub returns : goal.returns
-returns g c = λ lies knows.
+pub returns-clause-keeps : goal.returns-clause-keeps
+returns-clause-keeps g c = memory_keeps
+
+pub returns-clause-durable : goal.returns-clause-durable
+returns-clause-durable g c = λ lies knows.
     done_by c.sync.result _ _ _ (λ w kept. (kept, crash_leaves c.sync.new.store c.args.self.blob (laid_over c.args.self.held.tip (memory_bytes c.args.store.now c.args.self.blob)) w.held kept))
     (c.sync.ensures.durable memory_bytes memory_left memory_promised memory_keeps lies knows)

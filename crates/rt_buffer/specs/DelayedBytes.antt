@@ -1,0 +1,62 @@
+-- What a store that holds syncs back keeps of its blobs by a crash, by what its inner store keeps of them.
+use Rattle.std.specs.Prelude.{ℕ, ◌+◌, ◌==◌, Bool, true, false, ◌&&◌, if◌then◌else◌, List, [], Option, Some, None, slice_get, nat_lt}
+use Rattle.rt_buffer.specs.Calls.{StoreCalls}
+use Rattle.rt_buffer.specs.declared.shared_blob.SharedBlob.{SharedBlob}
+use Rattle.rt_buffer.specs.declared.stage.Stage.{Stage}
+use Rattle.rt_buffer.specs.declared.stage.Stage.TheVariants as stage
+use Rattle.rt_buffer.specs.Delayed.{Delayed, GivesUp, LetsGo, OnBlob, Polls, Starts, Syncs, Writes, blob_at, stage_of}
+use Rattle.rt_store.specs.declared.ticket.Ticket.{Ticket}
+use Rattle.rt_store.specs.declared.ticket.Ticket.TheVariants.{Ready, Numbered}
+
+-- its calls on the numbers of its blobs
+abbrev pub delayed_calls : {S B : Type 0} → StoreCalls S B → StoreCalls (Delayed S B) ℕ
+delayed_calls c = record {
+  refusals = λ s. c.refusals s.inner + s.refusals;
+  polls = λ s t task p new u x. Polls c task t s p new u x;
+  gives_up = λ s t new. GivesUp c t s new;
+  writes = λ s n at w options r new x. Writes c n (blob_at s.blobs n) (options.sync && s.pending.is_armed) at w options s r new x;
+  resizes = λ s n len r new x. OnBlob (λ b. c.resizes s.inner b len) (blob_at s.blobs n) s r new x;
+  syncs = λ s n r new x. Syncs c n (blob_at s.blobs n) s r new x;
+  starts = λ s n r new x. Starts n (blob_at s.blobs n) s r new x;
+  closes = λ s n new. LetsGo c (Some n) s new;
+}
+
+-- the bytes of the inner blob of a number, and what each crash leaves of it
+abbrev pub bytes_in : {S B : Type 0} → (S → B → List ℕ) → S → Option B → List ℕ
+bytes_in bytes s None = []
+bytes_in bytes s (Some b) = bytes s b
+
+abbrev pub delayed_bytes : {S B : Type 0} → (S → B → List ℕ) → Delayed S B → ℕ → List ℕ
+delayed_bytes bytes s n = bytes_in bytes s.inner (blob_at s.blobs n)
+
+abbrev pub left_in : {S B : Type 0} → (S → B → Option (List ℕ)) → S → Option B → Option (List ℕ)
+left_in left s None = Some []
+left_in left s (Some b) = left s b
+
+abbrev pub delayed_left : {S B : Type 0} → (S → B → Option (List ℕ)) → Delayed S B → ℕ → Option (List ℕ)
+delayed_left left s n = left_in left s.inner (blob_at s.blobs n)
+
+-- another one holds the blob too
+abbrev pub has_other : {B : Type 0} → Option (Option (SharedBlob B)) → Bool
+has_other None = false
+has_other (Some None) = false
+has_other (Some (Some b)) = nat_lt 0 b.others
+
+-- a ticket that holds this blob, or none, leaves the blob of a number open at its end
+abbrev pub stays_open : {B : Type 0} → List (Option (SharedBlob B)) → ℕ → Option ℕ → Bool
+stays_open blobs n None = true
+stays_open blobs n (Some m) = (m == n) && has_other (slice_get blobs n)
+
+abbrev pub promised_in : {S B : Type 0} → (S → Ticket → B → Option (List ℕ)) → S → Ticket → Option B → Option (List ℕ)
+promised_in promised s t None = None
+promised_in promised s t (Some b) = promised s t b
+
+-- what each crash leaves once the sync of a ticket is done: one that is held becomes a sync of all that the blob has then
+abbrev pub promised_by : {S B : Type 0} → (S → B → List ℕ) → (S → Ticket → B → Option (List ℕ)) → Delayed S B → ℕ → Stage → Option (List ℕ)
+promised_by bytes promised s n stage.Out = None
+promised_by bytes promised s n (stage.Held h) = if stays_open s.blobs n (Some h.blob) then Some (delayed_bytes bytes s n) else None
+promised_by bytes promised s n (stage.Passed k) = if stays_open s.blobs n k.blob then promised_in promised s.inner (Numbered k.number) (blob_at s.blobs n) else None
+
+abbrev pub delayed_promised : {S B : Type 0} → (S → B → List ℕ) → (S → Ticket → B → Option (List ℕ)) → Delayed S B → Ticket → ℕ → Option (List ℕ)
+delayed_promised bytes promised s (Ready r) n = promised_in promised s.inner (Ready r) (blob_at s.blobs n)
+delayed_promised bytes promised s (Numbered k) n = promised_by bytes promised s n (stage_of (slice_get s.tickets k))
