@@ -13,10 +13,7 @@ use Rattle.std.proofs.lemmas.Bool.Decides.{nat_tests}
 use Rattle.rt_super.specs.Wakers.{waker_of}
 use Rattle.rt_super.specs.Alarms.{Alarm, is_before, AreInOrder, AreOnce, with_alarm, alarm_at, first_due, due_first, waking}
 use Rattle.rt_super.specs.AlarmsInside.{alarm_of, alarms_of}
-
--- how the map compares its keys
-abbrev pub key_cmp : ℕ × ℕ → ℕ × ℕ → Ordering
-key_cmp x y = ordering_then (nat_cmp x.0 y.0) (nat_cmp x.1 y.1)
+use Rattle.rt_super.specs.AlarmQueue.{key_cmp}
 
 -- order
 

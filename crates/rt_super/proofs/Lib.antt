@@ -3,6 +3,7 @@ pub mod Walk
 pub mod Records
 pub mod Shapes
 pub mod AlarmLemmas
+pub mod QueueLemmas
 pub mod Rows
 pub mod TokenLemmas
 pub mod Shutdowns

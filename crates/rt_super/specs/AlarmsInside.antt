@@ -12,10 +12,10 @@ abbrev pub alarms_of : List ((ℕ × ℕ) × ℕ) → List Alarm
 alarms_of entries = map alarm_of entries
 
 abbrev pub list_of : Inside → AlarmList
-list_of a = record { alarms = alarms_of a.tasks.entries; count = vec_len a.dues }
+list_of a = record { alarms = alarms_of a.tasks; count = vec_len a.dues }
 
 -- The due times stand in places by number, and a live alarm's is its own.
 pub record IsWhole (a : Inside) : Type 0 where
   pub set : AreSet (list_of a)
   pub counted : vec_len a.dues ≡ length a.dues.items
-  pub dues : (n due : ℕ) → due_at (alarms_of a.tasks.entries) n ≡ Some due → slice_get a.dues.items n ≡ Some due
+  pub dues : (n due : ℕ) → due_at (alarms_of a.tasks) n ≡ Some due → slice_get a.dues.items n ≡ Some due

@@ -6,6 +6,7 @@ pub mod History
 pub mod Inside
 pub mod Ending
 pub mod TreeInside
+pub mod AlarmQueue
 pub mod Alarms
 pub mod AlarmsInside
 pub mod Signals

@@ -3,9 +3,11 @@ ghost use Rattle.std.specs.Prelude.{◌≡◌, ◌<◌, ◌-◌, ◌^◌, length
 ghost use Rattle.rt_super.specs.Wakers.{waker_of, named_of};
 ghost use Rattle.rt_super.specs.Alarms.{no_alarms, alarm_set, alarm_rewoken, due_at, first_due, due_first, alarm_popped, woken_of, alarms_cleared, AreSet};
 
+mod queue;
+
+use queue::Queue;
 use rt_base::{Nanos, NoMemory};
 use std::alloc::Global;
-use std::collections::BTreeMap;
 use std::marker::Model;
 
 /// The alarms that are set. Each has a due time in nanoseconds, a number, and the task that it
@@ -16,7 +18,7 @@ use std::marker::Model;
 #[derive(Drop)]
 pub struct Alarms {
     /// Whom each alarm wakes, by due time and number.
-    tasks: BTreeMap<(Nanos, u64), u64>,
+    tasks: Queue,
     /// When each alarm that was ever set is or was due, by number.
     dues: Vec<Nanos>,
 }
@@ -39,7 +41,7 @@ impl Alarms {
         ensures { result ≡ no_alarms }
     {
         Alarms {
-            tasks: BTreeMap::new(alloc),
+            tasks: Queue::new(alloc),
             dues: Vec::new(alloc),
         }
     }
@@ -65,10 +67,7 @@ impl Alarms {
         let Some(due) = self.due_of(alarm) else {
             return;
         };
-        let Some(woken) = self.tasks.get_mut(&(due, alarm)) else {
-            return;
-        };
-        *woken = task;
+        self.tasks.rewake((due, alarm), task);
     }
 
     /// When the least alarm is due.
@@ -76,7 +75,7 @@ impl Alarms {
         ensures first { result ≡ first_due self.now.alarms }
         ensures set { AreSet self.now }
     {
-        let (key, _) = self.tasks.first_key_value()?;
+        let (key, _) = self.tasks.first()?;
         Some(key.0)
     }
 
@@ -85,7 +84,7 @@ impl Alarms {
         ensures first { result ≡ option_map (λ a. a.number) (due_first self.now.alarms now) }
         ensures set { AreSet self.now }
     {
-        let (key, _) = self.tasks.first_key_value()?;
+        let (key, _) = self.tasks.first()?;
         if key.0 <= now { Some(key.1) } else { None }
     }
 
@@ -99,7 +98,7 @@ impl Alarms {
         if self.earliest()? > now {
             return None;
         }
-        let ((_, number), task) = self.tasks.pop_first()?;
+        let ((_, number), task) = self.tasks.pop()?;
         Some((number, task))
     }
 
@@ -138,7 +137,7 @@ impl Alarms {
         ensures set { AreSet self.now }
     {
         let due = *self.dues.get(alarm as usize)?;
-        if self.tasks.contains_key(&(due, alarm)) {
+        if self.tasks.contains((due, alarm)) {
             Some(due)
         } else {
             None
