@@ -1,4 +1,5 @@
 pub mod Ascii
+pub mod CommonLines
 pub mod Cuts
 pub mod Digits
 pub mod InOrder

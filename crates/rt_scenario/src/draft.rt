@@ -11,6 +11,7 @@ ghost use Rattle.rt_scenario.specs.Scripts.{tasks_of, tasks_at as total_at};
 ghost use Rattle.rt_scenario.specs.Within.{HasPlaces, HavePlaces, IsFree};
 ghost use Rattle.rt_scenario.specs.declared.named_line.NamedLine.TheVariants as named_line;
 
+use crate::common::common_line;
 use crate::kind::Kind;
 use crate::line::Line;
 use crate::named_line::NamedLine;
@@ -124,6 +125,11 @@ impl Draft {
     fn take_text(&mut self, text: &[u8]) -> Result<(), Stop>
         ensures { Answers (after_text self.old text.now) result self.new }
     {
+        if self.current.is_some() {
+            if let Some(line) = common_line(text) {
+                return self.push_plain(line);
+            }
+        }
         if text.len() > LINE_LEN {
             return Err(Stop::Breaks(Kind::Long));
         }

@@ -1,6 +1,7 @@
 //! Reads the text of a scenario: its settings, its scripts and the run that it names.
 #![tactic(auto)]
 
+mod common;
 mod draft;
 mod handles;
 mod kind;

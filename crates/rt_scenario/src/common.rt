@@ -1,0 +1,26 @@
+// The lines that stand most often in scripts, each told by its bytes at once.
+ghost use Rattle.std.specs.Prelude.{◌≡◌, true, ℕ, IfSome, is_some};
+ghost use Rattle.rt_scenario.specs.Scenario.{Draft, after_text, step_row};
+ghost use Rattle.rt_scenario.specs.Within.{IsFree};
+ghost use Rattle.rt_scenario.specs.declared.named_line.NamedLine.TheVariants.{Plain};
+
+use crate::line::Line;
+use crate::numbers::number_of;
+
+/// So many bytes these lines have at most.
+const SHORT: usize = 64;
+
+/// The line that a text of a script is, where it is `yield`, or `sleep` with a number: it needs no other test.
+pub fn common_line(text: &[u8]) -> Option<Line>
+    ensures line { IfSome result (λ line. (d : Draft) → is_some d.current ≡ true → after_text d text.now ≡ step_row d (Plain line)) }
+    ensures free { IfSome result (λ line. (scripts : ℕ) → IsFree scripts (Plain line)) }
+{
+    if text.len() > SHORT {
+        return None;
+    }
+    match text {
+        b"yield" => Some(Line::Yield),
+        [b's', b'l', b'e', b'e', b'p', b' ', number @ ..] => Some(Line::Sleep(number_of(number)?)),
+        _ => None,
+    }
+}
