@@ -1,6 +1,6 @@
 //! What tasks have, by their numbers.
 
-ghost use Rattle.std.specs.Prelude.{◌≡◌, ◌≤◌, ◌<◌, ◌+◌, ◌∷◌, ◌++◌, [], ℕ, None, length, OnOk, IfSome};
+ghost use Rattle.std.specs.Prelude.{◌≡◌, ◌≤◌, ◌<◌, ◌+◌, ◌^◌, ◌↔◌, ◌∷◌, ◌++◌, [], ℕ, None, length, OnOk, IfSome};
 ghost use Rattle.rt_super.specs.Rows.{find, without, replaced, AreRising};
 
 use rt_base::NoMemory;
@@ -58,7 +58,8 @@ impl<V: Copy> Table<V> {
 
     /// The next number, where it fits.
     pub fn next(&self) -> Option<u64>
-        ensures { IfSome result (λ next. next ≡ self.now.next) }
+        ensures number { IfSome result (λ next. next ≡ self.now.next) }
+        ensures past { (result ≡ None) ↔ (2 ^ 64 ≤ self.now.next) }
     {
         self.first.checked_add(self.places.len() as u64)
     }
