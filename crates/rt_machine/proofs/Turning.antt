@@ -32,7 +32,7 @@ pub quietly-two : (t u v : Told) (d e : Entry) → u ≡ pushed t d → v ≡ pu
 quietly-two t u v d e is then p q = quietly-quietly t u v (quietly-one t u d is p) (quietly-one u v e then q)
 
 pub turns-none : (t : Told) → Turns t t
-turns-none t = record { quiet = quietly-none t; begin = refl; given = refl; fixed = refl; time = omega arith; root = refl; running = refl; numbers = refl; results = refl }
+turns-none t = record { quiet = quietly-none t; begin = refl; given = refl; fixed = refl; time = omega arith; root = refl; running = refl; numbers = refl; results = refl; slots = refl }
 
 pub turns-turns : (a b c : Told) → Turns a b → Turns b c → Turns a c
 turns-turns a b c h k = record {
@@ -45,6 +45,7 @@ turns-turns a b c h k = record {
   running = k.running ∙ h.running;
   numbers = k.numbers ∙ h.numbers;
   results = k.results ∙ h.results;
+  slots = k.slots ∙ h.slots;
 }
 
 -- after a skip nothing lies further ahead

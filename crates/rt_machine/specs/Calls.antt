@@ -3,6 +3,7 @@ use Rattle.std.specs.Prelude.{◌≡◌, ◌⊎◌, ℕ, [], ◌∷◌, ◌++◌
 use Rattle.rt_base.specs.declared.error.Error.{Error}
 use Rattle.rt_base.specs.declared.error.Error.TheVariants.{NoMemory}
 use Rattle.rt_audit.specs.declared.call.Call.{Call}
+use Rattle.rt_audit.specs.declared.call.Call.TheVariants.{SlotPoll}
 use Rattle.rt_audit.specs.declared.reply.CallReply.{CallReply}
 use Rattle.rt_audit.specs.declared.reply.CallReply.TheVariants.{Done, TaskAt, Closed, Pending, PendingAt, Ready, Refused}
 use Rattle.rt_super.specs.Alarms.{AlarmList}
@@ -44,6 +45,11 @@ lacking s = record { told = s.told; lacked = marked s.lacked s.told.state.turns 
 -- the call was refused: it lacked memory, or it was noted with this error
 abbrev pub IsRefused : Option ℕ → Seen → Seen → Call → Error → Type 0
 IsRefused by old new call error = ((error ≡ NoMemory) × (new ≡ lacking old)) ⊎ Noted by old new call (Refused error)
+
+-- a poll of a slot was refused with the error that was sent, or it lacked memory
+abbrev pub Shown : Option ℕ → Seen → Seen → ℕ → Error → Error → Type 0
+Shown by old new slot sent answer =
+    ((answer ≡ NoMemory) × (new ≡ lacking old)) ⊎ ((answer ≡ sent) × Noted by old new (SlotPoll slot) (Refused sent))
 
 -- the call spends a token: where that isn't there it does nothing
 pub record Spent (by : Option ℕ) (old new : Seen) (call : Call) : Type 0 where

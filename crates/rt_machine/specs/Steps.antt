@@ -29,6 +29,7 @@ pub record Turns (old new : Told) : Type 0 where
   pub running : new.state.running ≡ old.state.running
   pub numbers : new.state.numbers ≡ old.state.numbers
   pub results : new.state.results ≡ old.state.results
+  pub slots : new.state.slots ≡ old.state.slots
 
 -- where the run stands after a clock step: a round may begin, or the run ends
 abbrev pub StepStands : State → Result (Unit {0}) FinishCause → Type 0

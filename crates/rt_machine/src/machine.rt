@@ -307,8 +307,10 @@ impl Machine {
         ensures state { self.now.told.state ≡ after_all (begun self.now.told.begin) (own self.now.told) }
         ensures calls { AreCalls self.now.told.calls }
         ensures fresh { (task : ℕ) → self.now.told.state.numbers.next ≤ task → find task self.now.told.state.results ≡ None }
+        ensures unslotted { (slot : ℕ) → self.now.told.state.slots.count ≤ slot → find slot self.now.told.state.slots.results ≡ None }
     {
         self.results.facts();
+        self.slots.facts();
         self.journal.facts()
     }
 }

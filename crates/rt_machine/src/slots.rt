@@ -1,12 +1,12 @@
 //! Calls on slots.
 
-ghost use Rattle.std.specs.Prelude.{◌≡◌, ◌≤◌, ◌<◌, ◌+◌, ◌-◌, ◌^◌, IfOk, IfErr, OnErr, OnOk, true, false, Some, None, is_some, length};
+ghost use Rattle.std.specs.Prelude.{◌≡◌, ◌≤◌, ◌<◌, ◌+◌, ◌-◌, ◌^◌, ◌&&◌, IfOk, IfErr, OnErr, OnOk, true, false, Some, None, is_some, length};
 ghost use Rattle.rt_model.specs.Lists.{find, replaced, those};
 ghost use Rattle.rt_model.specs.Results.{may_abort, waiting};
 ghost use Rattle.rt_model.specs.Rows.{total};
-ghost use Rattle.rt_model.specs.Slots.{aborted, is_there, settled};
+ghost use Rattle.rt_model.specs.Slots.{aborted, is_open, is_there, settled};
 ghost use Rattle.rt_model.specs.Rules.{Answers, MayCall};
-ghost use Rattle.rt_machine.specs.Calls.{Noted, Spent, IsRefused, lacking};
+ghost use Rattle.rt_machine.specs.Calls.{Noted, Shown, Spent, IsRefused, lacking};
 ghost use Rattle.rt_machine.specs.Places.{open_places, result_places};
 
 use crate::Machine;
@@ -17,6 +17,7 @@ use crate::wakes::wake_waiter;
 use rt_audit::{Call, CallReply, Entry, Refusal};
 use rt_base::{Error, NoMemory};
 use rt_model::{Outcome, Table, TaskResult};
+use std::alloc::Global;
 
 #[tactic(auto, using(crate::proofs::Counts::count_laws, crate::proofs::Totals::place_laws, crate::proofs::Owed::owed_laws), unfolding(rt_model::specs::Effects::after))]
 impl Machine {
@@ -104,6 +105,29 @@ impl Machine {
         let (waiter, places) = abort_slot(&mut self.slots, slot);
         self.promised -= 1 + places;
         wake_waiter(&mut self.journal, &mut self.ready, self.closing, waiter);
+    }
+
+    /// Whether what is sent into a slot now stands there: its sender wasn't spent, and nothing else stands there yet.
+    pub fn takes(&self, slot: u64) -> bool
+        ensures { result ≡ (is_some (find slot self.now.told.state.slots.senders) && is_open (find slot self.now.told.state.slots.results)) }
+    {
+        if self.senders.get(slot).is_none() {
+            return false;
+        }
+        match self.slots.get(slot) {
+            Some(found) => match found.outcome {
+                Outcome::Open { .. } => true,
+                Outcome::There | Outcome::Exited | Outcome::Closed => false,
+            },
+            None => false,
+        }
+    }
+
+    /// Whether the wait for what comes by a slot can be aborted: its receiver wasn't spent, and it wasn't aborted before.
+    pub fn may_abort_wait(&self, slot: u64) -> bool
+        ensures { result ≡ may_abort (find slot self.now.told.state.slots.results) }
+    {
+        may_abort(&self.slots, slot)
     }
 
     /// Whether the receiver of a slot wasn't spent.
@@ -207,26 +231,37 @@ impl Machine {
         Ok(())
     }
 
-    /// Refuses a poll of a slot with the error that was sent into it, which stays there. It takes memory.
-    pub fn show_sent(&mut self, by: Option<u64>, slot: u64, error: Error) -> Result<(), NoMemory>
+    /// Refuses a poll of a slot with the error that was sent into it, which stays there. Answers a copy of that error, or
+    /// `NoMemory` where it lacked memory.
+    pub fn show_sent(&mut self, by: Option<u64>, slot: u64, sent: &Error) -> Error
         requires calling { MayCall self.old.told.state by }
         requires sent { is_there (find slot self.old.told.state.slots.results) ≡ true }
-        ensures ok { OnOk result (Noted by self.old self.new (Call.SlotPoll slot) (CallReply.Refused error)) }
-        ensures err { OnErr result (self.new ≡ lacking self.old) }
+        ensures { Shown by self.old self.new slot sent.now result }
     {
-        let room = take_places(&mut self.journal, &mut self.ready, self.promised, 1);
-        let refusal = Refusal::new(*self.ready.allocator(), error);
-        let (Ok(()), Ok(error)) = (room, refusal) else {
+        let Ok(()) = take_places(&mut self.journal, &mut self.ready, self.promised, 1) else {
             self.lack();
-            return Err(NoMemory);
+            return Error::NoMemory;
+        };
+        let Ok((error, answer)) = copies(*self.ready.allocator(), sent) else {
+            self.lack();
+            return Error::NoMemory;
         };
         self.journal.note(Entry::Call {
             by,
             call: Call::SlotPoll { slot },
             reply: CallReply::Refused { error },
         });
-        Ok(())
+        answer
     }
+}
+
+/// A refusal with a copy of an error, and another copy.
+fn copies(alloc: Global, error: &Error) -> Result<(Refusal, Error), NoMemory>
+    ensures { IfOk result (λ two. (two.0 ≡ error.now) × (two.1 ≡ error.now)) }
+{
+    let refusal = Refusal::new(alloc, error.clone_value()?)?;
+    let answer = error.clone_value()?;
+    Ok((refusal, answer))
 }
 
 /// Takes room for a further slot, and answers its number.

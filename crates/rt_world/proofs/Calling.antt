@@ -7,24 +7,23 @@ use Rattle.rt_base.specs.declared.execution.Execution.{Execution}
 use Rattle.rt_audit.specs.declared.call.Call.{Call}
 use Rattle.rt_audit.specs.declared.call.Call.TheVariants.{Child, CloseNode, Spawn, Abort, AbortTask, Wake, Join, GiveUp, SleepPoll, Slot, SlotSend, SlotClose, SlotPoll, SlotGiveUp, AbortWait}
 use Rattle.rt_audit.specs.declared.reply.CallReply.{CallReply}
-use Rattle.rt_audit.specs.declared.reply.CallReply.TheVariants.{Done, NodeAt, TaskAt, Pending, PendingAt, Ready, Refused}
+use Rattle.rt_audit.specs.declared.reply.CallReply.TheVariants.{Done, NodeAt, TaskAt, SlotAt, Pending, PendingAt, Ready, Refused}
 use Rattle.rt_model.specs.declared.result.Outcome.{Outcome}
 use Rattle.rt_model.specs.declared.result.Outcome.TheVariants.{Open, There, Exited, Closed as IsClosed}
 use Rattle.rt_model.specs.declared.result.TaskResult.{TaskResult}
 use Rattle.rt_model.specs.Lists.{find, without, has_number, replaced}
 use Rattle.rt_model.specs.Results.{new_result, may_abort, with_outcome}
-use Rattle.rt_super.specs.Ancestry.{is_live}
 use Rattle.rt_model.specs.State.{State, Stood, Phase, Ending, stood_in}
 use Rattle.rt_model.specs.Effects.{numbers_called, running_called, results_called}
 use Rattle.rt_model.specs.Rules.{Answers, CallsAt, JoinAnswers, OutcomeAnswers, SpawnAnswers, Unless, is_free}
-use Rattle.rt_model.specs.Turns.{Ask, Plainly, Spawning, Plain, Handed, with_task, Held, call_of, moved_by}
-use Rattle.rt_machine.specs.Calls.{Noted, Spent, IsRefused, lacking, sleep_reply, spawn_reply}
+use Rattle.rt_model.specs.Turns.{Ask, Heard, Plainly, Spawning, Plain, Handed, unsent, with_task, Held, call_of, moved_by, has_place}
+use Rattle.rt_machine.specs.Calls.{Noted, Shown, Spent, IsRefused, lacking, sleep_reply, spawn_reply}
 use Rattle.rt_machine.specs.Places.{Seen}
 use Rattle.rt_world.specs.Seats.{Roomed, OutRuns, AreSeated, AreThere, AreOpen, IsComing}
 use Rattle.rt_world.specs.World.{World}
 use Rattle.rt_world.specs.Calls.{Made, IsRefused as WorldRefused}
 use Rattle.rt_world.specs.Walked.{Called, child_told}
-use Rattle.rt_world.proofs.Walked.{child-called, join-called, spawn-called}
+use Rattle.rt_world.proofs.Walked.{called-lacking, child-called, join-called, spawn-called, slot-called, receive-called}
 use Rattle.rt_world.proofs.Coming.{there-abort, there-open, there-given-up, there-taken, coming-changed, coming-given-up, coming-taken, there-spawned, coming-spawned, open-changed, open-given-up, open-spawned}
 use Rattle.rt_world.proofs.Seats.{numbers-with, seated-more, rising-more, rising-has, runs-more}
 
@@ -44,7 +43,7 @@ module _ {A O : Type 0} (tasks : Roomed (ℕ × A)) (outputs : Roomed (ℕ × O)
 
   module _ (by : Option ℕ) (old new : Seen) (i : AreSeated tasks outputs out old.told.state) where
     -- a call that moves no task and no result
-    seated-quiet : (call : Call) (reply : CallReply) → Noted by old new call reply → running_called old.told.state.running call reply ≡ old.told.state.running → numbers_called old.told.state.numbers call reply ≡ old.told.state.numbers → results_called old.told.state.results by call reply ≡ old.told.state.results → AreSeated tasks outputs out new.told.state
+    pub seated-quiet : (call : Call) (reply : CallReply) → Noted by old new call reply → running_called old.told.state.running call reply ≡ old.told.state.running → numbers_called old.told.state.numbers call reply ≡ old.told.state.numbers → results_called old.told.state.results by call reply ≡ old.told.state.results → AreSeated tasks outputs out new.told.state
     seated-quiet call reply n running numbers results =
         let same : new.told.state.results ≡ old.told.state.results = ap (λ (s : Stood). s.results) n.stood ∙ results in
         seated-as old.told.state new.told.state (n.running ∙ running) (n.numbers ∙ numbers) (rw same i.there) (rw (n.phase, same) i.coming) (rw same i.unset) i
@@ -107,12 +106,16 @@ module _ {A O : Type 0} (tasks : Roomed (ℕ × A)) (outputs : Roomed (ℕ × O)
         with true e = seated-changed (Abort task) Done (λ r. record r { aborted = true }) task (spent.there e) refl refl refl (λ x t. t) (there-abort old.told.state.results outputs.items i.there task)
         with false e = rw (spent.gone e) i
 
-    pub close-seated : (node : ℕ) → Spent by old new (CloseNode node) → AreSeated tasks outputs out new.told.state
-    close-seated node spent = with (is_live old.told.state.nodes node) refl
+    -- a call that spends a token and moves no task and no result
+    pub spent-seated : (call : Call) → running_called old.told.state.running call Done ≡ old.told.state.running → numbers_called old.told.state.numbers call Done ≡ old.told.state.numbers → results_called old.told.state.results by call Done ≡ old.told.state.results → Spent by old new call → AreSeated tasks outputs out new.told.state
+    spent-seated call running numbers results spent = with (has_place (stood_in old.told.state) call) refl
       where
-        with : (b : Bool) → is_live old.told.state.nodes node ≡ b → AreSeated tasks outputs out new.told.state
-        with true e = seated-quiet by old new i (CloseNode node) Done (spent.there e) refl refl refl
+        with : (b : Bool) → has_place (stood_in old.told.state) call ≡ b → AreSeated tasks outputs out new.told.state
+        with true e = seated-quiet by old new i call Done (spent.there e) running numbers results
         with false e = rw (spent.gone e) i
+
+    pub close-seated : (node : ℕ) → Spent by old new (CloseNode node) → AreSeated tasks outputs out new.told.state
+    close-seated node spent = spent-seated (CloseNode node) refl refl refl spent
 
     pub pending-seated : (task : ℕ) → Noted by old new (Join task) Pending → AreSeated tasks outputs out new.told.state
     pending-seated task n = seated-changed (Join task) Pending (λ r. record r { outcome = Open by }) task n refl refl refl (λ x t. cc) (there-open old.told.state.results outputs.items i.there by task)
@@ -233,5 +236,25 @@ module _ {A O G : Type 0} (old new : Seen) (held end : Held A O) (panic : Option
 
   pub ready-calls : (task : ℕ) (value : O) → end ≡ record held { results = without task held.results } → find task held.results ≡ Some value → Noted out old new (Join task) Ready → Called (Plainly (Join task)) before behind (Handed value)
   ready-calls task value e found n = join-called before behind task (Ok (Some value)) (found, made-noted (Plainly (Join task)) Ready n e) tt
+
+  pub lacking-calls : (ask : Ask A O) (heard : Heard O) → end ≡ held → new ≡ lacking old → Called ask before behind heard
+  lacking-calls ask heard e lack = called-lacking before behind ask heard (rw (lack, e) refl)
+
+  pub slot-calls : (slot : ℕ) → end ≡ held → Noted out old new Slot (SlotAt slot) → Called (Plainly Slot) before behind (Plain (SlotAt slot))
+  slot-calls slot e n = slot-called before behind (Ok slot) (made-noted (Plainly Slot) (SlotAt slot) n e) tt
+
+  pub receive-pending : (slot : ℕ) → end ≡ held → find slot held.sent ≡ None → Noted out old new (SlotPoll slot) Pending → Called (Plainly (SlotPoll slot)) before behind (Plain Pending)
+  receive-pending slot e none n = receive-called before behind slot (Ok None) (none, made-noted (Plainly (SlotPoll slot)) Pending n e) tt
+
+  pub receive-refused : (slot : ℕ) (error : Error) → end ≡ held → find slot held.sent ≡ None → IsRefused out old new (SlotPoll slot) error → Called (Plainly (SlotPoll slot)) before behind (Plain (Refused error))
+  receive-refused slot error e none (inl lack) = lacking-calls (Plainly (SlotPoll slot)) (Plain (Refused error)) e lack.1
+  receive-refused slot error e none (inr n) = receive-called before behind slot (Err error) tt (inr (rw none tt, made-noted (Plainly (SlotPoll slot)) (Refused error) n e))
+
+  pub receive-shown : (slot : ℕ) (sent answer : Error) → end ≡ held → find slot held.sent ≡ Some (Err sent) → Shown out old new slot sent answer → Called (Plainly (SlotPoll slot)) before behind (Plain (Refused answer))
+  receive-shown slot sent answer e found (inl lack) = lacking-calls (Plainly (SlotPoll slot)) (Plain (Refused answer)) e lack.1
+  receive-shown slot sent answer e found (inr n) = rw n.0 (receive-called before behind slot (Err sent) tt (inr (rw found refl, made-noted (Plainly (SlotPoll slot)) (Refused sent) n.1 e)))
+
+  pub receive-value : (slot : ℕ) (value : O) → end ≡ unsent slot held → find slot held.sent ≡ Some (Ok value) → Noted out old new (SlotPoll slot) Ready → Called (Plainly (SlotPoll slot)) before behind (Handed value)
+  receive-value slot value e found n = receive-called before behind slot (Ok (Some value)) (found, made-noted (Plainly (SlotPoll slot)) Ready n e) tt
 
 pub ruleset seated_laws = (abort-seated, close-seated, pending-seated, refused-seated, child-seated, wake-seated, abort-task-seated, sleep-seated)

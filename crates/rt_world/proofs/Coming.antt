@@ -159,7 +159,7 @@ module _ {O : Type 0} (rs : List (ℕ × TaskResult)) (os : List (ℕ × O)) (th
   pub there-closed : (k : ℕ) → AreThere (with_outcome Closed k rs) os
   there-closed k = there-with (λ r. record r { outcome = Closed }) k (λ x t. cc)
 
-same-number : (k j : ℕ) → eqb k j ≡ true → k ≡ j
+pub same-number : (k j : ℕ) → eqb k j ≡ true → k ≡ j
 same-number k j e = grind arith
 
 some-changed : (change : TaskResult → TaskResult) (j k : ℕ) (rs : List (ℕ × TaskResult)) → is_some (find j (replaced change k rs)) ≡ is_some (find j rs)
@@ -191,19 +191,19 @@ ended_task (Ending task own left) = task
 ended_task phase = 0
 
 -- a result that is given up, and its value
-find-without : {V : Type 0} (j k : ℕ) (xs : List (ℕ × V)) → eqb k j ≡ false → find j (without k xs) ≡ find j xs
+pub find-without : {V : Type 0} (j k : ℕ) (xs : List (ℕ × V)) → eqb k j ≡ false → find j (without k xs) ≡ find j xs
 find-without j k [] h = refl
 find-without j k (x ∷ xs) h = grind (arith, find-without j k xs)
 
-find-with : {V : Type 0} (j k : ℕ) (v : V) (xs : List (ℕ × V)) → eqb k j ≡ false → find j (with_task k v xs) ≡ find j xs
+pub find-with : {V : Type 0} (j k : ℕ) (v : V) (xs : List (ℕ × V)) → eqb k j ≡ false → find j (with_task k v xs) ≡ find j xs
 find-with j k v [] h = rw h refl
 find-with j k v (x ∷ xs) h = grind (arith, find-with j k v xs)
 
-find-own : {V : Type 0} (k : ℕ) (v : V) (xs : List (ℕ × V)) → is_some (find k (with_task k v xs)) ≡ true
+pub find-own : {V : Type 0} (k : ℕ) (v : V) (xs : List (ℕ × V)) → is_some (find k (with_task k v xs)) ≡ true
 find-own k v [] = grind arith
 find-own k v (x ∷ xs) = grind (arith, find-own k v xs)
 
-find-last : {V : Type 0} (j k : ℕ) (v : V) (xs : List (ℕ × V)) → eqb k j ≡ false → find j (xs ++ (k, v) ∷ []) ≡ find j xs
+pub find-last : {V : Type 0} (j k : ℕ) (v : V) (xs : List (ℕ × V)) → eqb k j ≡ false → find j (xs ++ (k, v) ∷ []) ≡ find j xs
 find-last j k v [] h = rw h refl
 find-last j k v (x ∷ xs) h = grind (arith, find-last j k v xs)
 

@@ -7,3 +7,4 @@ pub mod Coming
 pub mod Calling
 pub mod Running
 pub mod Ending
+pub mod Slotted

@@ -5,10 +5,9 @@ use Rattle.rt_base.specs.declared.error.Error.{Error}
 use Rattle.rt_base.specs.declared.error.Error.TheVariants.{NoMemory as OutOf}
 use Rattle.rt_base.specs.declared.no_memory.NoMemory.{NoMemory as OutOfMemory}
 use Rattle.rt_base.specs.declared.execution.Execution.{Execution}
-use Rattle.rt_audit.specs.declared.call.Call.{Call}
-use Rattle.rt_audit.specs.declared.call.Call.TheVariants.{Child, AbortTask, Wake, Join}
+use Rattle.rt_audit.specs.declared.call.Call.TheVariants.{Child, AbortTask, Wake, Join, Slot, SlotPoll}
 use Rattle.rt_audit.specs.declared.reply.CallReply.{CallReply}
-use Rattle.rt_audit.specs.declared.reply.CallReply.TheVariants.{Done, NodeAt, Pending, Ready, Refused}
+use Rattle.rt_audit.specs.declared.reply.CallReply.TheVariants.{Done, NodeAt, SlotAt, Pending, Ready, Refused}
 use Rattle.rt_super.specs.Alarms.{AlarmList}
 use Rattle.rt_model.specs.declared.answer.Answer.{Answer}
 use Rattle.rt_model.specs.declared.answer.Answer.TheVariants.{NoMemory}
@@ -21,8 +20,8 @@ use Rattle.rt_model.specs.Walk.{Step, Last, Does, Spends, Gives, Walks, Fronts, 
 use Rattle.rt_model.proofs.Walks.{walks-then, fronts-then, stops-then, stops-first, frees-append, frees-moved, frees-spent}
 use Rattle.rt_machine.specs.Calls.{turn_in, marked, sleep_reply, slept_number, spawn_reply}
 use Rattle.rt_world.specs.World.{World}
-use Rattle.rt_world.specs.Calls.{Stays, Grows, Kept, Made, IsRefused, SpentBy, Joined, lacking}
-use Rattle.rt_world.specs.Walked.{Broke, EndsWith, Turned, Walked, Spent, Polled, answered_by, Rooted, root_by, Goes, Called, tells, wake_told, sleep_told, child_told, spawn_told, join_told, Spends as MaySpend, Closes, Leads}
+use Rattle.rt_world.specs.Calls.{Stays, Grows, Kept, Made, IsRefused, IsUnreceived, SpentBy, Joined, Received, lacking}
+use Rattle.rt_world.specs.Walked.{Broke, EndsWith, Turned, Walked, Spent, Polled, answered_by, Rooted, root_by, Goes, Called, tells, wake_told, sleep_told, slot_told, child_told, spawn_told, join_told, Spends as MaySpend, Closes, Leads}
 
 stood-more : (ts us : List Turn) (n0 n1 n2 : Stood) → stood_before us n2 ≡ n1 → stood_before ts n1 ≡ n0 → stood_before (ts ++ us) n2 ≡ n0
 stood-more [] us n0 n1 n2 h k = h ∙ k
@@ -423,7 +422,7 @@ module _ {A O G : Type 0} (old new : World A O G) where
   called-made ask reply heard made asks is = called-as ask heard (λ L R end given on two. turned-made old new end given ask reply heard on made asks is two)
 
   -- it lacked memory
-  called-lacking : (ask : Ask A O) (heard : Heard O) → new ≡ lacking old → Called ask old new heard
+  pub called-lacking : (ask : Ask A O) (heard : Heard O) → new ≡ lacking old → Called ask old new heard
   called-lacking ask heard is = called-as ask heard (λ L R end given on two. turned-behind old new end given given (Does ask on) (on heard) is tt two)
 
   -- it was refused
@@ -457,7 +456,17 @@ module _ {A O G : Type 0} (old new : World A O G) where
   join-called task (Ok (Some value)) made refused = called-made (Plainly (Join task)) Ready (Handed value) made.1 (refl, tt) (rw made.0 refl)
   join-called task (Err error) made refused = called-refused (Plainly (Join task)) error (λ reply. (refl, tt)) refl refused
 
-pub ruleset call_laws = (wake-called, abort-called, child-called, spawn-called, sleep-called, join-called)
+  pub slot-called : (result : Result ℕ OutOfMemory) → IfOk result (λ slot. Made old new (Plainly Slot) (SlotAt slot)) → OnErr result (new ≡ lacking old) → Called (Plainly Slot) old new (slot_told result)
+  slot-called (Ok slot) made lacked = called-made (Plainly Slot) (SlotAt slot) (Plain (SlotAt slot)) made (refl, tt) refl
+  slot-called (Err lack) made lacked = called-lacking (Plainly Slot) (Plain (Refused OutOf)) lacked
+
+  pub receive-called : (slot : ℕ) (result : Result (Option O) Error) → IfOk result (λ value. Received old new slot value) → IfErr result (λ e. IsUnreceived old new slot e) → Called (Plainly (SlotPoll slot)) old new (join_told result)
+  receive-called slot (Ok None) made refused = called-made (Plainly (SlotPoll slot)) Pending (Plain Pending) made.1 (refl, rw made.0 tt) refl
+  receive-called slot (Ok (Some value)) made refused = called-made (Plainly (SlotPoll slot)) Ready (Handed value) made.1 (refl, rw made.0 refl) (rw made.0 refl)
+  receive-called slot (Err error) made (inl lack) = called-lacking (Plainly (SlotPoll slot)) (Plain (Refused error)) lack.1
+  receive-called slot (Err error) made (inr shown) = called-made (Plainly (SlotPoll slot)) (Refused error) (Plain (Refused error)) shown.1 (refl, shown.0) refl
+
+pub ruleset call_laws = (wake-called, abort-called, child-called, spawn-called, sleep-called, join-called, slot-called, receive-called)
 
 -- a part from its first call on
 module _ {A L O R G : Type 0} (step : Step A L O R) (old new : World A O G) (given : Option (R × L)) (fresh : old.told.state.turns ≡ []) (two : Turned step old new given) where

@@ -1,8 +1,9 @@
 -- The tasks whose states are in.
-use Rattle.std.specs.Prelude.{◌≡◌, ◌≤◌, ◌<◌, ◌+◌, ◌^◌, ℕ, List, [], ◌∷◌, true, Option, Some, None, map, is_some, get_or, length}
+use Rattle.std.specs.Prelude.{◌≡◌, ◌≤◌, ◌<◌, ◌+◌, ◌^◌, ℕ, List, [], ◌∷◌, true, false, Option, Some, None, map, is_some, get_or, length}
 use Rattle.rt_model.specs.declared.result.Outcome.TheVariants.{There}
 use Rattle.rt_model.specs.declared.result.TaskResult.{TaskResult}
 use Rattle.rt_model.specs.Lists.{find, has_number, without_number}
+use Rattle.rt_model.specs.Slots.{Slotted, is_open, is_there}
 use Rattle.rt_model.specs.State.{Phase, Ending, State}
 
 -- a list, the first number that has a place, the next that will have one, and how many more have room
@@ -68,3 +69,18 @@ pub record AreSeated {A O : Type 0} (tasks : Roomed (ℕ × A)) (outputs : Roome
   pub there : AreThere s.results outputs.items
   pub coming : IsComing s.phase s.results outputs.items
   pub unset : AreOpen s.running s.results
+
+-- something is held for a slot exactly where it was sent and not taken
+unfoldable pub AreSent : {V : Type 0} → List (ℕ × TaskResult) → List (ℕ × V) → Type 0
+AreSent results sent = (slot : ℕ) → is_some (find slot sent) ≡ is_there (find slot results)
+
+-- no wait by an open slot was aborted
+unfoldable pub AreWaited : List (ℕ × TaskResult) → Type 0
+AreWaited results = (slot : ℕ) (r : TaskResult) → find slot results ≡ Some r → is_open (Some r) ≡ true → r.aborted ≡ false
+
+-- each slot has its place, in which is what was sent into it
+pub record AreSlotted {V : Type 0} (sent : Roomed (ℕ × V)) (slots : Slotted) : Type 0 where
+  pub first : sent.first ≡ 0
+  pub next : sent.next ≡ slots.count
+  pub held : AreSent slots.results sent.items
+  pub waited : AreWaited slots.results

@@ -5,12 +5,11 @@ use Rattle.rt_base.specs.declared.error.Error.TheVariants.{NoMemory as LacksMemo
 use Rattle.rt_base.specs.declared.no_memory.NoMemory.{NoMemory as OutOfMemory}
 use Rattle.rt_base.specs.declared.poll.Poll.{Poll}
 use Rattle.rt_base.specs.declared.poll.Poll.TheVariants.{Ready as IsReady}
-use Rattle.rt_audit.specs.declared.call.Call.{Call}
-use Rattle.rt_audit.specs.declared.reply.CallReply.TheVariants.{Done, NodeAt, Pending, Refused}
+use Rattle.rt_audit.specs.declared.reply.CallReply.TheVariants.{Done, NodeAt, SlotAt, Pending, Refused}
 use Rattle.rt_model.specs.declared.answer.Answer.{Answer}
 use Rattle.rt_model.specs.declared.answer.Answer.TheVariants.{NoMemory}
 use Rattle.rt_model.specs.State.{Turn, Stood, stood_in}
-use Rattle.rt_model.specs.Turns.{Ask, Heard, Plain, Handed, Plainly, Held, Frees}
+use Rattle.rt_model.specs.Turns.{Ask, Heard, Plain, Handed, Held, Frees}
 use Rattle.rt_model.specs.Walk.{Step, Last, Does, Gives, Spends as IsSpent, Walks, Fronts, Stops, then, followed_by, stood_before}
 use Rattle.rt_machine.specs.Calls.{sleep_reply, spawn_reply}
 use Rattle.rt_world.specs.World.{World}
@@ -92,6 +91,10 @@ wake_told (Err error) = Plain (Refused error)
 abbrev pub sleep_told : {O : Type 0} → Result (Option ℕ) OutOfMemory → Heard O
 sleep_told (Ok told) = Plain (sleep_reply told)
 sleep_told (Err lack) = Plain (Refused LacksMemory)
+
+abbrev pub slot_told : {O : Type 0} → Result ℕ OutOfMemory → Heard O
+slot_told (Ok slot) = Plain (SlotAt slot)
+slot_told (Err lack) = Plain (Refused LacksMemory)
 
 abbrev pub child_told : {O : Type 0} → Result (ℕ × Bool) Error → Heard O
 child_told (Ok made) = Plain (NodeAt made.0 made.1)

@@ -12,7 +12,7 @@ ghost use Rattle.rt_world.specs.Walked.{Called, child_told, join_told, sleep_tol
 use crate::World;
 use rt_base::{Error, MAX_TIME, Nanos, NoMemory};
 
-#[tactic(auto, using(crate::proofs::Walked::call_laws, crate::proofs::Walked::stay_laws, crate::proofs::Calling::seated_laws), unfolding(rt_model::specs::Effects::after))]
+#[tactic(auto, using(crate::proofs::Walked::call_laws, crate::proofs::Walked::stay_laws, crate::proofs::Calling::seated_laws, crate::proofs::Slotted::slotted_laws), unfolding(rt_model::specs::Effects::after))]
 impl<T, O, G> World<T, O, G> {
     /// Marks that a call lacked memory, for one that takes memory of its own before it calls the world.
     pub fn lack(&mut self)
@@ -97,7 +97,7 @@ impl<T, O, G> World<T, O, G> {
     }
 }
 
-#[tactic(auto, using(crate::proofs::Walked::call_laws, crate::proofs::Walked::stay_laws, crate::proofs::Calling::seated_laws), unfolding(rt_model::specs::Effects::after))]
+#[tactic(auto, using(crate::proofs::Walked::call_laws, crate::proofs::Walked::stay_laws, crate::proofs::Calling::seated_laws, crate::proofs::Slotted::slotted_laws), unfolding(rt_model::specs::Effects::after))]
 impl<T, O: Drop, G> World<T, O, G> {
     /// Polls the result of a task. Answers the output where it is there, once. It takes memory.
     ///
@@ -131,6 +131,6 @@ impl<T, O: Drop, G> World<T, O, G> {
             return;
         }
         self.machine.give_up(self.out, task);
-        let _value = self.outputs.take(task);
+        self.outputs.remove(task);
     }
 }

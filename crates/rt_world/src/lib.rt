@@ -7,6 +7,7 @@ mod ends;
 mod outcome;
 mod poller;
 mod rounds;
+mod slots;
 mod spawning;
 mod task;
 mod tasks;

@@ -11,7 +11,7 @@ use crate::World;
 use crate::tasks::Tasks;
 use rt_base::{Error, Execution, NoMemory};
 
-#[tactic(auto, using(crate::proofs::Walked::call_laws, crate::proofs::Walked::stay_laws, crate::proofs::Calling::seated_laws))]
+#[tactic(auto, using(crate::proofs::Walked::call_laws, crate::proofs::Walked::stay_laws, crate::proofs::Calling::seated_laws, crate::proofs::Slotted::slotted_laws))]
 impl<T, O, G> World<T, O, G> {
     /// Spawns a task on a node, which asks to run there: its state is made of what is given and of the number of the fresh
     /// node on which its own context stands. Answers the task's number and that node's, or nothing where the node has

@@ -1,6 +1,7 @@
 //! The states of the tasks, in places by number.
 
 ghost use Rattle.std.specs.Prelude.{◌≡◌, ◌≤◌, ◌<◌, ◌+◌, ◌^◌, [], None, OnOk, IfSome, IfNone, is_some};
+ghost use Rattle.std.specs.Option.{option_copied};
 ghost use Rattle.rt_model.specs.Causes.{ends_next};
 ghost use Rattle.rt_model.specs.Lists.{find, without};
 ghost use Rattle.rt_model.specs.Turns.{with_task};
@@ -102,6 +103,14 @@ impl<T> Tasks<T> {
         matches!(self.places.get(place as usize), Some(Some(_)))
     }
 
+    /// The state of a task that is in.
+    pub fn get(&self, task: u64) -> Option<&T>
+        ensures { option_copied result ≡ find task self.now.items }
+    {
+        let place = task.checked_sub(self.first)?;
+        self.places.get(place as usize)?.as_ref()
+    }
+
     /// Takes the state of a task out.
     pub fn take(&mut self, task: u64) -> Option<T>
         ensures state { result ≡ find task self.old.items }
@@ -114,6 +123,19 @@ impl<T> Tasks<T> {
     {
         let place = task.checked_sub(self.first)?;
         self.places.get_mut(place as usize)?.take()
+    }
+
+    /// Lets the state of a task go, if it is in.
+    pub fn remove(&mut self, task: u64)
+    where
+        T: Drop,
+        ensures items { self.new.items ≡ without task self.old.items }
+        ensures gone { find task (without task self.old.items) ≡ None }
+        ensures first { self.new.first ≡ self.old.first }
+        ensures next { self.new.next ≡ self.old.next }
+        ensures spare { self.new.spare ≡ self.old.spare }
+    {
+        let _state = self.take(task);
     }
 
     /// Puts the state of a task back into its place.
@@ -145,7 +167,7 @@ impl<T> Tasks<T> {
         ensures next { self.new.next ≡ self.old.next }
         ensures spare { self.new.spare ≡ self.old.spare }
     {
-        let _before = self.take(task);
+        self.remove(task);
         self.put(task, state);
     }
 

@@ -17,7 +17,7 @@ ghost use Rattle.rt_world.specs.Follows.{Follows, Agrees, IsMade};
 use crate::Outcome;
 use crate::tasks::Tasks;
 use rt_audit::{AnswerKind, Entry, Journal};
-use rt_base::{Execution, MAX_TIME, Nanos, NoMemory, Text};
+use rt_base::{Error, Execution, MAX_TIME, Nanos, NoMemory, Text};
 use rt_machine::Machine;
 use rt_model::Begin;
 use std::alloc::Global;
@@ -34,6 +34,8 @@ pub struct World<T, O, G> {
     pub(crate) machine: Machine,
     pub(crate) tasks: Tasks<T>,
     pub(crate) outputs: Tasks<O>,
+    /// What was sent into slots and wasn't taken, by the slots' numbers.
+    pub(crate) sent: Tasks<Result<O, Error>>,
     pub(crate) executions: Vec<(u64, Execution)>,
     pub(crate) panic: Option<Text>,
     pub(crate) out: Option<u64>,
@@ -41,15 +43,14 @@ pub struct World<T, O, G> {
 }
 
 impl<T, O, G> Model for World<T, O, G> {
-    ghost use Rattle.std.specs.Prelude.{[]};
     ghost use Rattle.rt_world.specs.World.{World};
-    ghost use Rattle.rt_world.specs.Seats.{AreSeated};
+    ghost use Rattle.rt_world.specs.Seats.{AreSeated, AreSlotted};
 
     ghost Value = { World T O G };
 
-    ghost view = { λ w. record { told = w.machine.told; lacked = w.machine.lacked; held = record { tasks = w.tasks.items; results = w.outputs.items; sent = []; executions = w.executions.items }; panic = w.panic; out = w.out; rng = w.rng } };
+    ghost view = { λ w. record { told = w.machine.told; lacked = w.machine.lacked; held = record { tasks = w.tasks.items; results = w.outputs.items; sent = w.sent.items; executions = w.executions.items }; panic = w.panic; out = w.out; rng = w.rng } };
 
-    ghost invariant = { λ w. AreSeated w.tasks w.outputs w.out w.machine.told.state };
+    ghost invariant = { λ w. AreSeated w.tasks w.outputs w.out w.machine.told.state × AreSlotted w.sent w.machine.told.state.slots };
 }
 
 #[tactic(auto, using(crate::proofs::Seats::seat_laws, crate::proofs::Coming::coming_laws, rt_machine::proofs::Counts::count_laws), unfolding(rt_model::specs::Effects::after))]
@@ -80,6 +81,7 @@ impl<T, O, G> World<T, O, G> {
                 machine,
                 tasks: Tasks::new(alloc, begin.first),
                 outputs: Tasks::new(alloc, begin.first),
+                sent: Tasks::new(alloc, 0),
                 executions: Vec::new(alloc),
                 panic: None,
                 out: None,
@@ -297,6 +299,7 @@ impl<T, O: Drop, G> World<T, O, G> {
             machine,
             tasks,
             outputs: _,
+            sent: _,
             executions: _,
             panic,
             out: _,

@@ -1,11 +1,13 @@
 use Rattle.std.proofs.Common.{ap}
 use Rattle.rt_machine.specs.Places.{Seen}
 use Rattle.rt_world.proofs.Ending.{root-seated}
+use Rattle.rt_model.specs.Effects.{after}
 use Rattle.rt_world.proofs.world.World.answer_root.Goals as goal
 
 pub invariant_of-self : goal.invariant_of-self
+unfolding after
 invariant_of-self g c =
     let w = c.self.inside in
     let out = rw (← c.self.view_is) at c.requires.out in
     rw (ap (λ (m : Seen). m.told.state) c.answer.ensures)
-    (root-seated w.tasks c.put.new.self w.outputs c.args.task w.machine.told.state c.args.state (rw out at c.self.invariant) (rw (← c.self.view_is) at c.requires.root) c.put.ensures.items c.put.ensures.first c.put.ensures.next)
+    (root-seated w.tasks c.put.new.self w.outputs c.args.task w.machine.told.state c.args.state (rw out at c.self.invariant.0) (rw (← c.self.view_is) at c.requires.root) c.put.ensures.items c.put.ensures.first c.put.ensures.next, c.self.invariant.1)

@@ -10,4 +10,4 @@ returns-clause-agrees g c p f =
 pub invariant_of-self : goal.invariant_of-self
 invariant_of-self g c =
     let w = c.self.inside in
-    stepped-seated w.tasks w.outputs w.out w.machine.told c.clock_step.new.self.told c.clock_step.result c.clock_step.ensures.turns c.clock_step.ensures.stands c.self.invariant
+    (stepped-seated w.tasks w.outputs w.out w.machine.told c.clock_step.new.self.told c.clock_step.result c.clock_step.ensures.turns c.clock_step.ensures.stands c.self.invariant.0, rw c.clock_step.ensures.turns.slots c.self.invariant.1)

@@ -1,8 +1,8 @@
 use Rattle.std.proofs.Common.{refl}
-use Rattle.rt_machine.specs.Told.{pushed_all}
 use Rattle.rt_machine.proofs.Replays.{cleaned}
 use Rattle.rt_world.proofs.Ending.{closed-seated}
 use Rattle.rt_world.proofs.Follows.{follows-closed, closed-unmade}
+use Rattle.rt_world.proofs.Slotted.{closed-slotted}
 use Rattle.rt_world.proofs.world.World.close.Goals as goal
 
 pub returns-clause-phase : goal.returns-clause-phase
@@ -20,4 +20,4 @@ returns-clause-unmade g c p whole unmade making calm m =
 pub invariant_of-self : goal.invariant_of-self
 invariant_of-self g c =
     let w = c.self.inside in
-    closed-seated w.tasks w.outputs w.out w.machine c.cleanup.new.self (rw (c.cleanup.ensures, c.take_short.ensures.gone) refl) c.self.invariant
+    (closed-seated w.tasks w.outputs w.out w.machine c.cleanup.new.self (rw (c.cleanup.ensures, c.take_short.ensures.gone) refl) c.self.invariant.0, closed-slotted w.sent w.machine c.cleanup.new.self (rw (c.cleanup.ensures, c.take_short.ensures.gone) refl) c.self.invariant.1)

@@ -8,6 +8,7 @@ use Rattle.rt_model.specs.Effects.{is_closing}
 use Rattle.rt_world.proofs.Seats.{grows-more, not-closing, some-none}
 use Rattle.rt_world.proofs.Walked.{stays-same}
 use Rattle.rt_world.proofs.Calling.{refused-calls, refused-spawn, spawned-calls, spawned-seated, made-noted, spawns-next, ending-runs}
+use Rattle.rt_world.proofs.Slotted.{slotted-noted}
 use Rattle.rt_world.proofs.world.World.spawn.Goals as goal
 
 pub returns-in-Err-clause-err : goal.returns-in-Err-clause-err
@@ -29,21 +30,23 @@ pub invariant_of-self-in-Ok-Some : goal.invariant_of-self-in-Ok-Some
 invariant_of-self-in-Ok-Some g c =
     let w = c.self.inside in
     let s = w.machine.told.state in
-    let i = c.self.invariant in
+    let i = c.self.invariant.0 in
     let r = c.reserve_places.ensures in
     let noted : Noted w.out w.machine c.spawn.new.self (Spawn c.args.node) (TaskAt c.in-Ok-Some.task c.in-Ok-Some.number) = rw c.in-Ok-Some.field-0-is at c.in-Ok-Some.ensures.ok in
     let task : c.in-Ok-Some.task ≡ w.tasks.next = spawns-next s c.args.node c.in-Ok-Some.task c.in-Ok-Some.number noted.answers ∙ sym i.next in
-    let calls = rw (← c.self.view_is) at c.requires.calling in
-    spawned-seated w.tasks c.add.new.self w.outputs c.skip.new.self w.out w.machine c.spawn.new.self c.args.node c.in-Ok-Some.number c.make-state.result i
-    (rw (← task) noted)
-    (c.add.ensures.items ∙ rw (r.tasks_next, r.tasks) refl)
-    (c.add.ensures.first ∙ r.tasks_first)
-    (c.add.ensures.next ∙ rw r.tasks_next refl)
-    (c.skip.ensures.items ∙ r.outputs)
-    (c.skip.ensures.first ∙ r.outputs_first)
-    (c.skip.ensures.next ∙ rw r.outputs_next refl)
-    (c.facts.ensures.fresh w.tasks.next (omega (arith, i.next)))
-    (ending-runs s.phase s.root _ w.out s.running calls i.runs)
+    let calls = rw (← c.self.view_is) at c.requires.calling in (
+      spawned-seated w.tasks c.add.new.self w.outputs c.skip.new.self w.out w.machine c.spawn.new.self c.args.node c.in-Ok-Some.number c.make-state.result i
+          (rw (← task) noted)
+          (c.add.ensures.items ∙ rw (r.tasks_next, r.tasks) refl)
+          (c.add.ensures.first ∙ r.tasks_first)
+          (c.add.ensures.next ∙ rw r.tasks_next refl)
+          (c.skip.ensures.items ∙ r.outputs)
+          (c.skip.ensures.first ∙ r.outputs_first)
+          (c.skip.ensures.next ∙ rw r.outputs_next refl)
+          (c.facts.ensures.fresh w.tasks.next (omega (arith, i.next)))
+          (ending-runs s.phase s.root _ w.out s.running calls i.runs),
+      slotted-noted w.sent w.out w.machine c.spawn.new.self c.self.invariant.1 (Spawn c.args.node) (TaskAt c.in-Ok-Some.task c.in-Ok-Some.number) noted refl,
+    )
 
 pub returns-in-Ok-Some-clause-kept : goal.returns-in-Ok-Some-clause-kept
 returns-in-Ok-Some-clause-kept g c =
@@ -71,7 +74,7 @@ returns-in-Ok-Some-clause-called g c made by =
     let w = c.self.inside in
     let r = c.reserve_places.ensures in
     let noted : Noted w.out w.machine c.spawn.new.self (Spawn c.args.node) (TaskAt c.in-Ok-Some.task c.in-Ok-Some.number) = rw c.in-Ok-Some.field-0-is at c.in-Ok-Some.ensures.ok in
-    let task : c.in-Ok-Some.task ≡ w.tasks.next = spawns-next w.machine.told.state c.args.node c.in-Ok-Some.task c.in-Ok-Some.number noted.answers ∙ sym c.self.invariant.next in
+    let task : c.in-Ok-Some.task ≡ w.tasks.next = spawns-next w.machine.told.state c.args.node c.in-Ok-Some.task c.in-Ok-Some.number noted.answers ∙ sym c.self.invariant.0.next in
     let state : c.make-state.result ≡ made c.in-Ok-Some.number = by c.in-Ok-Some.number c.make-state.result c.make-state.ensures in
     rw (← c.self.view_is)
     (spawned-calls w.machine c.spawn.new.self _ _ w.panic w.out w.rng c.args.node c.args.execution made (Some (c.in-Ok-Some.task, c.in-Ok-Some.number))

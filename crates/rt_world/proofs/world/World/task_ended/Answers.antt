@@ -9,20 +9,22 @@ pub invariant_of-self : goal.invariant_of-self
 invariant_of-self g c =
     let w = c.self.inside in
     let s = w.machine.told.state in
-    let i = c.self.invariant in
+    let i = c.self.invariant.0 in
     let task = c.args.task in
     let phase = rw (← c.self.view_is) at c.requires.phase in
     let out = rw (← c.self.view_is) at c.requires.out in
     let state : c.task_ended.new.self.told.state ≡ _ = ap (λ (m : Seen). m.told.state) c.task_ended.ensures ∙ closing-ended s task _ phase in
-    rw state
-    record {
-      numbers = rw out at i.numbers;
-      rising = rising-without task w.tasks.first w.tasks.next s.running i.rising;
-      runs = tt;
-      next = i.next;
-      first = i.first;
-      last = i.last;
-      there = there-closed s.results w.outputs.items i.there task;
-      coming = rw phase (coming-closing _ _ _);
-      unset = open-ended s.running s.results i.unset task _ (rising-gone task w.tasks.first w.tasks.next s.running i.rising);
-    }
+    rw state (
+      record {
+        numbers = rw out at i.numbers;
+        rising = rising-without task w.tasks.first w.tasks.next s.running i.rising;
+        runs = tt;
+        next = i.next;
+        first = i.first;
+        last = i.last;
+        there = there-closed s.results w.outputs.items i.there task;
+        coming = rw phase (coming-closing _ _ _);
+        unset = open-ended s.running s.results i.unset task _ (rising-gone task w.tasks.first w.tasks.next s.running i.rising);
+      },
+      c.self.invariant.1,
+    )
