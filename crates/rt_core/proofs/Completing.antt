@@ -4,17 +4,16 @@ use Rattle.rt_base.specs.declared.error.Error.{Error}
 use Rattle.rt_base.specs.declared.error.Error.TheVariants.{Closed, Aborted as IsAborted}
 use Rattle.rt_base.specs.declared.poll.Poll.{Poll}
 use Rattle.rt_base.specs.declared.poll.Poll.TheVariants.{Ready, Pending}
-use Rattle.rt_model.specs.Walk.{Last, Gives}
+use Rattle.rt_model.specs.Walk.{Step, Gives, then}
 use Rattle.rt_world.specs.World.{World}
 use Rattle.rt_world.specs.Walked.{Goes, Spends}
 use Rattle.rt_world.proofs.Walked.{walked-then, walked-gives, goes-on, spends-on, spent-nothing}
 use Rattle.rt_core.specs.Completions.{Polls, completion_polls, completion_spends, held_answer, stage_by}
-use Rattle.rt_core.specs.Handles.{handle_polls, handle_spends}
+use Rattle.rt_core.specs.declared.handle.Kind.{Kind}
 use Rattle.rt_core.specs.declared.completion.Completion.{Completion}
 use Rattle.rt_core.specs.declared.completion.Source.{Source}
 use Rattle.rt_core.specs.declared.completion.Source.TheVariants.{Held, Polled}
 use Rattle.rt_core.specs.declared.completion.Stage.TheVariants.{Open, Answered, Aborted}
-use Rattle.rt_core.specs.declared.handle.Kind.TheVariants.{Completion as Completes}
 
 module _ {A O P G : Type 0} (polls : Polls A O P O) (c : Completion O P) where
   pub aborted-goes : (w : World A O G) → c.stage ≡ Aborted → Goes (completion_polls polls c c.stage) w w (Ready (Err IsAborted)) c
@@ -34,8 +33,8 @@ module _ {A O P G : Type 0} (polls : Polls A O P O) (c : Completion O P) where
   polled-goes old new state after answer left is from leaves one =
       rw (is, from, leaves) (goes-on _ _ _ _ _ (walked-then old new new _ _ answer after _ _ one.walked (walked-gives _ _ _)))
 
-  -- a handle of it
-  pub completes-goes : (old new : World A O G) (answer : Poll (Result O Error)) (left : Completion O P) → Goes (completion_polls polls c c.stage) old new answer left → Goes (handle_polls polls (Completes c)) old new answer (Completes left)
-  unfolding handle_polls
-  completes-goes old new answer left one =
+-- a handle of what was polled so
+module _ {A L O P G : Type 0} (inner : Step A L O (Poll (Result O Error))) (wrap : L → Kind O P) (old new : World A O G) where
+  pub handle-goes : (answer : Poll (Result O Error)) (left : L) → Goes inner old new answer left → Goes (then inner (λ answer left. Gives answer (wrap left))) old new answer (wrap left)
+  handle-goes answer left one =
       goes-on _ _ _ _ _ (walked-then old new new _ _ answer left _ _ one.walked (walked-gives _ _ _))

@@ -10,9 +10,9 @@ use Rattle.rt_world.specs.Calls.{IsRefused, Joined}
 use Rattle.rt_world.specs.Walked.{Walked}
 use Rattle.rt_world.proofs.Walked.{walked-join, walked-gives, walked-lacking}
 use Rattle.rt_core.specs.declared.handle.Kind.{Kind}
-use Rattle.rt_core.specs.Handles.{join_heard, polled}
+use Rattle.rt_world.specs.Receiving.{heard_result, polled}
 
-pub walked-joined : {A O P G : Type 0} (old new : World A O G) (h : Kind O P) (task : ℕ) (result : Result (Option O) Error) → IfOk result (λ value. Joined old new task value) → IfErr result (λ e. IsRefused old new (Plainly (Join task)) e) → Walked (Does (Plainly (Join task)) (join_heard h)) old new (polled result) h
+pub walked-joined : {A O P G : Type 0} (old new : World A O G) (h : Kind O P) (task : ℕ) (result : Result (Option O) Error) → IfOk result (λ value. Joined old new task value) → IfErr result (λ e. IsRefused old new (Plainly (Join task)) e) → Walked (Does (Plainly (Join task)) (heard_result h)) old new (polled result) h
 walked-joined old new h task (Ok None) made refused = walked-join old new new _ _ task Pending (Plain Pending) _ made refl (walked-gives new _ _)
 walked-joined old new h task (Ok (Some value)) made refused = walked-join old new new _ _ task Ready (Handed value) _ made.1 (rw made.0 refl) (walked-gives new _ _)
 walked-joined old new h task (Err error) made (inl lack) = walked-lacking old new _ _ _ lack.1 tt

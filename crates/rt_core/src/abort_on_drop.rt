@@ -32,6 +32,8 @@ impl<O, P> AbortOnDropOf<O, P> {
 
     /// The handle again, whose task is aborted. It is then polled to the task's end. It takes no memory.
     pub fn abort<T, G>(self, world: &mut World<T, O, G>) -> HandleOf<O, P>
+    where
+        O: Drop,
         requires { MayCall world.old.told.state world.old.out }
         ensures handle { result ≡ aborted self.handle }
         ensures kept { Kept world.old world.new }
@@ -47,6 +49,7 @@ impl<O, P> AbortOnDropOf<O, P> {
     #[tactic(auto, using(rt_world::proofs::Walked::close_laws))]
     pub fn give_up<T: Outcome<Output = O>, G: Rng>(self, world: &mut World<T, O, G>)
     where
+        O: Drop,
         P: Poller<T, O>,
         requires { MayCall world.old.told.state world.old.out }
         ensures kept { Kept world.old world.new }

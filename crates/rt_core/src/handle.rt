@@ -1,17 +1,17 @@
 //! Handles of spawned tasks and of completions.
 
-ghost use Rattle.std.specs.Prelude.{◌≡◌, false, None, Some, Result, Err};
-ghost use Rattle.rt_base.specs.declared.error.Error.TheVariants.{Closed as IsClosed};
+ghost use Rattle.std.specs.Prelude.{◌≡◌, true};
+ghost use Rattle.rt_audit.specs.declared.call.Call.TheVariants.{Abort, AbortWait};
 ghost use Rattle.rt_model.specs.Rules.{MayCall};
 ghost use Rattle.rt_world.specs.Calls.{Kept};
 ghost use Rattle.rt_world.specs.Walked.{Spends};
-ghost use Rattle.rt_core.specs.Handles.{handle_aborts, aborted, unaborted, polled, task_handle, held_handle, polled_handle};
+ghost use Rattle.rt_core.specs.Handles.{handle_aborts, aborted, aborts, unless_aborted, task_handle, received_handle, held_handle, polled_handle};
 
 use crate::AbortOnDropOf;
 use crate::completion::{Completion, Source, Stage};
 use rand_core::Rng;
 use rt_base::{Error, Poll};
-use rt_world::{Cx, Outcome, Poller, World};
+use rt_world::{Cx, Outcome, Poller, ResultReceiver, World, polled};
 use std::marker::Model;
 
 /// The poller of a handle that has none of its own. It is closed.
@@ -25,11 +25,20 @@ pub struct Claim {
     pub aborted: bool,
 }
 
+/// The receiver of a slot, and whether the wait was aborted by this handle.
+#[derive(Debug)]
+pub struct Receipt {
+    pub receiver: ResultReceiver,
+    pub aborted: bool,
+}
+
 /// What a handle holds.
 #[derive(Debug)]
 pub enum Kind<O, P> {
     /// The result of a task.
     Task(Claim),
+    /// What is sent into a slot.
+    Received(Receipt),
     /// A value that comes from somewhere else.
     Completion(Completion<O, P>),
 }
@@ -41,7 +50,8 @@ pub type Handle<T, P = NoPoller> = HandleOf<<T as Outcome>::Output, P>;
 /// [`give_up`](Poller::give_up).
 ///
 /// A poll of a task's handle answers the output once, `Exited` where the task reported a panic, and `Closed` where it ended
-/// without a result and where the output was handed out before. A poll of a completion answers what it holds or what its
+/// without a result and where the output was handed out before. A poll of a receiver's handle answers as its receiver does,
+/// and `Aborted` once it was aborted. A poll of any other completion answers what it holds or what its
 /// poller answers, once and `Closed` from then on, and `Aborted` once it was aborted, even where its result was ready. A
 /// task that was spawned on a node that had ended has a completion that holds `Closed`.
 pub struct HandleOf<O, P> {
@@ -64,6 +74,18 @@ impl<O, P> HandleOf<O, P> {
         HandleOf {
             kind: Kind::Task(Claim {
                 task,
+                aborted: false,
+            }),
+        }
+    }
+
+    /// A handle of what comes by a slot.
+    pub fn from_receiver(receiver: ResultReceiver) -> Self
+        ensures { result ≡ received_handle receiver }
+    {
+        HandleOf {
+            kind: Kind::Received(Receipt {
+                receiver,
                 aborted: false,
             }),
         }
@@ -102,18 +124,22 @@ impl<O, P> HandleOf<O, P> {
 
     /// Aborts the task: it is flagged, and woken where it was left pending. A completion is waited for no more. Later calls
     /// do nothing and write no entry. It takes no memory.
-    #[tactic(auto, using(rt_world::proofs::Walked::poller_laws), unfolding(crate::specs::Handles::handle_aborts))]
+    #[tactic(auto, using(rt_world::proofs::Walked::close_laws))]
     pub fn abort<T, G>(&mut self, world: &mut World<T, O, G>)
+    where
+        O: Drop,
         requires { MayCall world.old.told.state world.old.out }
         ensures handle { self.new ≡ aborted self.old }
         ensures kept { Kept world.old world.new }
         ensures lacked { world.new.lacked ≡ world.old.lacked }
         ensures steps { Spends (handle_aborts self.old) world.old world.new }
     {
-        match self.note_abort() {
-            Some(task) => world.abort(task),
-            None => {}
-        }
+        let completion = match &mut self.kind {
+            Kind::Task(claim) => return claim.abort(world),
+            Kind::Received(receipt) => return receipt.abort(world),
+            Kind::Completion(completion) => completion,
+        };
+        completion.stage = Stage::Aborted;
     }
 
     /// What it holds.
@@ -123,25 +149,52 @@ impl<O, P> HandleOf<O, P> {
         let HandleOf { kind } = self;
         kind
     }
+}
 
-    /// Notes that the task is aborted by this handle. Answers its number, if it wasn't before.
-    fn note_abort(&mut self) -> Option<u64>
-        ensures handle { self.new ≡ aborted self.old }
-        ensures task { result ≡ unaborted self.old }
+#[tactic(auto, using(rt_world::proofs::Walked::close_laws))]
+impl Claim {
+    /// Flags the task, if it wasn't by this handle before.
+    fn abort<T, O, G>(&mut self, world: &mut World<T, O, G>)
+        requires { MayCall world.old.told.state world.old.out }
+        ensures claim { self.new ≡ record self.old { aborted = true } }
+        ensures kept { Kept world.old world.new }
+        ensures lacked { world.new.lacked ≡ world.old.lacked }
+        ensures steps { Spends (aborts (unless_aborted self.old.aborted (Abort self.old.task))) world.old world.new }
     {
-        match &mut self.kind {
-            Kind::Task(claim) => {
-                if claim.aborted {
-                    return None;
-                }
-                claim.aborted = true;
-                Some(claim.task)
-            }
-            Kind::Completion(completion) => {
-                completion.stage = Stage::Aborted;
-                None
-            }
+        if self.aborted {
+            return;
         }
+        self.aborted = true;
+        world.abort(self.task);
+    }
+}
+
+#[tactic(auto, using(rt_world::proofs::Walked::close_laws))]
+impl Receipt {
+    /// Ends the wait, if it wasn't by this handle before.
+    fn abort<T, O: Drop, G>(&mut self, world: &mut World<T, O, G>)
+        requires { MayCall world.old.told.state world.old.out }
+        ensures receipt { self.new ≡ record self.old { aborted = true } }
+        ensures kept { Kept world.old world.new }
+        ensures lacked { world.new.lacked ≡ world.old.lacked }
+        ensures steps { Spends (aborts (unless_aborted self.old.aborted (AbortWait self.old.receiver))) world.old world.new }
+    {
+        if self.aborted {
+            return;
+        }
+        self.aborted = true;
+        self.receiver.abort(world);
+    }
+
+    /// Its receiver.
+    fn into_receiver(self) -> ResultReceiver
+        ensures { result ≡ self.receiver }
+    {
+        let Receipt {
+            receiver,
+            aborted: _,
+        } = self;
+        receiver
     }
 }
 
@@ -163,6 +216,7 @@ impl<T: Outcome, P: Poller<T, T::Output>> Poller<T, T::Output> for HandleOf<T::O
                 let task = claim.task;
                 return polled(world.join(task));
             }
+            Kind::Received(receipt) => return receipt.receiver.poll(world, cx),
             Kind::Completion(completion) => completion,
         };
         completion.poll(world, cx)
@@ -171,19 +225,9 @@ impl<T: Outcome, P: Poller<T, T::Output>> Poller<T, T::Output> for HandleOf<T::O
     fn give_up<G: Rng>(self, world: &mut World<T, T::Output, G>) {
         match self.into_kind() {
             Kind::Task(claim) => world.give_up(claim.task),
+            Kind::Received(receipt) => receipt.into_receiver().give_up(world),
             Kind::Completion(completion) => completion.give_up(world),
         }
-    }
-}
-
-/// The answer of a poll, by what was told of the result.
-fn polled<O>(joined: Result<Option<O>, Error>) -> Poll<Result<O, Error>>
-    ensures { result ≡ polled joined }
-{
-    match joined {
-        Ok(None) => Poll::Pending,
-        Ok(Some(output)) => Poll::Ready(Ok(output)),
-        Err(error) => Poll::Ready(Err(error)),
     }
 }
 

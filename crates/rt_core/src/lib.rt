@@ -27,7 +27,7 @@ pub use handle::{Handle, HandleOf, NoPoller};
 pub use maker::RootMaker;
 pub use rand_core::Rng;
 pub use rt_base::{Error, Execution, MAX_TIME, Name, Nanos, NoMemory, Poll, Refused, Text};
-pub use rt_world::{Answer, Cx, Outcome, Poller, Task, World};
+pub use rt_world::{Answer, Cx, Outcome, Poller, ResultReceiver, ResultSender, Task, World};
 pub use run_error::RunError;
 pub use runner::Runner;
 pub use select::{Select, SelectOf};

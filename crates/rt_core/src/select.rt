@@ -100,7 +100,7 @@ fn let_go<T: Outcome, P: Poller<T, T::Output>, G: Rng>(
 
 /// Aborts all handles, in their order.
 #[tactic(auto, using(rt_world::proofs::Walked::loop_laws))]
-fn abort_all<T, O, P, G>(world: &mut World<T, O, G>, handles: &mut Vec<HandleOf<O, P>>)
+fn abort_all<T, O: Drop, P, G>(world: &mut World<T, O, G>, handles: &mut Vec<HandleOf<O, P>>)
     requires { MayCall world.old.told.state world.old.out }
     ensures handles { handles.new.items ≡ map aborted handles.old.items }
     ensures kept { Kept world.old world.new }

@@ -15,7 +15,9 @@ use Rattle.rt_model.specs.State.{Phase, Making, Polling, Ending, Closing, Stood,
 use Rattle.rt_model.specs.Causes.{ends_next}
 use Rattle.rt_model.specs.Rules.{CallsAt, MayCall}
 use Rattle.rt_model.specs.Alarms.{alarm_of}
-use Rattle.rt_model.specs.Turns.{Frees, Ask, Heard, Plainly, Sleeping, Spawning, Plain, Handed, Held, Asks, IsOwn, IsSpending, FreesOne, call_of, heard_of, moved, has_place}
+use Rattle.rt_model.specs.Turns.{Frees, IsAnswerOf, Ask, Heard, Plainly, Sleeping, Spawning, Plain, Handed, Held, Asks, IsOwn, IsSpending, FreesOne, call_of, heard_of, moved, has_place}
+use Rattle.rt_model.specs.Lists.{find}
+use Rattle.rt_world.specs.Receiving.{heard_result, polled}
 use Rattle.rt_model.specs.Walk.{Step, Last, Does, Spends, Gives, Walks, Fronts, Lacks, Stops, Breaks, then, followed_by, stood_before}
 use Rattle.rt_model.proofs.Walks.{walks-then, fronts-then, stops-then, stops-first, frees-append, frees-moved, frees-spent}
 use Rattle.rt_machine.specs.Calls.{turn_in, marked, sleep_reply, slept_number, spawn_reply}
@@ -294,6 +296,11 @@ module _ {A L O R G : Type 0} (old mid new : World A O G) (q : R) (b : L) where
   unfolding Walked
   walked-join task reply heard on made is two = (turned-made old mid new (Some (q, b)) (Plainly (Join task)) reply heard on made (refl, tt) is two)
 
+  -- what comes by a slot, polled
+  pub walked-receive : (slot : ℕ) (reply : CallReply) (heard : Heard O) (on : Heard O → Step A L O R) → Made old mid (Plainly (SlotPoll slot)) reply → IsAnswerOf (find slot old.held.sent) reply → heard ≡ heard_of old.held (turn_in old.told.state (SlotPoll slot) reply) → Walked (on heard) mid new q b → Walked (Does (Plainly (SlotPoll slot)) on) old new q b
+  unfolding Walked
+  walked-receive slot reply heard on made fits is two = (turned-made old mid new (Some (q, b)) (Plainly (SlotPoll slot)) reply heard on made (refl, fits) is two)
+
   -- a sleep that is polled
   pub walked-sleep : (due : ℕ) (alarm told : Option ℕ) (on : Heard O → Step A L O R) → told ≡ slept_number old.told.state.clock.time old.told.state.alarms due alarm → Made old mid (Sleeping due alarm) (sleep_reply told) → Walked (on (Plain (sleep_reply told))) mid new q b → Walked (Does (Sleeping due alarm) on) old new q b
   unfolding Walked
@@ -317,6 +324,13 @@ unfolding Walked
 walked-lacking old new step q b e l = rw e ((turned-lacking old (Some (q, b)) step l))
 
 -- the same, step by step, of an end
+-- a poll of a slot, whatever came by it
+pub walked-received : {A L O G : Type 0} (old new : World A O G) (state : L) (slot : ℕ) (result : Result (Option O) Error) → IfOk result (λ value. Received old new slot value) → IfErr result (λ e. IsUnreceived old new slot e) → Walked (Does (Plainly (SlotPoll slot)) (heard_result state)) old new (polled result) state
+walked-received old new state slot (Ok None) made refused = walked-receive old new new _ _ slot Pending (Plain Pending) _ made.1 (rw made.0 tt) refl (walked-gives new _ _)
+walked-received old new state slot (Ok (Some value)) made refused = walked-receive old new new _ _ slot Ready (Handed value) _ made.1 (rw made.0 refl) (rw made.0 refl) (walked-gives new _ _)
+walked-received old new state slot (Err error) made (inl lack) = walked-lacking old new _ _ _ lack.1 tt
+walked-received old new state slot (Err error) made (inr shown) = walked-receive old new new _ _ slot (Refused error) (Plain (Refused error)) _ shown.1 shown.0 refl (walked-gives new _ _)
+
 module _ {A O G : Type 0} (old mid new : World A O G) where
   pub spent-followed : (first next : Last A O) → Spent first old mid → Spent next mid new → Spent (followed_by first next) old new
   unfolding Spent Walked

@@ -1,6 +1,7 @@
 pub mod World
 pub mod Calls
 pub mod Walked
+pub mod Receiving
 pub mod Follows
 pub mod Seats
 pub mod Visits

@@ -96,6 +96,10 @@ abbrev pub slot_told : {O : Type 0} → Result ℕ OutOfMemory → Heard O
 slot_told (Ok slot) = Plain (SlotAt slot)
 slot_told (Err lack) = Plain (Refused LacksMemory)
 
+abbrev pub ends_told : {O : Type 0} → Result (ℕ × ℕ) Error → Heard O
+ends_told (Ok ends) = Plain (SlotAt ends.0)
+ends_told (Err error) = Plain (Refused error)
+
 abbrev pub child_told : {O : Type 0} → Result (ℕ × Bool) Error → Heard O
 child_told (Ok made) = Plain (NodeAt made.0 made.1)
 child_told (Err error) = Plain (Refused error)

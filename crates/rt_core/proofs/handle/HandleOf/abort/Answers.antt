@@ -1,12 +1,18 @@
-use Rattle.std.proofs.Common.{sym, ◌∙◌}
 use Rattle.rt_core.specs.Handles.{handle_aborts}
-use Rattle.rt_world.proofs.Walked.{spent-spend, spent-nothing, spends-on}
+use Rattle.rt_world.proofs.Walked.{kept-same, spent-nothing, spends-on}
 use Rattle.rt_core.proofs.handle.HandleOf.abort.Goals as goal
 
-pub returns-in-Some-clause-steps : goal.returns-in-Some-clause-steps
+pub returns-in-Task-clause-steps : goal.returns-in-Task-clause-steps
 unfolding handle_aborts
-returns-in-Some-clause-steps g c = rw (sym c.note_abort.ensures.task ∙ c.in-Some.is) (spends-on _ _ _ (spent-spend _ _ _ _ _ tt c.abort.ensures.spent (spent-nothing _)))
+returns-in-Task-clause-steps g c = rw (← c.self.view_is, c.in-Task.is) c.abort.ensures.steps
 
-pub returns-in-None-clause-steps : goal.returns-in-None-clause-steps
+pub returns-in-Received-clause-steps : goal.returns-in-Received-clause-steps
 unfolding handle_aborts
-returns-in-None-clause-steps g c = rw (sym c.note_abort.ensures.task ∙ c.in-None.is) (spends-on _ _ _ (spent-nothing _))
+returns-in-Received-clause-steps g c = rw (← c.self.view_is, c.in-Received.is) c.abort-in-Received.ensures.steps
+
+pub returns-clause-kept : goal.returns-clause-kept
+returns-clause-kept g c = kept-same _
+
+pub returns-clause-steps : goal.returns-clause-steps
+unfolding handle_aborts
+returns-clause-steps g c = rw (← c.self.view_is, c.in-Completion.is) (spends-on _ _ _ (spent-nothing _))
