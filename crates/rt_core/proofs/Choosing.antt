@@ -1,5 +1,5 @@
 -- A choice walks its handles one after another.
-use Rattle.std.proofs.Common.{◌≡◌, ◌≤◌, ◌<◌, ◌+◌, ◌∷◌, ◌++◌, [], ℕ, zero, suc, List, Option, Some, None, Result, Ok, Err, refl, ap, ◌∙◌, arith, add-one, get_or, take, drop, map, length}
+use Rattle.std.proofs.Common.{◌≡◌, ◌≤◌, ◌<◌, ◌+◌, ◌∷◌, ◌++◌, [], ℕ, zero, suc, List, Option, Some, None, Result, refl, ap, ◌∙◌, arith, add-one, get_or, take, drop, map, length}
 use Rattle.std.proofs.lemmas.List.{take_all, drop_all, take_more_set, drop-set-lt, set_split}
 use Rattle.std.proofs.Math.ListN.{set}
 use Rattle.std.proofs.Math.Seq.{drop-cons}
@@ -7,7 +7,7 @@ use Rattle.rt_base.specs.declared.error.Error.{Error}
 use Rattle.rt_base.specs.declared.poll.Poll.{Poll}
 use Rattle.rt_base.specs.declared.poll.Poll.TheVariants.{Ready, Pending}
 use Rattle.rt_model.specs.State.{Turn}
-use Rattle.rt_model.specs.Walk.{Last, Gives, followed_by}
+use Rattle.rt_model.specs.Walk.{Last}
 use Rattle.rt_world.specs.World.{World}
 use Rattle.rt_world.specs.Calls.{IsPolling, Kept}
 use Rattle.rt_world.specs.Walked.{Walked, Spent, Goes, Spends, SaysLack}

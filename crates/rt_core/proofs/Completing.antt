@@ -1,17 +1,16 @@
 -- What completions and handles walk.
-use Rattle.std.proofs.Common.{◌≡◌, sym, ◌∙◌, refl, Option, Some, None, Result, Ok, Err}
+use Rattle.std.proofs.Common.{◌≡◌, Option, None, Result, Err}
 use Rattle.rt_base.specs.declared.error.Error.{Error}
 use Rattle.rt_base.specs.declared.error.Error.TheVariants.{Closed, Aborted as IsAborted}
 use Rattle.rt_base.specs.declared.poll.Poll.{Poll}
-use Rattle.rt_base.specs.declared.poll.Poll.TheVariants.{Ready, Pending}
+use Rattle.rt_base.specs.declared.poll.Poll.TheVariants.{Ready}
 use Rattle.rt_model.specs.Walk.{Step, Gives, then}
 use Rattle.rt_world.specs.World.{World}
-use Rattle.rt_world.specs.Walked.{Goes, Spends}
-use Rattle.rt_world.proofs.Walked.{walked-then, walked-gives, goes-on, spends-on, spent-nothing}
-use Rattle.rt_core.specs.Completions.{Polls, completion_polls, completion_spends, held_answer, stage_by}
+use Rattle.rt_world.specs.Walked.{Goes}
+use Rattle.rt_world.proofs.Walked.{walked-then, walked-gives, goes-on}
+use Rattle.rt_core.specs.Completions.{Polls, completion_polls, held_answer, stage_by}
 use Rattle.rt_core.specs.declared.handle.Kind.{Kind}
 use Rattle.rt_core.specs.declared.completion.Completion.{Completion}
-use Rattle.rt_core.specs.declared.completion.Source.{Source}
 use Rattle.rt_core.specs.declared.completion.Source.TheVariants.{Held, Polled}
 use Rattle.rt_core.specs.declared.completion.Stage.TheVariants.{Open, Answered, Aborted}
 

@@ -1,5 +1,5 @@
 -- What the handles of tasks and of completions do next.
-use Rattle.std.specs.Prelude.{ℕ, Bool, true, false, Option, Some, None, Result, Ok, Err}
+use Rattle.std.specs.Prelude.{ℕ, Bool, true, false, Option, Some, None, Result, Err}
 use Rattle.rt_base.specs.declared.error.Error.{Error}
 use Rattle.rt_base.specs.declared.error.Error.TheVariants.{Closed}
 use Rattle.rt_base.specs.declared.poll.Poll.{Poll}

@@ -1,5 +1,5 @@
 -- What a choice between handles does next.
-use Rattle.std.specs.Prelude.{List, [], ◌∷◌, ◌++◌, map, Result, Ok, Err}
+use Rattle.std.specs.Prelude.{List, [], ◌∷◌, ◌++◌, map, Result, Err}
 use Rattle.rt_base.specs.declared.error.Error.{Error}
 use Rattle.rt_base.specs.declared.error.Error.TheVariants.{Closed}
 use Rattle.rt_base.specs.declared.poll.Poll.{Poll}

@@ -1,4 +1,4 @@
-use Rattle.std.proofs.Common.{◌≡◌, ◌-◌, ◌≤◌, length, vec_len, drop}
+use Rattle.std.proofs.Common.{◌≡◌, ◌-◌, vec_len, drop}
 use Rattle.rt_model.specs.Rules.{MayCall}
 use Rattle.rt_world.specs.World.{World}
 use Rattle.rt_world.specs.Calls.{Kept}

@@ -1,4 +1,4 @@
-use Rattle.std.proofs.Common.{◌≡◌, ◌-◌, ◌≤◌, List, Result, None, length, vec_len, take, drop}
+use Rattle.std.proofs.Common.{◌≡◌, ◌-◌, List, Result, None, vec_len, take, drop}
 use Rattle.rt_base.specs.declared.error.Error.{Error}
 use Rattle.rt_base.specs.declared.poll.Poll.{Poll}
 use Rattle.rt_world.specs.World.{World}
