@@ -1,7 +1,7 @@
 -- The end of a store that holds syncs back: its lists are taken apart from their ends.
-use Rattle.std.proofs.Common.{◌≡◌, ◌∙◌, ◌⊎◌, ℕ, ◌+◌, ◌≤◌, ◌<◌, ap, arith, Ok, Err, inl, inr, List, [], ◌∷◌, ◌++◌, Option, Some, Bool, true, Result, refl, sym, subst}
+use Rattle.std.proofs.Common.{◌≡◌, ◌∙◌, ◌⊎◌, ℕ, ◌+◌, ◌≤◌, ap, arith, Ok, Err, inl, inr, List, [], ◌∷◌, ◌++◌, Option, Some, Bool, true, Result, refl, sym, subst}
 use Rattle.std.proofs.Math.Nat.{add-mul, mul-add}
-use Rattle.std.specs.Prelude.{◌^◌, ◌*◌}
+use Rattle.std.specs.Prelude.{◌*◌}
 use Rattle.rt_base.specs.declared.error.Error.{Error}
 use Rattle.rt_base.specs.declared.error.Error.TheVariants.{NoMemory}
 use Rattle.rt_base.specs.declared.options.WriteOptions.{WriteOptions}
@@ -19,7 +19,6 @@ use Rattle.rt_buffer.specs.declared.stage.Hold.{Hold}
 use Rattle.rt_buffer.specs.declared.stage.Stage.{Stage}
 use Rattle.rt_buffer.specs.declared.stage.Stage.TheVariants.{Held, Passed, Out}
 use Rattle.rt_buffer.specs.Delayed.{AfterSync, ClosesAll, ClosesLast, CountsAnswer, Delayed, GivesUpAll, GivesUpLast, SyncsOr, Settles, SyncsReleased, Writes, WritesAt, WritesThen, moved, plain}
-use Rattle.rt_buffer.specs.Mocks.{one_more}
 use Rattle.rt_store.specs.Answered.{CountsDone, PollsTicket, is_numbered}
 use Rattle.rt_store.specs.declared.ticket.Done.{Done}
 use Rattle.rt_store.specs.declared.ticket.Done.TheVariants.{Now, Gated}
@@ -41,11 +40,6 @@ gives_up_none c (Held h) s _ = refl
 gives_up_none c (Passed p) s (inl (h, e)) = cc
 gives_up_none c (Passed p) s (inr e) = cc
 gives_up_none c Out s _ = refl
-
--- a refusal of its own, beside a count that didn't fall
-pub counts_refused : (n k m l : ℕ) (e : Error) → n ≤ k → l ≡ one_more m → m < 2 ^ 64 → CountsAnswer (n + m) (k + l) (ready.Ready (Err e))
-counts_refused n k m l NoMemory up more fits = (omega (arith, up, more, fits), omega (arith, up, more, fits))
-counts_refused n k m l e up more fits = (omega (arith, up, more, fits), (omega (arith, up, more, fits), λ below. omega (arith, up, more, fits, below)))
 
 -- a sync of the inner store, and what comes behind it
 pub synced_then : {S B : Type 0} (c : StoreCalls S B) (n task : ℕ) (h : Hold) (b : B) (opened : Option B) (s : Delayed S B) (p : Poll (Result Unit Error)) (t : Delayed S B)
@@ -90,10 +84,6 @@ counts_after : {A : Type 0} (old mid new : ℕ) (r : Result A Error) → old ≤
 counts_after old mid new (Ok a) up h = omega (arith, up, h)
 counts_after old mid new (Err NoMemory) up h = omega (arith, up, h)
 counts_after old mid new (Err e) up h = (omega (arith, up, h.0), risen_behind old mid new up h.0 h.1)
-
-pub counts_behind : (old mid new : ℕ) (p : Poll (Result Unit Error)) → old ≤ mid → CountsAnswer mid new p → CountsAnswer old new p
-counts_behind old mid new ready.Pending up h = omega (arith, up, h)
-counts_behind old mid new (ready.Ready r) up h = (omega (arith, up, h.0), counts_after old mid new r up h.1)
 
 pub counts_done_behind : (old mid new : ℕ) (r : Result Done Error) → old ≤ mid → CountsDone mid new r → CountsDone old new r
 counts_done_behind old mid new (Ok Now) up h = omega (arith, up, h)
