@@ -234,3 +234,9 @@ signal_group r signal = option_map (λ t. t.group) (find signal r.signals)
 -- each open signal of the shutdown shows what the shutdown says
 abbrev pub ShowShutdown : SignalRecord → StopRecord → Type 0
 ShowShutdown r s = (signal : ℕ) → signal_group r signal ≡ Some s.group → signal_answer r signal ≡ stop_shown s
+
+-- the number is no group's, no signal's and no completion's
+pub record AreFresh (r : SignalRecord) (number : ℕ) : Type 0 where
+  pub groups : group_of r number ≡ None
+  pub signals : find number r.signals ≡ None
+  pub completions : find number r.completions ≡ None

@@ -4,7 +4,7 @@ ghost use Rattle.std.specs.VecDeque.{deque_capacity};
 ghost use Rattle.rt_super.specs.Wakers.{waker_of};
 ghost use Rattle.rt_super.specs.Rows.{find};
 ghost use Rattle.rt_super.specs.declared.signal_token.SignalToken.{SignalToken};
-ghost use Rattle.rt_super.specs.Signals.{no_signals, new_group, group_of, with_group, with_signal, with_clone, with_completion, is_alive, has_value, completes, signaled, woken_by_value, signaler_closed, woken_by_closing, signal_closed, woken_by_last, completion_closed, signal_answer, signal_polled, completion_answer, completion_polled, StopRecord, IsShutdown, KeepShutdowns, KeepOthers, signal_group, stop_shown};
+ghost use Rattle.rt_super.specs.Signals.{no_signals, new_group, group_of, with_group, with_signal, with_clone, with_completion, is_alive, has_value, completes, signaled, woken_by_value, signaler_closed, woken_by_closing, signal_closed, woken_by_last, completion_closed, signal_answer, signal_polled, completion_answer, completion_polled, StopRecord, IsShutdown, KeepShutdowns, KeepOthers, AreFresh, signal_group, stop_shown};
 
 use crate::signal_group::SignalGroup;
 use crate::table::Table;
@@ -126,20 +126,22 @@ impl Signals {
         ensures shown { (s : StopRecord) → IsShutdown self.old.told s → signal_group self.old.told signal ≡ Some s.group → result ≡ stop_shown s }
         ensures polled { self.new.told ≡ signal_polled self.old.told signal (waker_of task) }
         ensures shutdowns { KeepShutdowns self.old.told self.new.told }
-        ensures woken { self.new.woken ≡ [] }
+        ensures woken { OnOk result (self.new.woken ≡ []) }
+        ensures refused { OnErr result (self.new ≡ self.old) }
     {
-        self.woken.clear();
         let Some(token) = self.signals.get(signal) else {
             return Err(Error::UnknownToken);
         };
         if let Some(group) = self.groups.get(token.group) {
             if let Some(value) = group.value {
+                self.woken.clear();
                 return Ok(Poll::Ready(value));
             }
             if !group.alive {
                 return Err(Error::Closed);
             }
         }
+        self.woken.clear();
         self.signals.wait(signal, waker(task));
         Ok(Poll::Pending)
     }
@@ -153,12 +155,13 @@ impl Signals {
         ensures answer { result ≡ completion_answer self.old.told completion }
         ensures polled { self.new.told ≡ completion_polled self.old.told completion (waker_of task) }
         ensures shutdowns { KeepShutdowns self.old.told self.new.told }
-        ensures woken { self.new.woken ≡ [] }
+        ensures woken { OnOk result (self.new.woken ≡ []) }
+        ensures refused { OnErr result (self.new ≡ self.old) }
     {
-        self.woken.clear();
         let Some(token) = self.completions.get(completion) else {
             return Err(Error::UnknownToken);
         };
+        self.woken.clear();
         if self.completes(token.group) {
             return Ok(Poll::Ready(()));
         }
@@ -208,12 +211,15 @@ impl Signals {
     }
 
     /// Nobody waits for what is there: each signal by which somebody waits is pending, and so is
-    /// each such completion.
+    /// each such completion. And the next number was never given.
     pub fn facts(&self)
         ensures signals { (signal : ℕ) (t : SignalToken) → find signal self.now.told.signals ≡ Some t → IsSome t.waits → signal_answer self.now.told signal ≡ Ok Poll.Pending }
         ensures completions { (completion : ℕ) (t : SignalToken) → find completion self.now.told.completions ≡ Some t → IsSome t.waits → completion_answer self.now.told completion ≡ Ok Poll.Pending }
+        ensures fresh { (number : ℕ) → self.now.told.count ≤ number → AreFresh self.now.told number }
     {
-        let _ = &self.groups;
+        self.groups.facts();
+        self.signals.facts();
+        self.completions.facts();
     }
 
     /// The next task whose wait the last call met that wasn't refused. Of a group the waits by

@@ -43,9 +43,9 @@ impl Stopper {
         Ok(Stopper { group, value: None })
     }
 
-    #[tactic(auto, using(crate::proofs::Shutdowns::shows))]
     /// Begins the shutdown with a value, unless it began before; and answers the number of a
     /// completion of its own.
+    #[tactic(auto, using(crate::proofs::Shutdowns::shows))]
     pub fn stop(&mut self, signals: &mut Signals, value: i32) -> Result<u64, NoMemory>
         ensures number { IfOk result (λ number. number ≡ signals.old.told.count) }
         ensures begun { OnOk result (self.new ≡ with_stop self.old value) }
@@ -67,8 +67,8 @@ impl Stopper {
         Ok(completion)
     }
 
-    #[tactic(auto, using(crate::proofs::Shutdowns::stopped_keeps, crate::proofs::Shutdowns::shows))]
     /// A signal of the shutdown: an open one, or the value where it came.
+    #[tactic(auto, using(crate::proofs::Shutdowns::stopped_keeps, crate::proofs::Shutdowns::shows))]
     pub fn stopped(&mut self, signals: &mut Signals) -> Result<Stopped, NoMemory>
         ensures answer { IfOk result (λ stopped. stopped ≡ stopped_answer signals.old.told self.old) }
         ensures told { OnOk result (signals.new.told ≡ stopped_after signals.old.told self.old) }

@@ -1,5 +1,5 @@
 // The signals, or the completions, of all groups.
-ghost use Rattle.std.specs.Prelude.{◌≡◌, ◌≤◌, ◌<◌, ◌+◌, ◌∷◌, ◌++◌, [], None, length, OnOk, OnErr, IfSome, set, get_or, vec_capacity};
+ghost use Rattle.std.specs.Prelude.{◌≡◌, ◌≤◌, ◌<◌, ◌+◌, ◌∷◌, ◌++◌, [], ℕ, None, length, OnOk, OnErr, IfSome, set, get_or, vec_capacity};
 ghost use Rattle.std.specs.VecDeque.{deque_capacity};
 ghost use Rattle.rt_super.specs.Rows.{find, without, replaced};
 ghost use Rattle.rt_super.specs.Signals.{new_token, group_for, is_open, waits_in, unwaited, waiting_as};
@@ -106,6 +106,13 @@ impl Tokens {
         self.table.push(SignalToken { group, waits: None });
         self.later.push_reserved(list);
         self.live.push_reserved(1);
+    }
+
+    /// No number from the next one on has a token.
+    pub fn facts(&self)
+        ensures { (number : ℕ) → self.now.next ≤ number → find number self.now.items ≡ None }
+    {
+        self.table.facts();
     }
 
     /// Adds a further one of a group. Where the group was never made, it is one of a group that

@@ -3,8 +3,8 @@ use Rattle.rt_super.specs.SignalsInside.{state_of}
 use Rattle.rt_super.proofs.Waits.{asked_waits}
 use Rattle.rt_super.proofs.signals.Signals.poll_completion.Goals as goal
 
-pub invariant_of-self-3 : goal.invariant_of-self-3
-invariant_of-self-3 c =
+pub invariant_of-self-2 : goal.invariant_of-self-2
+invariant_of-self-2 c =
     let i = c.self.invariant in
     record {
       signals = i.signals;

@@ -14,6 +14,6 @@ invariant_of-self-2 c =
     record {
       signals = omega (arith, c.wait.ensures.next, i.signals);
       completions = i.completions;
-      room = omega (arith, c.clear.ensures.capacity, i.room);
+      room = omega (arith, c.clear-2.ensures.capacity, i.room);
       pending = rw (c.wait.ensures.items) (polled_waits told c.args.signal _ c.in-Some.token (sym c.in-Some.ensures) pends i.pending);
     }
