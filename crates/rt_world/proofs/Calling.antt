@@ -21,7 +21,7 @@ use Rattle.rt_machine.specs.Calls.{Noted, Shown, Spent, IsRefused, lacking, slee
 use Rattle.rt_machine.specs.Places.{Seen}
 use Rattle.rt_world.specs.Seats.{Roomed, OutRuns, AreSeated, AreThere, AreOpen, IsComing}
 use Rattle.rt_world.specs.World.{World}
-use Rattle.rt_world.specs.Calls.{Made, IsRefused as WorldRefused}
+use Rattle.rt_world.specs.Calls.{Made, IsUnsent, IsRefused as WorldRefused}
 use Rattle.rt_world.specs.Walked.{Called, child_told}
 use Rattle.rt_world.proofs.Walked.{called-lacking, child-called, join-called, spawn-called, slot-called, receive-called}
 use Rattle.rt_world.proofs.Coming.{there-abort, there-open, there-given-up, there-taken, coming-changed, coming-given-up, coming-taken, there-spawned, coming-spawned, open-changed, open-given-up, open-spawned}
@@ -243,16 +243,16 @@ module _ {A O G : Type 0} (old new : Seen) (held end : Held A O) (panic : Option
   pub slot-calls : (slot : ℕ) → end ≡ held → Noted out old new Slot (SlotAt slot) → Called (Plainly Slot) before behind (Plain (SlotAt slot))
   slot-calls slot e n = slot-called before behind (Ok slot) (made-noted (Plainly Slot) (SlotAt slot) n e) tt
 
-  pub receive-pending : (slot : ℕ) → end ≡ held → find slot held.sent ≡ None → Noted out old new (SlotPoll slot) Pending → Called (Plainly (SlotPoll slot)) before behind (Plain Pending)
+  pub receive-pending : (slot : ℕ) → end ≡ held → IsUnsent before slot → Noted out old new (SlotPoll slot) Pending → Called (Plainly (SlotPoll slot)) before behind (Plain Pending)
   receive-pending slot e none n = receive-called before behind slot (Ok None) (none, made-noted (Plainly (SlotPoll slot)) Pending n e) tt
 
-  pub receive-refused : (slot : ℕ) (error : Error) → end ≡ held → find slot held.sent ≡ None → IsRefused out old new (SlotPoll slot) error → Called (Plainly (SlotPoll slot)) before behind (Plain (Refused error))
+  pub receive-refused : (slot : ℕ) (error : Error) → end ≡ held → IsUnsent before slot → IsRefused out old new (SlotPoll slot) error → Called (Plainly (SlotPoll slot)) before behind (Plain (Refused error))
   receive-refused slot error e none (inl lack) = lacking-calls (Plainly (SlotPoll slot)) (Plain (Refused error)) e lack.1
-  receive-refused slot error e none (inr n) = receive-called before behind slot (Err error) tt (inr (rw none tt, made-noted (Plainly (SlotPoll slot)) (Refused error) n e))
+  receive-refused slot error e none (inr n) = receive-called before behind slot (Err error) tt (inr (inl none, made-noted (Plainly (SlotPoll slot)) (Refused error) n e))
 
   pub receive-shown : (slot : ℕ) (sent answer : Error) → end ≡ held → find slot held.sent ≡ Some (Err sent) → Shown out old new slot sent answer → Called (Plainly (SlotPoll slot)) before behind (Plain (Refused answer))
   receive-shown slot sent answer e found (inl lack) = lacking-calls (Plainly (SlotPoll slot)) (Plain (Refused answer)) e lack.1
-  receive-shown slot sent answer e found (inr n) = rw n.0 (receive-called before behind slot (Err sent) tt (inr (rw found refl, made-noted (Plainly (SlotPoll slot)) (Refused sent) n.1 e)))
+  receive-shown slot sent answer e found (inr n) = rw n.0 (receive-called before behind slot (Err sent) tt (inr (inr found, made-noted (Plainly (SlotPoll slot)) (Refused sent) n.1 e)))
 
   pub receive-value : (slot : ℕ) (value : O) → end ≡ unsent slot held → find slot held.sent ≡ Some (Ok value) → Noted out old new (SlotPoll slot) Ready → Called (Plainly (SlotPoll slot)) before behind (Handed value)
   receive-value slot value e found n = receive-called before behind slot (Ok (Some value)) (found, made-noted (Plainly (SlotPoll slot)) Ready n e) tt

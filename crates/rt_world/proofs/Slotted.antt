@@ -378,4 +378,4 @@ closed-slots t false = refl
 pub closed-slotted : {V : Type 0} (sent : Roomed (ℕ × V)) (old new : Seen) → new.told ≡ pushed_all old.told (cleanup_entries old.told.state.nodes) → AreSlotted sent old.told.state.slots → AreSlotted sent new.told.state.slots
 closed-slotted sent old new e i = let same = closed-slots old.told (is_ended old.told.state.nodes 0) in rw (e, same) i
 
-pub ruleset slotted_laws = (slotted-none, slotted-refused, child-slotted, wake-slotted, abort-task-slotted, sleep-slotted, abort-slotted, close-slotted)
+pub ruleset slotted_laws = (held-none, slotted-none, slotted-refused, child-slotted, wake-slotted, abort-task-slotted, sleep-slotted, abort-slotted, close-slotted)

@@ -22,7 +22,7 @@ use Rattle.rt_model.specs.Walk.{Step, Last, Does, Spends, Gives, Walks, Fronts, 
 use Rattle.rt_model.proofs.Walks.{walks-then, fronts-then, stops-then, stops-first, frees-append, frees-moved, frees-spent}
 use Rattle.rt_machine.specs.Calls.{turn_in, marked, sleep_reply, slept_number, spawn_reply}
 use Rattle.rt_world.specs.World.{World}
-use Rattle.rt_world.specs.Calls.{Stays, Grows, Kept, Made, IsRefused, IsUnreceived, SpentBy, Joined, Received, lacking}
+use Rattle.rt_world.specs.Calls.{Stays, Grows, Kept, Made, IsRefused, IsUnreceived, IsUnsent, SpentBy, Joined, Received, lacking}
 use Rattle.rt_world.specs.Walked.{Broke, EndsWith, Turned, Walked, Spent, Polled, answered_by, Rooted, root_by, Goes, Called, tells, wake_told, sleep_told, slot_told, child_told, spawn_told, join_told, Spends as MaySpend, Closes, Leads}
 
 stood-more : (ts us : List Turn) (n0 n1 n2 : Stood) → stood_before us n2 ≡ n1 → stood_before ts n1 ≡ n0 → stood_before (ts ++ us) n2 ≡ n0
@@ -38,6 +38,11 @@ front-stands (t ∷ front) rest us stood before e s = rw e at s
 stood-both : (ts us : List Turn) (stood : Stood) → stood_before (ts ++ us) stood ≡ stood_before ts (stood_before us stood)
 stood-both [] us stood = refl
 stood-both (t ∷ ts) us stood = refl
+
+-- a refusal is the error that was sent, if one was
+fits-refused : {A O G : Type 0} (w : World A O G) (slot : ℕ) (error : Error) → IsUnsent w slot ⊎ (find slot w.held.sent ≡ Some (Err error)) → IsAnswerOf (find slot w.held.sent) (Refused error)
+fits-refused w slot error (inl none) = rw none.held tt
+fits-refused w slot error (inr found) = rw found refl
 
 -- a mark that isn't there now wasn't there before
 unmarked : (old new : Option (List Turn)) → ((made : List Turn) → old ≡ Some made → new ≡ Some made) → new ≡ None → old ≡ None
@@ -323,14 +328,14 @@ pub walked-lacking : {A L O R G : Type 0} (old new : World A O G) (step : Step A
 unfolding Walked
 walked-lacking old new step q b e l = rw e ((turned-lacking old (Some (q, b)) step l))
 
--- the same, step by step, of an end
 -- a poll of a slot, whatever came by it
 pub walked-received : {A L O G : Type 0} (old new : World A O G) (state : L) (slot : ℕ) (result : Result (Option O) Error) → IfOk result (λ value. Received old new slot value) → IfErr result (λ e. IsUnreceived old new slot e) → Walked (Does (Plainly (SlotPoll slot)) (heard_result state)) old new (polled result) state
-walked-received old new state slot (Ok None) made refused = walked-receive old new new _ _ slot Pending (Plain Pending) _ made.1 (rw made.0 tt) refl (walked-gives new _ _)
+walked-received old new state slot (Ok None) made refused = walked-receive old new new _ _ slot Pending (Plain Pending) _ made.1 (rw made.0.held tt) refl (walked-gives new _ _)
 walked-received old new state slot (Ok (Some value)) made refused = walked-receive old new new _ _ slot Ready (Handed value) _ made.1 (rw made.0 refl) (rw made.0 refl) (walked-gives new _ _)
 walked-received old new state slot (Err error) made (inl lack) = walked-lacking old new _ _ _ lack.1 tt
-walked-received old new state slot (Err error) made (inr shown) = walked-receive old new new _ _ slot (Refused error) (Plain (Refused error)) _ shown.1 shown.0 refl (walked-gives new _ _)
+walked-received old new state slot (Err error) made (inr shown) = walked-receive old new new _ _ slot (Refused error) (Plain (Refused error)) _ shown.1 (fits-refused old slot error shown.0) refl (walked-gives new _ _)
 
+-- the same, step by step, of an end
 module _ {A O G : Type 0} (old mid new : World A O G) where
   pub spent-followed : (first next : Last A O) → Spent first old mid → Spent next mid new → Spent (followed_by first next) old new
   unfolding Spent Walked
@@ -475,10 +480,10 @@ module _ {A O G : Type 0} (old new : World A O G) where
   slot-called (Err lack) made lacked = called-lacking (Plainly Slot) (Plain (Refused OutOf)) lacked
 
   pub receive-called : (slot : ℕ) (result : Result (Option O) Error) → IfOk result (λ value. Received old new slot value) → IfErr result (λ e. IsUnreceived old new slot e) → Called (Plainly (SlotPoll slot)) old new (join_told result)
-  receive-called slot (Ok None) made refused = called-made (Plainly (SlotPoll slot)) Pending (Plain Pending) made.1 (refl, rw made.0 tt) refl
+  receive-called slot (Ok None) made refused = called-made (Plainly (SlotPoll slot)) Pending (Plain Pending) made.1 (refl, rw made.0.held tt) refl
   receive-called slot (Ok (Some value)) made refused = called-made (Plainly (SlotPoll slot)) Ready (Handed value) made.1 (refl, rw made.0 refl) (rw made.0 refl)
   receive-called slot (Err error) made (inl lack) = called-lacking (Plainly (SlotPoll slot)) (Plain (Refused error)) lack.1
-  receive-called slot (Err error) made (inr shown) = called-made (Plainly (SlotPoll slot)) (Refused error) (Plain (Refused error)) shown.1 (refl, shown.0) refl
+  receive-called slot (Err error) made (inr shown) = called-made (Plainly (SlotPoll slot)) (Refused error) (Plain (Refused error)) shown.1 (refl, fits-refused old slot error shown.0) refl
 
 pub ruleset call_laws = (wake-called, abort-called, child-called, spawn-called, sleep-called, join-called, slot-called, receive-called)
 

@@ -1,13 +1,14 @@
 -- What a call on the world leaves.
-use Rattle.std.specs.Prelude.{◌≡◌, ◌⊎◌, ℕ, List, [], ◌∷◌, ◌++◌, true, false, Option, Some, None, Ok}
+use Rattle.std.specs.Prelude.{◌≡◌, ◌⊎◌, ℕ, List, [], ◌∷◌, ◌++◌, true, false, Option, Some, None, Ok, Err}
 use Rattle.rt_base.specs.declared.error.Error.{Error}
 use Rattle.rt_base.specs.declared.error.Error.TheVariants.{NoMemory}
 use Rattle.rt_audit.specs.declared.call.Call.TheVariants.{Join, SlotPoll}
 use Rattle.rt_audit.specs.declared.reply.CallReply.{CallReply}
 use Rattle.rt_audit.specs.declared.reply.CallReply.TheVariants.{Done, Pending, Ready, Refused}
 use Rattle.rt_model.specs.Lists.{find, has_number}
+use Rattle.rt_model.specs.Slots.{is_there}
 use Rattle.rt_model.specs.State.{Phase, Turn, stood_in}
-use Rattle.rt_model.specs.Turns.{Ask, Plainly, IsAnswerOf, call_of, moved_by, has_place}
+use Rattle.rt_model.specs.Turns.{Ask, Plainly, call_of, moved_by, has_place}
 use Rattle.rt_model.specs.Effects.{stood_called, is_closing}
 use Rattle.rt_model.specs.Rules.{Answers, MayCall}
 use Rattle.rt_machine.specs.Calls.{turn_in, marked}
@@ -67,16 +68,21 @@ abbrev pub Joined : {A O G : Type 0} → World A O G → World A O G → ℕ →
 Joined old new task None = Made old new (Plainly (Join task)) Pending
 Joined old new task (Some value) = (find task old.held.results ≡ Some value) × Made old new (Plainly (Join task)) Ready
 
+-- nothing was sent into a slot that is left there
+pub record IsUnsent {A O G : Type 0} (w : World A O G) (slot : ℕ) : Type 0 where
+  pub held : find slot w.held.sent ≡ None
+  pub there : is_there (find slot w.told.state.slots.results) ≡ false
+
 -- a slot was polled: nothing stands there yet, or this value was handed out
 abbrev pub Received : {A O G : Type 0} → World A O G → World A O G → ℕ → Option O → Type 0
-Received old new slot None = (find slot old.held.sent ≡ None) × Made old new (Plainly (SlotPoll slot)) Pending
+Received old new slot None = IsUnsent old slot × Made old new (Plainly (SlotPoll slot)) Pending
 Received old new slot (Some value) = (find slot old.held.sent ≡ Some (Ok value)) × Made old new (Plainly (SlotPoll slot)) Ready
 
--- the poll of a slot was refused: it lacked memory, or it was answered with this error, which is the one that was sent if one was
+-- the poll of a slot was refused: it lacked memory, or it was answered with this error, which is the one that was sent, if one was
 abbrev pub IsUnreceived : {A O G : Type 0} → World A O G → World A O G → ℕ → Error → Type 0
 IsUnreceived old new slot error =
     ((error ≡ NoMemory) × (new ≡ lacking old))
-    ⊎ (IsAnswerOf (find slot old.held.sent) (Refused error) × Made old new (Plainly (SlotPoll slot)) (Refused error))
+    ⊎ ((IsUnsent old slot ⊎ (find slot old.held.sent ≡ Some (Err error))) × Made old new (Plainly (SlotPoll slot)) (Refused error))
 
 -- what is made of this for a node's number
 abbrev pub IsMadeBy : {A C : Type 0} → (C × ℕ → A → Type 0) → C → (ℕ → A) → Type 0

@@ -52,7 +52,7 @@ impl Model for ResultReceiver {
 
 #[tactic(auto, using(crate::proofs::Walked::call_laws))]
 impl<T, O, G> World<T, O, G> {
-    /// Makes a slot, and hands out its two ends. `NoMemory` alone is refused.
+    /// Makes a slot, and hands out its two ends. Its only error is `NoMemory`.
     pub fn result_slot(&mut self) -> Result<(ResultSender, ResultReceiver), Error>
         requires { MayCall self.old.told.state self.old.out }
         ensures kept { Kept self.old self.new }

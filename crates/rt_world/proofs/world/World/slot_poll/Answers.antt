@@ -14,7 +14,7 @@ slot_poll-requires-clause-unsent g c =
 pub returns-in-Err-clause-called : goal.returns-in-Err-clause-called
 returns-in-Err-clause-called g c =
     let w = c.self.inside in
-    rw (← c.self.view_is) (receive-refused w.machine c.slot_poll.new.self _ _ w.panic w.out w.rng c.args.slot c.in-Err.error refl (sym c.get.ensures ∙ rw c.in-None.is refl) c.in-Err.ensures.err)
+    rw (← c.self.view_is) (receive-refused w.machine c.slot_poll.new.self _ _ w.panic w.out w.rng c.args.slot c.in-Err.error refl (let none = sym c.get.ensures ∙ rw c.in-None.is refl in record { held = none; there = held-none w.sent w.machine.told.state.slots c.self.invariant.1 c.args.slot none }) c.in-Err.ensures.err)
 
 pub invariant_of-self-in-None : goal.invariant_of-self-in-None
 invariant_of-self-in-None g c =
@@ -25,7 +25,7 @@ invariant_of-self-in-None g c =
 pub returns-in_default-clause-called : goal.returns-in_default-clause-called
 returns-in_default-clause-called g c =
     let w = c.self.inside in
-    rw (← c.self.view_is) (receive-pending w.machine c.slot_poll.new.self _ _ w.panic w.out w.rng c.args.slot refl (sym c.get.ensures ∙ rw c.in-None.is refl) c.in_default.ensures.ok)
+    rw (← c.self.view_is) (receive-pending w.machine c.slot_poll.new.self _ _ w.panic w.out w.rng c.args.slot refl (let none = sym c.get.ensures ∙ rw c.in-None.is refl in record { held = none; there = held-none w.sent w.machine.told.state.slots c.self.invariant.1 c.args.slot none }) c.in_default.ensures.ok)
 
 pub show_sent-requires-clause-sent : goal.show_sent-requires-clause-sent
 show_sent-requires-clause-sent g c =
