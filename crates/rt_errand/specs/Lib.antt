@@ -3,3 +3,4 @@ pub mod Errand
 pub mod Heir
 pub mod Retry
 pub mod Chief
+pub mod Courier

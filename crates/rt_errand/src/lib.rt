@@ -6,6 +6,9 @@
 mod chief;
 #[cfg(test)]
 mod chief_tests;
+mod courier;
+#[cfg(test)]
+mod courier_tests;
 mod crew;
 mod errand;
 mod heir;
@@ -15,6 +18,7 @@ mod retry;
 mod tests;
 
 pub use chief::{Chief, Plan, RootChief};
+pub use courier::{Courier, Parcel, RootCourier};
 pub use crew::{Crew, RootCrew, RootPair};
 pub use errand::{Errand, Stage};
 pub use heir::{Heir, RootHeir};
