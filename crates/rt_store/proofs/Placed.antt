@@ -55,6 +55,17 @@ found_from i place (b ∷ bs) (r ∷ rs) x h is =
     let next : IsSome (cond (i == r.0) (Some r.1) x) ⊎ ((place + 1 ≤ i) × (i < place + 1 + length bs)) = rw at (found_here i place (length bs) (i == place) r.1 x refl h) in
     found_from i (place + 1) bs rs (cond (i == r.0) (Some r.1) x) next rest
 
+number_from : (place : ℕ) (bufs : List WritableChunks) (reads : List (ℕ × WritableChunks)) → placed_bytes reads ≡ placed place (bytes_of bufs) → length reads ≡ length bufs
+number_from place [] [] is = refl
+number_from place [] (r ∷ rs) is = absurd (cc)
+number_from place (b ∷ bs) [] is = absurd (cc)
+number_from place (b ∷ bs) (r ∷ rs) is =
+    let rest : placed_bytes rs ≡ placed (place + 1) (bytes_of bs) = cc in
+    ap suc (number_from (place + 1) bs rs rest)
+
+pub number_placed : (bufs : List WritableChunks) (reads : List (ℕ × WritableChunks)) → placed_bytes reads ≡ placed 0 (bytes_of bufs) → length reads ≡ length bufs
+number_placed bufs reads is = number_from 0 bufs reads is
+
 pub whole_placed : (bufs : List WritableChunks) (reads : List (ℕ × WritableChunks)) → placed_bytes reads ≡ placed 0 (bytes_of bufs) → IsWhole (length bufs) reads
 whole_placed bufs reads is = (are_from (length bufs) 0 bufs reads (omega arith) is, λ i below. found_from i 0 bufs reads None (inr (omega arith, omega (arith, below))) is)
 

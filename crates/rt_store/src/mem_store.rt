@@ -288,6 +288,7 @@ impl MemStore {
     ) -> Result<Vec<(usize, IoBufsMut)>, Error>
         ensures gives { Notes (E.noted env.old) (ReadsMany self.now blob.now ranges.now result) (E.noted env.new) }
         ensures whole { IfOk result (λ reads. IsWhole (length ranges.now) reads.items) }
+        ensures each { IfOk result (λ reads. length reads.items ≡ length ranges.now) }
         ensures len { IfOk result (λ reads. HavePlacedLengths ranges.now reads.items) }
         ensures spent { E.spare env.old ≤ E.spare env.new + 1 }
     {

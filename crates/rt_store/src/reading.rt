@@ -31,6 +31,7 @@ pub fn read_ranges(
 pub fn with_places(alloc: Global, bufs: Vec<IoBufsMut>) -> Result<Vec<(usize, IoBufsMut)>, NoMemory>
     ensures placed { IfOk result (λ reads. placed_bytes reads.items ≡ placed 0 (bytes_of bufs.items)) }
     ensures whole { IfOk result (λ reads. IsWhole (length bufs.items) reads.items) }
+    ensures each { IfOk result (λ reads. length reads.items ≡ length bufs.items) }
     ensures len { (ranges : List (ℕ × ℕ)) → HaveLengths ranges bufs.items → IfOk result (λ reads. HavePlacedLengths ranges reads.items) }
 {
     let mut reads = Vec::with_capacity(alloc, bufs.len())?;

@@ -154,7 +154,7 @@ pub trait Storage {
         ensures spent { E.spare env.old ≤ E.spare env.new + most }
         ensures counts { Counts (refusals self.old) (refusals self.new) result };
 
-    /// The bytes of each range, an offset and a length, with its place among the ranges. `collect_reads` puts them into
+    /// The bytes of each range, an offset and a length, once, with its place among the ranges. `collect_reads` puts them into
     /// their order.
     fn read_many<E: Env>(
         &mut self,
@@ -165,6 +165,7 @@ pub trait Storage {
     ) -> Result<Vec<(usize, IoBufsMut)>, Error>
         ensures gives { Notes (E.noted env.old) (λ x. reads_many self.old blob.now ranges.now options result self.new x) (E.noted env.new) }
         ensures whole { IfOk result (λ reads. IsWhole (length ranges.now) reads.items) }
+        ensures each { IfOk result (λ reads. length reads.items ≡ length ranges.now) }
         ensures len { IfOk result (λ reads. HavePlacedLengths ranges.now reads.items) }
         ensures spent { E.spare env.old ≤ E.spare env.new + (most + per_range * length ranges.now) }
         ensures counts { Counts (refusals self.old) (refusals self.new) result };

@@ -1,6 +1,6 @@
 use Rattle.std.proofs.Common.{◌≡◌, arith}
 use Rattle.std.proofs.lemmas.Grind.{common_steps}
-use Rattle.rt_store.proofs.Placed.{lengths_placed, whole_placed}
+use Rattle.rt_store.proofs.Placed.{lengths_placed, number_placed, whole_placed}
 use Rattle.rt_store.specs.Reading.{bytes_of, placed, placed_bytes}
 use Rattle.rt_store.proofs.reading.with_places.Goals as goal
 
@@ -8,6 +8,11 @@ pub returns-clause-whole : goal.returns-clause-whole
 returns-clause-whole c =
     let is : placed_bytes c.loop-buf.reads.items ≡ placed 0 (bytes_of c.args.bufs.items) = grind (arith, common_steps) in
     whole_placed c.args.bufs.items c.loop-buf.reads.items is
+
+pub returns-clause-each : goal.returns-clause-each
+returns-clause-each c =
+    let is : placed_bytes c.loop-buf.reads.items ≡ placed 0 (bytes_of c.args.bufs.items) = grind (arith, common_steps) in
+    number_placed c.args.bufs.items c.loop-buf.reads.items is
 
 pub returns-clause-len : goal.returns-clause-len
 returns-clause-len c =
