@@ -185,9 +185,9 @@ written_then : {S B : Type 0} (c : StoreCalls S B) (bytes : S → B → List ℕ
     → blob_at s.blobs n ≡ Some b → options.sync ≡ false → c.writes s.inner b at w options low mid y → WritesThen c n b low (moved s mid) (Ok d) t z → delayed_bytes bytes t n ≡ written at w.bytes (bytes s.inner b)
 written_then c bytes left promised keeps n b at w options (Err e) s mid y d t z opened plainly writes did = absurd (let is = did.0 in cc)
 written_then c bytes left promised keeps n b at w options (Ok Now) s mid y d t z opened plainly writes did =
-    sync_or_bytes c bytes left promised keeps n b (moved s mid) (Ok d) t z opened did ∙ keeps.written_by s.inner b at w options Now mid y writes
+    sync_bytes c bytes left promised keeps n b _ (moved s mid) (Ok d) t z opened did ∙ keeps.written_by s.inner b at w options Now mid y writes
 written_then c bytes left promised keeps n b at w options (Ok (Gated k)) s mid y d t z opened plainly writes did =
-    sync_or_bytes c bytes left promised keeps n b (moved s did.0) (Ok d) t z opened did.2 ∙ keeps.write_given_up s.inner b at w options k mid y did.0 plainly writes did.1 ∙ keeps.written_by s.inner b at w options (Gated k) mid y writes
+    sync_bytes c bytes left promised keeps n b _ (moved s did.0) (Ok d) t z opened did.2 ∙ keeps.write_given_up s.inner b at w options k mid y did.0 plainly writes did.1 ∙ keeps.written_by s.inner b at w options (Gated k) mid y writes
 
 and_off : (b : Bool) → (b && false) ≡ false
 and_off true = refl
@@ -210,14 +210,14 @@ writes_bytes c bytes left promised keeps n (Some b) true at w options s d t x op
 then_now : {S B : Type 0} (c : StoreCalls S B) (bytes : S → B → List ℕ) (left : S → B → Option (List ℕ)) (promised : S → Ticket → B → Option (List ℕ)) (keeps : KeepsBytes c bytes left promised) (n : ℕ) (b : B) (low : Result Done Error) (s t : Delayed S B) (z : List Noted)
     → blob_at s.blobs n ≡ Some b → WritesThen c n b low s (Ok Now) t z → IsDurable (delayed_bytes bytes) (delayed_left left) t n
 then_now c bytes left promised keeps n b (Err e) s t z opened did = absurd (let is = did.0 in cc)
-then_now c bytes left promised keeps n b (Ok Now) s t z opened did = sync_or_now c bytes left promised keeps n b s t z opened did
-then_now c bytes left promised keeps n b (Ok (Gated k)) s t z opened did = sync_or_now c bytes left promised keeps n b (moved s did.0) t z opened did.2
+then_now c bytes left promised keeps n b (Ok Now) s t z opened did = sync_now c bytes left promised keeps n b _ s t z opened did
+then_now c bytes left promised keeps n b (Ok (Gated k)) s t z opened did = sync_now c bytes left promised keeps n b _ (moved s did.0) t z opened did.2
 
 then_then : {S B : Type 0} (c : StoreCalls S B) (bytes : S → B → List ℕ) (left : S → B → Option (List ℕ)) (promised : S → Ticket → B → Option (List ℕ)) (keeps : KeepsBytes c bytes left promised) (n : ℕ) (b : B) (low : Result Done Error) (s : Delayed S B) (t : Ticket) (new : Delayed S B) (z : List Noted)
     → blob_at s.blobs n ≡ Some b → WritesThen c n b low s (Ok (Gated t)) new z → Promises (delayed_bytes bytes) (delayed_promised bytes promised) new t n
 then_then c bytes left promised keeps n b (Err e) s t new z opened did = absurd (let is = did.0 in cc)
-then_then c bytes left promised keeps n b (Ok Now) s t new z opened did = sync_or_then c bytes left promised keeps n b s t new z opened did
-then_then c bytes left promised keeps n b (Ok (Gated k)) s t new z opened did = sync_or_then c bytes left promised keeps n b (moved s did.0) t new z opened did.2
+then_then c bytes left promised keeps n b (Ok Now) s t new z opened did = sync_then c bytes left promised keeps n b _ s t new z opened did
+then_then c bytes left promised keeps n b (Ok (Gated k)) s t new z opened did = sync_then c bytes left promised keeps n b _ (moved s did.0) t new z opened did.2
 
 writes_now : {S B : Type 0} (c : StoreCalls S B) (bytes : S → B → List ℕ) (left : S → B → Option (List ℕ)) (promised : S → Ticket → B → Option (List ℕ)) (keeps : KeepsBytes c bytes left promised) (n : ℕ) (o : Option B) (is_held : Bool) (at : ℕ) (w : Chunked) (s t : Delayed S B) (x : List Noted)
     → blob_at s.blobs n ≡ o → Writes c n o is_held at w durably s (Ok Now) t x → IsDurable (delayed_bytes bytes) (delayed_left left) s n → IsDurable (delayed_bytes bytes) (delayed_left left) t n

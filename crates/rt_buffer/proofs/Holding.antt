@@ -18,7 +18,8 @@ use Rattle.rt_buffer.specs.declared.shared_blob.SharedBlob.{SharedBlob}
 use Rattle.rt_buffer.specs.declared.stage.Hold.{Hold}
 use Rattle.rt_buffer.specs.declared.stage.Stage.{Stage}
 use Rattle.rt_buffer.specs.declared.stage.Stage.TheVariants.{Held, Passed, Out}
-use Rattle.rt_buffer.specs.Delayed.{AfterSync, ClosesAll, ClosesLast, CountsAnswer, Delayed, GivesUpAll, GivesUpLast, SyncsOr, Settles, SyncsReleased, Writes, WritesAt, WritesThen, moved, plain}
+use Rattle.rt_buffer.specs.Delayed.{AfterSync, ClosesAll, ClosesLast, CountsAnswer, Delayed, GivesUpAll, GivesUpLast, Settles, SyncsAt, SyncsReleased, Writes, WritesAt, WritesThen, moved, plain}
+use Rattle.rt_buffer.specs.Pending.{gate_of}
 use Rattle.rt_store.specs.Answered.{CountsDone, PollsTicket, is_numbered}
 use Rattle.rt_store.specs.declared.ticket.Done.{Done}
 use Rattle.rt_store.specs.declared.ticket.Done.TheVariants.{Now, Gated}
@@ -93,7 +94,7 @@ counts_done_behind old mid new (Err e) up h = let r : Result Done Error = Err e 
 
 -- a write whose ticket is given up, and the sync behind it
 pub gated_then : {S B : Type 0} (c : StoreCalls S B) (n : ℕ) (b : B) (ticket : Ticket) (s : Delayed S B) (given_up : S) (r : Result Done Error) (t : Delayed S B) (between behind : Option (List Noted))
-    → c.gives_up s.inner ticket given_up → Notes between (λ z. SyncsOr c n b (moved s given_up) r t z) behind → Notes between (λ z. WritesThen c n b (Ok (Gated ticket)) s r t z) behind
+    → c.gives_up s.inner ticket given_up → Notes between (λ z. SyncsAt c n b (gate_of s.pending) (moved s given_up) r t z) behind → Notes between (λ z. WritesThen c n b (Ok (Gated ticket)) s r t z) behind
 gated_then c n b ticket s given_up r t between behind gives after = (after.0, after.1, (given_up, gives, after.2))
 
 -- a ticket with a number becomes ready with what was answered

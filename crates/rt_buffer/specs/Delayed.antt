@@ -66,6 +66,11 @@ has_place_in (Some (Some b)) = nat_lt b.others (2 ^ 64 - 1)
 abbrev pub has_place : {B : Type 0} → List (Option (SharedBlob B)) → ℕ → Bool
 has_place blobs n = has_place_in (slice_get blobs n)
 
+-- where a gate is there
+abbrev pub gate_has_place : {B : Type 0} → List (Option (SharedBlob B)) → ℕ → Option ℕ → Bool
+gate_has_place blobs n None = true
+gate_has_place blobs n (Some gate) = has_place blobs n
+
 -- one more ticket holds it
 abbrev pub held_more : {B : Type 0} → List (Option (SharedBlob B)) → ℕ → Option (Option (SharedBlob B)) → List (Option (SharedBlob B))
 held_more blobs n None = blobs
@@ -155,11 +160,12 @@ Starts n (Some b) s (Ok ticket) t x =
     (ticket ≡ Numbered (length s.tickets)) × (t ≡ with_ticket (record { blob = n; hold = start_hold s.pending; counts = true }) (record s { pending = started s.pending })) × (x ≡ [])
 Starts n (Some b) s (Err e) t x = Lacks e s t x
 
--- a write that isn't durable, or comes while that isn't armed, is passed on; else it is one that isn't durable, and then a sync
+-- a write that isn't durable, or comes while that isn't armed, is passed on; else it is one that isn't durable, and then a sync,
+-- whose room was taken before
 abbrev pub WritesThen : {S B : Type 0} → StoreCalls S B → ℕ → B → Result Done Error → Delayed S B → Result Done Error → Delayed S B → List Noted → Type 0
 WritesThen c n b (Err e) s r t x = (r ≡ Err e) × (t ≡ s) × (x ≡ [])
-WritesThen c n b (Ok Now) s r t x = SyncsOr c n b s r t x
-WritesThen {S = S} c n b (Ok (Gated ticket)) s r t x = (given_up : S) × c.gives_up s.inner ticket given_up × SyncsOr c n b (moved s given_up) r t x
+WritesThen c n b (Ok Now) s r t x = SyncsAt c n b (gate_of s.pending) s r t x
+WritesThen {S = S} c n b (Ok (Gated ticket)) s r t x = (given_up : S) × c.gives_up s.inner ticket given_up × SyncsAt c n b (gate_of s.pending) (moved s given_up) r t x
 
 abbrev pub WritesAt : {S B : Type 0} → StoreCalls S B → (Result Done Error → S → List Noted → Type 0) → (Result Done Error → S → List Noted → Type 0) → ℕ → B → Bool → Delayed S B → Result Done Error → Delayed S B → List Noted → Type 0
 WritesAt c durably plainly n b false s r t x = PassesOn durably s r t x
@@ -208,7 +214,7 @@ abbrev pub AfterInner : {S B : Type 0} → StoreCalls S B → ℕ → Passed →
 AfterInner c n k (Numbered m) s p t = (p ≡ poll.Pending) × (t ≡ s)
 AfterInner c n k (Ready r) s p t = AnswersInner c n k.blob k.counts r s p t
 
--- the inner ticket is polled; while it has its number the answer is pending, whatever that poll says
+-- the inner ticket is polled: the answer is pending while it has its number, and what it holds once it is ready
 abbrev pub PollsInner : {S B : Type 0} → StoreCalls S B → ℕ → ℕ → Passed → Delayed S B → Poll (Result Unit Error) → Delayed S B → List Noted → Type 0
 PollsInner {S = S} c n task k s p t x =
     (low : Poll (Result Unit Error)) × (mid : S) × (u : Ticket) × c.polls s.inner (Numbered k.number) task low mid u x × PollsTicket (Numbered k.number) low u × AfterInner c n k u (moved s mid) p t

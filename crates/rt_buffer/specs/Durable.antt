@@ -35,8 +35,8 @@ abbrev pub Promises : {S B : Type 0} → (S → B → List ℕ) → (S → Ticke
 Promises bytes promised s t b = promised s t b ≡ Some (bytes s b)
 
 -- `bytes` is what the blobs of a store have, `left` what each crash leaves of them, and `promised` what it leaves once a sync
--- is done: so the calls of the store keep and change them. A ticket that is given up is ready, or one of a write that needn't be
--- durable
+-- is done: so the calls of the store keep and change them. Of the tickets that are given up it speaks of those that are ready, and of
+-- one of a write that needn't be durable
 pub record KeepsBytes {S B : Type 0} (c : StoreCalls S B) (bytes : S → B → List ℕ) (left : S → B → Option (List ℕ)) (promised : S → Ticket → B → Option (List ℕ)) : Type 0 where
   pub written_by : (s : S) (b : B) (at : ℕ) (w : Chunked) (options : WriteOptions) (d : Done) (new : S) (x : List Noted) → c.writes s b at w options (Ok d) new x → bytes new b ≡ written at w.bytes (bytes s b)
   pub write_given_up : (s : S) (b : B) (at : ℕ) (w : Chunked) (options : WriteOptions) (t : Ticket) (mid : S) (x : List Noted) (new : S) → options.sync ≡ false → c.writes s b at w options (Ok (Gated t)) mid x → c.gives_up mid t new → bytes new b ≡ bytes mid b

@@ -26,7 +26,8 @@ left_of (Some b) = if has_none b.later then Some b.base else None
 abbrev pub memory_left : Kept → Blob → Option (List ℕ)
 memory_left v k = left_of (blob_of v k)
 
--- a sync that was started is done at once; one that failed never is, and promises nothing
+-- a sync that was started is done at once. A poll never answers success for one that failed or for a number, so what these promise
+-- never comes due
 abbrev pub memory_promised : Kept → Ticket → Blob → Option (List ℕ)
 memory_promised v (Ready (Ok u)) k = memory_left v k
 memory_promised v (Ready (Err e)) k = Some (memory_bytes v k)

@@ -1,14 +1,14 @@
 // A store whose started syncs a test holds back.
-ghost use Rattle.std.specs.Prelude.{◌≡◌, ◌+◌, ◌<◌, ◌≤◌, ◌^◌, ℕ, List, Option, [], None, Some, IfSome, true, is_some, slice_get};
+ghost use Rattle.std.specs.Prelude.{◌≡◌, ◌+◌, ◌<◌, ◌≤◌, ◌^◌, ℕ, List, Option, [], None, Some, IfSome, true, is_some, slice_get, vec_len, vec_capacity};
 ghost use Rattle.rt_base.specs.Counted.{Notes};
 ghost use Rattle.rt_base.specs.declared.error.Error.{Error};
 ghost use Rattle.rt_base.specs.declared.poll.Poll.{Poll};
 ghost use Rattle.rt_buffer.specs.Calls.{calls};
-ghost use Rattle.rt_buffer.specs.Delayed.{AnswersInner, ClosesAll, CountsAnswer, Finishes, GivesUpAll, GivesUpStage, LetsGo, PollsInner, PollsStage, Settles, SyncsOr, SyncsReleased, Writes, blob_at, delayed, refused, without_ticket};
+ghost use Rattle.rt_buffer.specs.Delayed.{AnswersInner, ClosesAll, CountsAnswer, Finishes, GivesUpAll, GivesUpStage, LetsGo, PollsInner, PollsStage, Settles, SyncsAt, SyncsReleased, Writes, blob_at, delayed, gate_has_place, refused, without_ticket};
 ghost use Rattle.rt_buffer.specs.DelayedBytes.{delayed_bytes, delayed_calls, delayed_left, delayed_promised};
 ghost use Rattle.rt_buffer.specs.Durable.{KeepsBytes};
 ghost use Rattle.rt_buffer.specs.Mocks.{one_more};
-ghost use Rattle.rt_buffer.specs.Pending.{none_pending};
+ghost use Rattle.rt_buffer.specs.Pending.{gate_of, none_pending};
 ghost use Rattle.rt_store.specs.Answered.{CountsDone, PollsTicket, is_numbered};
 ghost use Rattle.rt_store.specs.declared.ticket.Ticket.{Ticket};
 
@@ -25,11 +25,11 @@ use std::alloc::Global;
 ///
 /// It must be spent by [`into_inner`](Self::into_inner), since a ticket keeps its blob open.
 pub struct DelayedSyncContext<S: Storage> {
-    inner: S,
+    pub(crate) inner: S,
     pending: PendingSyncs,
     blobs: Vec<Option<SharedBlob<BlobOf<S>>>>,
     tickets: Vec<Stage>,
-    refusals: u64,
+    pub(crate) refusals: u64,
 }
 
 /// A blob of such a store. It must be spent by `Storage::close`.
@@ -60,7 +60,8 @@ impl<S: Storage> DelayedSyncContext<S> {
     ghost use Rattle.std.specs.Borrow.{sem};
     ghost use Rattle.rt_buffer.specs.Lent.{lends_pending};
 
-    /// Nothing is held back yet. Where the inner store keeps the bytes of its blobs this one does too.
+    /// Nothing is held back yet. Where the inner store's calls keep the bytes of its blobs, so do the calls over the parts of this one
+    /// and the numbers of its blobs.
     #[tactic(auto, using(crate::proofs::DelayedKept::delayed_keeps))]
     pub fn new(alloc: Global, inner: S) -> DelayedSyncContext<S>
         ensures inner { result.inner ≡ inner }
@@ -152,17 +153,22 @@ fn close_all<S: Storage>(inner: &mut S, mut blobs: Vec<Option<SharedBlob<BlobOf<
 
 // Syncs, and their polls.
 impl<S: Storage> DelayedSyncContext<S> {
-    // A sync of a blob that is open: it takes the gate, or is passed on.
+    // Whether one more can hold the blob, where a gate is there for the next durability call.
+    fn gate_has_place(&self, number: u64) -> bool
+        ensures { result ≡ gate_has_place self.now.blobs.items number (gate_of self.now.pending) }
+    {
+        self.pending.gate().is_none() || has_place(self.blobs.as_slice(), number)
+    }
+
+    // A sync of a blob that is open, with the room for it: it takes the gate, or is passed on.
     fn sync_open<E: Env>(&mut self, env: &mut E, number: u64) -> Result<Done, Error>
-        requires { is_some (blob_at self.old.blobs.items number) ≡ true }
-        ensures syncs { Notes (E.noted env.old) (λ x. IfSome (blob_at self.old.blobs.items number) (λ b. SyncsOr (calls S.refusals S.polls_sync S.gives_sync_up S.writes S.resizes S.syncs S.starts_sync S.closes) number b (delayed self.old.inner self.old.pending self.old.blobs.items self.old.tickets.items self.old.refusals) result (delayed self.new.inner self.new.pending self.new.blobs.items self.new.tickets.items self.new.refusals) x)) (E.noted env.new) }
+        requires opened { is_some (blob_at self.old.blobs.items number) ≡ true }
+        requires room { vec_len self.old.tickets < vec_capacity self.old.tickets }
+        requires place { gate_has_place self.old.blobs.items number (gate_of self.old.pending) ≡ true }
+        ensures syncs { Notes (E.noted env.old) (λ x. IfSome (blob_at self.old.blobs.items number) (λ b. SyncsAt (calls S.refusals S.polls_sync S.gives_sync_up S.writes S.resizes S.syncs S.starts_sync S.closes) number b (gate_of self.old.pending) (delayed self.old.inner self.old.pending self.old.blobs.items self.old.tickets.items self.old.refusals) result (delayed self.new.inner self.new.pending self.new.blobs.items self.new.tickets.items self.new.refusals) x)) (E.noted env.new) }
         ensures spent { E.spare env.old ≤ E.spare env.new + S.most }
         ensures counts { CountsDone (S.refusals self.old.inner + self.old.refusals) (S.refusals self.new.inner + self.new.refusals) result }
     {
-        self.tickets.reserve(1)?;
-        if !has_place(self.blobs.as_slice(), number) {
-            return Err(Error::NoMemory);
-        }
         if let Some(gate) = self.pending.call() {
             hold(&mut self.blobs, number);
             let held = Hold {
@@ -179,7 +185,7 @@ impl<S: Storage> DelayedSyncContext<S> {
         pass_on(&mut self.tickets, answer)
     }
 
-    // A durable write that is counted: one that isn't durable, and then a sync.
+    // A durable write that is counted, with the room for it: one that isn't durable, and then a sync.
     fn write_then_sync<E: Env>(
         &mut self,
         env: &mut E,
@@ -188,7 +194,9 @@ impl<S: Storage> DelayedSyncContext<S> {
         bufs: IoBufs,
         options: WriteOptions,
     ) -> Result<Done, Error>
-        requires { is_some (blob_at self.old.blobs.items number) ≡ true }
+        requires opened { is_some (blob_at self.old.blobs.items number) ≡ true }
+        requires room { vec_len self.old.tickets < vec_capacity self.old.tickets }
+        requires place { gate_has_place self.old.blobs.items number (gate_of self.old.pending) ≡ true }
         ensures writes { Notes (E.noted env.old) (λ x. Writes (calls S.refusals S.polls_sync S.gives_sync_up S.writes S.resizes S.syncs S.starts_sync S.closes) number (blob_at self.old.blobs.items number) true offset bufs options (delayed self.old.inner self.old.pending self.old.blobs.items self.old.tickets.items self.old.refusals) result (delayed self.new.inner self.new.pending self.new.blobs.items self.new.tickets.items self.new.refusals) x) (E.noted env.new) }
         ensures spent { E.spare env.old ≤ E.spare env.new + (S.most + S.most) }
         ensures counts { CountsDone (S.refusals self.old.inner + self.old.refusals) (S.refusals self.new.inner + self.new.refusals) result }
@@ -557,6 +565,9 @@ impl<S: Storage> Storage for DelayedSyncContext<S> {
         }
         self.tickets.reserve(1)?;
         if options.contains(WriteOptions::SYNC) && self.pending.is_armed() {
+            if !self.gate_has_place(blob.number) {
+                return Err(Error::NoMemory);
+            }
             return self.write_then_sync(env, blob.number, offset, bufs, options);
         }
         let Some(inner) = inner_of(self.blobs.as_slice(), blob.number) else {
@@ -581,6 +592,10 @@ impl<S: Storage> Storage for DelayedSyncContext<S> {
     fn sync<E: Env>(&mut self, env: &mut E, blob: &DelayedSyncBlob) -> Result<Done, Error> {
         if inner_of(self.blobs.as_slice(), blob.number).is_none() {
             return Err(unknown(&mut self.refusals));
+        }
+        self.tickets.reserve(1)?;
+        if !self.gate_has_place(blob.number) {
+            return Err(Error::NoMemory);
         }
         self.sync_open(env, blob.number)
     }

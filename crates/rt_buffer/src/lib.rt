@@ -11,6 +11,8 @@ mod held;
 mod in_memory;
 #[cfg(test)]
 mod mock_tests;
+#[cfg(test)]
+mod nested_tests;
 mod parked;
 mod pending_syncs;
 mod pieces;

@@ -206,8 +206,8 @@ impl PendingSyncs {
         Ok(number)
     }
 
-    // The gate that a durability call takes.
-    fn gate(&self) -> Option<u64>
+    /// The gate that a durability call takes.
+    pub(crate) fn gate(&self) -> Option<u64>
         ensures { result ≡ gate_of self.now }
     {
         if self.is_armed { self.gate } else { None }

@@ -3,7 +3,8 @@ use Rattle.std.specs.Prelude.{IfSome}
 use Rattle.rt_base.specs.Counted.{Notes}
 use Rattle.rt_base.specs.Noted.{Noted}
 use Rattle.rt_buffer.specs.Calls.{calls}
-use Rattle.rt_buffer.specs.Delayed.{SyncsOr, blob_at, delayed, moved}
+use Rattle.rt_buffer.specs.Delayed.{SyncsAt, blob_at, delayed, moved}
+use Rattle.rt_buffer.specs.Pending.{gate_of}
 use Rattle.rt_buffer.proofs.Holding.{counts_done_behind, gated_then, written_then}
 use Rattle.rt_buffer.proofs.Mocks.{counts_done_up}
 use Rattle.rt_store.specs.declared.ticket.Done.TheVariants.{Now, Gated}
@@ -23,7 +24,7 @@ returns-in-Ok-Now-clause-writes g c =
     written_then k c.args.number c.in-Some.inner.now (blob_at o.blobs.items c.args.number) true c.args.offset c.args.bufs c.args.options old c.sync_open.result new
     (Ok Now) c.write_at.new.self (g.E.Env.noted c.args.env.now) between behind (sym (rw c.as_slice.ensures.value at c.in-Some.ensures)) refl
     (rw (c.in-Ok-Now.field-0-is, c.without-plain.ensures) at c.in-Ok-Now.ensures.gives)
-    (subst (λ (b : Option Blob). Notes between (λ (z : List Noted). IfSome b (λ b. SyncsOr k c.args.number b (moved old c.write_at.new.self) c.sync_open.result new z)) behind) (sym (rw c.as_slice.ensures.value at c.in-Some.ensures)) c.sync_open.ensures.syncs)
+    (subst (λ (b : Option Blob). Notes between (λ (z : List Noted). IfSome b (λ b. SyncsAt k c.args.number b (gate_of o.pending) (moved old c.write_at.new.self) c.sync_open.result new z)) behind) (sym (rw c.as_slice.ensures.value at c.in-Some.ensures)) c.sync_open.ensures.syncs)
 
 pub returns-in-Ok-Gated-clause-writes : goal.returns-in-Ok-Gated-clause-writes
 returns-in-Ok-Gated-clause-writes g c =
@@ -41,7 +42,7 @@ returns-in-Ok-Gated-clause-writes g c =
     (Ok (Gated c.in-Ok-Gated.ticket)) c.write_at.new.self (g.E.Env.noted c.args.env.now) between behind (sym (rw c.as_slice.ensures.value at c.in-Some.ensures)) refl
     (rw (c.in-Ok-Gated.field-0-is, c.without-plain.ensures) at c.in-Ok-Gated.ensures.gives)
     (gated_then k c.args.number c.in-Some.inner.now c.in-Ok-Gated.ticket (moved old c.write_at.new.self) c.give_up_sync.new.self r new between behind c.give_up_sync.ensures.gives
-    (subst (λ (b : Option Blob). Notes between (λ (z : List Noted). IfSome b (λ b. SyncsOr k c.args.number b (moved old c.give_up_sync.new.self) r new z)) behind) (sym (rw c.as_slice.ensures.value at c.in-Some.ensures)) c.sync_open-in-Ok-Gated.ensures.syncs))
+    (subst (λ (b : Option Blob). Notes between (λ (z : List Noted). IfSome b (λ b. SyncsAt k c.args.number b (gate_of o.pending) (moved old c.give_up_sync.new.self) r new z)) behind) (sym (rw c.as_slice.ensures.value at c.in-Some.ensures)) c.sync_open-in-Ok-Gated.ensures.syncs))
 
 pub returns-in-Ok-Now-clause-counts : goal.returns-in-Ok-Now-clause-counts
 returns-in-Ok-Now-clause-counts g c =
