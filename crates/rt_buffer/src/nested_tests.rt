@@ -1,6 +1,8 @@
 // A store that holds syncs back over another one: the tickets of the inner one.
 
-use crate::{DelayedSyncBlob, DelayedSyncContext, fail_pending_syncs, release_pending_syncs};
+use crate::{
+    DelayedSyncBlob, DelayedSyncContext, PendingSyncs, fail_pending_syncs, release_pending_syncs,
+};
 use rt_base::{Error, IoKind, NoEnv, Poll};
 use rt_store::{FaultConfig, MemStore, Storage, Ticket};
 use std::alloc::Global;
@@ -74,12 +76,43 @@ fn nested(alloc: Global, end: End) -> Result<Nested, Error> {
     }
 }
 
-fn poll_twice(store: &mut Nested, ticket: &mut Ticket, end: End) -> Polls {
-    if end != End::GivenUpHeld {
-        let _ = release_pending_syncs(store.pending_mut());
+fn open<S: Storage>(store: &mut S) -> Result<S::Blob, Error> {
+    let (blob, _) = store.open(&mut NoEnv, "p", b"a")?;
+    Ok(blob)
+}
+
+fn opens_again<S: Storage>(store: &mut S) -> bool {
+    match open(store) {
+        Ok(blob) => {
+            store.close(blob);
+            true
+        }
+        Err(_) => false,
     }
-    let held = store.poll_sync(&mut NoEnv, ticket, 1);
-    let pending = store.inner.pending_mut();
+}
+
+/// Whether the blob was open.
+fn close<S: Storage>(store: &mut S, blob: S::Blob) -> bool {
+    let is_open = store.resize(&mut NoEnv, &blob, 1).is_ok();
+    store.close(blob);
+    is_open
+}
+
+fn start<S: Storage>(store: &mut S, blob: &S::Blob) -> Result<Ticket, Error> {
+    store.start_sync(&mut NoEnv, blob)
+}
+
+fn poll<S: Storage>(store: &mut S, ticket: &mut Ticket) -> Poll<Result<(), Error>> {
+    store.poll_sync(&mut NoEnv, ticket, 1)
+}
+
+fn give_up_twice<S: Storage>(store: &mut S, ticket: Ticket) {
+    store.give_up_sync(ticket);
+    store.give_up_sync(Ticket::Numbered(0));
+}
+
+/// Releases what the inner store holds.
+fn release(pending: &mut PendingSyncs, end: End) {
     match end {
         End::Released | End::Faulty => {
             let _ = release_pending_syncs(pending);
@@ -89,36 +122,32 @@ fn poll_twice(store: &mut Nested, ticket: &mut Ticket, end: End) -> Polls {
         }
         End::GivenUp | End::GivenUpHeld => {}
     }
-    (held, store.poll_sync(&mut NoEnv, ticket, 1))
+}
+
+fn poll_twice(store: &mut Nested, ticket: &mut Ticket, end: End) -> Polls {
+    if end != End::GivenUpHeld {
+        let _ = release_pending_syncs(store.pending_mut());
+    }
+    let held = poll(store, ticket);
+    release(store.inner.pending_mut(), end);
+    (held, poll(store, ticket))
 }
 
 fn poll_and_give_up(store: &mut Nested, blob: &DelayedSyncBlob, end: End) -> Result<Polls, Error> {
-    match store.start_sync(&mut NoEnv, blob) {
+    match start(store, blob) {
         Ok(mut ticket) => {
             let polls = poll_twice(store, &mut ticket, end);
-            store.give_up_sync(ticket);
-            store.give_up_sync(Ticket::Numbered(0));
+            give_up_twice(store, ticket);
             Ok(polls)
         }
         Err(error) => Err(error),
     }
 }
 
-fn opens_again(store: &mut Nested) -> bool {
-    match store.open(&mut NoEnv, "p", b"a") {
-        Ok((blob, _)) => {
-            store.close(blob);
-            true
-        }
-        Err(_) => false,
-    }
-}
-
 fn see(store: &mut Nested, end: End) -> Result<Seen, Error> {
-    let (blob, _) = store.open(&mut NoEnv, "p", b"a")?;
+    let blob = open(store)?;
     let polls = poll_and_give_up(store, &blob, end);
-    let is_open = store.resize(&mut NoEnv, &blob, 1).is_ok();
-    store.close(blob);
+    let is_open = close(store, blob);
     Ok(Seen {
         polls: polls?,
         is_open,
