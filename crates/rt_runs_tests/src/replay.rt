@@ -200,7 +200,7 @@ impl<'a> Replay<'a> {
         if value {
             self.machine.take_sent(by, slot)
         } else {
-            told(Err(self.machine.show_sent(by, slot, &Error::SendFailed)))
+            told::<()>(Err(self.machine.show_sent(by, slot, &Error::SendFailed)))
         }
     }
 
