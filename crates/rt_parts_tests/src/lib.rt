@@ -10,4 +10,6 @@ mod digest;
 #[cfg(test)]
 mod journal;
 #[cfg(test)]
+mod signals;
+#[cfg(test)]
 mod supervision;
