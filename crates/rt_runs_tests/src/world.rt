@@ -148,6 +148,103 @@ fn spawns(world: &mut WorldOf<Probe, Zeros>, node: u64) -> Result<Option<(u64, u
     }
 }
 
+/// A call on a slot.
+enum SlotCall {
+    Make,
+    Send(u64, u64),
+    SendError(u64),
+    Close(u64),
+    Poll(u64),
+    GiveUp(u64),
+    AbortWait(u64),
+}
+
+/// What is heard of a call on a slot.
+#[derive(Drop, PartialEq, Eq)]
+enum Heard {
+    Done,
+    Slot(u64),
+    Pending,
+    Value(u64),
+    SendFailed,
+    Closed,
+    Aborted,
+    Unknown,
+    Other,
+}
+
+/// Calls on slots. The last four find spent what they spend, and write nothing.
+const SLOT_CALLS: &[(SlotCall, Heard)] = &[
+    (SlotCall::Make, Heard::Slot(0)),
+    (SlotCall::Poll(0), Heard::Pending),
+    (SlotCall::Send(0, 9), Heard::Done),
+    (SlotCall::Poll(0), Heard::Value(9)),
+    (SlotCall::Poll(0), Heard::Closed),
+    (SlotCall::Make, Heard::Slot(1)),
+    (SlotCall::SendError(1), Heard::Done),
+    (SlotCall::Poll(1), Heard::SendFailed),
+    (SlotCall::Poll(1), Heard::SendFailed),
+    (SlotCall::Make, Heard::Slot(2)),
+    (SlotCall::Close(2), Heard::Done),
+    (SlotCall::Poll(2), Heard::Closed),
+    (SlotCall::Make, Heard::Slot(3)),
+    (SlotCall::AbortWait(3), Heard::Done),
+    (SlotCall::Poll(3), Heard::Aborted),
+    (SlotCall::GiveUp(3), Heard::Done),
+    (SlotCall::Poll(3), Heard::Unknown),
+    (SlotCall::Send(0, 8), Heard::Done),
+    (SlotCall::Close(2), Heard::Done),
+    (SlotCall::AbortWait(3), Heard::Done),
+    (SlotCall::GiveUp(3), Heard::Done),
+];
+
+fn polled(answer: Result<Option<u64>, Error>) -> Heard {
+    match answer {
+        Ok(None) => Heard::Pending,
+        Ok(Some(value)) => Heard::Value(value),
+        Err(Error::SendFailed) => Heard::SendFailed,
+        Err(Error::Closed) => Heard::Closed,
+        Err(Error::Aborted) => Heard::Aborted,
+        Err(Error::UnknownToken) => Heard::Unknown,
+        Err(_) => Heard::Other,
+    }
+}
+
+/// Makes a call on a slot.
+#[tactic(auto, using(rt_world::proofs::Walked::close_laws))]
+fn call_slot(world: &mut WorldOf<Probe, Zeros>, call: &SlotCall) -> Heard
+    requires { MayCall world.old.told.state world.old.out }
+    ensures { Kept world.old world.new }
+{
+    match *call {
+        SlotCall::Make => match world.slot() {
+            Ok(slot) => return Heard::Slot(slot),
+            Err(NoMemory) => return Heard::Other,
+        },
+        SlotCall::Poll(slot) => return polled(world.slot_poll(slot)),
+        SlotCall::Send(slot, value) => world.slot_send(slot, Ok(value)),
+        SlotCall::SendError(slot) => world.slot_send(slot, Err(Error::SendFailed)),
+        SlotCall::Close(slot) => world.slot_close(slot),
+        SlotCall::GiveUp(slot) => world.slot_give_up(slot),
+        SlotCall::AbortWait(slot) => world.abort_wait(slot),
+    }
+    Heard::Done
+}
+
+/// Whether calls on slots are answered as they should be.
+#[tactic(auto, using(rt_world::proofs::Walked::loop_laws))]
+fn answers_on_slots(world: &mut WorldOf<Probe, Zeros>, calls: &[(SlotCall, Heard)]) -> bool
+    requires { MayCall world.old.told.state world.old.out }
+    ensures { Kept world.old world.new }
+{
+    for (call, wanted) in calls {
+        if call_slot(world, call) != *wanted {
+            return false;
+        }
+    }
+    true
+}
+
 /// Whether calls before a root are answered as they should be, and are written.
 #[tactic(auto, using(rt_world::proofs::Walked::close_laws), unfolding(rt_model::specs::Effects::after, rt_model::specs::State::begun))]
 fn answers_calls(alloc: Global) -> Result<bool, NoMemory> {
@@ -194,6 +291,32 @@ fn answers_calls(alloc: Global) -> Result<bool, NoMemory> {
             && gone == Err(Error::UnknownToken)
             && came.entries == 19,
     )
+}
+
+/// Whether these calls on slots are answered as they should be, in a world of their own. Answers how many entries it has, too.
+#[tactic(auto, using(rt_world::proofs::Walked::close_laws), unfolding(rt_model::specs::Effects::after, rt_model::specs::State::begun))]
+fn slots_answer(alloc: Global, calls: &[(SlotCall, Heard)]) -> Result<(bool, usize), NoMemory> {
+    let begin = Begin {
+        start: 3,
+        cycle: 1_000_000,
+        deadline: None,
+        first: 0,
+        catch: false,
+    };
+    let Ok(mut world) = WorldOf::<Probe, Zeros>::begin(alloc, Journal::new(alloc), begin, Zeros)
+    else {
+        return Err(NoMemory);
+    };
+    let answered = answers_on_slots(&mut world, calls);
+    let cause = world.cleanup_unmade(None, FinishCause::NoMemory);
+    let came = taken_apart(world, None, cause);
+    Ok((answered, came.entries))
+}
+
+#[test]
+fn slots(rt: HostRuntime) -> Result<(), Fail> {
+    assert_eq!(rt; slots_answer(rt.alloc(), SLOT_CALLS)?, (true, 22));
+    Ok(())
 }
 
 #[test]
