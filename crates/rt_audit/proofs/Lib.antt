@@ -5,3 +5,4 @@ mod Framed
 mod TaskTabled
 mod Fronted
 mod Zeros
+mod Digits

@@ -5,3 +5,4 @@ pub mod Framing
 pub mod Digest
 pub mod Journal
 pub mod TaskEvent
+pub mod EntryParts

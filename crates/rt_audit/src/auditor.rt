@@ -1,6 +1,6 @@
 //! The digest of events, as a chain: each event's digest takes the one before it in.
 
-ghost use Rattle.std.specs.Prelude.{◌≡◌, ◌++◌, ℕ, List, IfOk, IfSome, IsTrue, string_bytes};
+ghost use Rattle.std.specs.Prelude.{◌≡◌, ◌∷◌, ◌++◌, [], ℕ, List, IfOk, IfSome, IsTrue, string_bytes};
 ghost use Rattle.hex.specs.Hex.{encode_lower};
 ghost use Rattle.rt_audit.specs.Crc32c.{register_of};
 ghost use Rattle.rt_audit.specs.Framing.{framed};
@@ -8,6 +8,7 @@ ghost use Rattle.rt_audit.specs.Digest.{first_digest, event_digest, fields_diges
 ghost use Rattle.rt_audit.specs.TaskEvent.{task_event, small_number};
 
 use crate::AuditHasher;
+use crate::event_fields::{EventFields, FieldsKind};
 use rt_base::{Event, Items, NoMemory};
 use std::alloc::Global;
 use std::marker::Model;
@@ -40,26 +41,61 @@ impl Auditor {
     pub fn event(&mut self, event: &Event)
         ensures { self.new ≡ event_digest self.old event.now.label event.now.fields }
     {
-        self.chain(event.label.as_str(), event.fields.as_slice());
+        self.chain_listed(event.label.as_str(), event.fields.as_slice());
     }
 
     /// Takes an event of this label and these fields in. It stands apart, so that other entries are noted in place.
     #[inline(never)]
-    pub(crate) fn chain(&mut self, label: &str, fields: &[Items<u8>])
+    pub(crate) fn chain(&mut self, label: &str, fields: &EventFields)
         ensures { self.new ≡ event_digest self.old label.now fields.now }
     {
+        match fields.kind() {
+            FieldsKind::OfTask {
+                number,
+                label: told,
+            } => {
+                let mut hasher = self.begun(label, number.as_slice());
+                hasher.update(told.as_str().as_bytes());
+                self.digest = hasher.finalize();
+            }
+            FieldsKind::Listed(fields) => self.chain_listed(label, fields.as_slice()),
+        }
+    }
+
+    /// Takes an event of this label and these fields in.
+    fn chain_listed(&mut self, label: &str, fields: &[Items<u8>])
+        ensures { self.new ≡ event_digest self.old label.now fields.now }
+    {
+        if let Some((first, rest)) = fields.split_first() {
+            self.digest = digest_with(self.begun(label, first.as_slice()), rest);
+            return;
+        }
+        self.digest = self.labelled(label).finalize();
+    }
+
+    /// The checksum up to the first field of an event.
+    #[inline(always)]
+    fn begun(&self, label: &str, first: &[u8]) -> AuditHasher
+        ensures { result ≡ register_of (framed (self.now ∷ label.now ∷ first.now ∷ [])) }
+    {
         if is_task_event(label) {
-            if let Some((number, rest)) = fields.split_first() {
-                if let Some(low) = low_bytes(number.as_slice()) {
-                    self.digest = digest_with(AuditHasher::of_task(self.digest, low), rest);
-                    return;
-                }
+            if let Some(low) = low_bytes(first) {
+                return AuditHasher::of_task(self.digest, low);
             }
         }
+        let mut hasher = self.labelled(label);
+        hasher.update(first);
+        hasher
+    }
+
+    /// The checksum up to the label of an event.
+    fn labelled(&self, label: &str) -> AuditHasher
+        ensures { result ≡ register_of (framed (self.now ∷ label.now ∷ [])) }
+    {
         let mut hasher = AuditHasher::new();
         hasher.update(&self.digest);
         hasher.update(label.as_bytes());
-        self.digest = digest_with(hasher, fields);
+        hasher
     }
 
     /// The four bytes.

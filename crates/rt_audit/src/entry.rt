@@ -6,8 +6,8 @@ ghost use Rattle.rt_audit.specs.Lines.{line_of, start_text, called_text};
 use crate::line::{
     add_choices, add_fields, add_numbered, add_numbers, add_optional, add_space, add_word,
 };
-use crate::{AnswerKind, Call, CallReply, FinishCause};
-use rt_base::{Choice, Items, Nanos, NoMemory, Text};
+use crate::{AnswerKind, Call, CallReply, EventFields, EventLabel, FinishCause, Order};
+use rt_base::{Choice, Items, Nanos, NoMemory};
 use std::alloc::Global;
 
 /// An entry of a journal. Times are nanoseconds since the epoch.
@@ -28,8 +28,8 @@ pub enum Entry {
     },
     /// An event of the run, as an auditor digests it.
     Event {
-        label: Text,
-        fields: Items<Items<u8>>,
+        label: EventLabel,
+        fields: EventFields,
     },
     /// A task was queued by the event before.
     Wake {
@@ -45,7 +45,7 @@ pub enum Entry {
     },
     /// A round visits these numbers.
     Round {
-        order: Items<u64>,
+        order: Order,
     },
     /// A number of the round is visited.
     Visit {
@@ -100,7 +100,7 @@ impl Entry {
             Entry::Event { label, fields } => {
                 add_word(text, "event ")?;
                 add_word(text, label.as_str())?;
-                add_fields(alloc, text, fields.as_slice())
+                add_fields(alloc, text, fields)
             }
             Entry::Wake { task } => add_numbered(text, "wake ", *task as u128),
             Entry::Draw { value } => add_numbered(text, "draw ", *value as u128),

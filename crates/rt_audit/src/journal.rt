@@ -134,7 +134,7 @@ fn digest_after(auditor: &mut Auditor, entry: &Entry)
     ensures { auditor.new ≡ digest_after auditor.old entry.now }
 {
     match entry {
-        Entry::Event { label, fields } => auditor.chain(label.as_str(), fields.as_slice()),
+        Entry::Event { label, fields } => auditor.chain(label.as_str(), fields),
         _ => {}
     }
 }

@@ -1,12 +1,13 @@
 //! The shapes of a journal's lines, each added to a text.
 
-ghost use Rattle.std.specs.Prelude.{◌≡◌, ◌++◌, ◌≤◌, length, OnOk, codes, string_bytes};
+ghost use Rattle.std.specs.Prelude.{◌≡◌, ◌++◌, ◌<◌, ◌≤◌, length, OnOk, IsAscii, codes, string_bytes};
 ghost use Rattle.std.specs.Fmt.{decimal};
 ghost use Rattle.hex.specs.Hex.{encode_lower};
 ghost use Rattle.rt_audit.specs.TaskEvent.{small_number};
 ghost use Rattle.rt_audit.specs.Lines.{optional_number, numbers_text, hex_text, fields_text, choice_text, choices_text};
 
 use crate::auditor::low_bytes;
+use crate::event_fields::{EventFields, FieldsKind};
 use itoa::Buffer;
 use rt_base::{Choice, Items, NoMemory};
 use std::alloc::Global;
@@ -33,19 +34,39 @@ pub fn add_space(text: &mut String) -> Result<(), NoMemory>
     Ok(())
 }
 
-/// A number. Most have one digit.
+/// A number. Most have few digits.
 #[inline(always)]
 pub fn add_number(text: &mut String, number: u128) -> Result<(), NoMemory>
     ensures { OnOk result (string_bytes text.new ≡ string_bytes text.old ++ decimal number) }
 {
     if number < 10 {
-        text.push(char::from(b'0' + number as u8))?;
-        return Ok(());
+        return add_ascii(text, &[b'0' + number as u8]);
+    }
+    if number < 10_000 {
+        return add_few(text, number as u64);
     }
     add_digits(text, number)
 }
 
-/// A number of any size. It stands apart, so that one digit is written in place.
+/// A number of two to four digits. It stands apart, so that one digit is written in place.
+#[inline(never)]
+fn add_few(text: &mut String, number: u64) -> Result<(), NoMemory>
+    requires { (10 ≤ number) × (number < 10000) }
+    ensures { OnOk result (string_bytes text.new ≡ string_bytes text.old ++ decimal number) }
+{
+    let (tens, last) = (number / 10, b'0' + (number % 10) as u8);
+    if tens < 10 {
+        return add_ascii(text, &[b'0' + tens as u8, last]);
+    }
+    let (hundreds, ten) = (tens / 10, b'0' + (tens % 10) as u8);
+    if hundreds < 10 {
+        return add_ascii(text, &[b'0' + hundreds as u8, ten, last]);
+    }
+    let hundred = b'0' + (hundreds % 10) as u8;
+    add_ascii(text, &[b'0' + (hundreds / 10) as u8, hundred, ten, last])
+}
+
+/// A number of any size.
 #[inline(never)]
 fn add_digits(text: &mut String, number: u128) -> Result<(), NoMemory>
     ensures { OnOk result (string_bytes text.new ≡ string_bytes text.old ++ decimal number) }
@@ -55,6 +76,16 @@ fn add_digits(text: &mut String, number: u128) -> Result<(), NoMemory>
         Err(_) => text.push_str(Buffer::new().format(number))?,
     }
     Ok(())
+}
+
+/// ASCII characters.
+#[inline(always)]
+fn add_ascii(text: &mut String, word: &[u8]) -> Result<(), NoMemory>
+    requires { IsAscii word.now }
+    ensures { OnOk result (string_bytes text.new ≡ string_bytes text.old ++ word.now) }
+{
+    let word = unsafe { str::from_utf8_unchecked(word) };
+    add_word(text, word)
 }
 
 /// A word with its space, and a number.
@@ -136,7 +167,19 @@ fn add_short_hex(text: &mut String, bytes: &[u8]) -> Result<(), NoMemory>
 }
 
 /// Each field behind a space.
-pub fn add_fields(alloc: Global, text: &mut String, fields: &[Items<u8>]) -> Result<(), NoMemory>
+pub fn add_fields(alloc: Global, text: &mut String, fields: &EventFields) -> Result<(), NoMemory>
+    ensures { OnOk result (string_bytes text.new ≡ string_bytes text.old ++ fields_text fields.now) }
+{
+    match fields.kind() {
+        FieldsKind::OfTask { number, label } => {
+            add_field(alloc, text, number.as_slice())?;
+            add_field(alloc, text, label.as_str().as_bytes())
+        }
+        FieldsKind::Listed(fields) => add_listed(alloc, text, fields.as_slice()),
+    }
+}
+
+fn add_listed(alloc: Global, text: &mut String, fields: &[Items<u8>]) -> Result<(), NoMemory>
     ensures { OnOk result (string_bytes text.new ≡ string_bytes text.old ++ fields_text fields.now) }
 {
     for field in fields {

@@ -17,7 +17,7 @@ use crate::event::task_event;
 use crate::labels::Labels;
 use crate::marks::{is_flagged, leave};
 use crate::room::take_places;
-use rt_audit::{AnswerKind, Entry, FinishCause, Journal};
+use rt_audit::{AnswerKind, Entry, FinishCause, Journal, Order};
 use rt_base::{Items, Nanos, NoMemory, Text};
 use rt_model::{Begin, Mark, Table, TaskResult};
 use rt_super::{Alarms, Tree};
@@ -221,12 +221,10 @@ impl Machine {
         ensures err { OnErr result (self.new ≡ self.old) }
     {
         take_places(&mut self.journal, &mut self.ready, self.promised, 1)?;
-        let kept = self.ready.as_slice().to_vec(*self.ready.allocator())?;
+        let kept = Order::of(*self.ready.allocator(), self.ready.as_slice())?;
         order.clear();
         order.extend_from_slice(self.ready.as_slice())?;
-        self.journal.push(Entry::Round {
-            order: Items::of(kept),
-        });
+        self.journal.push(Entry::Round { order: kept });
         self.ready.clear();
         Ok(())
     }

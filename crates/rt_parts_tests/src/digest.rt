@@ -2,7 +2,7 @@
 
 use rand_chacha::ChaCha12Rng;
 use rand_core::{Rng, SeedableRng};
-use rt_audit::{AuditEnv, AuditHasher, Auditor, Crc32c, Entry, Journal};
+use rt_audit::{AuditEnv, AuditHasher, Auditor, Crc32c, Entry, EventFields, EventLabel, Journal};
 use rt_base::{Env, Event, Items, NoMemory, Text};
 use rt_bufs::{IoBuf, IoBufs};
 use std::alloc::Global;
@@ -111,9 +111,12 @@ fn event(alloc: Global, label: &str, sizes: &[usize]) -> Result<Event, NoMemory>
     })
 }
 
-fn entry(event: Event) -> Entry {
+fn entry(alloc: Global, event: Event) -> Result<Entry, NoMemory> {
     let Event { label, fields } = event;
-    Entry::Event { label, fields }
+    Ok(Entry::Event {
+        label: EventLabel::named(alloc, label)?,
+        fields: EventFields::listed(fields),
+    })
 }
 
 #[test]
@@ -136,10 +139,10 @@ fn digest_of_a_journal(rt: HostRuntime) -> Result<(), Fail> {
     assert_eq!(rt; journal.digest(), [0; 4]);
     journal.reserve(4)?;
     journal.push(Entry::Wake { task: 1 });
-    journal.push(entry(event(alloc, "process_task", &[16, 0])?));
+    journal.push(entry(alloc, event(alloc, "process_task", &[16, 0])?)?);
     journal.push(Entry::Draw { value: 1 });
     assert_eq!(rt; journal.digest(), [0x32, 0xff, 0xd0, 0xc0]);
-    journal.push(entry(event(alloc, "ok", &[])?));
+    journal.push(entry(alloc, event(alloc, "ok", &[])?)?);
     assert_eq!(rt; journal.auditor().state(alloc)?.as_str(), "07b84907");
     Ok(())
 }
@@ -155,7 +158,7 @@ pub fn agree_on_an_event(alloc: Global) -> Result<bool, NoMemory> {
     auditor.event(&event(alloc, "ok", &[3])?);
     let mut journal = Journal::new(alloc);
     journal.reserve(1)?;
-    journal.push(entry(event(alloc, "ok", &[3])?));
+    journal.push(entry(alloc, event(alloc, "ok", &[3])?)?);
     let next = ChaCha12Rng::seed_from_u64(7).next_u64();
     Ok(env.auditor() == auditor && journal.auditor() == auditor && drawn == next)
 }

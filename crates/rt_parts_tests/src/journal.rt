@@ -2,7 +2,8 @@
 
 use crate::digest::agree_on_an_event;
 use rt_audit::{
-    AnswerKind, Call, CallReply, Entry, FinishCause, Journal, Label, Moment, Refusal, error_code,
+    AnswerKind, Call, CallReply, Entry, EventFields, EventLabel, FinishCause, Journal, Label,
+    Moment, Order, Refusal, error_code,
 };
 use rt_base::{Choice, Error, Items, NoMemory, Text};
 use std::alloc::Global;
@@ -103,15 +104,16 @@ fn add_event(alloc: Global, text: &mut String, size: usize) -> Result<(), NoMemo
     fields.push(Items::of(vec![in alloc; 171u8; size]?))?;
     fields.push(Items::of(Vec::new(alloc)))?;
     let event = Entry::Event {
-        label: Text::of("process_task".to_owned(alloc)?),
-        fields: Items::of(fields),
+        label: EventLabel::process_task(),
+        fields: EventFields::listed(Items::of(fields)),
     };
     add(alloc, text, event)
 }
 
 /// A round that visits a number so many times.
 fn add_round(alloc: Global, text: &mut String, task: u64, times: usize) -> Result<(), NoMemory> {
-    let order = Items::of(vec![in alloc; task; times]?);
+    let numbers = vec![in alloc; task; times]?;
+    let order = Order::of(alloc, numbers.as_slice())?;
     add(alloc, text, Entry::Round { order })
 }
 
@@ -250,6 +252,36 @@ fn keeps_entries(alloc: Global) -> Result<bool, NoMemory> {
     Ok(was_empty && kept)
 }
 
+/// Whether these are two fields, of the visit of this task alone.
+fn are_of_task(fields: &EventFields, task: u64, label: &str) -> bool {
+    fields.len() == 2
+        && !fields.is_empty()
+        && fields.get(2).is_none()
+        && fields.are_of_task(task, label)
+        && !fields.are_of_task(7, label)
+}
+
+/// Whether the parts of an event and of a round show what they were made of, however they are kept.
+fn parts_are_shown(alloc: Global) -> Result<bool, NoMemory> {
+    let kept = EventFields::of_task(258, Text::of("ab".to_owned(alloc)?));
+    let mut list = Vec::new(alloc);
+    for place in 0..kept.len() {
+        if let Some(field) = kept.get(place) {
+            list.push(Items::of(field.to_vec(alloc)?))?;
+        }
+    }
+    let listed = EventFields::listed(Items::of(list));
+    let named = EventLabel::named(alloc, Text::of("process_task".to_owned(alloc)?))?;
+    let orders = (Order::of(alloc, &[7])?, Order::of(alloc, &[7, 8])?);
+    Ok(
+        are_of_task(&kept, 258, "ab")
+            && are_of_task(&listed, 258, "ab")
+            && named.as_str() == EventLabel::process_task().as_str()
+            && orders.0.as_slice() == [7].as_slice()
+            && orders.1.as_slice() == [7, 8].as_slice(),
+    )
+}
+
 #[test]
 fn surface(rt: HostRuntime) -> Result<(), Fail> {
     let alloc = rt.alloc();
@@ -258,5 +290,6 @@ fn surface(rt: HostRuntime) -> Result<(), Fail> {
     assert!(rt; has_words(alloc)?);
     assert!(rt; keeps_entries(alloc)?);
     assert!(rt; agree_on_an_event(alloc)?);
+    assert!(rt; parts_are_shown(alloc)?);
     Ok(())
 }

@@ -1,8 +1,8 @@
 //! Journals as texts, for tests.
 
 use crate::replay::Said;
-use rt_audit::{AnswerKind, Entry};
-use rt_base::{Items, Nanos, NoMemory};
+use rt_audit::{AnswerKind, Entry, EventFields};
+use rt_base::{Nanos, NoMemory};
 use std::alloc::Global;
 
 /// What the lines of a journal say.
@@ -102,26 +102,26 @@ pub fn line_of(alloc: Global, entry: &Entry) -> Result<String, NoMemory> {
         Entry::Event { label, fields } => {
             line.push_str("event ")?;
             line.push_str(label.as_str())?;
-            add_fields(alloc, &mut line, fields.as_slice())?;
+            add_fields(alloc, &mut line, fields)?;
         }
         entry => entry.add_to(alloc, &mut line)?,
     }
     Ok(line)
 }
 
-fn add_fields(alloc: Global, line: &mut String, fields: &[Items<u8>]) -> Result<(), NoMemory> {
-    let [number, label] = fields else {
+fn add_fields(alloc: Global, line: &mut String, fields: &EventFields) -> Result<(), NoMemory> {
+    let (Some(number), Some(label)) = (fields.get(0), fields.get(1)) else {
         return Ok(());
     };
     let mut task = 0u128;
-    for byte in number.as_slice() {
+    for byte in number {
         task = task.wrapping_mul(256).wrapping_add(*byte as u128);
     }
     line.push_str(format!(in alloc; " {task} ")?.as_str())?;
-    if label.as_slice().is_empty() {
+    if label.is_empty() {
         line.push('-')?;
     }
-    for byte in label.as_slice() {
+    for byte in label {
         line.push(*byte as char)?;
     }
     Ok(())

@@ -1,12 +1,10 @@
 //! What may come next.
 
 ghost use Rattle.std.specs.Prelude.{◌≡◌, ◌↔◌, [], IfOk, OnErr, IsTrue, List, ℕ, true};
-ghost use Rattle.std.specs.Int.{to_be_bytes, w128};
 ghost use Rattle.rt_audit.specs.declared.entry.Entry.TheVariants.{Start, Event, Root, Round, Visit, Answer, NodeEnd, Advance, Skip, Fire, Crash, Finish};
 ghost use Rattle.rt_model.specs.State.{Halted, Polling, State};
 ghost use Rattle.rt_model.specs.Causes.{ends_next};
 ghost use Rattle.rt_model.specs.Effects.{left_of};
-ghost use Rattle.rt_model.specs.Events.{task_fields};
 ghost use Rattle.rt_model.specs.Rules.{IsEndedNext, May, MayAnswer, MayCall, MayFree, MayRound};
 ghost use Rattle.rt_walk.specs.Quiet.{quiet};
 ghost use Rattle.rt_walk.specs.Memory.{TakesMemory};
@@ -14,8 +12,8 @@ ghost use Rattle.rt_walk.specs.Memory.{TakesMemory};
 use crate::Walker;
 use crate::numbers::is_permutation;
 use crate::stage::Stage;
-use rt_audit::{AnswerKind, Entry, FinishCause};
-use rt_base::{Choice, Items, MAX_TIME, Nanos, NoMemory, Text};
+use rt_audit::{AnswerKind, Entry, EventFields, EventLabel, FinishCause};
+use rt_base::{Choice, Items, MAX_TIME, Nanos, NoMemory};
 
 impl Walker {
     /// Whether the entry may come next. It takes memory where a round's order is compared with the ready list, and where a
@@ -105,13 +103,13 @@ impl Walker {
         self.running.ends_next(self.root)
     }
 
-    fn may_event(&self, label: &Text, fields: &Items<Items<u8>>) -> bool
+    fn may_event(&self, label: &EventLabel, fields: &EventFields) -> bool
         ensures { IsTrue result ↔ MayFree self.now (Event label.now fields.now) }
     {
         match &self.stage {
             Stage::Entered { task, .. } => {
                 label.as_str() == "process_task"
-                    && are_task_fields(fields.as_slice(), *task, self.task_label(*task))
+                    && fields.are_of_task(*task, self.task_label(*task))
             }
             _ => false,
         }
@@ -242,28 +240,4 @@ impl Walker {
             _ => false,
         }
     }
-}
-
-/// Whether these are the fields of the event of a visit.
-fn are_task_fields(fields: &[Items<u8>], task: u64, label: &str) -> bool
-    ensures { IsTrue result ↔ (fields.now ≡ task_fields task label.now) }
-{
-    match fields {
-        [number, told] => { is_number(number.as_slice(), task) && is_told(told.as_slice(), label) }
-        _ => false,
-    }
-}
-
-/// Whether these are the 16 bytes of a task's number.
-fn is_number(bytes: &[u8], task: u64) -> bool
-    ensures { IsTrue result ↔ (bytes.now ≡ to_be_bytes w128 task) }
-{
-    bytes == (task as u128).to_be_bytes().as_slice()
-}
-
-/// Whether these are the bytes of a label.
-fn is_told(bytes: &[u8], label: &str) -> bool
-    ensures { IsTrue result ↔ (bytes.now ≡ label.now) }
-{
-    bytes == label.as_bytes()
 }

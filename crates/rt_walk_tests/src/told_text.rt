@@ -1,6 +1,9 @@
 // Journals as texts: a line for each entry, as a journal prints it.
 
-use rt_audit::{AnswerKind, Call, CallReply, Entry, FinishCause, Label, Moment, Refusal};
+use rt_audit::{
+    AnswerKind, Call, CallReply, Entry, EventFields, EventLabel, FinishCause, Label, Moment, Order,
+    Refusal,
+};
 use rt_base::{Choice, Error, Items, MetricError, Nanos, NoMemory, Text};
 use std::alloc::Global;
 
@@ -144,12 +147,9 @@ fn event(alloc: Global, task: &str, label: &str) -> Result<Option<Entry>, NoMemo
         return Ok(None);
     };
     let label = if label == "-" { "" } else { label };
-    let mut fields = Vec::new(alloc);
-    fields.push(Items::of((task as u128).to_be_bytes().as_slice().to_vec(alloc)?))?;
-    fields.push(Items::of(label.as_bytes().to_vec(alloc)?))?;
     Ok(Some(Entry::Event {
-        label: Text::of("process_task".to_owned(alloc)?),
-        fields: Items::of(fields),
+        label: EventLabel::process_task(),
+        fields: EventFields::of_task(task, Text::of(label.to_owned(alloc)?)),
     }))
 }
 
@@ -162,7 +162,7 @@ fn round(alloc: Global, words: &[&str]) -> Result<Option<Entry>, NoMemory> {
         }
     }
     Ok(Some(Entry::Round {
-        order: Items::of(order),
+        order: Order::of(alloc, order.as_slice())?,
     }))
 }
 
