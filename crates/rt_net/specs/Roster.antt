@@ -1,7 +1,7 @@
 -- What the code keeps of listeners.
-use Rattle.std.specs.Prelude.{◌≡◌, ℕ, List, Option, length}
+use Rattle.std.specs.Prelude.{List}
 use Rattle.rt_base.specs.declared.addr.Addr.{Addr}
-use Rattle.rt_net.specs.Network.{ListenerState, number_at}
+use Rattle.rt_net.specs.Network.{ListenerState}
 
 -- the listeners ever bound, and the address of each
 pub record Roster : Type 0 where
@@ -10,8 +10,3 @@ pub record Roster : Type 0 where
 
 abbrev pub with_list : Roster → List ListenerState → Roster
 with_list r ls = record r { list = ls }
-
--- a map finds the number of each address, and each listener has an address
-pub record IsIndexed (find : Addr → Option ℕ) (addresses : List Addr) (n : ℕ) : Type 0 where
-  pub finds : (a : Addr) → find a ≡ number_at addresses a
-  pub count : length addresses ≡ n

@@ -8,30 +8,28 @@ ghost use Rattle.rt_net.specs.Network.{number_at, if_live, live_listener, fresh_
 use crate::Connection;
 use crate::acceptor::Acceptor;
 use crate::channels::Channels;
+use indexmap::IndexSet;
 use rt_base::{Addr, Error, NoMemory, Poll};
 use std::alloc::Global;
-use std::collections::{HashMap, VecDeque};
+use std::collections::VecDeque;
 use std::marker::Model;
 
-/// The listeners ever bound, by number, the address of each, and the number of each address.
+/// The listeners ever bound, and their addresses. A listener and its address have the same place, which is its number.
 #[derive(Drop)]
 pub struct Listeners {
     list: Vec<Acceptor>,
-    addresses: Vec<Addr>,
-    numbers: HashMap<Addr, u64>,
+    addresses: IndexSet<Addr>,
 }
 
 impl Model for Listeners {
-    ghost use Rattle.std.specs.Prelude.{length};
-    ghost use Rattle.std.specs.HashMap.{get};
-    ghost use Rattle.rt_net.specs.Network.{addr_eq};
-    ghost use Rattle.rt_net.specs.Roster.{Roster, IsIndexed};
+    ghost use Rattle.std.specs.Prelude.{◌≡◌, length};
+    ghost use Rattle.rt_net.specs.Roster.{Roster};
 
     ghost Value = { Roster };
 
-    ghost view = { λ l. record { addresses = l.addresses.items; list = l.list.items } };
+    ghost view = { λ l. record { addresses = l.addresses.keys; list = l.list.items } };
 
-    ghost invariant = { λ l. IsIndexed (get addr_eq l.numbers) l.addresses.items (length l.list.items) };
+    ghost invariant = { λ l. length l.addresses.keys ≡ length l.list.items };
 }
 
 impl Listeners {
@@ -41,8 +39,7 @@ impl Listeners {
     {
         Listeners {
             list: Vec::new(alloc),
-            addresses: Vec::new(alloc),
-            numbers: HashMap::new(alloc),
+            addresses: IndexSet::new(alloc),
         }
     }
 
@@ -50,7 +47,10 @@ impl Listeners {
     pub fn number_of(&self, address: Addr) -> Option<u64>
         ensures { result ≡ number_at self.now.addresses address }
     {
-        self.numbers.get(&address).copied()
+        match self.addresses.get_index_of(&address) {
+            Some(number) => Some(number as u64),
+            None => None,
+        }
     }
 
     /// The number of the live listener at this address, where there is one.
@@ -71,11 +71,9 @@ impl Listeners {
     {
         let number = self.list.len() as u64;
         self.list.reserve(1)?;
-        self.addresses.reserve(1)?;
-        self.numbers.insert(address, number)?;
+        self.addresses.insert(address)?;
         let alloc = *self.list.allocator();
         self.list.push_reserved(Acceptor::new(alloc));
-        self.addresses.push_reserved(address);
         Ok(number)
     }
 
