@@ -1,14 +1,14 @@
 -- A `recv` that waits keeps its length, and is answered by so many bytes.
 use Rattle.std.proofs.Common.{◌≡◌, ℕ, zero, suc, Bool, true, false, cond, List, [], ◌∷◌, Option, Some, None, Result, Ok, Err, refl, sym, ap, ◌∙◌, subst}
-use Rattle.std.specs.Prelude.{MatchOption, IfOk, slice_get, slice_set}
+use Rattle.std.specs.Prelude.{IfOk, slice_get, slice_set}
 use Rattle.rt_base.specs.declared.error.Error.{Error}
-use Rattle.rt_base.specs.declared.error.Error.TheVariants.{RecvFailed, UnknownToken}
+use Rattle.rt_base.specs.declared.error.Error.TheVariants.{RecvFailed}
 use Rattle.rt_base.specs.declared.poll.Poll.{Poll}
 use Rattle.rt_base.specs.declared.poll.Poll.TheVariants.{Ready, Pending}
 use Rattle.rt_bufs.specs.Chunked.{Chunked}
 use Rattle.rt_net.specs.declared.reply.Reply.{Reply}
 use Rattle.rt_net.specs.Asked.{HasLength, asked_of}
-use Rattle.rt_net.specs.Channel.{ChannelState, Answers, Receives, PollsReceive, pulled, after_answer, after_recv, after_poll_recv, started_length}
+use Rattle.rt_net.specs.Channel.{ChannelState, Answers, PollsReceive, pulled, after_answer, after_recv, after_poll_recv, started_length}
 use Rattle.rt_net.specs.Network.{live_stream, if_lives, has_stream, at, at_stream}
 use Rattle.rt_net.specs.Refusals.{is_not_ready, waits, still_waits}
 
@@ -38,19 +38,13 @@ answers-length : (c : ChannelState) (len : ℕ) (p : Poll Chunked) → Answers c
 answers-length c len (Ready b) h = h.1
 answers-length c len Pending h = tt
 
-pub receives-length : (o : Option ChannelState) (len : ℕ) (r : Result (Reply (Poll Chunked)) Error) → MatchOption o (r ≡ Err UnknownToken) (λ c. Receives c len r) → IfOk r (λ x. HasLength len x.value)
-receives-length None len (Ok x) h = absurd (cc)
-receives-length (Some c) len (Ok x) h = answers-length (pulled c len) len x.value h.3
-receives-length o len (Err e) h = tt
-
 -- Contracts name the list before a call itself, which is what the code keeps.
 
-pub polls-length : (cs now : List ChannelState) (n : ℕ) (o : Option ChannelState) (r : Result (Poll Chunked) Error) → cs ≡ now → live_stream cs n ≡ o → MatchOption o (r ≡ Err UnknownToken) (λ c. PollsReceive c r) → IfOk r (HasLength (asked_of (slice_get now n)))
-polls-length cs now n None (Ok p) is live h = absurd (cc)
-polls-length cs now n (Some c) (Ok p) is live h =
+pub polls-length : (cs now : List ChannelState) (n : ℕ) (c : ChannelState) (r : Result (Poll Chunked) Error) → cs ≡ now → live_stream cs n ≡ Some c → PollsReceive c r → IfOk r (HasLength (asked_of (slice_get now n)))
+polls-length cs now n c (Ok p) is live h =
     let there : started_length c ≡ asked_of (slice_get now n) = sym (ap asked_of (stream-get cs n c live)) ∙ ap (λ ks. asked_of (slice_get ks n)) is in
     subst (λ m. HasLength m p) there (answers-length c (started_length c) p h)
-polls-length cs now n o (Err e) is live h = tt
+polls-length cs now n c (Err e) is live h = tt
 
 -- what waits has the length that was asked for
 
@@ -68,15 +62,13 @@ poll-asks c task (Ok (Ready b)) h w = absurd (cc)
 poll-asks c task (Err RecvFailed) h w = absurd (cc)
 poll-asks c task (Err e) h w = absurd h
 
-pub receives-asks : (cs new : List ChannelState) (n len task : ℕ) (o : Option ChannelState) (r : Result (Reply (Poll Chunked)) Error) → new ≡ at_stream cs n (λ c. after_recv c len task r) → live_stream cs n ≡ o → MatchOption o (r ≡ Err UnknownToken) (λ c. Receives c len r) → waits r ≡ true → asked_of (slice_get new n) ≡ len
-receives-asks cs new n len task None r after live h w =
-    let no : false ≡ true = subst (λ (x : Result (Reply (Poll Chunked)) Error). waits x ≡ true) h w in
-    absurd (cc)
-receives-asks cs new n len task (Some c) r after live h w = ap (λ ks. asked_of (slice_get ks n)) after ∙ asked-set cs n c (λ d. after_recv d len task r) live ∙ recv-asks c len task r w
+pub receives-asks : (cs new : List ChannelState) (n len task : ℕ) (c : ChannelState) (r : Result (Reply (Poll Chunked)) Error) → new ≡ at_stream cs n (λ d. after_recv d len task r) → live_stream cs n ≡ Some c → waits r ≡ true → asked_of (slice_get new n) ≡ len
+receives-asks cs new n len task c r after live w = ap (λ ks. asked_of (slice_get ks n)) after ∙ asked-set cs n c (λ d. after_recv d len task r) live ∙ recv-asks c len task r w
 
-poll-keeps : (cs : List ChannelState) (n task : ℕ) (o : Option ChannelState) (r : Result (Poll Chunked) Error) → live_stream cs n ≡ o → MatchOption o (r ≡ Err UnknownToken) (λ c. PollsReceive c r) → still_waits r ≡ true → asked_of (slice_get (at_stream cs n (λ c. after_poll_recv c task r)) n) ≡ asked_of (slice_get cs n)
-poll-keeps cs n task None r live h w = ap (λ o. asked_of (slice_get (at cs n (λ c. after_poll_recv c task r) o) n)) live
-poll-keeps cs n task (Some c) r live h w = asked-set cs n c (λ d. after_poll_recv d task r) live ∙ poll-asks c task r h w ∙ sym (ap asked_of (stream-get cs n c live))
-
-pub polls-ask : (cs now new : List ChannelState) (n task : ℕ) (r : Result (Poll Chunked) Error) → cs ≡ now → new ≡ at_stream cs n (λ c. after_poll_recv c task r) → MatchOption (live_stream cs n) (r ≡ Err UnknownToken) (λ c. PollsReceive c r) → still_waits r ≡ true → asked_of (slice_get new n) ≡ asked_of (slice_get now n)
-polls-ask cs now new n task r is after h w = ap (λ ks. asked_of (slice_get ks n)) after ∙ poll-keeps cs n task (live_stream cs n) r refl h w ∙ ap (λ ks. asked_of (slice_get ks n)) is
+pub polls-ask : (cs now new : List ChannelState) (n task : ℕ) (c : ChannelState) (r : Result (Poll Chunked) Error) → cs ≡ now → new ≡ at_stream cs n (λ d. after_poll_recv d task r) → live_stream cs n ≡ Some c → PollsReceive c r → still_waits r ≡ true → asked_of (slice_get new n) ≡ asked_of (slice_get now n)
+polls-ask cs now new n task c r is after live h w =
+    ap (λ ks. asked_of (slice_get ks n)) after
+    ∙ asked-set cs n c (λ d. after_poll_recv d task r) live
+    ∙ poll-asks c task r h w
+    ∙ sym (ap asked_of (stream-get cs n c live))
+    ∙ ap (λ ks. asked_of (slice_get ks n)) is

@@ -1,4 +1,5 @@
 pub mod Asked
 pub mod Places
+pub mod Live
 pub mod Quiet
 pub mod Walked

@@ -6,14 +6,14 @@ use Rattle.std.proofs.lemmas.List.Folds.{list_any_more}
 use Rattle.std.proofs.lemmas.Option.{slice_get_read, get_or_from_slice_get}
 
 -- what was read at a place stands there, whatever else would
-read-at : {X : Type 0} (xs ys : List X) (i : ℕ) (x d : X) → ys ≡ xs → i < length ys → x ≡ slice_index_or ys i x → slice_index_or xs i d ≡ x
-read-at xs ys i x d same within read = ap (λ zs. slice_index_or zs i d) (sym same) ∙ get_or_from_slice_get ys i x d (slice_get_read ys (length ys) i x refl within read)
+read-at : {X : Type 0} (xs : List X) (i : ℕ) (x d : X) → i < length xs → x ≡ slice_index_or xs i x → slice_index_or xs i d ≡ x
+read-at xs i x d within read = get_or_from_slice_get xs i x d (slice_get_read xs (length xs) i x refl within read)
 
-pub any-more : {X : Type 0} (p : X → Bool) (xs ys : List X) (i : ℕ) (x : X) (found : Bool) → ys ≡ xs → i < length ys → x ≡ slice_index_or ys i x → found ≡ list_any p (take i xs) → found || p x ≡ list_any p (take (i + 1) xs)
-any-more p xs ys i x found same within read old =
+pub any-more : {X : Type 0} (p : X → Bool) (xs : List X) (i : ℕ) (x : X) (found : Bool) → i < length xs → x ≡ slice_index_or xs i x → found ≡ list_any p (take i xs) → found || p x ≡ list_any p (take (i + 1) xs)
+any-more p xs i x found within read old =
     ap (λ b. b || p x) old
-    ∙ ap (λ y. list_any p (take i xs) || p y) (sym (read-at xs ys i x x same within read))
-    ∙ sym (list_any_more p xs i x (subst (λ zs. i < length zs) same within))
+    ∙ ap (λ y. list_any p (take i xs) || p y) (sym (read-at xs i x x within read))
+    ∙ sym (list_any_more p xs i x within)
 
-pub all-more : {X : Type 0} (P : X → Type 0) (xs ys : List X) (i : ℕ) (x : X) → ys ≡ xs → i < length ys → x ≡ slice_index_or ys i x → P x → AllWithin P xs 0 i → AllWithin P xs 0 (i + 1)
-all-more P xs ys i x same within read here old = AllWithin-more P xs 0 i old (λ d. subst P (sym (read-at xs ys i x d same within read)) here)
+pub all-more : {X : Type 0} (P : X → Type 0) (xs : List X) (i : ℕ) (x : X) → i < length xs → x ≡ slice_index_or xs i x → P x → AllWithin P xs 0 i → AllWithin P xs 0 (i + 1)
+all-more P xs i x within read here old = AllWithin-more P xs 0 i old (λ d. subst P (sym (read-at xs i x d within read)) here)

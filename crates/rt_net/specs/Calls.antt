@@ -9,11 +9,11 @@ use Rattle.rt_base.specs.declared.error.Error.TheVariants.{BindFailed, Connectio
 use Rattle.rt_base.specs.declared.poll.Poll.{Poll}
 use Rattle.rt_base.specs.declared.poll.Poll.TheVariants.{Ready, Pending}
 use Rattle.rt_bufs.specs.Chunked.{Chunked}
-use Rattle.rt_net.specs.declared.connection.Connection.{Connection}
-use Rattle.rt_net.specs.declared.listener.Listener.{Listener}
+use Rattle.rt_net.specs.declared.acceptor.Connection.{Connection}
+use Rattle.rt_net.specs.declared.tokens.Listener.{Listener}
 use Rattle.rt_net.specs.declared.reply.Reply.{Reply}
-use Rattle.rt_net.specs.declared.sink.Sink.{Sink}
-use Rattle.rt_net.specs.declared.stream.Stream.{Stream}
+use Rattle.rt_net.specs.declared.tokens.Sink.{Sink}
+use Rattle.rt_net.specs.declared.tokens.Stream.{Stream}
 use Rattle.rt_net.specs.Channel.{ChannelState, fresh, Sends, PollsSend, Receives, PollsReceive, Peeks, after_send, after_poll_send, after_recv, after_poll_recv}
 use Rattle.rt_net.specs.Network.{NetworkState, ListenerState, AtSink, AtStream, at_sink, at_stream, live_listener, number_at, fresh_listener, closed_listener, with_connection, waiting_task, with_accepted, listener_at, after_closing, woken_by_closing}
 

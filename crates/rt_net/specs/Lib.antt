@@ -6,5 +6,3 @@ pub mod Kept
 pub mod Network
 pub mod Pipe
 pub mod Refusals
-pub mod Roster
-pub mod Table

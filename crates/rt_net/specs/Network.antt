@@ -8,7 +8,7 @@ use Rattle.rt_base.specs.declared.addr.Addr.{Addr}
 use Rattle.rt_base.specs.declared.error.Error.{Error}
 use Rattle.rt_base.specs.declared.poll.Poll.{Poll}
 use Rattle.rt_base.specs.declared.poll.Poll.TheVariants.{Ready, Pending}
-use Rattle.rt_net.specs.declared.connection.Connection.{Connection}
+use Rattle.rt_net.specs.declared.acceptor.Connection.{Connection}
 use Rattle.rt_net.specs.Channel.{ChannelState, receiver_task, closed_sink, closed_stream, given_up_send, given_up_recv}
 
 -- `waiting` is the connections that were dialed and not accepted, in the order of their dials, and `task` the task
@@ -29,9 +29,9 @@ pub record NetworkState : Type 0 where
 
 -- The object of a number, where it is live.
 
-abbrev pub if_lives : (ChannelState → Bool) → Option ChannelState → Option ChannelState
+abbrev pub if_lives : {A : Type 0} → (A → Bool) → Option A → Option A
 if_lives lives None = None
-if_lives lives (Some c) = if lives c then Some c else None
+if_lives lives (Some x) = if lives x then Some x else None
 
 abbrev pub has_sink : ChannelState → Bool
 has_sink c = c.sink.alive
@@ -39,18 +39,17 @@ has_sink c = c.sink.alive
 abbrev pub has_stream : ChannelState → Bool
 has_stream c = c.stream.alive
 
+abbrev pub is_alive : ListenerState → Bool
+is_alive l = l.alive
+
 abbrev pub live_sink : List ChannelState → ℕ → Option ChannelState
 live_sink cs n = if_lives has_sink (slice_get cs n)
 
 abbrev pub live_stream : List ChannelState → ℕ → Option ChannelState
 live_stream cs n = if_lives has_stream (slice_get cs n)
 
-abbrev pub if_listener_lives : Option ListenerState → Option ListenerState
-if_listener_lives None = None
-if_listener_lives (Some l) = if l.alive then Some l else None
-
 abbrev pub live_listener : List ListenerState → ℕ → Option ListenerState
-live_listener ls n = if_listener_lives (slice_get ls n)
+live_listener ls n = if_lives is_alive (slice_get ls n)
 
 -- What a call on one half answers: by its channel where the half is live, and else what is answered for an unknown token.
 
@@ -60,11 +59,11 @@ AtSink cs n unknown P = MatchOption (live_sink cs n) unknown P
 abbrev pub AtStream : List ChannelState → ℕ → Type 0 → (ChannelState → Type 0) → Type 0
 AtStream cs n unknown P = MatchOption (live_stream cs n) unknown P
 
--- What it leaves: nothing changes where the half isn't live.
+-- What a call leaves: nothing changes where the object isn't live.
 
-abbrev pub at : List ChannelState → ℕ → (ChannelState → ChannelState) → Option ChannelState → List ChannelState
-at cs n f None = cs
-at cs n f (Some c) = slice_set cs n (f c)
+abbrev pub at : {A : Type 0} → List A → ℕ → (A → A) → Option A → List A
+at xs n f None = xs
+at xs n f (Some x) = slice_set xs n (f x)
 
 abbrev pub at_sink : List ChannelState → ℕ → (ChannelState → ChannelState) → List ChannelState
 at_sink cs n f = at cs n f (live_sink cs n)
@@ -170,26 +169,25 @@ abbrev pub waiting_task : Option ListenerState → Option ℕ
 waiting_task None = None
 waiting_task (Some l) = l.task
 
-abbrev pub at_listener : List ListenerState → ℕ → (ListenerState → ListenerState) → Option ListenerState → List ListenerState
-at_listener ls n f None = ls
-at_listener ls n f (Some l) = slice_set ls n (f l)
+abbrev pub at_listener : List ListenerState → ℕ → (ListenerState → ListenerState) → List ListenerState
+at_listener ls n f = at ls n f (live_listener ls n)
 
 -- a connection is taken, or the task waits
 abbrev pub with_accepted : {A : Type 0} → List ListenerState → ℕ → ℕ → Result (Poll A) Error → List ListenerState
-with_accepted ls n task (Ok p) = at_listener ls n (λ l. after_accept l task p) (live_listener ls n)
+with_accepted ls n task (Ok p) = at_listener ls n (λ l. after_accept l task p)
 with_accepted ls n task (Err _) = ls
 
 -- a connection waits at a listener, and the task that waited for one is woken
 abbrev pub with_connection : List ListenerState → ℕ → Connection → List ListenerState
-with_connection ls n c = at_listener ls n (λ l. record l { waiting = l.waiting ++ c ∷ []; task = None }) (live_listener ls n)
+with_connection ls n c = at_listener ls n (λ l. record l { waiting = l.waiting ++ c ∷ []; task = None })
 
 -- the wait for a connection is given up
 abbrev pub without_task : List ListenerState → ℕ → List ListenerState
-without_task ls n = at_listener ls n (λ l. record l { task = None }) (live_listener ls n)
+without_task ls n = at_listener ls n (λ l. record l { task = None })
 
 -- a listener is closed
 abbrev pub without_listener : List ListenerState → ℕ → List ListenerState
-without_listener ls n = at_listener ls n closed_listener (live_listener ls n)
+without_listener ls n = at_listener ls n closed_listener
 
 -- the channels once the connections that wait at a listener were closed
 abbrev pub without_waiting : List ChannelState → Option ListenerState → List ChannelState

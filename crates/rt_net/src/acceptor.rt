@@ -1,14 +1,26 @@
-// One listener.
-ghost use Rattle.std.specs.Prelude.{◌≡◌, ◌+◌, ◌*◌, ◌≤◌, [], ◌∷◌, ◌++◌, true, false, Some, None, OnErr, IfOk, OnOk, length, option_to_list};
-ghost use Rattle.rt_net.specs.Network.{Accepts, after_accept, fresh_listener, closed_listener, IsQuietListener, after_closing, woken_by_closing};
+// One listener, and the connections that wait at it.
+ghost use Rattle.std.specs.Prelude.{◌≡◌, ◌+◌, ◌*◌, ◌≤◌, [], ◌∷◌, ◌++◌, true, false, Some, None, OnErr, IfOk, OnOk, length, option_to_list, All};
+ghost use Rattle.std.specs.List.{list_any};
+ghost use Rattle.rt_net.specs.Network.{Accepts, after_accept, fresh_listener, closed_listener, IsQuietListener, after_closing, woken_by_closing, has_acceptor};
 
-use crate::Connection;
-use crate::channels::Channels;
-use rt_base::{NoMemory, Poll};
+use crate::channels::{close_sink, close_stream};
+use crate::pipe::Pipe;
+use rt_base::{Addr, NoMemory, Poll};
 use std::alloc::Global;
 use std::collections::VecDeque;
 use std::marker::Model;
 use std::mem;
+
+/// A connection that waits to be accepted, with the numbers of the halves that the listener's side gets.
+#[derive(Clone, Copy, Debug, Drop)]
+pub struct Connection {
+    /// The address that was dialed from.
+    pub dialer: Addr,
+    /// The number of the sink.
+    pub sink: u64,
+    /// The number of the stream.
+    pub stream: u64,
+}
 
 /// A listener: the connections that wait in the order of their dials, and the task that waits for one.
 /// Closing a connection wakes at most two tasks, and the room for them is kept.
@@ -106,10 +118,10 @@ impl Acceptor {
 
     /// Closes it and both halves of each connection that waits, and answers the tasks that this wakes. It takes no
     /// memory.
-    pub fn close(&mut self, channels: &mut Channels) -> VecDeque<u64>
+    pub fn close(&mut self, channels: &mut Vec<Pipe>) -> VecDeque<u64>
         ensures listener { self.new ≡ closed_listener self.old }
-        ensures channels { channels.new.list ≡ after_closing channels.old.list self.old.waiting }
-        ensures woken { result.items ≡ woken_by_closing channels.old.list self.old.waiting }
+        ensures channels { channels.new.items ≡ after_closing channels.old.items self.old.waiting }
+        ensures woken { result.items ≡ woken_by_closing channels.old.items self.old.waiting }
     {
         self.alive = false;
         self.task = None;
@@ -118,13 +130,25 @@ impl Acceptor {
         let none = VecDeque::new(*self.waiting.allocator());
         let mut waiting = mem::replace(&mut self.waiting, none);
         while let Some(connection) = waiting.pop_front() {
-            if let Some(task) = channels.close_sink(connection.sink) {
+            if let Some(task) = close_sink(channels, connection.sink) {
                 woken.push_back_reserved(task);
             }
-            if let Some(task) = channels.close_stream(connection.stream) {
+            if let Some(task) = close_stream(channels, connection.stream) {
                 woken.push_back_reserved(task);
             }
         }
         woken
     }
+}
+
+/// Whether a task waits for a connection at any of them. None waits at one where a connection is.
+pub fn anyone_accepts_at(listeners: &Vec<Acceptor>) -> bool
+    ensures answer { result ≡ list_any has_acceptor listeners.now.items }
+    ensures quiet { All IsQuietListener listeners.now.items }
+{
+    let mut found = false;
+    for index in 0..listeners.len() {
+        found |= listeners[index].waiting().is_some();
+    }
+    found
 }

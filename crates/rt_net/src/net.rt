@@ -1,16 +1,19 @@
 // The network in memory.
-ghost use Rattle.std.specs.Prelude.{◌≡◌, ◌+◌, ◌<◌, ◌≤◌, ◌↔◌, [], ◌∷◌, ◌++◌, length, IsTrue, IfOk, OnErr, OnOk, Ok, Err, Some, None, false, slice_get, All, ◌||◌};
+ghost use Rattle.std.specs.Prelude.{◌≡◌, ◌+◌, ◌-◌, ◌^◌, ◌<◌, ◌≤◌, ◌↔◌, [], ◌∷◌, ◌++◌, length, min, IsTrue, IfOk, IfSome, OnErr, OnOk, Ok, Err, Some, None, true, false, is_some, slice_get, All, ◌||◌};
 ghost use Rattle.std.specs.List.{list_any};
 ghost use Rattle.rt_net.specs.Channel.{fresh, ChannelState, AreCounted, IsQuiet};
-ghost use Rattle.rt_net.specs.Network.{ListenerState, IsQuietListener, is_waited_at, has_acceptor, waiting_halves, waiting_task};
+ghost use Rattle.rt_net.specs.Network.{ListenerState, IsQuietListener, is_waited_at, has_acceptor, waiting_halves, waiting_task, number_at, listener_at, live_listener};
 ghost use Rattle.rt_net.specs.Calls.{IsDialerAddress, NetBinds, NetDials, NetAccepts, net_after_bind, net_after_dial, net_after_accept, opened, idle_sink, idle_stream};
 ghost use Rattle.rt_net.specs.Kept.{empty_net, moved_to};
 ghost use Rattle.rt_base.specs.Counted.{counted, Counts};
+ghost use Rattle.rt_base.specs.declared.error.Error.TheVariants.{UnknownToken};
 
-use crate::answers::{is_pending, still_waits, waits};
-use crate::channels::Channels;
-use crate::listeners::Listeners;
+use crate::acceptor::{Acceptor, anyone_accepts_at};
+use crate::channels::{anyone_waits_at, close_sink, close_stream, has_sink, has_stream};
+use crate::pipe::Pipe;
+use crate::reply::{is_pending, still_waits, waits};
 use crate::{Connection, Listener, Network, Reply, Sink, Stream};
+use indexmap::IndexSet;
 use rt_base::{Addr, Env, Error, Ip, NoMemory, Poll};
 use rt_bufs::{IoBuf, IoBufs};
 use std::alloc::Global;
@@ -45,22 +48,23 @@ pub const DEFAULT_BUFFER_SIZE: usize = 65536;
 /// - `NoMemory` from `bind`, `dial`, `send`, `recv` and `peek`, where the network is out of memory.
 #[derive(Drop)]
 pub struct Net {
-    channels: Channels,
-    listeners: Listeners,
+    channels: Vec<Pipe>,
+    listeners: Vec<Acceptor>,
+    addresses: IndexSet<Addr>,
     port: u16,
     woken: VecDeque<u64>,
     refusals: u64,
 }
 
 impl Model for Net {
-    ghost use Rattle.std.specs.Prelude.{◌≤◌};
+    ghost use Rattle.std.specs.Prelude.{◌≡◌, ◌≤◌, length};
     ghost use Rattle.rt_net.specs.Kept.{Kept};
 
     ghost Value = { Kept };
 
-    ghost view = { λ n. record { state = record { port = n.port; addresses = n.listeners.addresses; listeners = n.listeners.list; channels = n.channels.list; woken = n.woken.items }; refusals = n.refusals } };
+    ghost view = { λ n. record { state = record { port = n.port; addresses = n.addresses.keys; listeners = n.listeners.items; channels = n.channels.items; woken = n.woken.items }; refusals = n.refusals } };
 
-    ghost invariant = { λ n. n.port ≤ 61000 };
+    ghost invariant = { λ n. (n.port ≤ 61000) × (length n.addresses.keys ≡ length n.listeners.items) };
 }
 
 impl Net {
@@ -69,8 +73,9 @@ impl Net {
         ensures { result ≡ Ok empty_net }
     {
         Ok(Net {
-            channels: Channels::new(alloc),
-            listeners: Listeners::new(alloc),
+            channels: Vec::new(alloc),
+            listeners: Vec::new(alloc),
+            addresses: IndexSet::new(alloc),
             port: FIRST_PORT,
             woken: VecDeque::new(alloc),
             refusals: 0,
@@ -83,7 +88,10 @@ impl Net {
         ensures quiet { (c : ChannelState) → slice_get self.now.state.channels number ≡ Some c → IsQuiet c }
         ensures counted { (c : ChannelState) → slice_get self.now.state.channels number ≡ Some c → AreCounted c }
     {
-        self.channels.waiting(number)
+        match self.channels.get(number as usize) {
+            Some(pipe) => pipe.waiting(),
+            None => (None, None),
+        }
     }
 
     /// The task that waits for a connection at the listener of this number. None waits while one is there.
@@ -91,7 +99,10 @@ impl Net {
         ensures task { result ≡ waiting_task (slice_get self.now.state.listeners number) }
         ensures quiet { (l : ListenerState) → slice_get self.now.state.listeners number ≡ Some l → IsQuietListener l }
     {
-        self.listeners.waiting(number)
+        match self.listeners.get(number as usize) {
+            Some(listener) => listener.waiting(),
+            None => None,
+        }
     }
 
     /// Whether a task waits at any channel or listener. None waits for what is there, at no channel and no listener.
@@ -100,8 +111,8 @@ impl Net {
         ensures channels { All IsQuiet self.now.state.channels }
         ensures listeners { All IsQuietListener self.now.state.listeners }
     {
-        let at_channel = self.channels.anyone_waits();
-        let at_listener = self.listeners.anyone_waits();
+        let at_channel = anyone_waits_at(&self.channels);
+        let at_listener = anyone_accepts_at(&self.listeners);
         at_channel || at_listener
     }
 
@@ -124,8 +135,48 @@ impl Net {
     {
         self.channels.reserve(1)?;
         let number = self.channels.len() as u64;
-        self.channels.add(buffer_size);
+        let alloc = *self.channels.allocator();
+        self.channels.push_reserved(Pipe::new(alloc, buffer_size));
         Ok((Sink::idle(number), Stream::idle(number)))
+    }
+
+    // Counts a call with the token of no live object, and answers its error.
+    fn unknown(&mut self) -> Error
+        ensures error { result ≡ UnknownToken }
+        ensures after { self.new ≡ record self.old { refusals = min (self.old.refusals + 1) (2 ^ 64 - 1) } }
+    {
+        self.refusals = self.refusals.saturating_add(1);
+        Error::UnknownToken
+    }
+
+    // The number of the listener that was bound at this address, where there is one.
+    fn number_of(&self, address: Addr) -> Option<usize>
+        ensures { result ≡ number_at self.now.state.addresses address }
+    {
+        self.addresses.get_index_of(&address)
+    }
+
+    // The number of the live listener at this address, where there is one.
+    fn live_at(&self, address: Addr) -> Option<usize>
+        ensures number { result ≡ listener_at self.now.state address }
+        ensures live { IfSome result (λ n. is_some (live_listener self.now.state.listeners n) ≡ true) }
+    {
+        let number = self.number_of(address)?;
+        if self.has_listener(number as u64) {
+            Some(number)
+        } else {
+            None
+        }
+    }
+
+    // Whether a live listener has the number.
+    fn has_listener(&self, number: u64) -> bool
+        ensures { result ≡ is_some (live_listener self.now.state.listeners number) }
+    {
+        match self.listeners.get(number as usize) {
+            Some(listener) => listener.is_alive(),
+            None => false,
+        }
     }
 
     // Binds a listener.
@@ -136,10 +187,14 @@ impl Net {
         if is_dialer_address(socket) {
             return Err(Error::BindFailed);
         }
-        if let Some(_) = self.listeners.number_of(socket) {
+        if let Some(_) = self.number_of(socket) {
             return Err(Error::BindFailed);
         }
-        let number = self.listeners.bind(socket)?;
+        let number = self.listeners.len() as u64;
+        self.listeners.reserve(1)?;
+        self.addresses.insert(socket)?;
+        let alloc = *self.listeners.allocator();
+        self.listeners.push_reserved(Acceptor::new(alloc));
         Ok(Listener {
             number,
             address: socket,
@@ -154,7 +209,7 @@ impl Net {
         if self.port == LAST_PORT {
             return Err(Error::PortsExhausted);
         }
-        let Some(listener) = self.listeners.live_at(socket) else {
+        let Some(listener) = self.live_at(socket) else {
             self.port += 1;
             return Err(Error::ConnectionFailed);
         };
@@ -170,9 +225,12 @@ impl Net {
             sink: to_dialer,
             stream: from_dialer,
         };
-        let wake = self.listeners.push(listener, connection)?;
-        self.channels.add(DEFAULT_BUFFER_SIZE);
-        self.channels.add(DEFAULT_BUFFER_SIZE);
+        let wake = self.listeners[listener].push(connection)?;
+        let alloc = *self.channels.allocator();
+        self.channels
+            .push_reserved(Pipe::new(alloc, DEFAULT_BUFFER_SIZE));
+        self.channels
+            .push_reserved(Pipe::new(alloc, DEFAULT_BUFFER_SIZE));
         self.port += 1;
         let halves = (Sink::idle(from_dialer), Stream::idle(to_dialer));
         Ok(Reply::of(halves, wake))
@@ -183,7 +241,10 @@ impl Net {
         ensures accepts { NetAccepts self.old.state number result }
         ensures after { self.new ≡ moved_to self.old (net_after_accept self.old.state number task result) }
     {
-        match self.listeners.accept(number, task)? {
+        if !self.has_listener(number) {
+            return Err(Error::UnknownToken);
+        }
+        match self.listeners[number as usize].accept(task) {
             Poll::Pending => Ok(Poll::Pending),
             Poll::Ready(connection) => Ok(Poll::Ready((
                 connection.dialer,
@@ -266,7 +327,10 @@ impl Network for Net {
         bufs: IoBufs,
         task: u64,
     ) -> Reply<Result<Poll<()>, Error>> {
-        let reply = self.channels.send(sink.number, bufs, task);
+        if !has_sink(&self.channels, sink.number) {
+            return Reply::of(Err(self.unknown()), None);
+        }
+        let reply = self.channels[sink.number as usize].send(bufs, task);
         sink.sending = is_pending(&reply.value);
         self.count(&reply.value);
         reply
@@ -278,7 +342,10 @@ impl Network for Net {
         sink: &mut Sink,
         task: u64,
     ) -> Result<Poll<()>, Error> {
-        let answer = self.channels.poll_send(sink.number, task);
+        if !has_sink(&self.channels, sink.number) {
+            return Err(self.unknown());
+        }
+        let answer = self.channels[sink.number as usize].poll_send(task);
         sink.sending = still_waits(&answer);
         self.count(&answer);
         answer
@@ -291,7 +358,10 @@ impl Network for Net {
         len: usize,
         task: u64,
     ) -> Result<Reply<Poll<IoBufs>>, Error> {
-        let answer = self.channels.recv(stream.number, len, task);
+        if !has_stream(&self.channels, stream.number) {
+            return Err(self.unknown());
+        }
+        let answer = self.channels[stream.number as usize].recv(len, task);
         stream.receiving = waits(&answer);
         self.count(&answer);
         answer
@@ -303,14 +373,20 @@ impl Network for Net {
         stream: &mut Stream,
         task: u64,
     ) -> Result<Poll<IoBufs>, Error> {
-        let answer = self.channels.poll_recv(stream.number, task);
+        if !has_stream(&self.channels, stream.number) {
+            return Err(self.unknown());
+        }
+        let answer = self.channels[stream.number as usize].poll_recv(task);
         stream.receiving = still_waits(&answer);
         self.count(&answer);
         answer
     }
 
     fn asked_len(&self, stream: &Stream) -> usize {
-        self.channels.asked_len(stream.number)
+        match self.channels.get(stream.number as usize) {
+            Some(pipe) => pipe.asked_len(),
+            None => 0,
+        }
     }
 
     fn peek<E: Env>(
@@ -319,24 +395,31 @@ impl Network for Net {
         stream: &Stream,
         max_len: usize,
     ) -> Result<IoBuf, Error> {
-        let answer = self.channels.peek(stream.number, max_len);
+        if !has_stream(&self.channels, stream.number) {
+            return Err(self.unknown());
+        }
+        let answer = self.channels[stream.number as usize].peek(max_len);
         self.count(&answer);
         answer
     }
 
     fn give_up_send(&mut self, sink: &mut Sink) {
-        self.channels.give_up_send(sink.number);
+        if has_sink(&self.channels, sink.number) {
+            self.channels[sink.number as usize].give_up_send();
+        }
         sink.sending = false;
     }
 
     fn give_up_recv(&mut self, stream: &mut Stream) {
-        self.channels.give_up_recv(stream.number);
+        if has_stream(&self.channels, stream.number) {
+            self.channels[stream.number as usize].give_up_recv();
+        }
         stream.receiving = false;
     }
 
     fn close_sink(&mut self, sink: Sink) -> Option<u64> {
         let Sink { number, sending: _ } = sink;
-        self.channels.close_sink(number)
+        close_sink(&mut self.channels, number)
     }
 
     fn close_stream(&mut self, stream: Stream) -> Option<u64> {
@@ -344,7 +427,7 @@ impl Network for Net {
             number,
             receiving: _,
         } = stream;
-        self.channels.close_stream(number)
+        close_stream(&mut self.channels, number)
     }
 
     fn bind<E: Env>(&mut self, _env: &mut E, socket: Addr) -> Result<Listener, Error> {
@@ -385,13 +468,15 @@ impl Network for Net {
     }
 
     fn give_up_accept(&mut self, listener: &mut Listener) {
-        self.listeners.give_up(listener.number);
+        if self.has_listener(listener.number) {
+            self.listeners[listener.number as usize].give_up();
+        }
     }
 
     fn close_listener(&mut self, listener: Listener) {
         let Listener { number, address: _ } = listener;
-        if let Some(woken) = self.listeners.close(number, &mut self.channels) {
-            self.woken = woken;
+        if self.has_listener(number) {
+            self.woken = self.listeners[number as usize].close(&mut self.channels);
         }
     }
 

@@ -1,7 +1,8 @@
-// What a call on the network answers.
+// What a call on the network answers, and which answers leave it waiting.
 ghost use Rattle.std.specs.Prelude.{◌≡◌, None};
+ghost use Rattle.rt_net.specs.Refusals.{is_pending, still_waits, waits};
 
-use rt_base::Nanos;
+use rt_base::{Error, Nanos, Poll};
 
 /// An answer, and the task that the call wakes.
 #[derive(Debug, Drop)]
@@ -24,5 +25,38 @@ impl<V> Reply<V> {
             wake,
             link: None,
         }
+    }
+}
+
+/// The call waits.
+pub fn is_pending<V>(answer: &Result<Poll<V>, Error>) -> bool
+    ensures { result ≡ is_pending answer.now }
+{
+    match answer {
+        Ok(Poll::Pending) => true,
+        Ok(Poll::Ready(_)) | Err(_) => false,
+    }
+}
+
+/// The call waits, of an answer that also tells a task.
+pub fn waits<V>(answer: &Result<Reply<Poll<V>>, Error>) -> bool
+    ensures { result ≡ waits answer.now }
+{
+    match answer {
+        Ok(reply) => match reply.value {
+            Poll::Pending => true,
+            Poll::Ready(_) => false,
+        },
+        Err(_) => false,
+    }
+}
+
+/// After a poll the call still waits.
+pub fn still_waits<V>(answer: &Result<Poll<V>, Error>) -> bool
+    ensures { result ≡ still_waits answer.now }
+{
+    match answer {
+        Ok(Poll::Pending) | Err(Error::NoMemory) | Err(Error::UnknownToken) => true,
+        Ok(Poll::Ready(_)) | Err(_) => false,
     }
 }

@@ -1,0 +1,22 @@
+-- A live object in its list, and what a call on it leaves.
+use Rattle.std.proofs.Common.{◌≡◌, ℕ, Bool, true, false, cond, List, Option, Some, None, refl, sym, ap, ◌∙◌}
+use Rattle.std.specs.Prelude.{slice_get, slice_set, slice_index_or, is_some}
+use Rattle.std.proofs.lemmas.Option.{get_or_from_slice_get}
+use Rattle.rt_net.specs.Network.{if_lives, at}
+
+kept : {X : Type 0} (b : Bool) (d : X) → is_some (cond b (Some d) None) ≡ true → cond b (Some d) None ≡ Some d
+kept true d e = refl
+kept false d e = absurd (cc)
+
+found : {X : Type 0} (lives : X → Bool) (xs : List X) (n : ℕ) (d : X) (o : Option X) → slice_get xs n ≡ o → d ≡ slice_index_or xs n d → is_some (if_lives lives o) ≡ true → if_lives lives o ≡ Some d
+found lives xs n d None e read live = absurd (cc)
+found lives xs n d (Some x) e read live =
+    let same : x ≡ d = sym (read ∙ get_or_from_slice_get xs n x d e) in
+    kept (lives x) x live ∙ ap Some same
+
+-- what was read at the number of a live object is that object
+pub live-there : {X : Type 0} (lives : X → Bool) (xs : List X) (n : ℕ) (d : X) → d ≡ slice_index_or xs n d → is_some (if_lives lives (slice_get xs n)) ≡ true → if_lives lives (slice_get xs n) ≡ Some d
+live-there lives xs n d read live = found lives xs n d (slice_get xs n) refl read live
+
+pub after-at : {X : Type 0} (xs : List X) (n : ℕ) (d e : X) (f : X → X) (o : Option X) → o ≡ Some d → e ≡ f d → slice_set xs n e ≡ at xs n f o
+after-at xs n d e f o live made = ap (slice_set xs n) made ∙ sym (ap (at xs n f) live)

@@ -1,0 +1,106 @@
+// The tokens of a `Net`, and what each half of a channel tells of itself.
+ghost use Rattle.std.specs.Prelude.{◌≡◌, Bool, false};
+
+use rt_base::Addr;
+
+/// A half from which bytes are sent, which says whether a `send` of it is started and neither answered nor given up.
+pub trait Sending {
+    ghost sending: { Self → Bool };
+
+    /// Whether a `send` waits.
+    fn is_sending(&self) -> bool
+        ensures { result ≡ sending self.now };
+}
+
+/// A half at which bytes are received, which says whether a `recv` of it is started and neither answered nor given up.
+pub trait Receiving {
+    ghost receiving: { Self → Bool };
+
+    /// Whether a `recv` waits.
+    fn is_receiving(&self) -> bool
+        ensures { result ≡ receiving self.now };
+}
+
+/// The half of a channel from which bytes are sent. It must be spent by `Network::close_sink`.
+#[derive(Debug)]
+pub struct Sink {
+    pub(crate) number: u64,
+    pub(crate) sending: bool,
+}
+
+impl Sink {
+    // A half of which no call was started.
+    pub(crate) fn idle(number: u64) -> Sink
+        ensures { result ≡ record { number = number; sending = false } }
+    {
+        Sink {
+            number,
+            sending: false,
+        }
+    }
+
+    /// The number that it has in its `Net`, where no other sink has it.
+    pub fn number(&self) -> u64
+        ensures { result ≡ self.now.number }
+    {
+        self.number
+    }
+}
+
+impl Sending for Sink {
+    ghost sending = { λ k. k.sending };
+
+    fn is_sending(&self) -> bool {
+        self.sending
+    }
+}
+
+/// The half of a channel at which bytes are received. It must be spent by `Network::close_stream`.
+#[derive(Debug)]
+pub struct Stream {
+    pub(crate) number: u64,
+    pub(crate) receiving: bool,
+}
+
+impl Stream {
+    // A half of which no call was started.
+    pub(crate) fn idle(number: u64) -> Stream
+        ensures { result ≡ record { number = number; receiving = false } }
+    {
+        Stream {
+            number,
+            receiving: false,
+        }
+    }
+
+    /// The number that it has in its `Net`, where no other stream has it.
+    pub fn number(&self) -> u64
+        ensures { result ≡ self.now.number }
+    {
+        self.number
+    }
+}
+
+impl Receiving for Stream {
+    ghost receiving = { λ k. k.receiving };
+
+    fn is_receiving(&self) -> bool {
+        self.receiving
+    }
+}
+
+/// A listener. It must be spent by `Network::close_listener`.
+#[derive(Debug)]
+pub struct Listener {
+    pub(crate) number: u64,
+    pub(crate) address: Addr,
+}
+
+impl Listener {
+    /// The number that it has in its `Net`, where no other listener has it.
+    pub fn number(&self) -> u64
+        ensures { result ≡ self.now.number }
+    {
+        self.number
+    }
+}
