@@ -11,7 +11,7 @@ ghost use Rattle.rt_base.specs.declared.error.Error.TheVariants.{UnknownToken};
 use crate::acceptor::{Acceptor, anyone_accepts_at};
 use crate::channels::{anyone_waits_at, close_sink, close_stream, has_sink, has_stream};
 use crate::pipe::Pipe;
-use crate::reply::{is_pending, still_waits, waits};
+use crate::reply::{is_pending, waits};
 use crate::{Connection, Listener, Network, Reply, Sink, Stream};
 use indexmap::IndexSet;
 use rt_base::{Addr, Env, Error, Ip, NoMemory, Poll};
@@ -346,7 +346,7 @@ impl Network for Net {
             return Err(self.unknown());
         }
         let answer = self.channels[sink.number as usize].poll_send(task);
-        sink.sending = still_waits(&answer);
+        sink.sending = is_pending(&answer);
         self.count(&answer);
         answer
     }
@@ -377,7 +377,7 @@ impl Network for Net {
             return Err(self.unknown());
         }
         let answer = self.channels[stream.number as usize].poll_recv(task);
-        stream.receiving = still_waits(&answer);
+        stream.receiving = is_pending(&answer);
         self.count(&answer);
         answer
     }

@@ -1,6 +1,6 @@
 // What a call on the network answers, and which answers leave it waiting.
 ghost use Rattle.std.specs.Prelude.{◌≡◌, None};
-ghost use Rattle.rt_net.specs.Refusals.{is_pending, still_waits, waits};
+ghost use Rattle.rt_net.specs.Refusals.{is_pending, waits};
 
 use rt_base::{Error, Nanos, Poll};
 
@@ -48,15 +48,5 @@ pub fn waits<V>(answer: &Result<Reply<Poll<V>>, Error>) -> bool
             Poll::Ready(_) => false,
         },
         Err(_) => false,
-    }
-}
-
-/// After a poll the call still waits.
-pub fn still_waits<V>(answer: &Result<Poll<V>, Error>) -> bool
-    ensures { result ≡ still_waits answer.now }
-{
-    match answer {
-        Ok(Poll::Pending) | Err(Error::NoMemory) | Err(Error::UnknownToken) => true,
-        Ok(Poll::Ready(_)) | Err(_) => false,
     }
 }
