@@ -144,10 +144,8 @@ impl PendingSyncs {
         ensures refused { OnErr result (self.new ≡ self.old) }
     {
         let alloc = *self.parked.allocator();
-        let (numbers, _) = self.queue.make_contiguous().split_at(count);
-        let tasks = tasks_to_wake(alloc, self.parked.as_slice(), numbers)?;
-        release_each(&mut self.parked, numbers, fails);
-        drop(self.queue.drain(..count));
+        let tasks = tasks_to_wake(alloc, self.parked.as_slice(), &self.queue, count)?;
+        release_each(&mut self.parked, &mut self.queue, count, fails);
         Ok(tasks)
     }
 
@@ -155,8 +153,8 @@ impl PendingSyncs {
     pub(crate) fn release_all(&mut self)
         ensures { self.new ≡ first_released (outcome false) (length self.old.queue) self.old }
     {
-        release_each(&mut self.parked, self.queue.make_contiguous(), false);
-        self.queue.clear();
+        let count = self.queue.len();
+        release_each(&mut self.parked, &mut self.queue, count, false);
     }
 
     /// Takes the first one out of the queue, which is released by its number.
@@ -290,13 +288,19 @@ fn outcome(fails: bool) -> Result<(), Error>
     }
 }
 
-// The tasks that polled them last.
-fn tasks_to_wake(alloc: Global, parked: &[Parked], numbers: &[u64]) -> Result<Vec<u64>, NoMemory>
-    ensures { IfOk result (λ tasks. tasks.items ≡ tasks_of parked.now numbers.now) }
+// The tasks that polled the first so many of the queue last.
+fn tasks_to_wake(
+    alloc: Global,
+    parked: &[Parked],
+    queue: &VecDeque<u64>,
+    count: usize,
+) -> Result<Vec<u64>, NoMemory>
+    requires { count ≤ length queue.now.items }
+    ensures { IfOk result (λ tasks. tasks.items ≡ tasks_of parked.now (take count queue.now.items)) }
 {
     Ok(
-        numbers
-            .iter()
+        queue
+            .range(..count)
             .filter_map(|number| task_of(parked, *number))
             .collect(alloc)?,
     )
@@ -312,14 +316,17 @@ fn task_of(parked: &[Parked], number: u64) -> Option<u64>
     }
 }
 
-// Releases these.
-fn release_each(parked: &mut Vec<Parked>, numbers: &[u64], fails: bool)
-    ensures { parked.new.items ≡ all_released (outcome fails) numbers.now parked.old.items }
+// Takes the first so many out of the queue one by one, and releases them. None of the others moves.
+fn release_each(parked: &mut Vec<Parked>, queue: &mut VecDeque<u64>, count: usize, fails: bool)
+    ensures released { parked.new.items ≡ all_released (outcome fails) (take count queue.old.items) parked.old.items }
+    ensures taken { queue.new.items ≡ drop count queue.old.items }
 {
-    let mut rest = numbers;
-    while let Some((number, tail)) = rest.split_first() {
-        let _ = release_one(parked, *number, outcome(fails));
-        rest = tail;
+    let mut left = count;
+    while left > 0 {
+        left -= 1;
+        if let Some(number) = queue.pop_front() {
+            let _ = release_one(parked, number, outcome(fails));
+        }
     }
 }
 
