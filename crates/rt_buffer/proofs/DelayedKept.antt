@@ -255,9 +255,7 @@ passed_given_up c bytes left promised keeps n b at w options (Ok Now) s t mid x 
 passed_given_up {S = S} {B = B} c bytes left promised keeps n b at w options (Ok (Gated (Ready a))) s t mid x new opened plainly writes is made gives =
     let same : t ≡ Ready a = cc in
     let here : GivesUp c (Ready a) mid new = rw same at gives in
-    let blobs : new.blobs ≡ mid.blobs = ap (λ (u : Delayed S B). u.blobs) here.1 in
-    let there : blob_at mid.blobs n ≡ Some b = ap (λ (u : Delayed S B). blob_at u.blobs n) made ∙ opened in
-    rw (blobs, there) (keeps.given_up_bytes mid.inner a new.inner b here.0)
+    rw here refl
 passed_given_up {S = S} {B = B} c bytes left promised keeps n b at w options (Ok (Gated (Numbered m))) s t mid x new opened plainly writes is made gives =
     let same : t ≡ Numbered (length s.tickets) = cc in
     let p : Passed = record { number = m; blob = None; counts = false } in
@@ -284,13 +282,13 @@ Came bytes left promised content n k q t =
 answers_came : {S B : Type 0} (c : StoreCalls S B) (bytes : S → B → List ℕ) (left : S → B → Option (List ℕ)) (promised : S → Ticket → B → Option (List ℕ)) (keeps : KeepsBytes c bytes left promised) (n : ℕ) (b : B) (k : ℕ) (blob : Option ℕ) (counts : Bool) (r : Result Unit Error) (s : Delayed S B) (q : Poll (Result Unit Error)) (t : Delayed S B)
     → blob_at s.blobs n ≡ Some b → stays_open s.blobs n blob ≡ true → ((u : Unit) → r ≡ Ok u → IsDurable bytes left s.inner b) → AnswersInner c k blob counts r s q t → Came bytes left promised (bytes s.inner b) n k q t
 answers_came c bytes left promised keeps n b k blob counts r s q t opened stays durable did =
-    let fin = lets_go_open c n blob _ t stays did.3 in
+    let fin = lets_go_open c n blob _ t stays did.1 in
     let is : q ≡ poll.Ready r = did.0 in (
-      rw (fin.0, fin.1, opened) (keeps.given_up_bytes s.inner (Ok tt) did.1 b did.2),
+      rw (fin.0, fin.1, opened) refl,
       (λ waits. absurd (cc)),
       λ u done.
           let ok : r ≡ Ok u = cc in
-          rw (fin.0, fin.1, opened) (keeps.given_up s.inner (Ok tt) did.1 b did.2 (durable u ok)),
+          rw (fin.0, fin.1, opened) (durable u ok),
     )
 
 copied : (held a : Result Unit Error) (u : Unit) → held ≡ Ok u → IsCopy held (poll.Ready a) → a ≡ Ok tt
@@ -376,10 +374,7 @@ stage_came c bytes left promised keeps n k task (Some (stage.Passed p)) s q t x 
 
 polls_bytes : {S B : Type 0} (c : StoreCalls S B) (bytes : S → B → List ℕ) (left : S → B → Option (List ℕ)) (promised : S → Ticket → B → Option (List ℕ)) (keeps : KeepsBytes c bytes left promised) (s : Delayed S B) (t : Ticket) (n task : ℕ) (p : Poll (Result Unit Error)) (new : Delayed S B) (held : Ticket) (x : List Noted)
     → Promises (delayed_bytes bytes) (delayed_promised bytes promised) s t n → Polls c task t s p new held x → delayed_bytes bytes new n ≡ delayed_bytes bytes s n
-polls_bytes {S = S} {B = B} c bytes left promised keeps s (Ready r) n task p new held x hopes did =
-    let f = promised_some promised s.inner (Ready r) (blob_at s.blobs n) _ hopes in
-    let same : new.blobs ≡ s.blobs = ap (λ (u : Delayed S B). u.blobs) did.2 in
-    rw (same, f.1) (keeps.polled_bytes s.inner (Ready r) f.0 task p new.inner held x (rw f.1 at hopes) did.0)
+polls_bytes c bytes left promised keeps s (Ready r) n task p new held x hopes did = rw did.1 refl
 polls_bytes c bytes left promised keeps s (Numbered k) n task p new held x hopes did =
     (stage_came c bytes left promised keeps n k task (slice_get s.tickets k) s did.0 new x refl hopes did.1).0
 
@@ -402,16 +397,27 @@ settled_done bytes left promised content n k (poll.Ready (Err e)) u new held cam
 
 polls_then : {S B : Type 0} (c : StoreCalls S B) (bytes : S → B → List ℕ) (left : S → B → Option (List ℕ)) (promised : S → Ticket → B → Option (List ℕ)) (keeps : KeepsBytes c bytes left promised) (s : Delayed S B) (t : Ticket) (n task : ℕ) (new : Delayed S B) (held : Ticket) (x : List Noted)
     → Promises (delayed_bytes bytes) (delayed_promised bytes promised) s t n → Polls c task t s poll.Pending new held x → Promises (delayed_bytes bytes) (delayed_promised bytes promised) new held n
-polls_then c bytes left promised keeps s (Ready r) n task new held x hopes did = absurd (never r did.1.0)
+polls_then c bytes left promised keeps s (Ready r) n task new held x hopes did = absurd (never r did.0.0)
 polls_then c bytes left promised keeps s (Numbered k) n task new held x hopes did =
     settled_then bytes left promised _ n k did.0 new held (stage_came c bytes left promised keeps n k task (slice_get s.tickets k) s did.0 new x refl hopes did.1) did.2
 
+done_durable : {S B : Type 0} (c : StoreCalls S B) (bytes : S → B → List ℕ) (left : S → B → Option (List ℕ)) (promised : S → Ticket → B → Option (List ℕ)) (keeps : KeepsBytes c bytes left promised) (s : Delayed S B) (u : Unit) (n : ℕ)
+    → Promises (delayed_bytes bytes) (delayed_promised bytes promised) s (Ready (Ok u)) n → IsDurable (delayed_bytes bytes) (delayed_left left) s n
+done_durable c bytes left promised keeps s u n hopes =
+    let f = promised_some promised s.inner (Ready (Ok u)) (blob_at s.blobs n) _ hopes in
+    rw f.1 (keeps.ready_done s.inner u f.0 (rw f.1 at hopes))
+
+answered_ok : (r : Result Unit Error) (u : Unit) → IsCopy r (poll.Ready (Ok u)) → r ≡ Ok tt
+answered_ok (Ok v) u is = refl
+answered_ok (Err e) u (inl is) = absurd (cc)
+answered_ok (Err e) u (inr is) = absurd (cc)
+
 polls_done : {S B : Type 0} (c : StoreCalls S B) (bytes : S → B → List ℕ) (left : S → B → Option (List ℕ)) (promised : S → Ticket → B → Option (List ℕ)) (keeps : KeepsBytes c bytes left promised) (s : Delayed S B) (t : Ticket) (n task : ℕ) (u : Unit) (new : Delayed S B) (held : Ticket) (x : List Noted)
     → Promises (delayed_bytes bytes) (delayed_promised bytes promised) s t n → Polls c task t s (poll.Ready (Ok u)) new held x → IsDurable (delayed_bytes bytes) (delayed_left left) new n
-polls_done {S = S} {B = B} c bytes left promised keeps s (Ready r) n task u new held x hopes did =
-    let f = promised_some promised s.inner (Ready r) (blob_at s.blobs n) _ hopes in
-    let same : new.blobs ≡ s.blobs = ap (λ (v : Delayed S B). v.blobs) did.2 in
-    rw (same, f.1) (keeps.polled s.inner (Ready r) f.0 task u new.inner held x (rw f.1 at hopes) did.0)
+polls_done c bytes left promised keeps s (Ready r) n task u new held x hopes did =
+    let ok : r ≡ Ok tt = answered_ok r u did.0.0 in
+    let here : IsDurable (delayed_bytes bytes) (delayed_left left) s n = done_durable c bytes left promised keeps s tt n (rw ok at hopes) in
+    rw did.1 here
 polls_done c bytes left promised keeps s (Numbered k) n task u new held x hopes did =
     settled_done bytes left promised _ n k did.0 u new held (stage_came c bytes left promised keeps n k task (slice_get s.tickets k) s did.0 new x refl hopes did.1) did.2
 
@@ -423,21 +429,6 @@ resizes_bytes c bytes left promised keeps n None s len u t x opened did = absurd
 resizes_bytes {S = S} {B = B} c bytes left promised keeps n (Some b) s len u t x opened did =
     let same : t.blobs ≡ s.blobs = ap (λ (v : Delayed S B). v.blobs) did.1 in
     rw (same, opened) (keeps.resized_by s.inner b len u t.inner x did.0)
-
-ready_given_up : {S B : Type 0} (c : StoreCalls S B) (bytes : S → B → List ℕ) (left : S → B → Option (List ℕ)) (promised : S → Ticket → B → Option (List ℕ)) (keeps : KeepsBytes c bytes left promised) (n : ℕ) (o : Option B) (a : Result Unit Error) (s t : Delayed S B)
-    → blob_at s.blobs n ≡ o → GivesUp c (Ready a) s t → (delayed_bytes bytes t n ≡ delayed_bytes bytes s n) × (IsDurable (delayed_bytes bytes) (delayed_left left) s n → IsDurable (delayed_bytes bytes) (delayed_left left) t n)
-ready_given_up {S = S} {B = B} c bytes left promised keeps n None a s t opened did =
-    let same : t.blobs ≡ s.blobs = ap (λ (v : Delayed S B). v.blobs) did.1 in
-    (rw (same, opened) refl, (λ durable. rw (same, opened) refl))
-ready_given_up {S = S} {B = B} c bytes left promised keeps n (Some b) a s t opened did =
-    let same : t.blobs ≡ s.blobs = ap (λ (v : Delayed S B). v.blobs) did.1 in
-    (rw (same, opened) (keeps.given_up_bytes s.inner a t.inner b did.0), (λ durable. rw (same, opened) (keeps.given_up s.inner a t.inner b did.0 (rw opened at durable))))
-
-done_durable : {S B : Type 0} (c : StoreCalls S B) (bytes : S → B → List ℕ) (left : S → B → Option (List ℕ)) (promised : S → Ticket → B → Option (List ℕ)) (keeps : KeepsBytes c bytes left promised) (s : Delayed S B) (u : Unit) (n : ℕ)
-    → Promises (delayed_bytes bytes) (delayed_promised bytes promised) s (Ready (Ok u)) n → IsDurable (delayed_bytes bytes) (delayed_left left) s n
-done_durable c bytes left promised keeps s u n hopes =
-    let f = promised_some promised s.inner (Ready (Ok u)) (blob_at s.blobs n) _ hopes in
-    rw f.1 (keeps.ready_done s.inner u f.0 (rw f.1 at hopes))
 
 free : (options : WriteOptions) (armed : Bool) → options.sync ≡ false → (options.sync && armed) ≡ false
 free options armed plainly = rw plainly refl
@@ -458,6 +449,4 @@ delayed_keeps c bytes left promised keeps = record {
   polled_then = λ s t n task new held x hopes did. polls_then c bytes left promised keeps s t n task new held x hopes did;
   polled = λ s t n task u new held x hopes did. polls_done c bytes left promised keeps s t n task u new held x hopes did;
   ready_done = λ s u n hopes. done_durable c bytes left promised keeps s u n hopes;
-  given_up_bytes = λ s a new n did. (ready_given_up c bytes left promised keeps n _ a s new refl did).0;
-  given_up = λ s a new n did durable. (ready_given_up c bytes left promised keeps n _ a s new refl did).1 durable;
 }

@@ -47,22 +47,14 @@ asked_saved bytes left promised b content (Ok (poll.Ready u)) new h = ((h.0, h.1
 asked_saved bytes left promised b content (Ok poll.Pending) new h = h
 asked_saved bytes left promised b content (Err e) new h = tt
 
--- a poll that is answered leaves a ticket that is ready
-polled_ready : (t held : Ticket) (r : Result Unit Error) → PollsTicket t (poll.Ready r) held → (a : Result Unit Error) × (held ≡ ticket.Ready a)
-polled_ready (ticket.Ready a) held r did = (a, did.1)
-polled_ready (ticket.Numbered n) held r did = (did.0, did.1)
-
 -- a started sync was asked for
 settled_asked : {S B : Type 0} (c : StoreCalls S B) (bytes : S → B → List ℕ) (left : S → B → Option (List ℕ)) (promised : S → Ticket → B → Option (List ℕ)) (keeps : KeepsBytes c bytes left promised) (b : B) (task : ℕ) (old mid : S) (t held : Ticket) (h : Held) (p : Poll (Result Unit Error)) (r : Progress) (new : Writer S) (x : List Noted)
-    → Promises bytes promised old t b → IsPast h.tip (bytes old b) → c.polls old t task p mid held x → PollsTicket t p held → Settled c p mid held h r new
+    → Promises bytes promised old t b → IsPast h.tip (bytes old b) → c.polls old t task p mid held x → PollsTicket t p held → Settled p mid held h r new
     → (bytes new.store b ≡ bytes old b) × Asked bytes left promised r new.held new.store b
 settled_asked c bytes left promised keeps b task old mid t held h (poll.Ready (Ok u)) r new x hopes none polls keeps_ticket did =
-    let ready = polled_ready t held (Ok u) keeps_ticket in
     let kept : bytes mid b ≡ bytes old b = keeps.polled_bytes old t b task (poll.Ready (Ok u)) mid held x hopes polls in
     let saved : left mid b ≡ Some (bytes mid b) = keeps.polled old t b task u mid held x hopes polls in
-    let last : bytes new.store b ≡ bytes old b = keeps.given_up_bytes mid ready.0 new.store b (rw ready.1 at did.1) ∙ kept in
-    let stays : left new.store b ≡ Some (bytes new.store b) = keeps.given_up mid ready.0 new.store b (rw ready.1 at did.1) saved in
-    rw (did.0, did.2) (last, ((rw last none, refl, stays), stays))
+    rw (did.0, did.1) (kept, ((rw kept none, refl, saved), saved))
 settled_asked c bytes left promised keeps b task old mid t held h (poll.Ready (Err e)) r new x hopes none polls keeps_ticket did =
     rw (did.0, did.1) (keeps.polled_bytes old t b task (poll.Ready (Err e)) mid held x hopes polls, tt)
 settled_asked c bytes left promised keeps b task old mid t held h poll.Pending r new x hopes none polls keeps_ticket did =
@@ -171,15 +163,12 @@ start_came c bytes left promised keeps b content (Err e) y mid r new x d did = r
 
 -- the wait for a started sync keeps what the tip and the blob show
 tip_settles : {S B : Type 0} (c : StoreCalls S B) (bytes : S → B → List ℕ) (left : S → B → Option (List ℕ)) (promised : S → Ticket → B → Option (List ℕ)) (keeps : KeepsBytes c bytes left promised) (b : B) (task : ℕ) (content : List ℕ) (old : Writer S) (mid : S) (t held : Ticket) (p : Poll (Result Unit Error)) (r : Progress) (new : Writer S) (x : List Noted)
-    → LiesOver old.held.tip (bytes old.store b) → laid_over old.held.tip (bytes old.store b) ≡ content → Promises bytes promised old.store t b → c.polls old.store t task p mid held x → PollsTicket t p held → Settled c p mid held old.held r new
+    → LiesOver old.held.tip (bytes old.store b) → laid_over old.held.tip (bytes old.store b) ≡ content → Promises bytes promised old.store t b → c.polls old.store t task p mid held x → PollsTicket t p held → Settled p mid held old.held r new
     → (r ≡ is_done → Keeping bytes left promised content work.Sync new.held new.store b × (is_started new.held.state ≡ false)) × (r ≡ Ok poll.Pending → Keeping bytes left promised content work.Sync new.held new.store b)
 tip_settles c bytes left promised keeps b task content old mid t held (poll.Ready (Ok u)) r new x lies shows hopes polls keeps_ticket did =
-    let ready = polled_ready t held (Ok u) keeps_ticket in
     let kept : bytes mid b ≡ bytes old.store b = keeps.polled_bytes old.store t b task (poll.Ready (Ok u)) mid held x hopes polls in
     let saved : left mid b ≡ Some (bytes mid b) = keeps.polled old.store t b task u mid held x hopes polls in
-    let last : bytes new.store b ≡ bytes old.store b = keeps.given_up_bytes mid ready.0 new.store b (rw ready.1 at did.1) ∙ kept in
-    let stays : left new.store b ≡ Some (bytes new.store b) = keeps.given_up mid ready.0 new.store b (rw ready.1 at did.1) saved in
-    ((λ done. rw did.2 ((rw last lies, rw last shows, stays), refl)), (λ waits. absurd (cc)))
+    ((λ done. rw did.1 ((rw kept lies, rw kept shows, saved), refl)), (λ waits. absurd (cc)))
 tip_settles c bytes left promised keeps b task content old mid t held (poll.Ready (Err e)) r new x lies shows hopes polls keeps_ticket did = ((λ done. absurd (cc)), (λ waits. absurd (cc)))
 tip_settles c bytes left promised keeps b task content old mid t held poll.Pending r new x lies shows hopes polls keeps_ticket did =
     let kept : bytes mid b ≡ bytes old.store b = keeps.polled_bytes old.store t b task poll.Pending mid held x hopes polls in

@@ -160,8 +160,6 @@ memory_keeps = record {
   polled_then = λ s t b task new held x hopes did. polls_wait s t b task new held x did;
   polled = λ s t b task u new held x hopes did. polls_done s t b task u new held x hopes did;
   ready_done = λ s u b hopes. hopes;
-  given_up_bytes = λ s a new b did. rw did refl;
-  given_up = λ s a new b did durable. rw did durable;
 }
 
 crash_keeps : (version : BlobVersion) (token : Option ℕ) (removed : Bool) (content base : List ℕ) (later : List Mutation) (cs : List Choice) (bytes : List ℕ)

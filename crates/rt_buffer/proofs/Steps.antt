@@ -19,10 +19,11 @@ use Rattle.rt_buffer.specs.Pieces.{Pieces, merged_chunks, passed, pieces}
 use Rattle.rt_buffer.specs.Tip.{Tip, bytes_to_write, bytes_before, drained, is_within, resized_tip}
 use Rattle.rt_buffer.specs.Writing.{has_bytes, is_clean, is_in_the_way}
 use Rattle.rt_buffer.specs.Steps.{Progress, Writer, writer, Act, Then, Keeps, Settles, WritesOut, with_state, with_tip, plain, AreBuffers, SyncsBlob, Saves, SavesBytes, SavesChanges, WritesDurably, WritesChunk, Raised, Puts, PutsAgain, PutsAll, PutsChunks, ResizesBlob, ResizesTip, Drains, Waits, Finishes, Ends, Runs, Begins, Starts, WritesAt, WritesLeft, with_handle, is_done}
-use Rattle.rt_store.specs.Answered.{CountsDone}
+use Rattle.rt_store.specs.Answered.{CountsDone, PollsTicket, is_numbered}
 use Rattle.rt_store.specs.declared.ticket.Done.{Done}
 use Rattle.rt_store.specs.declared.ticket.Done.TheVariants.{Now, Gated}
 use Rattle.rt_store.specs.declared.ticket.Ticket.{Ticket}
+use Rattle.rt_store.specs.declared.ticket.Ticket.TheVariants as ticket
 use Rattle.rt_buffer.proofs.Noting.{adds_both, adds_none}
 
 pub then_done : {S : Type 0} (first next : Act S) (old mid new : Writer S) (a r : Progress) (before between behind : Option (List Noted))
@@ -38,6 +39,11 @@ then_waits first next old mid a before between waits h = (h.0, h.1, (a, mid, h.0
 pub then_refused : {S : Type 0} (first next : Act S) (old mid : Writer S) (a : Progress) (e : Error) (before between : Option (List Noted))
     → a ≡ Err e → Notes before (λ y. first old a mid y) between → Notes before (λ x. Then first next old (Err e) mid x) between
 then_refused first next old mid a e before between refused h = (h.0, h.1, (a, mid, h.0, h.2, rw refused (refl, refl, refl)))
+
+-- a poll that is answered leaves a ticket that is ready
+pub polled_ready : (old new : Ticket) (r : Result Unit Error) → PollsTicket old (poll.Ready r) new → is_numbered new ≡ false
+polled_ready (ticket.Ready a) new r did = rw did.1 refl
+polled_ready (ticket.Numbered n) new r did = rw did.1 refl
 
 -- a durable change, and what is done with its ticket
 pub settled_behind : {S B : Type 0} (c : StoreCalls S B) (task : ℕ) (change : Result Done Error → S → List Noted → Type 0) (first : Result Done Error) (d : Done) (old mid : S) (held : Held) (r : Progress) (new : Writer S) (before between behind : Option (List Noted))

@@ -206,9 +206,9 @@ counted_done false r p = p
 abbrev pub Finishes : {S B : Type 0} → StoreCalls S B → ℕ → Option ℕ → Bool → Result Unit Error → Delayed S B → Delayed S B → Type 0
 Finishes c n blob counts r s t = LetsGo c blob (without_ticket n (record s { pending = counted_done counts r s.pending })) t
 
--- the answer of an inner ticket is taken out of that, which is given up without it
+-- the answer of an inner ticket is taken out of that, which is none of the inner store's any more
 abbrev pub AnswersInner : {S B : Type 0} → StoreCalls S B → ℕ → Option ℕ → Bool → Result Unit Error → Delayed S B → Poll (Result Unit Error) → Delayed S B → Type 0
-AnswersInner {S = S} c n blob counts r s p t = (p ≡ poll.Ready r) × (given_up : S) × c.gives_up s.inner (Ready (Ok tt)) given_up × Finishes c n blob counts r (moved s given_up) t
+AnswersInner c n blob counts r s p t = (p ≡ poll.Ready r) × Finishes c n blob counts r s t
 
 abbrev pub AfterInner : {S B : Type 0} → StoreCalls S B → ℕ → Passed → Ticket → Delayed S B → Poll (Result Unit Error) → Delayed S B → Type 0
 AfterInner c n k (Numbered m) s p t = (p ≡ poll.Pending) × (t ≡ s)
@@ -254,12 +254,14 @@ abbrev pub Settles : Ticket → Poll (Result Unit Error) → Poll (Result Unit E
 Settles old poll.Pending p new = (p ≡ poll.Pending) × (new ≡ old)
 Settles old (poll.Ready r) p new = IsCopy r p × (new ≡ Ready r)
 
+-- one that is ready answers a copy, with no call of the inner store
 abbrev pub Polls : {S B : Type 0} → StoreCalls S B → ℕ → Ticket → Delayed S B → Poll (Result Unit Error) → Delayed S B → Ticket → List Noted → Type 0
-Polls c task (Ready held) s p t u x = c.polls s.inner (Ready held) task p t.inner u x × PollsTicket (Ready held) p u × (t ≡ moved s t.inner)
+Polls c task (Ready held) s p t u x = PollsTicket (Ready held) p u × (t ≡ s) × (x ≡ [])
 Polls c task (Numbered n) s p t u x =
     (q : Poll (Result Unit Error)) × PollsStage c n task (slice_get s.tickets n) s q t x × Settles (Numbered n) q p u
 
--- a ticket that is given up is out and holds its blob no more, and one of the inner store is given up there
+-- a ticket that is given up is out and holds its blob no more, and one of the inner store is given up there. One that is ready is
+-- out already
 abbrev pub GivesUpStage : {S B : Type 0} → StoreCalls S B → ℕ → Option Stage → Delayed S B → Delayed S B → Type 0
 GivesUpStage c n None s t = t ≡ s
 GivesUpStage c n (Some stage.Out) s t = t ≡ s
@@ -268,7 +270,7 @@ GivesUpStage {S = S} c n (Some (stage.Passed k)) s t =
     (given_up : S) × c.gives_up s.inner (Numbered k.number) given_up × LetsGo c k.blob (without_ticket n (moved s given_up)) t
 
 abbrev pub GivesUp : {S B : Type 0} → StoreCalls S B → Ticket → Delayed S B → Delayed S B → Type 0
-GivesUp c (Ready held) s t = c.gives_up s.inner (Ready held) t.inner × (t ≡ moved s t.inner)
+GivesUp c (Ready held) s t = t ≡ s
 GivesUp c (Numbered n) s t = GivesUpStage c n (slice_get s.tickets n) s t
 
 -- the end of the store: what is left of the inner store's tickets is given up, and what is left of its blobs is closed, the last

@@ -35,8 +35,8 @@ abbrev pub Promises : {S B : Type 0} → (S → B → List ℕ) → (S → Ticke
 Promises bytes promised s t b = promised s t b ≡ Some (bytes s b)
 
 -- `bytes` is what the blobs of a store have, `left` what each crash leaves of them, and `promised` what it leaves once a sync
--- is done: so the calls of the store keep and change them. Of the tickets that are given up it speaks of those that are ready, and of
--- one of a write that needn't be durable
+-- is done: so the calls of the store keep and change them. Of the tickets that are given up it speaks of one of a write that needn't
+-- be durable
 pub record KeepsBytes {S B : Type 0} (c : StoreCalls S B) (bytes : S → B → List ℕ) (left : S → B → Option (List ℕ)) (promised : S → Ticket → B → Option (List ℕ)) : Type 0 where
   pub written_by : (s : S) (b : B) (at : ℕ) (w : Chunked) (options : WriteOptions) (d : Done) (new : S) (x : List Noted) → c.writes s b at w options (Ok d) new x → bytes new b ≡ written at w.bytes (bytes s b)
   pub write_given_up : (s : S) (b : B) (at : ℕ) (w : Chunked) (options : WriteOptions) (t : Ticket) (mid : S) (x : List Noted) (new : S) → options.sync ≡ false → c.writes s b at w options (Ok (Gated t)) mid x → c.gives_up mid t new → bytes new b ≡ bytes mid b
@@ -52,8 +52,6 @@ pub record KeepsBytes {S B : Type 0} (c : StoreCalls S B) (bytes : S → B → L
   pub polled_then : (s : S) (t : Ticket) (b : B) (task : ℕ) (new : S) (held : Ticket) (x : List Noted) → Promises bytes promised s t b → c.polls s t task poll.Pending new held x → Promises bytes promised new held b
   pub polled : (s : S) (t : Ticket) (b : B) (task : ℕ) (u : Unit) (new : S) (held : Ticket) (x : List Noted) → Promises bytes promised s t b → c.polls s t task (poll.Ready (Ok u)) new held x → IsDurable bytes left new b
   pub ready_done : (s : S) (u : Unit) (b : B) → Promises bytes promised s (ticket.Ready (Ok u)) b → IsDurable bytes left s b
-  pub given_up_bytes : (s : S) (a : Result Unit Error) (new : S) (b : B) → c.gives_up s (ticket.Ready a) new → bytes new b ≡ bytes s b
-  pub given_up : (s : S) (a : Result Unit Error) (new : S) (b : B) → c.gives_up s (ticket.Ready a) new → IsDurable bytes left s b → IsDurable bytes left new b
 
 -- what a writer knows of the durability of its blob is so
 abbrev pub KnowsState : {S B : Type 0} → (S → B → List ℕ) → (S → B → Option (List ℕ)) → (S → Ticket → B → Option (List ℕ)) → SyncState → S → B → Type 0

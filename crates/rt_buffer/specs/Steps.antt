@@ -84,11 +84,11 @@ Behind next (Err e) y mid r new x = (r ≡ Err e) × (new ≡ mid) × (x ≡ y)
 abbrev pub Then : {S : Type 0} → Act S → Act S → Act S
 Then {S} first next old r new x = (a : Progress) × (mid : Writer S) × (y : List Noted) × first old a mid y × Behind next a y mid r new x
 
--- a held ticket was polled: it is given up where its sync is done, and stays held else
-abbrev pub Settled : {S B : Type 0} → StoreCalls S B → Poll (Result Unit Error) → S → Ticket → Held → Progress → Writer S → Type 0
-Settled c (poll.Ready (Ok u)) mid t held r new = (r ≡ is_done) × c.gives_up mid t new.store × (new.held ≡ with_state held Clean)
-Settled c (poll.Ready (Err e)) mid t held r new = (r ≡ Err e) × (new ≡ writer mid (with_state held (Started t)))
-Settled c poll.Pending mid t held r new = (r ≡ Ok poll.Pending) × (new ≡ writer mid (with_state held (Started t)))
+-- a held ticket was polled: it goes where its sync is done, since it is ready then and none of the store's, and stays held else
+abbrev pub Settled : {S : Type 0} → Poll (Result Unit Error) → S → Ticket → Held → Progress → Writer S → Type 0
+Settled (poll.Ready (Ok u)) mid t held r new = (r ≡ is_done) × (new ≡ writer mid (with_state held Clean))
+Settled (poll.Ready (Err e)) mid t held r new = (r ≡ Err e) × (new ≡ writer mid (with_state held (Started t)))
+Settled poll.Pending mid t held r new = (r ≡ Ok poll.Pending) × (new ≡ writer mid (with_state held (Started t)))
 
 -- the wait for a started sync
 abbrev pub WaitsFor : {S B : Type 0} → StoreCalls S B → ℕ → SyncState → Act S
@@ -96,7 +96,7 @@ WaitsFor c task Clean old r new x = Rests old r new x
 WaitsFor c task Dirty old r new x = Rests old r new x
 WaitsFor {S} c task (Started t) old r new x =
     (p : Poll (Result Unit Error)) × (mid : S) × (held : Ticket) × c.polls old.store t task p mid held x
-    × PollsTicket t p held × CountsPoll (c.refusals old.store) (c.refusals mid) t held × Settled c p mid held old.held r new
+    × PollsTicket t p held × CountsPoll (c.refusals old.store) (c.refusals mid) t held × Settled p mid held old.held r new
 
 abbrev pub Waits : {S B : Type 0} → StoreCalls S B → ℕ → Act S
 Waits c task old r new x = WaitsFor c task old.held.state old r new x

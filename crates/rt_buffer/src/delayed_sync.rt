@@ -251,7 +251,7 @@ impl<S: Storage> DelayedSyncContext<S> {
         self.leave(number, blob);
     }
 
-    // The same, with the answer of an inner ticket, out of which it was taken.
+    // The same, with the answer of an inner ticket. Once that is ready it is none of the inner store's any more.
     fn answer(
         &mut self,
         number: u64,
@@ -263,7 +263,6 @@ impl<S: Storage> DelayedSyncContext<S> {
         ensures counts { S.refusals self.old.inner ≤ S.refusals self.new.inner }
         ensures own { self.new.refusals ≡ self.old.refusals }
     {
-        self.inner.give_up_sync(Ticket::Ready(Ok(())));
         self.finish(number, blob, counts, &answer);
         Poll::Ready(answer)
     }
@@ -626,7 +625,7 @@ impl<S: Storage> Storage for DelayedSyncContext<S> {
         task: u64,
     ) -> Poll<Result<(), Error>> {
         let number = match ticket {
-            Ticket::Ready(_) => return self.inner.poll_sync(env, ticket, task),
+            Ticket::Ready(held) => return Poll::Ready(copy_of(held)),
             Ticket::Numbered(number) => *number,
         };
         let polled = self.poll_numbered(env, number, task);
@@ -635,7 +634,7 @@ impl<S: Storage> Storage for DelayedSyncContext<S> {
 
     fn give_up_sync(&mut self, ticket: Ticket) {
         match ticket {
-            Ticket::Ready(held) => self.inner.give_up_sync(Ticket::Ready(held)),
+            Ticket::Ready(_) => {}
             Ticket::Numbered(number) => self.give_up_numbered(number),
         }
     }

@@ -10,6 +10,7 @@ ghost use Rattle.rt_buffer.specs.Pieces.{with_bytes};
 ghost use Rattle.rt_buffer.specs.Steps.{AreBuffers, Begins, Drains, Ends, Finishes, IfStarted, MergesChunk, Puts, PutsAgain, PutsAll, ResizesBlob, ResizesTip, Runs, Saves, Settles, Starts, SyncsBlob, Then, Waits, WritesAt, WritesChunk, WritesDurably, WritesOut, is_started, seen_start, seen_step, with_state, with_tip, writer};
 ghost use Rattle.rt_buffer.specs.Tip.{empty_tip, bytes_to_write, bytes_before, drained, resized_tip, end_of, is_within, merged, laid_over};
 ghost use Rattle.rt_buffer.specs.Writing.{has_bytes, needs_sync, ReadsTip, ReadsThrough, LiesOver, ClosesWriter};
+ghost use Rattle.rt_store.specs.Answered.{is_numbered};
 ghost use Rattle.rt_store.specs.Content.{resized, written};
 ghost use Rattle.rt_store.specs.declared.ticket.Ticket.{Ticket};
 
@@ -292,10 +293,10 @@ impl<S: Storage> Write<S> {
 
 // Writes and syncs. Each answers whether it is done, and waits for a ticket else.
 impl<S: Storage> Write<S> {
-    // Gives a started sync up that is done.
+    // Gives a started sync up that is done: its ticket is ready, and the store stays as it was.
     fn settle(&mut self, store: &mut S)
-        requires { is_started self.old.held.state ≡ true }
-        ensures gives_up { IfStarted self.old.held.state (λ t. S.gives_sync_up store.old t store.new) }
+        requires { IfStarted self.old.held.state (λ t. is_numbered t ≡ false) }
+        ensures store { store.new ≡ store.old }
         ensures held { self.new.held ≡ with_state self.old.held SyncState.Clean }
         ensures blob { self.new.blob ≡ self.old.blob }
     {
@@ -306,6 +307,7 @@ impl<S: Storage> Write<S> {
     }
 
     // Polls a started sync.
+    #[tactic(auto, using(crate::proofs::Steps::polled_ready))]
     pub(crate) fn wait<E: Env>(
         &mut self,
         store: &mut S,

@@ -3,7 +3,7 @@
 // Code over any `S: Storage` is proved from this trait alone. There is one relation for each call, over the store
 // before it, the arguments, the answer, the store after it, and what the call noted in the environment. So a wrapper
 // states its own relations by those of what it wraps.
-ghost use Rattle.std.specs.Prelude.{◌≡◌, ◌≤◌, ◌+◌, ◌*◌, ℕ, List, length, Option, Result, IfOk, OnOk, Vec};
+ghost use Rattle.std.specs.Prelude.{◌≡◌, ◌≤◌, ◌+◌, ◌*◌, ℕ, List, length, Option, Result, IfOk, OnOk, Vec, false};
 ghost use Rattle.std.specs.Option.{option_copied};
 ghost use Rattle.std.specs.Global.{Global};
 ghost use Rattle.rt_base.specs.Counted.{Counts, Notes};
@@ -15,7 +15,7 @@ ghost use Rattle.rt_base.specs.declared.version.BlobVersion.{BlobVersion};
 ghost use Rattle.rt_base.specs.Noted.{Noted};
 ghost use Rattle.rt_bufs.specs.Chunked.{Chunked};
 ghost use Rattle.rt_bufs.specs.WritableChunks.{WritableChunks};
-ghost use Rattle.rt_store.specs.Answered.{CountsDone, CountsPoll, CountsStart, PollsTicket, StartsOrLacks};
+ghost use Rattle.rt_store.specs.Answered.{CountsDone, CountsPoll, CountsStart, PollsTicket, StartsOrLacks, is_numbered};
 ghost use Rattle.rt_store.specs.Reading.{HaveLengths, HavePlacedLengths, IsWhole};
 ghost use Rattle.rt_store.specs.declared.ticket.Done.{Done};
 ghost use Rattle.rt_store.specs.declared.ticket.Ticket.{Ticket};
@@ -228,9 +228,10 @@ pub trait Storage {
         ensures ticket { PollsTicket ticket.old result ticket.new }
         ensures counts { CountsPoll (refusals self.old) (refusals self.new) ticket.old ticket.new };
 
-    /// Gives a started sync up. It takes no memory.
+    /// Gives a started sync up. It takes no memory. A ticket that is ready is none of the store's any more, which stays as it was.
     fn give_up_sync(&mut self, ticket: Ticket)
         ensures gives { gives_sync_up self.old ticket self.new }
+        ensures ready { is_numbered ticket ≡ false → self.new ≡ self.old }
         ensures counts { refusals self.old ≤ refusals self.new };
 
     /// Closes the blob. It takes no memory.
