@@ -1,137 +1,132 @@
 // Stores whose syncs a test holds back: the worked examples, and each call once.
 
-use crate::tests::put;
+use crate::tests::{bufs, came, opened, polls, put, same, start, went};
 use crate::{
-    Begun, DelayedSyncBlob, DelayedSyncContext, PendingSyncs, SyncHandle, Write,
-    drive_pending_syncs, fail_pending_syncs, next_pending_sync, release_next_pending_syncs,
-    release_pending_syncs,
+    DelayedSyncContext, PendingSyncs, SyncHandle, Write, drive_pending_syncs, fail_pending_syncs,
+    next_pending_sync, release_next_pending_syncs, release_pending_syncs,
 };
 use rt_base::{Error, IoKind, NoEnv, NoMemory, Poll, WriteOptions};
-use rt_bufs::{IoBuf, IoBufs};
 use rt_store::{Done, FaultConfig, MemStore, Storage, Ticket};
 use std::alloc::Global;
 use std::test::Fail;
 
 type Delayed = DelayedSyncContext<MemStore>;
 
-/// How many syncs were started, polled and done, and how many are held.
-type Counts = (u64, u64, u64, usize);
-
-fn counts(pending: &PendingSyncs) -> Counts {
-    (
-        pending.starts(),
-        pending.entered(),
-        pending.completions(),
-        pending.len(),
-    )
+/// A store in memory whose syncs are held back.
+pub fn delayed(alloc: Global) -> Result<Delayed, NoMemory> {
+    let inner = MemStore::new(alloc, FaultConfig::default())?;
+    Ok(DelayedSyncContext::new(alloc, inner))
 }
 
-/// A poll and the counts after it, each before and after all are released.
-#[derive(Debug, Drop, PartialEq)]
-struct Seen {
-    begun: Counts,
-    held: Poll<Result<(), Error>>,
-    waits: Counts,
-    released: Poll<Result<(), Error>>,
-    done: Counts,
+/// Whether so many syncs were started, polled and done, and so many are held.
+fn counts(pending: &PendingSyncs, starts: u64, entered: u64, done: u64, held: usize) -> bool {
+    let first = (pending.starts() == starts) & (pending.entered() == entered);
+    first & (pending.completions() == done) & (pending.len() == held)
 }
 
-fn poll_twice(store: &mut Delayed, mut writer: Write<Delayed>, mut handle: SyncHandle) -> Seen {
-    let begun = counts(store.pending());
-    let held = handle.poll(&mut writer, store, &mut NoEnv, 7);
-    let waits = counts(store.pending());
+/// Whether a sync that was started is pending, and done once it is released.
+fn polls_twice<S: Storage>(
+    store: &mut DelayedSyncContext<S>,
+    mut writer: Write<DelayedSyncContext<S>>,
+    handle: SyncHandle,
+) -> bool {
+    let begun = counts(store.pending(), 1, 0, 0, 1);
+    let held = polls(store, &mut writer, handle, Poll::Pending);
+    let waits = counts(store.pending(), 1, 1, 0, 1);
     let _ = release_pending_syncs(store.pending_mut());
-    let released = handle.poll(&mut writer, store, &mut NoEnv, 7);
-    let done = counts(store.pending());
+    let released = polls(store, &mut writer, handle, Poll::Ready(Ok(())));
     writer.close(store);
-    Seen {
-        begun,
-        held,
-        waits,
-        released,
-        done,
-    }
+    begun & held & waits & released & counts(store.pending(), 1, 1, 1, 0)
 }
 
-/// Writes `ab`, starts a sync and polls it.
-fn write_and_start(alloc: Global, store: &mut Delayed) -> Result<Seen, Error> {
-    let (blob, len) = store.open(&mut NoEnv, "p", b"a")?;
-    let writer = Write::new(alloc, blob, len, 16);
+/// Writes `ab` and starts a sync.
+fn put_and_start<S: Storage>(
+    alloc: Global,
+    store: &mut S,
+) -> Result<(Write<S>, SyncHandle), Error> {
+    let writer = opened(alloc, store, b"a")?;
     let writer = put(alloc, store, writer, 0, b"ab")?;
-    match writer.start_sync(store, &mut NoEnv, 7) {
-        Begun::Done(writer, handle) => Ok(poll_twice(store, writer, handle)),
-        Begun::Waiting(op) => {
-            op.give_up(store);
-            Err(Error::Timeout)
-        }
-        Begun::Failed(error) => Err(error),
-    }
+    start(store, writer)
+}
+
+fn holds_started<S: Storage>(
+    alloc: Global,
+    store: &mut DelayedSyncContext<S>,
+) -> Result<bool, Error> {
+    let (writer, handle) = put_and_start(alloc, store)?;
+    Ok(polls_twice(store, writer, handle))
 }
 
 #[test]
 fn started_sync_is_held(rt: HostRuntime) -> Result<(), Fail> {
-    let alloc = rt.alloc();
-    let inner = MemStore::new(alloc, FaultConfig::default())?;
-    let mut store = DelayedSyncContext::new(alloc, inner);
-    let seen = write_and_start(alloc, &mut store);
+    let mut store = delayed(rt.alloc())?;
+    let seen = came(holds_started(rt.alloc(), &mut store), true);
     let inner = store.into_inner();
-    let wanted = Seen {
-        begun: (1, 0, 0, 1),
-        held: Poll::Pending,
-        waits: (1, 1, 0, 1),
-        released: Poll::Ready(Ok(())),
-        done: (1, 1, 1, 0),
-    };
-    assert_eq!(rt; seen, Ok(wanted));
-    assert_eq!(rt; inner.crash_draws(), 0);
+    assert!(rt; seen & (inner.crash_draws() == 0));
     Ok(())
 }
 
-/// A durable write that a gate holds: how many durability calls there were, how many numbers a crash would draw while it is held
-/// and once it is released, and the poll of it then.
-type Gated = (u64, usize, usize, Poll<Result<(), Error>>);
+/// Polls a ticket.
+pub fn poll<S: Storage>(store: &mut S, ticket: &mut Ticket) -> Poll<Result<(), Error>> {
+    store.poll_sync(&mut NoEnv, ticket, 3)
+}
 
-fn gate_write(alloc: Global, store: &mut Delayed, blob: &DelayedSyncBlob) -> Result<Gated, Error> {
-    let mut bytes = Vec::new(alloc);
-    bytes.push(b'c')?;
-    let bufs = IoBufs::from_buf(alloc, IoBuf::from_vec(bytes)?)?;
-    match store.write_at(&mut NoEnv, blob, 0, bufs, WriteOptions::SYNC)? {
-        Done::Now => Err(Error::Timeout),
-        Done::Gated(mut ticket) => {
-            let calls = store.pending().calls();
-            let held = store.inner().crash_draws();
-            let _ = release_pending_syncs(store.pending_mut());
-            let polled = store.poll_sync(&mut NoEnv, &mut ticket, 1);
-            let released = store.inner().crash_draws();
-            store.give_up_sync(ticket);
-            Ok((calls, held, released, polled))
-        }
+/// Polls a ticket and gives it up.
+pub fn poll_and_end<S: Storage>(store: &mut S, mut ticket: Ticket) -> Poll<Result<(), Error>> {
+    let polled = poll(store, &mut ticket);
+    store.give_up_sync(ticket);
+    polled
+}
+
+/// Whether a durability call was made that is held, whether a crash would draw two numbers by then and none once it is released, and
+/// whether it is done then.
+fn releases_gate(store: &mut Delayed, ticket: Ticket) -> bool {
+    let held = (store.pending().calls() == 1) & (store.inner().crash_draws() == 2);
+    let _ = release_pending_syncs(store.pending_mut());
+    let done = same(poll_and_end(store, ticket), Poll::Ready(Ok(())));
+    held & done & (store.inner().crash_draws() == 0)
+}
+
+/// The ticket of a durable write of `c`, where a gate holds it.
+fn write_gated<S: Storage>(alloc: Global, store: &mut S, blob: &S::Blob) -> Option<Ticket> {
+    let bytes = bufs(alloc, b"c").ok()?;
+    match store.write_at(&mut NoEnv, blob, 0, bytes, WriteOptions::SYNC) {
+        Ok(Done::Gated(ticket)) => Some(ticket),
+        Ok(Done::Now) => None,
+        Err(_) => None,
     }
 }
 
-fn open_and_write(alloc: Global, store: &mut Delayed) -> Result<Gated, Error> {
-    if !store.pending().is_armed() {
-        store.pending_mut().arm()?;
-    }
+fn gates_write(alloc: Global, store: &mut Delayed) -> Result<bool, Error> {
     let (blob, _) = store.open(&mut NoEnv, "p", b"a")?;
-    let seen = gate_write(alloc, store, &blob);
+    let seen = match write_gated(alloc, store, &blob) {
+        Some(ticket) => releases_gate(store, ticket),
+        None => false,
+    };
     store.close(blob);
-    seen
+    Ok(seen)
 }
 
 #[test]
 fn gated_write(rt: HostRuntime) -> Result<(), Fail> {
-    let alloc = rt.alloc();
-    let inner = MemStore::new(alloc, FaultConfig::default())?;
-    let mut store = DelayedSyncContext::new(alloc, inner);
-    let seen = open_and_write(alloc, &mut store);
+    let mut store = delayed(rt.alloc())?;
+    let armed = arms(store.pending_mut());
+    let seen = came(gates_write(rt.alloc(), &mut store), true);
     let _inner = store.into_inner();
-    assert_eq!(rt; seen, Ok((1, 2, 0, Poll::Ready(Ok(())))));
+    assert!(rt; armed & seen);
     Ok(())
 }
 
+/// Whether durability calls are counted from then on, which weren't.
+pub fn arms(pending: &mut PendingSyncs) -> bool {
+    if pending.is_armed() {
+        return false;
+    }
+    pending.arm().is_ok()
+}
+
 /// Releases what is held: one by one, with a failure, or for good with one.
-#[derive(Clone, Copy, Debug, PartialEq)]
+#[derive(Clone, Copy)]
 enum Release {
     First,
     Taken,
@@ -140,66 +135,172 @@ enum Release {
     Drive,
 }
 
-fn release_by(pending: &mut PendingSyncs, how: Release) -> Result<usize, NoMemory> {
-    match how {
-        Release::First if pending.len() > 0 => { Ok(release_next_pending_syncs(pending, 1)?.len()) }
-        Release::Taken if pending.len() > 0 => {
-            let sync = next_pending_sync(pending);
-            let is_blocked = sync.is_blocked(pending);
-            let task = sync.release(pending, Err(Error::Closed));
-            Ok(if is_blocked && task == Some(3) { 1 } else { 0 })
-        }
-        Release::Failure => Ok(fail_pending_syncs(pending)?.len()),
-        Release::Unblock => {
-            pending.arm_fail();
-            Ok(pending.unblock()?.len())
-        }
-        Release::First | Release::Taken | Release::Drive => {
-            let polled: Poll<()> = drive_pending_syncs(pending, Poll::Pending)?;
-            Ok(if polled == Poll::Pending { 1 } else { 0 })
-        }
+/// How many tasks were woken.
+fn woken(tasks: Result<Vec<u64>, NoMemory>) -> usize {
+    match tasks {
+        Ok(tasks) => tasks.len(),
+        Err(_) => 0,
     }
 }
 
-/// How many tasks were woken, and what the sync answers.
-type Released = (usize, Poll<Result<(), Error>>);
-
-fn poll_released(store: &mut Delayed, mut ticket: Ticket, how: Release) -> Released {
-    let _ = store.poll_sync(&mut NoEnv, &mut ticket, 3);
-    let woken = release_by(store.pending_mut(), how).unwrap_or(0);
-    let polled = store.poll_sync(&mut NoEnv, &mut ticket, 3);
-    store.give_up_sync(ticket);
-    (woken, polled)
+/// Releases the first one.
+fn release_first(pending: &mut PendingSyncs) -> usize {
+    if pending.len() == 0 {
+        return 1;
+    }
+    woken(release_next_pending_syncs(pending, 1))
 }
 
-fn start_and_release(store: &mut Delayed, how: Release) -> Result<Released, Error> {
+/// Takes the first one out of the queue, and releases it with an error: one task is woken, the third.
+fn take_first(pending: &mut PendingSyncs) -> usize {
+    if pending.len() == 0 {
+        return 0;
+    }
+    let sync = next_pending_sync(pending);
+    let is_blocked = sync.is_blocked(pending);
+    let task = sync.release(pending, Err(Error::Closed));
+    if is_blocked & (task == Some(3)) { 1 } else { 0 }
+}
+
+/// Passes a pending poll on, which releases all.
+fn drive(pending: &mut PendingSyncs) -> usize {
+    let polled: Result<Poll<()>, NoMemory> = drive_pending_syncs(pending, Poll::Pending);
+    match polled {
+        Ok(Poll::Pending) => 1,
+        Ok(Poll::Ready(())) | Err(_) => 0,
+    }
+}
+
+/// Releases all for good, with a failure.
+fn unblock(pending: &mut PendingSyncs) -> usize {
+    pending.arm_fail();
+    woken(pending.unblock())
+}
+
+fn release_by(pending: &mut PendingSyncs, how: Release) -> usize {
+    match how {
+        Release::First => release_first(pending),
+        Release::Taken => take_first(pending),
+        Release::Failure => woken(fail_pending_syncs(pending)),
+        Release::Unblock => unblock(pending),
+        Release::Drive => drive(pending),
+    }
+}
+
+/// Whether one task is woken by a release, and the sync answers so then.
+fn releases<S: Storage>(
+    store: &mut DelayedSyncContext<S>,
+    mut ticket: Ticket,
+    how: Release,
+    wanted: Answer,
+) -> bool {
+    drop(poll(store, &mut ticket));
+    let woken = release_by(store.pending_mut(), how);
+    same(poll_and_end(store, ticket), polled(wanted)) & (woken == 1)
+}
+
+/// The ticket of a started sync.
+pub fn started<S: Storage>(store: &mut S, blob: &S::Blob) -> Option<Ticket> {
+    store.start_sync(&mut NoEnv, blob).ok()
+}
+
+fn starts_and_releases<S: Storage>(
+    store: &mut DelayedSyncContext<S>,
+    how: Release,
+    wanted: Answer,
+) -> Result<bool, Error> {
     let (blob, _) = store.open(&mut NoEnv, "p", b"b")?;
-    let seen = match store.start_sync(&mut NoEnv, &blob) {
-        Ok(ticket) => Ok(poll_released(store, ticket, how)),
-        Err(error) => Err(error),
+    let seen = match started(store, &blob) {
+        Some(ticket) => releases(store, ticket, how, wanted),
+        None => false,
     };
     store.close(blob);
-    seen
+    Ok(seen)
+}
+
+/// What a sync answers.
+#[derive(Clone, Copy)]
+enum Answer {
+    Done,
+    Closed,
+    Failure,
+    Unknown,
+}
+
+fn polled(answer: Answer) -> Poll<Result<(), Error>> {
+    match answer {
+        Answer::Done => Poll::Ready(Ok(())),
+        Answer::Closed => Poll::Ready(Err(Error::Closed)),
+        Answer::Failure => Poll::Ready(Err(Error::Io(IoKind::InjectedSyncFailure))),
+        Answer::Unknown => Poll::Ready(Err(Error::UnknownToken)),
+    }
+}
+
+const RELEASES: &[(Release, Answer)] = &[
+    (Release::First, Answer::Done),
+    (Release::Taken, Answer::Closed),
+    (Release::Failure, Answer::Failure),
+    (Release::Drive, Answer::Done),
+    (Release::Unblock, Answer::Failure),
+    // Nothing holds it, and it fails.
+    (Release::First, Answer::Failure),
+];
+
+/// How many releases, one after the other, come to what is written.
+fn releases_each<S: Storage>(
+    store: &mut DelayedSyncContext<S>,
+    each: &[(Release, Answer)],
+) -> usize {
+    let mut right = 0_usize;
+    for (how, wanted) in each {
+        if came(starts_and_releases(store, *how, *wanted), true) {
+            right = right.wrapping_add(1);
+        }
+    }
+    right
 }
 
 #[test]
 fn each_release(rt: HostRuntime) -> Result<(), Fail> {
-    let alloc = rt.alloc();
-    let inner = MemStore::new(alloc, FaultConfig::default())?;
-    let mut store = DelayedSyncContext::new(alloc, inner);
-    let first = start_and_release(&mut store, Release::First);
-    let taken = start_and_release(&mut store, Release::Taken);
-    let failed = start_and_release(&mut store, Release::Failure);
-    let driven = start_and_release(&mut store, Release::Drive);
-    let unblocked = start_and_release(&mut store, Release::Unblock);
-    let later = start_and_release(&mut store, Release::First);
+    let mut store = delayed(rt.alloc())?;
+    let seen = releases_each(&mut store, RELEASES);
     let _inner = store.into_inner();
-    let failure = || Poll::Ready(Err(Error::Io(IoKind::InjectedSyncFailure)));
-    assert_eq!(rt; first, Ok((1, Poll::Ready(Ok(())))));
-    assert_eq!(rt; taken, Ok((1, Poll::Ready(Err(Error::Closed)))));
-    assert_eq!(rt; failed, Ok((1, failure())));
-    assert_eq!(rt; driven, Ok((1, Poll::Ready(Ok(())))));
-    assert_eq!(rt; unblocked, Ok((1, failure())));
-    assert_eq!(rt; later, Ok((1, failure())));
+    assert!(rt; seen == 6);
+    Ok(())
+}
+
+/// Whether a released sync is done, its number is refused once it was answered, and the blob is open after two more ends of it.
+fn polls_again<S: Storage>(
+    store: &mut DelayedSyncContext<S>,
+    blob: &<DelayedSyncContext<S> as Storage>::Blob,
+    ticket: Ticket,
+) -> bool {
+    let _ = release_pending_syncs(store.pending_mut());
+    let first = same(poll_and_end(store, ticket), polled(Answer::Done));
+    let second = same(
+        poll_and_end(store, Ticket::Numbered(0)),
+        polled(Answer::Unknown),
+    );
+    store.give_up_sync(Ticket::Numbered(0));
+    first & second & went(store.resize(&mut NoEnv, blob, 1))
+}
+
+fn starts_and_polls_again<S: Storage>(store: &mut DelayedSyncContext<S>) -> Result<bool, Error> {
+    let (blob, _) = store.open(&mut NoEnv, "p", b"c")?;
+    let seen = match started(store, &blob) {
+        Some(ticket) => polls_again(store, &blob, ticket),
+        None => false,
+    };
+    store.close(blob);
+    Ok(seen)
+}
+
+#[test]
+fn answered_ticket_is_out(rt: HostRuntime) -> Result<(), Fail> {
+    let mut store = delayed(rt.alloc())?;
+    let seen = came(starts_and_polls_again(&mut store), true);
+    let done = store.pending().completions();
+    let _inner = store.into_inner();
+    assert!(rt; seen & (done == 1));
     Ok(())
 }

@@ -1,11 +1,13 @@
 // The stores that a test lets fail: the worked examples, and each call once.
 
-use crate::tests::{bufs, put, synced};
+use crate::delayed_tests::{poll_and_end, started};
+use crate::tests::{bufs, came, is_now, is_refused, opened, put, same, synced, went};
 use crate::{DelayedSyncContext, SyncFaultContext, Write, WriteFaultContext, WriteFaults};
 use rt_base::{
     DEFAULT_BLOB_VERSION, Error, IoKind, NoEnv, NoMemory, Poll, ReadOptions, WriteOptions,
 };
-use rt_store::{Done, FaultConfig, MemStore, Storage, Ticket};
+use rt_bufs::IoBufsMut;
+use rt_store::{FaultConfig, MemStore, Storage};
 use std::alloc::Global;
 use std::test::Fail;
 
@@ -16,204 +18,206 @@ fn write_faults(alloc: Global) -> Result<WriteFaultContext<MemStore>, NoMemory> 
     })
 }
 
-#[test]
-fn one_durable_write(rt: HostRuntime) -> Result<(), Fail> {
-    let alloc = rt.alloc();
-    let mut store = write_faults(alloc)?;
-    match store.open(&mut NoEnv, "p", b"a") {
-        Ok((blob, len)) => {
-            let writer = Write::new(alloc, blob, len, 16);
-            match write_both(alloc, &mut store, writer) {
-                Ok(writer) => {
-                    // Each sync fails from now on, and a durable write doesn't.
-                    store.inner.config_mut().sync_rate = 1_000_000;
-                    assert!(rt; failure(&mut store, writer).is_none());
-                }
-                Err(error) => panic!(rt; "{error}"),
-            }
-        }
-        Err(error) => panic!(rt; "{error}"),
-    }
-    assert_eq!(rt; (store.faults.writes(), store.inner.crash_draws()), (2, 0));
-    Ok(())
-}
-
-/// The cause of a sync that fails.
-fn failure<S: Storage>(store: &mut S, writer: Write<S>) -> Option<Error> {
-    match synced(store, writer) {
-        Ok(writer) => {
-            writer.close(store);
-            None
-        }
-        Err(error) => Some(error),
-    }
-}
-
 /// Writes `ab` and syncs, and then `c`.
-fn write_both(
-    alloc: Global,
-    store: &mut WriteFaultContext<MemStore>,
-    writer: Write<WriteFaultContext<MemStore>>,
-) -> Result<Write<WriteFaultContext<MemStore>>, Error> {
+fn write_both<S: Storage>(alloc: Global, store: &mut S) -> Result<Write<S>, Error> {
+    let writer = opened(alloc, store, b"a")?;
     let writer = put(alloc, store, writer, 0, b"ab")?;
     let writer = synced(store, writer)?;
     put(alloc, store, writer, 2, b"c")
 }
 
-/// Why the sync behind them fails, where writes fail from then on.
-fn armed(
-    alloc: Global,
-    store: &mut WriteFaultContext<MemStore>,
-    writer: Write<WriteFaultContext<MemStore>>,
-) -> Option<Error> {
-    match write_both(alloc, store, writer) {
+/// Whether the sync of a writer fails so.
+fn sync_fails<S: Storage>(store: &mut S, writer: Write<S>, why: Error) -> bool {
+    let answer = synced(store, writer);
+    is_refused(store, answer, why)
+}
+
+/// Whether the sync of a writer is done.
+fn syncs<S: Storage>(store: &mut S, writer: Write<S>) -> bool {
+    match synced(store, writer) {
         Ok(writer) => {
-            store.faults.arm();
-            failure(store, writer)
-        }
-        Err(error) => Some(error),
-    }
-}
-
-#[test]
-fn armed_write_fails(rt: HostRuntime) -> Result<(), Fail> {
-    let alloc = rt.alloc();
-    let mut store = write_faults(alloc)?;
-    match store.open(&mut NoEnv, "p", b"a") {
-        Ok((blob, len)) => {
-            let writer = Write::new(alloc, blob, len, 16);
-            let why = armed(alloc, &mut store, writer);
-            assert!(rt; why == Some(Error::Io(IoKind::InjectedWriteFailure)));
-        }
-        Err(error) => panic!(rt; "{error}"),
-    }
-    assert_eq!(rt; store.faults.writes(), 1);
-    // The blob was closed.
-    match store.open(&mut NoEnv, "p", b"a") {
-        Ok((blob, len)) => {
-            store.faults.disarm();
-            let writer = Write::new(alloc, blob, len, 16);
-            assert!(rt; failure(&mut store, writer).is_none());
-        }
-        Err(error) => panic!(rt; "{error}"),
-    }
-    Ok(())
-}
-
-/// Whether a sync of a new blob of a partition is done at once, and what a started one answers.
-fn syncs<S: Storage>(
-    store: &mut S,
-    partition: &str,
-) -> Result<(bool, Poll<Result<(), Error>>), Error> {
-    let (blob, _) = store.open(&mut NoEnv, partition, b"a")?;
-    let answer = store.sync(&mut NoEnv, &blob);
-    let started = store.start_sync(&mut NoEnv, &blob);
-    let polled = poll_started(store, started);
-    store.close(blob);
-    Ok((is_now(store, answer), polled?))
-}
-
-/// Whether a change was done at once.
-fn is_now<S: Storage>(store: &mut S, answer: Result<Done, Error>) -> bool {
-    match answer {
-        Ok(Done::Now) => true,
-        Ok(Done::Gated(ticket)) => {
-            store.give_up_sync(ticket);
-            false
+            writer.close(store);
+            true
         }
         Err(_) => false,
     }
 }
 
+/// Whether it is, where each sync of a store in memory fails by then, and a durable write doesn't.
+fn writes_once(alloc: Global, store: &mut WriteFaultContext<MemStore>) -> Result<bool, Error> {
+    let writer = write_both(alloc, store)?;
+    store.inner.config_mut().sync_rate = 1_000_000;
+    Ok(syncs(store, writer))
+}
+
+#[test]
+fn one_durable_write(rt: HostRuntime) -> Result<(), Fail> {
+    let mut store = write_faults(rt.alloc())?;
+    let once = came(writes_once(rt.alloc(), &mut store), true);
+    assert!(rt; once & (store.faults.writes() == 2) & (store.inner.crash_draws() == 0));
+    Ok(())
+}
+
+/// Whether a sync fails where writes fail from then on.
+fn fails_armed<S: Storage>(alloc: Global, store: &mut WriteFaultContext<S>) -> Result<bool, Error> {
+    let writer = write_both(alloc, store)?;
+    store.faults.arm();
+    let failure = Error::Io(IoKind::InjectedWriteFailure);
+    Ok(sync_fails(store, writer, failure) & (store.faults.writes() == 1))
+}
+
+/// Whether a sync of a new writer is done.
+fn syncs_new<S: Storage>(alloc: Global, store: &mut S, name: &[u8]) -> Result<bool, Error> {
+    let writer = opened(alloc, store, name)?;
+    Ok(syncs(store, writer))
+}
+
+#[test]
+fn armed_write_fails(rt: HostRuntime) -> Result<(), Fail> {
+    let mut store = write_faults(rt.alloc())?;
+    let armed = came(fails_armed(rt.alloc(), &mut store), true);
+    store.faults.disarm();
+    // The blob was closed.
+    assert!(rt; armed & came(syncs_new(rt.alloc(), &mut store, b"a"), true));
+    Ok(())
+}
+
 /// What the ticket of a started sync answers.
-fn poll_started<S: Storage>(
-    store: &mut S,
-    answer: Result<Ticket, Error>,
-) -> Result<Poll<Result<(), Error>>, Error> {
-    match answer {
-        Ok(mut ticket) => {
-            let polled = store.poll_sync(&mut NoEnv, &mut ticket, 1);
-            store.give_up_sync(ticket);
-            Ok(polled)
-        }
-        Err(error) => Err(error),
+fn polled<S: Storage>(store: &mut S, blob: &S::Blob) -> Poll<Result<(), Error>> {
+    match started(store, blob) {
+        Some(ticket) => poll_and_end(store, ticket),
+        None => Poll::Pending,
     }
 }
 
-/// Why a sync of a new blob of a partition fails.
-fn why<S: Storage>(alloc: Global, store: &mut S, partition: &str) -> Option<Error> {
-    match store.open(&mut NoEnv, partition, b"b") {
-        Ok((blob, len)) => {
-            let writer = Write::new(alloc, blob, len, 16);
-            failure(store, writer)
-        }
-        Err(error) => Some(error),
-    }
+/// Whether a sync of a blob is done at once.
+fn is_synced<S: Storage>(store: &mut S, blob: &S::Blob) -> bool {
+    let answer = store.sync(&mut NoEnv, blob);
+    is_now(store, answer)
+}
+
+/// Whether a sync of a new blob of a partition is done at once, and what a started one answers.
+fn syncs_in<S: Storage>(
+    store: &mut S,
+    partition: &str,
+) -> Result<(bool, Poll<Result<(), Error>>), Error> {
+    let (blob, _) = store.open(&mut NoEnv, partition, b"a")?;
+    let now = is_synced(store, &blob);
+    let polled = polled(store, &blob);
+    store.close(blob);
+    Ok((now, polled))
+}
+
+fn failure() -> Error {
+    Error::Io(IoKind::InjectedPartitionSyncFault)
+}
+
+/// Whether the syncs of the failing partition fail.
+fn fails_in_partition<S: Storage>(alloc: Global, store: &mut S) -> Result<bool, Error> {
+    let (now, polled) = syncs_in(store, "p")?;
+    let fails = same(polled, Poll::Ready(Err(failure())));
+    let (blob, len) = store.open(&mut NoEnv, "p", b"b")?;
+    let writer = Write::new(alloc, blob, len, 16);
+    Ok(!now & fails & sync_fails(store, writer, failure()))
+}
+
+/// Whether those of another one don't.
+fn syncs_in_other<S: Storage>(alloc: Global, store: &mut S) -> Result<bool, Error> {
+    let (now, polled) = syncs_in(store, "q")?;
+    let done = same(polled, Poll::Ready(Ok(())));
+    let (blob, len) = store.open(&mut NoEnv, "q", b"b")?;
+    let writer = Write::new(alloc, blob, len, 16);
+    Ok(now & done & syncs(store, writer))
+}
+
+/// A store whose syncs of one partition fail.
+fn sync_faults(alloc: Global, partition: &str) -> Result<SyncFaultContext<MemStore>, NoMemory> {
+    let mut fail_partition = String::new(alloc);
+    fail_partition.push_str(partition)?;
+    Ok(SyncFaultContext {
+        inner: MemStore::new(alloc, FaultConfig::default())?,
+        fail_partition,
+        refusals: 0,
+    })
 }
 
 #[test]
 fn partition_sync_fails(rt: HostRuntime) -> Result<(), Fail> {
-    let alloc = rt.alloc();
-    let mut fail_partition = String::new(alloc);
-    fail_partition.push_str("p")?;
-    let mut store = SyncFaultContext {
-        inner: MemStore::new(alloc, FaultConfig::default())?,
-        fail_partition,
-        refusals: 0,
-    };
-    let fault = || Error::Io(IoKind::InjectedPartitionSyncFault);
-    assert!(rt; syncs(&mut store, "p") == Ok((false, Poll::Ready(Err(fault())))));
-    assert!(rt; syncs(&mut store, "q") == Ok((true, Poll::Ready(Ok(())))));
-    assert!(rt; why(alloc, &mut store, "p") == Some(fault()));
-    assert!(rt; why(alloc, &mut store, "q").is_none());
-    assert_eq!(rt; store.refusals, 3);
+    let mut store = sync_faults(rt.alloc(), "p")?;
+    let fails = came(fails_in_partition(rt.alloc(), &mut store), true);
+    let others = came(syncs_in_other(rt.alloc(), &mut store), true);
+    assert!(rt; fails & others & (store.refusals == 3));
     Ok(())
 }
 
-/// Each call on a blob once, but for those of syncs: how many pieces were read.
-fn calls_on<S: Storage>(alloc: Global, store: &mut S, blob: &S::Blob) -> Result<usize, Error> {
-    let none = ReadOptions::default();
+/// Writes `abc` and cuts it to `ab`.
+fn writes_two<S: Storage>(alloc: Global, store: &mut S, blob: &S::Blob) -> Result<bool, Error> {
     let bytes = bufs(alloc, b"abc")?;
     let written = store.write_at(&mut NoEnv, blob, 0, bytes, WriteOptions::default());
-    if !is_now(store, written) {
-        return Err(Error::Aborted);
-    }
-    store.resize(&mut NoEnv, blob, 2)?;
-    let room = store.read_at(&mut NoEnv, blob, 0, 2, none)?;
-    if room.capacity() >= 2 {
-        let _ = store.read_at_buf(&mut NoEnv, blob, 0, 2, room, none)?;
-    }
-    let some = store.read_many(&mut NoEnv, blob, &[(0, 1), (1, 1)], none)?;
-    let all = store.start_read_many(&mut NoEnv, blob, &[(0, 2)], none)?;
-    Ok(some.len() + all.len())
+    let now = is_now(store, written);
+    Ok(went(store.resize(&mut NoEnv, blob, 2)) & now)
 }
 
-/// Each call of a store over another one, once: how many pieces were read and names found.
-fn calls_of<S: Storage>(alloc: Global, store: &mut S) -> Result<usize, Error> {
+/// Reads both bytes, and again into the same buffers.
+fn reads_two<S: Storage>(store: &mut S, blob: &S::Blob) -> Result<bool, Error> {
+    let none = ReadOptions::default();
+    let room = store.read_at(&mut NoEnv, blob, 0, 2, none)?;
+    if room.capacity() < 2 {
+        return Ok(false);
+    }
+    Ok(went(store.read_at_buf(&mut NoEnv, blob, 0, 2, room, none)))
+}
+
+const EACH: &[(u64, usize)] = &[(0, 1), (1, 1)];
+
+const WHOLE: &[(u64, usize)] = &[(0, 2)];
+
+/// How many pieces two reads of several ranges give.
+fn reads_pieces<S: Storage>(
+    store: &mut S,
+    blob: &S::Blob,
+    each: &[(u64, usize)],
+    whole: &[(u64, usize)],
+) -> Result<usize, Error> {
+    let none = ReadOptions::default();
+    let some: Vec<(usize, IoBufsMut)> = store.read_many(&mut NoEnv, blob, each, none)?;
+    let all: Vec<IoBufsMut> = store.start_read_many(&mut NoEnv, blob, whole, none)?;
+    Ok(some.len().wrapping_add(all.len()))
+}
+
+/// Whether each call on a blob, but for those of syncs, goes once.
+fn calls_on<S: Storage>(alloc: Global, store: &mut S, blob: &S::Blob) -> bool {
+    let changed = came(writes_two(alloc, store, blob), true);
+    let read = came(reads_two(store, blob), true);
+    changed & read & came(reads_pieces(store, blob, EACH, WHOLE), 3)
+}
+
+/// Whether one name is found, and removed.
+fn finds_one<S: Storage>(store: &mut S) -> Result<bool, Error> {
+    let found = store.scan(&mut NoEnv, "p")?.len();
+    Ok(went(store.remove(&mut NoEnv, "p", None)) & (found == 1))
+}
+
+/// Whether each call of a store over another one, but for those of syncs, goes once.
+fn calls_of<S: Storage>(alloc: Global, store: &mut S) -> Result<bool, Error> {
     S::take_room(&mut NoEnv, 4, 3, 0)?;
     let versions = (DEFAULT_BLOB_VERSION, DEFAULT_BLOB_VERSION);
     let (blob, _, _) = store.open_versioned(&mut NoEnv, "p", b"a", versions)?;
     let read = calls_on(alloc, store, &blob);
     store.close(blob);
-    let found = store.scan(&mut NoEnv, "p")?.len();
-    store.remove(&mut NoEnv, "p", None)?;
-    Ok(read?.wrapping_add(found))
+    Ok(came(finds_one(store), true) & read)
 }
 
 #[test]
 fn surface(rt: HostRuntime) -> Result<(), Fail> {
-    let alloc = rt.alloc();
-    let mut writes = write_faults(alloc)?;
-    assert_eq!(rt; calls_of(alloc, &mut writes), Ok(4));
-    let mut syncs = SyncFaultContext {
-        inner: MemStore::new(alloc, FaultConfig::default())?,
-        fail_partition: String::new(alloc),
-        refusals: 0,
-    };
-    assert_eq!(rt; calls_of(alloc, &mut syncs), Ok(4));
-    let mut delays = DelayedSyncContext::new(alloc, MemStore::new(alloc, FaultConfig::default())?);
-    let seen = calls_of(alloc, &mut delays);
-    let _ = delays.into_inner();
-    assert_eq!(rt; seen, Ok(4));
+    let mut writes = write_faults(rt.alloc())?;
+    let mut syncs = sync_faults(rt.alloc(), "")?;
+    let inner = MemStore::new(rt.alloc(), FaultConfig::default())?;
+    let mut delays = DelayedSyncContext::new(rt.alloc(), inner);
+    let first = came(calls_of(rt.alloc(), &mut writes), true);
+    let second = came(calls_of(rt.alloc(), &mut syncs), true);
+    let third = came(calls_of(rt.alloc(), &mut delays), true);
+    let _inner = delays.into_inner();
+    assert!(rt; first & second & third);
     Ok(())
 }

@@ -1,9 +1,9 @@
 // A store that holds syncs back over another one: the tickets of the inner one.
 
-use crate::{
-    DelayedSyncBlob, DelayedSyncContext, PendingSyncs, fail_pending_syncs, release_pending_syncs,
-};
-use rt_base::{Error, IoKind, NoEnv, Poll};
+use crate::delayed_tests::{arms, poll, started};
+use crate::tests::{came, same, went};
+use crate::{DelayedSyncContext, PendingSyncs, fail_pending_syncs, release_pending_syncs};
+use rt_base::{Error, IoKind, NoEnv, NoMemory, Poll};
 use rt_store::{FaultConfig, MemStore, Storage, Ticket};
 use std::alloc::Global;
 use std::test::Fail;
@@ -11,7 +11,7 @@ use std::test::Fail;
 type Nested = DelayedSyncContext<DelayedSyncContext<MemStore>>;
 
 /// How a sync ends. All but the last were released by the outer store, and are held by the inner one.
-#[derive(Clone, Copy, Debug, PartialEq)]
+#[derive(Clone, Copy, PartialEq)]
 enum End {
     Released,
     Failed,
@@ -20,67 +20,43 @@ enum End {
     GivenUpHeld,
 }
 
-const ENDS: &[End] = &[
-    End::Released,
-    End::Failed,
-    End::Faulty,
-    End::GivenUp,
-    End::GivenUpHeld,
-];
-
-/// Two polls, before and after the inner store's release.
-type Polls = (Poll<Result<(), Error>>, Poll<Result<(), Error>>);
-
-/// The two polls; whether the blob is open after two ends of the ticket, and can be opened again once it is closed; how many syncs are
-/// done; and how many calls the outer store, the inner one and the one in memory refused.
-#[derive(Debug, Drop, PartialEq)]
-struct Seen {
-    polls: Polls,
-    is_open: bool,
-    opens_again: bool,
-    completions: u64,
-    refusals: (u64, u64, u64),
-}
-
-fn wanted(end: End) -> Seen {
-    let failure = |why| Poll::Ready(Err(Error::Io(why)));
-    let (answer, completions, refusals) = match end {
-        End::Released => (Poll::Ready(Ok(())), 1, (0, 0, 0)),
-        End::Failed => (failure(IoKind::InjectedSyncFailure), 0, (0, 1, 0)),
-        End::Faulty => (failure(IoKind::InjectedStorageFault), 0, (0, 0, 1)),
-        End::GivenUp | End::GivenUpHeld => (Poll::Pending, 0, (0, 0, 0)),
-    };
-    Seen {
-        polls: (Poll::Pending, answer),
-        is_open: true,
-        opens_again: true,
-        completions,
-        refusals,
+/// What the poll behind the inner store's release answers.
+fn answer(end: End) -> Poll<Result<(), Error>> {
+    match end {
+        End::Released => Poll::Ready(Ok(())),
+        End::Failed => Poll::Ready(Err(Error::Io(IoKind::InjectedSyncFailure))),
+        End::Faulty => Poll::Ready(Err(Error::Io(IoKind::InjectedStorageFault))),
+        End::GivenUp | End::GivenUpHeld => Poll::Pending,
     }
 }
 
-fn nested(alloc: Global, end: End) -> Result<Nested, Error> {
+/// An end, how many syncs are done by it, and how many calls the outer store, the inner one and the one in memory refused.
+type Expected = (End, u64, u64, u64, u64);
+
+const ENDS: &[Expected] = &[
+    (End::Released, 1, 0, 0, 0),
+    (End::Failed, 0, 0, 1, 0),
+    (End::Faulty, 0, 0, 0, 1),
+    (End::GivenUp, 0, 0, 0, 0),
+    (End::GivenUpHeld, 0, 0, 0, 0),
+];
+
+/// A store in memory, whose syncs fail for a faulty end.
+fn memory(alloc: Global, end: End) -> Result<MemStore, NoMemory> {
     let mut faults = FaultConfig::default();
     if end == End::Faulty {
         faults.sync_rate = 1_000_000;
     }
-    let mut inner = DelayedSyncContext::new(alloc, MemStore::new(alloc, faults)?);
-    let armed = inner.pending_mut().arm();
-    let store = DelayedSyncContext::new(alloc, inner);
-    match armed {
-        Ok(_) => Ok(store),
-        Err(_) => {
-            let _memory = store.into_inner().into_inner();
-            Err(Error::NoMemory)
-        }
-    }
+    MemStore::new(alloc, faults)
 }
 
+/// Opens a blob.
 fn open<S: Storage>(store: &mut S) -> Result<S::Blob, Error> {
     let (blob, _) = store.open(&mut NoEnv, "p", b"a")?;
     Ok(blob)
 }
 
+/// Whether the blob can be opened again.
 fn opens_again<S: Storage>(store: &mut S) -> bool {
     match open(store) {
         Ok(blob) => {
@@ -93,17 +69,9 @@ fn opens_again<S: Storage>(store: &mut S) -> bool {
 
 /// Whether the blob was open.
 fn close<S: Storage>(store: &mut S, blob: S::Blob) -> bool {
-    let is_open = store.resize(&mut NoEnv, &blob, 1).is_ok();
+    let is_open = went(store.resize(&mut NoEnv, &blob, 1));
     store.close(blob);
     is_open
-}
-
-fn start<S: Storage>(store: &mut S, blob: &S::Blob) -> Result<Ticket, Error> {
-    store.start_sync(&mut NoEnv, blob)
-}
-
-fn poll<S: Storage>(store: &mut S, ticket: &mut Ticket) -> Poll<Result<(), Error>> {
-    store.poll_sync(&mut NoEnv, ticket, 1)
 }
 
 fn give_up_twice<S: Storage>(store: &mut S, ticket: Ticket) {
@@ -111,8 +79,20 @@ fn give_up_twice<S: Storage>(store: &mut S, ticket: Ticket) {
     store.give_up_sync(Ticket::Numbered(0));
 }
 
+/// Whether a ticket answers so.
+fn polls<S: Storage>(store: &mut S, ticket: &mut Ticket, wanted: Poll<Result<(), Error>>) -> bool {
+    same(poll(store, ticket), wanted)
+}
+
+/// Releases what the outer store holds.
+fn release_outer(pending: &mut PendingSyncs, end: End) {
+    if end != End::GivenUpHeld {
+        let _ = release_pending_syncs(pending);
+    }
+}
+
 /// Releases what the inner store holds.
-fn release(pending: &mut PendingSyncs, end: End) {
+fn release_inner(pending: &mut PendingSyncs, end: End) {
     match end {
         End::Released | End::Faulty => {
             let _ = release_pending_syncs(pending);
@@ -124,51 +104,75 @@ fn release(pending: &mut PendingSyncs, end: End) {
     }
 }
 
-fn poll_twice(store: &mut Nested, ticket: &mut Ticket, end: End) -> Polls {
-    if end != End::GivenUpHeld {
-        let _ = release_pending_syncs(store.pending_mut());
-    }
-    let held = poll(store, ticket);
-    release(store.inner.pending_mut(), end);
-    (held, poll(store, ticket))
+/// Whether the sync is pending before the inner store's release, and answered behind it.
+fn polls_twice<S: Storage>(
+    store: &mut DelayedSyncContext<DelayedSyncContext<S>>,
+    ticket: &mut Ticket,
+    end: End,
+) -> bool {
+    release_outer(store.pending_mut(), end);
+    let held = polls(store, ticket, Poll::Pending);
+    release_inner(store.inner.pending_mut(), end);
+    held & polls(store, ticket, answer(end))
 }
 
-fn poll_and_give_up(store: &mut Nested, blob: &DelayedSyncBlob, end: End) -> Result<Polls, Error> {
-    match start(store, blob) {
-        Ok(mut ticket) => {
-            let polls = poll_twice(store, &mut ticket, end);
-            give_up_twice(store, ticket);
-            Ok(polls)
-        }
-        Err(error) => Err(error),
-    }
+fn polls_and_ends<S: Storage>(
+    store: &mut DelayedSyncContext<DelayedSyncContext<S>>,
+    ticket: Ticket,
+    end: End,
+) -> bool {
+    let mut ticket = ticket;
+    let polled = polls_twice(store, &mut ticket, end);
+    give_up_twice(store, ticket);
+    polled
 }
 
-fn see(store: &mut Nested, end: End) -> Result<Seen, Error> {
+/// Whether the polls answer so, and whether the blob is open after two ends of the ticket, and can be opened again once it is closed.
+fn ends<S: Storage>(
+    store: &mut DelayedSyncContext<DelayedSyncContext<S>>,
+    end: End,
+) -> Result<bool, Error> {
     let blob = open(store)?;
-    let polls = poll_and_give_up(store, &blob, end);
-    let is_open = close(store, blob);
-    Ok(Seen {
-        polls: polls?,
-        is_open,
-        opens_again: opens_again(store),
-        completions: store.pending().completions(),
-        refusals: (
-            store.refusals,
-            store.inner.refusals,
-            store.inner.inner.injected(),
-        ),
-    })
+    let polled = match started(store, &blob) {
+        Some(ticket) => polls_and_ends(store, ticket, end),
+        None => false,
+    };
+    Ok(close(store, blob) & polled & opens_again(store))
+}
+
+/// Whether so many syncs are done, and so many calls were refused.
+fn counts(store: &Nested, expected: &Expected) -> bool {
+    let (_, completions, outer, inner, memory) = *expected;
+    let refused = (store.refusals == outer) & (store.inner.refusals == inner);
+    (store.pending().completions() == completions)
+        & refused
+        & (store.inner.inner.injected() == memory)
+}
+
+/// Whether an end comes to what is written.
+fn ends_as(alloc: Global, expected: &Expected) -> Result<bool, NoMemory> {
+    let end = expected.0;
+    let mut inner = DelayedSyncContext::new(alloc, memory(alloc, end)?);
+    let armed = arms(inner.pending_mut());
+    let mut store = DelayedSyncContext::new(alloc, inner);
+    let seen = came(ends(&mut store, end), true) & counts(&store, expected);
+    let _memory = store.into_inner().into_inner();
+    Ok(armed & seen)
+}
+
+/// How many ends come to what is written.
+fn ends_each(alloc: Global, each: &[Expected]) -> usize {
+    let mut right = 0_usize;
+    for end in each {
+        if came(ends_as(alloc, end), true) {
+            right = right.wrapping_add(1);
+        }
+    }
+    right
 }
 
 #[test]
 fn inner_ticket_ends_once(rt: HostRuntime) -> Result<(), Fail> {
-    let alloc = rt.alloc();
-    for end in ENDS {
-        let mut store = nested(alloc, *end)?;
-        let seen = see(&mut store, *end);
-        let _memory = store.into_inner().into_inner();
-        assert_eq!(rt; seen, Ok(wanted(*end)));
-    }
+    assert!(rt; ends_each(rt.alloc(), ENDS) == 5);
     Ok(())
 }

@@ -1,4 +1,7 @@
 // The worked examples, and each call once.
+//
+// A case is a function that makes its calls and says whether they came to what is written beside them, or how many did. The functions
+// are over any store where they can be, since those are proved in less time.
 
 ghost use Rattle.std.specs.Prelude.{◌≡◌, IfOk, take, drop};
 ghost use Rattle.rt_buffer.specs.Flat.{StandsFor};
@@ -8,22 +11,61 @@ ghost use Rattle.rt_store.specs.Store.{content_at};
 use crate::{Begun, Buffer, Read, Started, Step, Stepped, SyncHandle, Write};
 use rt_base::{Env, Error, NoEnv, NoMemory, Poll, WriteOptions};
 use rt_bufs::{IoBuf, IoBufs};
-use rt_store::{BlobOf, Done, FaultConfig, MemStore, Storage};
+use rt_store::{Done, FaultConfig, MemStore, Storage};
 use std::alloc::Global;
-use std::process::Abort;
 use std::test::Fail;
 
-/// That the tip has these bytes from an offset on.
-fn has(rt: &impl Abort, tip: &Buffer, offset: u64, bytes: &[u8]) {
-    assert!(rt; tip.as_slice() == bytes);
-    assert_eq!(rt; tip.offset(), offset);
-    assert_eq!(rt; tip.is_empty(), bytes.is_empty());
+/// Whether these are the same.
+pub fn same<T: Drop + PartialEq>(seen: T, wanted: T) -> bool {
+    seen == wanted
+}
+
+/// Whether a call came to this.
+pub fn came<T: Drop + PartialEq, E: Drop>(answer: Result<T, E>, wanted: T) -> bool {
+    match answer {
+        Ok(seen) => seen == wanted,
+        Err(_) => false,
+    }
+}
+
+/// Whether a call was answered at all.
+pub fn went<T: Drop, E: Drop>(answer: Result<T, E>) -> bool {
+    answer.is_ok()
+}
+
+/// Whether a call failed so.
+pub fn failed<T: Drop, E: Drop + PartialEq>(answer: Result<T, E>, why: E) -> bool {
+    match answer {
+        Ok(_) => false,
+        Err(error) => error == why,
+    }
+}
+
+/// Whether the tip has these bytes from an offset on.
+fn has(tip: &Buffer, offset: u64, bytes: &[u8]) -> bool {
+    (tip.as_slice() == bytes) & (tip.offset() == offset) & (tip.is_empty() == bytes.is_empty())
 }
 
 /// A write at an offset, whether it goes in, and the bytes after it.
 type Merge = (u64, &'static [u8], bool, &'static [u8]);
 
-const MERGES: [Merge; 4] = [
+fn merges(tip: &mut Buffer, start: u64, merge: &Merge) -> bool {
+    let (offset, bytes, within, after) = *merge;
+    came(tip.merge(bytes, offset), within) & has(tip, start, after)
+}
+
+/// How many writes, one after the other, come to what is written, in a tip that begins there.
+fn merges_each(tip: &mut Buffer, start: u64, writes: &[Merge]) -> usize {
+    let mut right = 0_usize;
+    for merge in writes {
+        if merges(tip, start, merge) {
+            right = right.wrapping_add(1);
+        }
+    }
+    right
+}
+
+const MERGES: &[Merge] = &[
     (53, b"XYZ", true, b"abcXYZ"),
     (56, b"12", true, b"abcXYZ12"),
     (58, b"", true, b"abcXYZ12"),
@@ -33,19 +75,16 @@ const MERGES: [Merge; 4] = [
 #[test]
 fn tip_merges(rt: HostRuntime) -> Result<(), Fail> {
     let mut tip = Buffer::new(rt.alloc(), 50, 8);
-    assert!(rt; tip.merge(b"abcdefgh", 50)?);
-    assert!(rt; tip.resize(53)?.is_none());
-    for (offset, bytes, within, after) in MERGES {
-        assert_eq!(rt; tip.merge(bytes, offset)?, within);
-        has(&rt, &tip, 50, after);
-    }
-    assert_eq!(rt; tip.size(), 58);
+    let first = tip.merge(b"abcdefgh", 50)?;
+    let cut = tip.resize(53)?;
+    let seen = merges_each(&mut tip, 50, MERGES);
     let mut last = Buffer::new(rt.alloc(), u64::MAX, 8);
-    assert!(rt; !last.merge(b"a", u64::MAX)?);
+    let past = last.merge(b"a", u64::MAX)?;
+    assert!(rt; first & cut.is_none() & (seen == 4) & (tip.size() == 58) & !past);
     Ok(())
 }
 
-const EDGES: [Merge; 9] = [
+const EDGES: &[Merge] = &[
     (10, b"abc", true, b"abc"),
     (13, b"d", true, b"abcd"),
     (11, b"XY", true, b"aXYd"),
@@ -60,40 +99,54 @@ const EDGES: [Merge; 9] = [
 #[test]
 fn tip_merges_at_its_edges(rt: HostRuntime) -> Result<(), Fail> {
     let mut tip = Buffer::new(rt.alloc(), 10, 8);
-    for (offset, bytes, within, after) in EDGES {
-        assert_eq!(rt; tip.merge(bytes, offset)?, within);
-        has(&rt, &tip, 10, after);
-    }
-    assert_eq!(rt; tip.size(), 18);
+    let seen = merges_each(&mut tip, 10, EDGES);
+    assert!(rt; (seen == 9) & (tip.size() == 18));
     Ok(())
 }
 
-/// That these are the bytes and the offset that were taken.
-fn took(rt: &impl Abort, taken: Option<(IoBuf, u64)>, offset: u64, bytes: &[u8]) {
+/// Whether these bytes were taken, from an offset on.
+fn took(taken: Option<(IoBuf, u64)>, offset: u64, bytes: &[u8]) -> bool {
     match taken {
-        Some((buf, at)) => {
-            assert!(rt; buf.as_slice() == bytes);
-            assert_eq!(rt; at, offset);
-        }
-        None => assert!(rt; bytes.is_empty()),
+        Some((buf, at)) => (buf.as_slice() == bytes) & (at == offset),
+        None => bytes.is_empty(),
     }
 }
 
 #[test]
 fn tip_is_taken(rt: HostRuntime) -> Result<(), Fail> {
     let mut tip = Buffer::new(rt.alloc(), 3, 4);
-    assert!(rt; tip.take()?.is_none());
-    let _ = tip.merge(b"abc", 3)?;
-    assert!(rt; tip.slice(1, 3)?.as_slice() == b"bc".as_slice());
-    took(&rt, tip.take()?, 3, b"abc");
-    has(&rt, &tip, 6, b"");
+    let nothing = took(tip.take()?, 3, b"");
+    let merged = tip.merge(b"abc", 3)?;
+    let cut = tip.slice(1, 3)?;
+    let all = took(tip.take()?, 3, b"abc");
+    assert!(rt; nothing & merged & (cut.as_slice() == b"bc".as_slice()) & all & has(&tip, 6, b""));
     Ok(())
 }
 
 /// A new length, what is to be written out before it, and the tip after it.
 type Resize = (u64, &'static [u8], u64, &'static [u8]);
 
-const RESIZES: [Resize; 6] = [
+/// Whether a tip of `abc` at 3 comes to what is written.
+fn resizes(alloc: Global, resize: &Resize) -> Result<bool, NoMemory> {
+    let (len, before, offset, after) = *resize;
+    let mut tip = Buffer::new(alloc, 3, 4);
+    let merged = tip.merge(b"abc", 3)?;
+    let taken = tip.resize(len)?;
+    Ok(merged & took(taken, 3, before) & has(&tip, offset, after))
+}
+
+/// How many come to what is written.
+fn resizes_each(alloc: Global, each: &[Resize]) -> usize {
+    let mut right = 0_usize;
+    for resize in each {
+        if came(resizes(alloc, resize), true) {
+            right = right.wrapping_add(1);
+        }
+    }
+    right
+}
+
+const RESIZES: &[Resize] = &[
     (7, b"abc", 7, b""),
     (6, b"abc", 6, b""),
     (5, b"", 3, b"ab"),
@@ -104,12 +157,7 @@ const RESIZES: [Resize; 6] = [
 
 #[test]
 fn tip_is_resized(rt: HostRuntime) -> Result<(), Fail> {
-    for (len, before, offset, after) in RESIZES {
-        let mut tip = Buffer::new(rt.alloc(), 3, 4);
-        let _ = tip.merge(b"abc", 3)?;
-        took(&rt, tip.resize(len)?, 3, before);
-        has(&rt, &tip, offset, after);
-    }
+    assert!(rt; resizes_each(rt.alloc(), RESIZES) == 6);
     Ok(())
 }
 
@@ -120,15 +168,26 @@ pub fn bufs(alloc: Global, bytes: &[u8]) -> Result<IoBufs, NoMemory> {
     IoBufs::from_buf(alloc, IoBuf::from_vec(copy)?)
 }
 
-/// Writes to a blob of a store in memory.
-fn write(store: &mut MemStore, blob: &BlobOf<MemStore>, bytes: IoBufs) -> Result<(), Error> {
-    match store.write_at(&mut NoEnv, blob, 0, bytes, WriteOptions::default()) {
-        Ok(Done::Now) => Ok(()),
+/// Whether a change was done at once.
+pub fn is_now<S: Storage>(store: &mut S, answer: Result<Done, Error>) -> bool {
+    match answer {
+        Ok(Done::Now) => true,
         Ok(Done::Gated(ticket)) => {
             store.give_up_sync(ticket);
-            Err(Error::Timeout)
+            false
         }
-        Err(error) => Err(error),
+        Err(_) => false,
+    }
+}
+
+/// Whether bytes could be written at the start of a blob.
+fn writes<S: Storage>(alloc: Global, store: &mut S, blob: &S::Blob, bytes: &[u8]) -> bool {
+    match bufs(alloc, bytes) {
+        Ok(bytes) => {
+            let answer = store.write_at(&mut NoEnv, blob, 0, bytes, WriteOptions::default());
+            is_now(store, answer)
+        }
+        Err(_) => false,
     }
 }
 
@@ -140,80 +199,115 @@ fn next(reader: &mut Read<MemStore>, store: &mut MemStore, len: usize) -> Result
     reader.read(store, &mut NoEnv, len)
 }
 
-/// Whether these bytes were read.
-fn are(bytes: Result<IoBufs, Error>, expected: &[u8]) -> bool {
-    match bytes {
-        Ok(bytes) => match bytes.coalesce() {
-            Ok(buf) => buf.as_slice() == expected,
-            Err(_) => false,
-        },
+/// Whether buffers have these bytes.
+fn hold(bytes: IoBufs, expected: &[u8]) -> bool {
+    match bytes.coalesce() {
+        Ok(buf) => buf.as_slice() == expected,
         Err(_) => false,
     }
 }
 
-/// That these are the bytes that were read, and that so many are held and left.
-fn gave(
-    rt: &impl Abort,
-    reader: &Read<MemStore>,
-    bytes: Result<IoBufs, Error>,
-    expected: &[u8],
-    left: (usize, u64),
-) {
-    assert!(rt; are(bytes, expected));
-    assert_eq!(rt; (reader.buffer_remaining(), reader.blob_remaining()), left);
+/// Whether these bytes were read.
+fn are(bytes: Result<IoBufs, Error>, expected: &[u8]) -> bool {
+    match bytes.ok() {
+        Some(bytes) => hold(bytes, expected),
+        None => false,
+    }
 }
 
-/// Reads of `hello world!` by buffers of 8: the bytes, how many are held after them and how many left.
-const READS: [(usize, &[u8], (usize, u64)); 4] = [
-    (3, b"hel", (5, 9)),
-    (0, b"", (5, 9)),
-    (7, b"lo worl", (2, 2)),
-    (2, b"d!", (0, 0)),
+/// A read: the bytes, how many are held after it and how many are left.
+type Piece = (usize, &'static [u8], usize, u64);
+
+fn reads<S: Storage>(store: &mut S, reader: &mut Read<S>, piece: &Piece) -> bool {
+    let (len, expected, held, left) = *piece;
+    let bytes = reader.read(store, &mut NoEnv, len);
+    are(bytes, expected) & (reader.buffer_remaining() == held) & (reader.blob_remaining() == left)
+}
+
+/// How many reads, one after the other, come to what is written.
+fn reads_each<S: Storage>(store: &mut S, reader: &mut Read<S>, pieces: &[Piece]) -> usize {
+    let mut right = 0_usize;
+    for piece in pieces {
+        if reads(store, reader, piece) {
+            right = right.wrapping_add(1);
+        }
+    }
+    right
+}
+
+/// Reads of `hello world!` by buffers of 8.
+const READS: &[Piece] = &[
+    (3, b"hel", 5, 9),
+    (0, b"", 5, 9),
+    (7, b"lo worl", 2, 2),
+    (2, b"d!", 0, 0),
 ];
 
-fn reads(rt: &impl Abort, store: &mut MemStore, reader: &mut Read<MemStore>) {
-    for (len, expected, left) in READS {
-        let bytes = next(reader, store, len);
-        gave(rt, reader, bytes, expected, left);
-    }
-    assert_eq!(rt; next(reader, store, 1).is_err(), true);
-    assert_eq!(rt; (reader.position(), reader.blob_size()), (12, 12));
+/// Whether the text is read, to its end and no further.
+fn reads_text<S: Storage>(store: &mut S, reader: &mut Read<S>) -> bool {
+    let seen = reads_each(store, reader, READS);
+    let more = went(reader.read(store, &mut NoEnv, 1));
+    (seen == 4) & !more & (reader.position() == 12) & (reader.blob_size() == 12)
 }
 
-fn seeks(rt: &impl Abort, store: &mut MemStore, reader: &mut Read<MemStore>) -> Result<(), Error> {
-    reader.seek_to(0)?;
-    let bytes = next(reader, store, 3);
-    gave(rt, reader, bytes, b"hel", (5, 9));
-    reader.seek_to(6)?;
-    assert_eq!(rt; reader.buffer_remaining(), 2);
-    reader.seek_to(5)?;
-    assert_eq!(rt; reader.buffer_remaining(), 0);
-    assert_eq!(rt; reader.seek_to(13), Err(Error::BlobInsufficientLength));
-    assert_eq!(rt; reader.position(), 5);
-    Ok(())
+/// Whether so many bytes are held after a seek.
+fn seeks<S: Storage>(reader: &mut Read<S>, place: u64, held: usize) -> bool {
+    went(reader.seek_to(place)) & (reader.buffer_remaining() == held)
+}
+
+const START: &[Piece] = &[(3, b"hel", 5, 9)];
+
+fn seeks_text<S: Storage>(store: &mut S, reader: &mut Read<S>) -> bool {
+    let back = seeks(reader, 0, 0);
+    let first = reads_each(store, reader, START);
+    let on = seeks(reader, 6, 2) & seeks(reader, 5, 0);
+    let past = failed(reader.seek_to(13), Error::BlobInsufficientLength);
+    back & (first == 1) & on & past & (reader.position() == 5)
+}
+
+fn read_text<S: Storage>(alloc: Global, store: &mut S) -> Result<bool, Error> {
+    let (blob, _) = store.open(&mut NoEnv, "p", b"a")?;
+    let written = writes(alloc, store, &blob, b"hello world!");
+    let mut reader = Read::new(alloc, blob, 12, 8);
+    let read = reads_text(store, &mut reader);
+    let sought = seeks_text(store, &mut reader);
+    reader.close(store);
+    Ok(written & read & sought)
+}
+
+/// Whether the text of the blob of that name begins so.
+fn begins(alloc: Global, store: &mut MemStore, bytes: &[u8]) -> Result<bool, Error> {
+    let (blob, len) = store.open(&mut NoEnv, "p", b"a")?;
+    let mut reader = Read::new(alloc, blob, len, 8);
+    let first = next(&mut reader, store, bytes.len());
+    reader.close(store);
+    Ok(are(first, bytes))
 }
 
 #[test]
 fn blob_is_read_by_buffers(rt: HostRuntime) -> Result<(), Fail> {
-    let alloc = rt.alloc();
-    let mut store = MemStore::new(alloc, FaultConfig::default())?;
-    let text = bufs(alloc, b"hello world!")?;
-    match store.open(&mut NoEnv, "p", b"a") {
-        Ok((blob, _)) => {
-            let written = write(&mut store, &blob, text);
-            let mut reader = Read::new(alloc, blob, 12, 8);
-            reads(&rt, &mut store, &mut reader);
-            let sought = seeks(&rt, &mut store, &mut reader);
-            reader.close(&mut store);
-            assert_eq!(rt; (written, sought), (Ok(()), Ok(())));
-        }
-        Err(error) => panic!(rt; "{error}"),
-    }
+    let mut store = MemStore::new(rt.alloc(), FaultConfig::default())?;
+    let seen = came(read_text(rt.alloc(), &mut store), true);
+    assert!(rt; seen & came(begins(rt.alloc(), &mut store, b"hello"), true));
     Ok(())
 }
 
-/// Reads of `hello world`, of which `hello` lies in the blob: where, how many bytes, and which.
-const SEEN: [(u64, usize, &[u8]); 5] = [
+/// A read through a writer: where, how many bytes, and which.
+type Look = (u64, usize, &'static [u8]);
+
+/// How many looks come to what is written.
+fn sees_each<S: Storage>(store: &mut S, writer: &Write<S>, looks: &[Look]) -> usize {
+    let mut right = 0_usize;
+    for (offset, len, expected) in looks {
+        if are(writer.read_at(store, &mut NoEnv, *offset, *len), expected) {
+            right = right.wrapping_add(1);
+        }
+    }
+    right
+}
+
+/// Reads of `hello world`, of which `hello` lies in the blob.
+const SEEN: &[Look] = &[
     (0, 11, b"hello world"),
     (1, 3, b"ell"),
     (4, 3, b"o w"),
@@ -221,47 +315,42 @@ const SEEN: [(u64, usize, &[u8]); 5] = [
     (2, 0, b""),
 ];
 
-fn sees(rt: &impl Abort, store: &mut MemStore, writer: &Write<MemStore>) {
-    for (offset, len, expected) in SEEN {
-        assert!(rt; are(writer.read_at(store, &mut NoEnv, offset, len), expected));
-    }
-    assert!(rt; refuses(store, writer, 11, Error::BlobInsufficientLength));
-    assert!(rt; refuses(store, writer, u64::MAX, Error::OffsetOverflow));
+/// Whether a read of one byte is refused so.
+fn refuses<S: Storage>(store: &mut S, writer: &Write<S>, offset: u64, why: Error) -> bool {
+    failed(writer.read_at(store, &mut NoEnv, offset, 1), why)
 }
 
-/// Whether a read of one byte is refused so.
-fn refuses(store: &mut MemStore, writer: &Write<MemStore>, offset: u64, why: Error) -> bool {
-    match writer.read_at(store, &mut NoEnv, offset, 1) {
-        Ok(_) => false,
-        Err(error) => error == why,
-    }
+fn sees<S: Storage>(store: &mut S, writer: &Write<S>) -> bool {
+    let seen = sees_each(store, writer, SEEN);
+    let end = refuses(store, writer, 11, Error::BlobInsufficientLength);
+    (seen == 5) & end & refuses(store, writer, u64::MAX, Error::OffsetOverflow)
+}
+
+/// Whether a write into the tip is taken in, or isn't.
+fn tries<S: Storage>(writer: &mut Write<S>, offset: u64, bytes: &[u8], went: bool) -> bool {
+    came(writer.try_write_at(offset, bytes), went)
 }
 
 /// Writes into the tip of a writer behind `hello`.
-fn extend(rt: &impl Abort, writer: &mut Write<MemStore>) -> Result<(), NoMemory> {
-    assert!(rt; writer.try_write_at(5, b" world")?);
-    assert!(rt; !writer.try_write_at(4, b"x")?);
-    assert!(rt; writer.try_write_at(0, b"")?);
-    assert_eq!(rt; (writer.size(), writer.needs_sync()), (11, true));
-    Ok(())
+fn extends<S: Storage>(writer: &mut Write<S>) -> bool {
+    let first = tries(writer, 5, b" world", true) & tries(writer, 4, b"x", false);
+    first & tries(writer, 0, b"", true) & (writer.size() == 11) & writer.needs_sync()
+}
+
+fn look_over<S: Storage>(alloc: Global, store: &mut S) -> Result<bool, Error> {
+    let (blob, _) = store.open(&mut NoEnv, "p", b"a")?;
+    let written = writes(alloc, store, &blob, b"hello");
+    let mut writer = Write::new(alloc, blob, 5, 16);
+    let extended = extends(&mut writer);
+    let seen = sees(store, &writer);
+    writer.close(store);
+    Ok(written & extended & seen)
 }
 
 #[test]
 fn tip_is_read_over_its_blob(rt: HostRuntime) -> Result<(), Fail> {
-    let alloc = rt.alloc();
-    let mut store = MemStore::new(alloc, FaultConfig::default())?;
-    let text = bufs(alloc, b"hello")?;
-    match store.open(&mut NoEnv, "p", b"a") {
-        Ok((blob, _)) => {
-            let written = write(&mut store, &blob, text);
-            let mut writer = Write::new(alloc, blob, 5, 16);
-            let extended = extend(&rt, &mut writer);
-            sees(&rt, &mut store, &writer);
-            writer.close(&mut store);
-            assert_eq!(rt; (written, extended.is_ok()), (Ok(()), true));
-        }
-        Err(error) => panic!(rt; "{error}"),
-    }
+    let mut store = MemStore::new(rt.alloc(), FaultConfig::default())?;
+    assert!(rt; came(look_over(rt.alloc(), &mut store), true));
     Ok(())
 }
 
@@ -302,12 +391,38 @@ pub fn synced<S: Storage>(store: &mut S, writer: Write<S>) -> Result<Write<S>, E
     done(store, step)
 }
 
+/// A writer of the blob, with a tip of 16 bytes.
+pub fn opened<S: Storage>(alloc: Global, store: &mut S, name: &[u8]) -> Result<Write<S>, Error> {
+    let (blob, len) = store.open(&mut NoEnv, "p", name)?;
+    Ok(Write::new(alloc, blob, len, 16))
+}
+
+/// The writer, where it has exactly these bytes.
+fn showing<S: Storage>(
+    store: &mut S,
+    writer: Write<S>,
+    expected: &[u8],
+) -> Result<Write<S>, Error> {
+    let shown = writer.read_at(store, &mut NoEnv, 0, expected.len());
+    if are(shown, expected) & (writer.size() == expected.len() as u64) {
+        return Ok(writer);
+    }
+    writer.close(store);
+    Err(Error::Aborted)
+}
+
 /// Writes `hello world!` in three parts.
-fn write_text(alloc: Global, store: &mut MemStore, writer: Write<MemStore>) -> Result<(), Error> {
+fn put_text<S: Storage>(alloc: Global, store: &mut S) -> Result<Write<S>, Error> {
+    let writer = opened(alloc, store, b"a")?;
     let writer = put(alloc, store, writer, 0, b"hello")?;
     let writer = synced(store, writer)?;
     let writer = put(alloc, store, writer, 5, b" world")?;
-    let writer = put(alloc, store, writer, 11, b"!")?;
+    put(alloc, store, writer, 11, b"!")
+}
+
+/// Syncs it where a crash would leave it.
+fn write_text(alloc: Global, store: &mut MemStore) -> Result<(), Error> {
+    let writer = put_text(alloc, store)?;
     let step = writer.sync_in_memory(store, &mut NoEnv, 1);
     let writer = done(store, step)?;
     let step = writer.wait_for_sync(store, &mut NoEnv, 1);
@@ -315,62 +430,42 @@ fn write_text(alloc: Global, store: &mut MemStore, writer: Write<MemStore>) -> R
     Ok(())
 }
 
-/// That a blob has `hello world!`.
-fn is_read_back(rt: &impl Abort, alloc: Global, store: &mut MemStore) {
-    match store.open(&mut NoEnv, "p", b"a") {
-        Ok((blob, len)) => {
-            assert_eq!(rt; len, 12);
-            let mut reader = Read::new(alloc, blob, len, 8);
-            reads(rt, store, &mut reader);
-            reader.close(store);
-        }
-        Err(error) => panic!(rt; "{error}"),
-    }
+fn reads_back<S: Storage>(alloc: Global, store: &mut S) -> Result<bool, Error> {
+    let (blob, len) = store.open(&mut NoEnv, "p", b"a")?;
+    let mut reader = Read::new(alloc, blob, len, 8);
+    let read = reads_text(store, &mut reader);
+    reader.close(store);
+    Ok(read & (len == 12))
 }
 
 #[test]
 fn written_blob_is_read_back(rt: HostRuntime) -> Result<(), Fail> {
-    let alloc = rt.alloc();
-    let mut store = MemStore::new(alloc, FaultConfig::default())?;
-    match store.open(&mut NoEnv, "p", b"a") {
-        Ok((blob, len)) => {
-            let writer = Write::new(alloc, blob, len, 16);
-            assert_eq!(rt; write_text(alloc, &mut store, writer), Ok(()));
-        }
-        Err(error) => panic!(rt; "{error}"),
-    }
-    is_read_back(&rt, alloc, &mut store);
+    let mut store = MemStore::new(rt.alloc(), FaultConfig::default())?;
+    let written = went(write_text(rt.alloc(), &mut store));
+    assert!(rt; written & came(reads_back(rt.alloc(), &mut store), true));
     Ok(())
 }
 
-/// Cuts and extends a writer whose bytes are held back, and says which bytes it has.
-fn resize_text(
-    rt: &impl Abort,
-    store: &mut MemStore,
-    mut writer: Write<MemStore>,
-) -> Result<(), Error> {
-    let went = writer.try_write_at(0, b"hello");
-    let step = writer.resize(store, &mut NoEnv, 3, 1);
-    let writer = done(store, step)?;
-    let step = writer.resize(store, &mut NoEnv, 5, 1);
-    let writer = done(store, step)?;
-    assert_eq!(rt; (went.is_ok(), writer.size()), (true, 5));
-    assert!(rt; are(writer.read_at(store, &mut NoEnv, 0, 5), b"hel\0\0"));
-    writer.close(store);
-    Ok(())
+/// Cuts or extends a writer.
+fn resized<S: Storage>(store: &mut S, writer: Write<S>, len: u64) -> Result<Write<S>, Error> {
+    let step = writer.resize(store, &mut NoEnv, len, 1);
+    done(store, step)
+}
+
+/// Cuts and extends a writer whose bytes are held back.
+fn resize_text<S: Storage>(alloc: Global, store: &mut S) -> Result<bool, Error> {
+    let mut writer = opened(alloc, store, b"a")?;
+    let went = tries(&mut writer, 0, b"hello", true);
+    let writer = resized(store, writer, 3)?;
+    let writer = resized(store, writer, 5)?;
+    showing(store, writer, b"hel\0\0")?.close(store);
+    Ok(went)
 }
 
 #[test]
 fn writer_is_resized(rt: HostRuntime) -> Result<(), Fail> {
-    let alloc = rt.alloc();
-    let mut store = MemStore::new(alloc, FaultConfig::default())?;
-    match store.open(&mut NoEnv, "p", b"a") {
-        Ok((blob, len)) => {
-            let writer = Write::new(alloc, blob, len, 16);
-            assert_eq!(rt; resize_text(&rt, &mut store, writer), Ok(()));
-        }
-        Err(error) => panic!(rt; "{error}"),
-    }
+    let mut store = MemStore::new(rt.alloc(), FaultConfig::default())?;
+    assert!(rt; came(resize_text(rt.alloc(), &mut store), true));
     Ok(())
 }
 
@@ -381,77 +476,49 @@ fn two_chunks(alloc: Global) -> Result<IoBufs, NoMemory> {
     Ok(chunks)
 }
 
-/// Writes that go into a tip of four bytes, through it, past it and before it.
-fn write_chunks(
-    rt: &impl Abort,
-    alloc: Global,
-    store: &mut MemStore,
-    writer: Write<MemStore>,
-    chunks: IoBufs,
-) -> Result<Write<MemStore>, Error> {
-    let step = writer.write_at(store, &mut NoEnv, 0, chunks, 1);
+/// A write of two chunks, through a tip of four bytes.
+fn put_chunks<S: Storage>(alloc: Global, store: &mut S) -> Result<Write<S>, Error> {
+    let chunks = two_chunks(alloc)?;
+    let (blob, len) = store.open(&mut NoEnv, "p", b"a")?;
+    let step = Write::new(alloc, blob, len, 4).write_at(store, &mut NoEnv, 0, chunks, 1);
     let writer = done(store, step)?;
-    assert!(rt; are(writer.read_at(store, &mut NoEnv, 0, 6), b"abcdef"));
-    let writer = put(alloc, store, writer, 6, b"0123456789")?;
-    assert_eq!(rt; writer.size(), 16);
-    let writer = put(alloc, store, writer, 2, b"xy")?;
-    let writer = put(alloc, store, writer, 18, b"z")?;
-    assert!(rt;
-        are(
-            writer.read_at(store, &mut NoEnv, 0, 19),
-            b"abxyef0123456789\0\0z"
-        )
-    );
-    Ok(writer)
+    showing(store, writer, b"abcdef")
 }
 
-/// Whether a write past the end of numbers is refused so.
-fn overflows(alloc: Global, store: &mut MemStore, writer: Write<MemStore>) -> bool {
-    match put(alloc, store, writer, u64::MAX, b"ab") {
+/// Whether a writer was refused so.
+pub fn is_refused<S: Storage>(store: &mut S, answer: Result<Write<S>, Error>, why: Error) -> bool {
+    match answer {
         Ok(writer) => {
             writer.close(store);
             false
         }
-        Err(error) => error == Error::OffsetOverflow,
+        Err(error) => same(error, why),
     }
+}
+
+/// Writes through the tip, past it and before it, and one past the end of numbers.
+fn write_chunks<S: Storage>(alloc: Global, store: &mut S) -> Result<bool, Error> {
+    let writer = put_chunks(alloc, store)?;
+    let writer = put(alloc, store, writer, 6, b"0123456789")?;
+    let writer = showing(store, writer, b"abcdef0123456789")?;
+    let writer = put(alloc, store, writer, 2, b"xy")?;
+    let writer = put(alloc, store, writer, 18, b"z")?;
+    let writer = showing(store, writer, b"abxyef0123456789\0\0z")?;
+    let past = put(alloc, store, writer, u64::MAX, b"ab");
+    Ok(is_refused(store, past, Error::OffsetOverflow))
 }
 
 #[test]
 fn chunks_are_written(rt: HostRuntime) -> Result<(), Fail> {
-    let alloc = rt.alloc();
-    let mut store = MemStore::new(alloc, FaultConfig::default())?;
-    let chunks = two_chunks(alloc)?;
-    match store.open(&mut NoEnv, "p", b"a") {
-        Ok((blob, len)) => {
-            let writer = Write::new(alloc, blob, len, 4);
-            match write_chunks(&rt, alloc, &mut store, writer, chunks) {
-                Ok(writer) => assert!(rt; overflows(alloc, &mut store, writer)),
-                Err(error) => panic!(rt; "{error}"),
-            }
-        }
-        Err(error) => panic!(rt; "{error}"),
-    }
+    let mut store = MemStore::new(rt.alloc(), FaultConfig::default())?;
+    assert!(rt; came(write_chunks(rt.alloc(), &mut store), true));
     Ok(())
 }
 
-/// The writer and the handle that a start gave.
-fn begun(
-    store: &mut MemStore,
-    started: Started<MemStore>,
-) -> Result<(Write<MemStore>, SyncHandle), Error> {
-    match started {
-        Begun::Done(writer, handle) => Ok((writer, handle)),
-        Begun::Waiting(op) => {
-            op.give_up(store);
-            Err(Error::Timeout)
-        }
-        Begun::Failed(error) => Err(error),
-    }
-}
-
 /// Syncs `ab`, and writes out `cd` behind it with no sync.
-fn write_behind(alloc: Global, store: &mut MemStore, writer: Write<MemStore>) -> Result<(), Error> {
-    let writer = put(alloc, store, writer, 0, b"ab")?;
+fn write_behind<S: Storage>(alloc: Global, store: &mut S) -> Result<(), Error> {
+    let (blob, len) = store.open(&mut NoEnv, "p", b"a")?;
+    let writer = put(alloc, store, Write::new(alloc, blob, len, 2), 0, b"ab")?;
     let writer = synced(store, writer)?;
     let writer = put(alloc, store, writer, 2, b"cd")?;
     put(alloc, store, writer, 4, b"e")?.close(store);
@@ -469,105 +536,112 @@ fn crash(alloc: Global, store: &mut MemStore) -> Result<usize, Error> {
     Ok(draws)
 }
 
-/// How long the blob is.
-fn len_of(store: &mut MemStore) -> Result<u64, Error> {
+/// Whether the blob is so long.
+fn is_long<S: Storage>(store: &mut S, expected: u64) -> Result<bool, Error> {
     let (blob, len) = store.open(&mut NoEnv, "p", b"a")?;
     store.close(blob);
-    Ok(len)
+    Ok(len == expected)
 }
 
 /// How long the blob is then and after a crash, and how many numbers that may draw.
-fn crash_behind(alloc: Global, store: &mut MemStore) -> Result<(u64, u64, usize), Error> {
-    let (blob, len) = store.open(&mut NoEnv, "p", b"a")?;
-    write_behind(alloc, store, Write::new(alloc, blob, len, 2))?;
-    let before = len_of(store)?;
+fn crash_behind(alloc: Global, store: &mut MemStore) -> Result<bool, Error> {
+    write_behind(alloc, store)?;
+    let before = is_long(store, 4)?;
     let draws = crash(alloc, store)?;
-    Ok((before, len_of(store)?, draws))
+    let after = is_long(store, 2)?;
+    Ok(before & (draws == 2) & after)
 }
 
 #[test]
 fn crash_leaves_what_was_synced(rt: HostRuntime) -> Result<(), Fail> {
-    let alloc = rt.alloc();
-    let mut store = MemStore::new(alloc, FaultConfig::default())?;
-    assert_eq!(rt; crash_behind(alloc, &mut store), Ok((4, 2, 2)));
+    let mut store = MemStore::new(rt.alloc(), FaultConfig::default())?;
+    assert!(rt; came(crash_behind(rt.alloc(), &mut store), true));
     Ok(())
 }
 
+/// The writer and the handle that a start gave.
+pub fn begun<S: Storage>(
+    store: &mut S,
+    started: Started<S>,
+) -> Result<(Write<S>, SyncHandle), Error> {
+    match started {
+        Begun::Done(writer, handle) => Ok((writer, handle)),
+        Begun::Waiting(op) => {
+            op.give_up(store);
+            Err(Error::Timeout)
+        }
+        Begun::Failed(error) => Err(error),
+    }
+}
+
+/// Starts a sync.
+pub fn start<S: Storage>(store: &mut S, writer: Write<S>) -> Result<(Write<S>, SyncHandle), Error> {
+    let started = writer.start_sync(store, &mut NoEnv, 1);
+    begun(store, started)
+}
+
+/// Whether the poll of a handle answers so.
+pub fn polls<S: Storage>(
+    store: &mut S,
+    writer: &mut Write<S>,
+    mut handle: SyncHandle,
+    wanted: Poll<Result<(), Error>>,
+) -> bool {
+    same(handle.poll(writer, store, &mut NoEnv, 1), wanted)
+}
+
+fn is_done<S: Storage>(store: &mut S, writer: &mut Write<S>, handle: SyncHandle) -> bool {
+    polls(store, writer, handle, Poll::Ready(Ok(())))
+}
+
 /// Starts a sync, asks for it, and starts one where nothing is to be synced.
-fn start_syncs(
-    rt: &impl Abort,
-    alloc: Global,
-    store: &mut MemStore,
-    writer: Write<MemStore>,
-) -> Result<(), Error> {
+fn start_syncs<S: Storage>(alloc: Global, store: &mut S) -> Result<bool, Error> {
+    let writer = opened(alloc, store, b"a")?;
     let writer = put(alloc, store, writer, 0, b"ab")?;
-    let started = writer.start_sync(store, &mut NoEnv, 1);
-    let (mut writer, mut handle) = begun(store, started)?;
-    assert!(rt; writer.needs_sync());
-    assert_eq!(rt;
-        handle.poll(&mut writer, store, &mut NoEnv, 1),
-        Poll::Ready(Ok(()))
-    );
-    assert!(rt; !writer.needs_sync());
-    let started = writer.start_sync(store, &mut NoEnv, 1);
-    let (mut writer, mut other) = begun(store, started)?;
-    assert_eq!(rt;
-        other.poll(&mut writer, store, &mut NoEnv, 1),
-        Poll::Ready(Ok(()))
-    );
-    assert_eq!(rt;
-        handle.poll(&mut writer, store, &mut NoEnv, 1),
-        Poll::Ready(Ok(()))
-    );
+    let (mut writer, first) = start(store, writer)?;
+    let began = writer.needs_sync();
+    let ended = is_done(store, &mut writer, first) & !writer.needs_sync();
+    let (mut writer, second) = start(store, writer)?;
+    let shared = is_done(store, &mut writer, second) & is_done(store, &mut writer, first);
     writer.close(store);
-    Ok(())
+    Ok(began & ended & shared)
 }
 
 #[test]
 fn sync_is_started(rt: HostRuntime) -> Result<(), Fail> {
-    let alloc = rt.alloc();
-    let mut store = MemStore::new(alloc, FaultConfig::default())?;
-    match store.open(&mut NoEnv, "p", b"a") {
-        Ok((blob, len)) => {
-            let writer = Write::new(alloc, blob, len, 16);
-            assert_eq!(rt; start_syncs(&rt, alloc, &mut store, writer), Ok(()));
-        }
-        Err(error) => panic!(rt; "{error}"),
-    }
+    let mut store = MemStore::new(rt.alloc(), FaultConfig::default())?;
+    assert!(rt; came(start_syncs(rt.alloc(), &mut store), true));
     Ok(())
 }
 
 const MEBIBYTE: usize = 1_048_576;
 
-/// Writes a mebibyte into a tip that has room for it, syncs it, and answers what the writer held back before and the size.
-fn write_large(alloc: Global, store: &mut MemStore, writer: Write<MemStore>) -> Result<u64, Error> {
+/// Writes a mebibyte into a tip that has room for it, syncs it, and answers what the writer has before that.
+fn write_large<S: Storage>(alloc: Global, store: &mut S) -> Result<u64, Error> {
     let mut bytes = Vec::new(alloc);
-    let writer = match bytes.resize(MEBIBYTE, 7) {
-        Ok(()) => put(alloc, store, writer, 0, bytes.as_slice())?,
-        Err(_) => writer,
-    };
+    bytes.resize(MEBIBYTE, 7)?;
+    let (blob, len) = store.open(&mut NoEnv, "p", b"a")?;
+    let writer = Write::new(alloc, blob, len, MEBIBYTE);
+    let writer = put(alloc, store, writer, 0, bytes.as_slice())?;
     let size = writer.size();
     synced(store, writer)?.close(store);
     Ok(size)
 }
 
-/// Reads a mebibyte by one buffer, but for its last byte.
-fn read_large(store: &mut MemStore, reader: &mut Read<MemStore>) -> Result<usize, Error> {
-    let first = reader.read(store, &mut NoEnv, 1)?;
-    Ok(first.len().wrapping_add(reader.buffer_remaining()))
+/// Reads a mebibyte by one buffer, but for its last bytes: how many were read and are held.
+fn read_large<S: Storage>(alloc: Global, store: &mut S) -> Result<usize, Error> {
+    let (blob, len) = store.open(&mut NoEnv, "p", b"a")?;
+    let mut reader = Read::new(alloc, blob, len, MEBIBYTE);
+    let first = reader.read(store, &mut NoEnv, 1);
+    let held = reader.buffer_remaining();
+    reader.close(store);
+    Ok(first?.len().wrapping_add(held))
 }
 
 #[test]
 fn sizes(rt: HostRuntime) -> Result<(), Fail> {
-    let alloc = rt.alloc();
-    let mut store = MemStore::new(alloc, FaultConfig::default())?;
-    let (blob, len) = store.open(&mut NoEnv, "p", b"a").expect(&rt, "room");
-    let writer = Write::new(alloc, blob, len, MEBIBYTE);
-    assert_eq!(rt; write_large(alloc, &mut store, writer), Ok(MEBIBYTE as u64));
-    let (blob, len) = store.open(&mut NoEnv, "p", b"a").expect(&rt, "room");
-    let mut reader = Read::new(alloc, blob, len, MEBIBYTE);
-    let seen = read_large(&mut store, &mut reader);
-    reader.close(&mut store);
-    assert_eq!(rt; seen, Ok(MEBIBYTE));
+    let mut store = MemStore::new(rt.alloc(), FaultConfig::default())?;
+    let written = came(write_large(rt.alloc(), &mut store), 1_048_576);
+    assert!(rt; written & came(read_large(rt.alloc(), &mut store), MEBIBYTE));
     Ok(())
 }
