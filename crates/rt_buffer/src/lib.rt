@@ -3,6 +3,8 @@
 #![tactic(auto)]
 
 mod ahead;
+#[cfg(test)]
+mod counting_tests;
 mod deferred_sync;
 mod delayed_sync;
 #[cfg(test)]
