@@ -30,7 +30,6 @@ use Rattle.rt_store.specs.Content.{resized, written}
 use Rattle.rt_store.specs.declared.ticket.Done.{Done}
 use Rattle.rt_store.specs.declared.ticket.Done.TheVariants.{Now, Gated}
 use Rattle.rt_store.specs.declared.ticket.Ticket.{Ticket}
-use Rattle.rt_store.specs.declared.ticket.Ticket.TheVariants as ticket
 
 -- a call that is done left these bytes, and one that waits holds the sync of them
 abbrev Came : {S B : Type 0} → (S → B → List ℕ) → (S → B → Option (List ℕ)) → (S → Ticket → B → Option (List ℕ)) → B → List ℕ → Rest → Progress → Writer S → Type 0
