@@ -1,4 +1,4 @@
--- The parts of entries that are kept in fewer pieces than they are seen.
+-- What contracts see of the parts of entries that are kept in more than one form.
 use Rattle.std.specs.Prelude.{ℕ, List, [], ◌∷◌}
 use Rattle.rt_audit.specs.declared.event_label.LabelKind.{LabelKind}
 use Rattle.rt_audit.specs.declared.event_label.LabelKind.TheVariants.{ProcessTask, Named}

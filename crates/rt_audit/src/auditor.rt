@@ -44,7 +44,7 @@ impl Auditor {
         self.chain_listed(event.label.as_str(), event.fields.as_slice());
     }
 
-    /// Takes an event of this label and these fields in. It stands apart, so that other entries are noted in place.
+    /// Takes an event of this label and these fields in. Not inlined, so that other entries are noted in place.
     #[inline(never)]
     pub(crate) fn chain(&mut self, label: &str, fields: &EventFields)
         ensures { self.new ≡ event_digest self.old label.now fields.now }

@@ -8,7 +8,7 @@ use rt_base::{NoMemory, Text};
 use std::alloc::Global;
 use std::marker::Model;
 
-/// Where a label stands. That of a visit's event needs no memory.
+/// How a label is kept. That of a visit's event needs no memory.
 #[derive(Debug, Drop)]
 pub enum LabelKind {
     ProcessTask,

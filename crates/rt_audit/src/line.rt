@@ -48,7 +48,7 @@ pub fn add_number(text: &mut String, number: u128) -> Result<(), NoMemory>
     add_digits(text, number)
 }
 
-/// A number of two to four digits. It stands apart, so that one digit is written in place.
+/// A number of two to four digits. Not inlined, so that one digit is written in place.
 #[inline(never)]
 fn add_few(text: &mut String, number: u64) -> Result<(), NoMemory>
     requires { (10 ≤ number) × (number < 10000) }

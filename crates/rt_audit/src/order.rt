@@ -1,6 +1,6 @@
 //! The numbers of a round.
 
-ghost use Rattle.std.specs.Prelude.{◌≡◌, IfOk};
+ghost use Rattle.std.specs.Prelude.{◌≡◌, length, IfOk, IsOk};
 
 use rt_base::{Items, NoMemory};
 use std::alloc::Global;
@@ -31,7 +31,8 @@ impl Model for Order {
 impl Order {
     /// A copy of these numbers. One alone takes no memory.
     pub fn of(alloc: Global, numbers: &[u64]) -> Result<Order, NoMemory>
-        ensures { IfOk result (λ order. order ≡ numbers.now) }
+        ensures order { IfOk result (λ order. order ≡ numbers.now) }
+        ensures one { length numbers.now ≡ 1 → IsOk result }
     {
         let kind = match numbers {
             [one] => OrderKind::One([*one]),

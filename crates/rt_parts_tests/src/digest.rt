@@ -147,6 +147,47 @@ fn digest_of_a_journal(rt: HostRuntime) -> Result<(), Fail> {
     Ok(())
 }
 
+/// The digest of a journal of two visits, whose fields stand in their entries or in a list.
+fn visits_digested(alloc: Global, listed: bool) -> Result<[u8; 4], NoMemory> {
+    let mut journal = Journal::new(alloc);
+    for (task, label) in [(258, "ab"), (70_000, "")] {
+        journal.reserve(1)?;
+        let kept = EventFields::of_task(task, Text::of(label.to_owned(alloc)?));
+        let fields = if listed {
+            in_a_list(alloc, &kept)?
+        } else {
+            kept
+        };
+        journal.push(Entry::Event {
+            label: EventLabel::process_task(),
+            fields,
+        });
+    }
+    Ok(journal.digest())
+}
+
+/// The same fields in a list.
+pub fn in_a_list(alloc: Global, fields: &EventFields) -> Result<EventFields, NoMemory> {
+    let mut list = Vec::new(alloc);
+    for place in 0..fields.len() {
+        if let Some(field) = fields.get(place) {
+            list.push(Items::of(field.to_vec(alloc)?))?;
+        }
+    }
+    Ok(EventFields::listed(Items::of(list)))
+}
+
+#[test]
+fn visits_are_digested_alike(rt: HostRuntime) -> Result<(), Fail> {
+    for listed in [false, true] {
+        assert_eq!(rt;
+            visits_digested(rt.alloc(), listed)?,
+            [0xec, 0x89, 0x45, 0x7e]
+        );
+    }
+    Ok(())
+}
+
 /// Whether an environment, an auditor and a journal that are told one event agree on it, and the environment draws from
 /// its generator.
 pub fn agree_on_an_event(alloc: Global) -> Result<bool, NoMemory> {

@@ -1,6 +1,6 @@
 // The line of each entry, and each call once.
 
-use crate::digest::agree_on_an_event;
+use crate::digest::{agree_on_an_event, in_a_list};
 use rt_audit::{
     AnswerKind, Call, CallReply, Entry, EventFields, EventLabel, FinishCause, Journal, Label,
     Moment, Order, Refusal, error_code,
@@ -117,6 +117,12 @@ fn add_round(alloc: Global, text: &mut String, task: u64, times: usize) -> Resul
     add(alloc, text, Entry::Round { order })
 }
 
+/// A round that visits the least and the greatest numbers of one to four digits, and a greater one.
+fn add_digits(alloc: Global, text: &mut String) -> Result<(), NoMemory> {
+    let order = Order::of(alloc, &[9, 10, 99, 100, 999, 1000, 9999, 10_000])?;
+    add(alloc, text, Entry::Round { order })
+}
+
 fn add_tasks(alloc: Global, text: &mut String) -> Result<(), NoMemory> {
     add(alloc, text, Entry::Wake { task: 9 })?;
     add(alloc, text, Entry::Draw { value: u64::MAX })?;
@@ -153,6 +159,7 @@ fn line_of_each_entry(rt: HostRuntime) -> Result<(), Fail> {
     add_event(alloc, &mut text, 2)?;
     add_round(alloc, &mut text, 4, 3)?;
     add_round(alloc, &mut text, 4, 0)?;
+    add_digits(alloc, &mut text)?;
     add_tasks(alloc, &mut text)?;
     add_times(alloc, &mut text)?;
     add_ends(alloc, &mut text)?;
@@ -176,6 +183,7 @@ call 4 give-up 0 -> ok
 event process_task abab -
 round 4 4 4
 round
+round 9 10 99 100 999 1000 9999 10000
 wake 9
 draw 18446744073709551615
 root 10
@@ -264,19 +272,16 @@ fn are_of_task(fields: &EventFields, task: u64, label: &str) -> bool {
 /// Whether the parts of an event and of a round show what they were made of, however they are kept.
 fn parts_are_shown(alloc: Global) -> Result<bool, NoMemory> {
     let kept = EventFields::of_task(258, Text::of("ab".to_owned(alloc)?));
-    let mut list = Vec::new(alloc);
-    for place in 0..kept.len() {
-        if let Some(field) = kept.get(place) {
-            list.push(Items::of(field.to_vec(alloc)?))?;
-        }
-    }
-    let listed = EventFields::listed(Items::of(list));
+    let listed = in_a_list(alloc, &kept)?;
     let named = EventLabel::named(alloc, Text::of("process_task".to_owned(alloc)?))?;
+    let other = EventLabel::named(alloc, Text::of("stop".to_owned(alloc)?))?;
     let orders = (Order::of(alloc, &[7])?, Order::of(alloc, &[7, 8])?);
     Ok(
         are_of_task(&kept, 258, "ab")
             && are_of_task(&listed, 258, "ab")
+            && !kept.are_of_task(258, "a")
             && named.as_str() == EventLabel::process_task().as_str()
+            && other.as_str() == "stop"
             && orders.0.as_slice() == [7].as_slice()
             && orders.1.as_slice() == [7, 8].as_slice(),
     )

@@ -45,9 +45,15 @@ fn surface_of_alarms(rt: &impl Abort, alloc: Global) -> Result<(), Fail> {
     assert_eq!(rt; alarms.len(), 1);
     assert_eq!(rt; alarms.count(), 2);
     assert_eq!(rt; alarms.pop_due(40), Some((next, NOBODY)));
-    let last = alarms.set(50, 1)?;
+    let later = (alarms.set(60, 1)?, alarms.set(50, 3)?, alarms.set(70, 4)?);
+    alarms.rewake(later.0, 5);
+    assert_eq!(rt;
+        (alarms.pop_due(60), alarms.pop_due(60)),
+        (Some((later.1, 3)), Some((later.0, 5)))
+    );
+    assert_eq!(rt; (alarms.len(), alarms.due_of(later.2)), (1, Some(70)));
     alarms.clear();
-    assert!(rt; last == 2 && alarms.is_empty());
+    assert!(rt; later == (2, 3, 4) && alarms.is_empty());
     Ok(())
 }
 
@@ -57,6 +63,10 @@ fn surface_of_slots(rt: &impl Abort, alloc: Global) -> Result<(), Fail> {
     assert!(rt; slots.holds(slot));
     assert_eq!(rt; slots.poll(slot, 3), Poll::Pending);
     assert_eq!(rt; slots.put(slot, 9), Some(3));
+    assert_eq!(rt;
+        (slots.poll(slot, 3), slots.poll(slot, 3)),
+        (Poll::Ready(Some(9)), Poll::Ready(None))
+    );
     assert_eq!(rt; slots.close(slot), None);
     assert_eq!(rt; slots.abort(slot), None);
     assert!(rt; slots.is_aborted(slot));
@@ -118,6 +128,11 @@ fn children_come_while_flags_are_pending(rt: HostRuntime) -> Result<(), Fail> {
     Ok(())
 }
 
+/// Whom the alarm of this number wakes.
+fn woken_by(number: u64) -> u64 {
+    if number & 1 == 0 { number } else { NOBODY }
+}
+
 #[test]
 fn many_alarms_go_off_in_order(rt: HostRuntime) -> Result<(), Fail> {
     let rising = (1u64, 4_095);
@@ -128,17 +143,16 @@ fn many_alarms_go_off_in_order(rt: HostRuntime) -> Result<(), Fail> {
         let mut alarms = Alarms::new(rt.alloc());
         for number in 0..2_000u64 {
             let due = number.wrapping_mul(factor) & mask;
-            let task = if number & 1 == 0 { number } else { NOBODY };
-            assert_eq!(rt; alarms.set(due as u128, task)?, number);
+            assert_eq!(rt; alarms.set(due as u128, woken_by(number))?, number);
         }
         assert_eq!(rt; alarms.set(MAX_TIME, NOBODY)?, 2_000);
-        let mut last = (0, 0);
+        let mut last = None;
         for _ in 0..2_000 {
-            let Some((number, _)) = alarms.pop_due(4_095) else {
-                panic!(rt; "none is due after {}", last.1);
+            let Some((number, task)) = alarms.pop_due(4_095) else {
+                panic!(rt; "one of them isn't due");
             };
-            let next = (number.wrapping_mul(factor) & mask, number);
-            assert!(rt; last <= next, "{} goes off after {}", number, last.1);
+            let next = Some((number.wrapping_mul(factor) & mask, number));
+            assert!(rt; last < next && task == woken_by(number), "{}", number);
             last = next;
         }
         assert_eq!(rt; alarms.pop_due(4_095), None);

@@ -110,7 +110,7 @@ pub fn line_of(alloc: Global, entry: &Entry) -> Result<String, NoMemory> {
 }
 
 fn add_fields(alloc: Global, line: &mut String, fields: &EventFields) -> Result<(), NoMemory> {
-    let (Some(number), Some(label)) = (fields.get(0), fields.get(1)) else {
+    let (Some(number), Some(label), None) = (fields.get(0), fields.get(1), fields.get(2)) else {
         return Ok(());
     };
     let mut task = 0u128;
