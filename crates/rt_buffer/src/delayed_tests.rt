@@ -192,7 +192,7 @@ fn releases<S: Storage>(
     store: &mut DelayedSyncContext<S>,
     mut ticket: Ticket,
     how: Release,
-    wanted: Answer,
+    wanted: SyncEnd,
 ) -> bool {
     drop(poll(store, &mut ticket));
     let woken = release_by(store.pending_mut(), how);
@@ -207,7 +207,7 @@ pub fn started<S: Storage>(store: &mut S, blob: &S::Blob) -> Option<Ticket> {
 fn starts_and_releases<S: Storage>(
     store: &mut DelayedSyncContext<S>,
     how: Release,
-    wanted: Answer,
+    wanted: SyncEnd,
 ) -> Result<bool, Error> {
     let (blob, _) = store.open(&mut NoEnv, "p", b"b")?;
     let seen = match started(store, &blob) {
@@ -220,36 +220,36 @@ fn starts_and_releases<S: Storage>(
 
 /// What a sync answers.
 #[derive(Clone, Copy)]
-enum Answer {
+enum SyncEnd {
     Done,
     Closed,
     Failure,
     Unknown,
 }
 
-fn polled(answer: Answer) -> Poll<Result<(), Error>> {
+fn polled(answer: SyncEnd) -> Poll<Result<(), Error>> {
     match answer {
-        Answer::Done => Poll::Ready(Ok(())),
-        Answer::Closed => Poll::Ready(Err(Error::Closed)),
-        Answer::Failure => Poll::Ready(Err(Error::Io(IoKind::InjectedSyncFailure))),
-        Answer::Unknown => Poll::Ready(Err(Error::UnknownToken)),
+        SyncEnd::Done => Poll::Ready(Ok(())),
+        SyncEnd::Closed => Poll::Ready(Err(Error::Closed)),
+        SyncEnd::Failure => Poll::Ready(Err(Error::Io(IoKind::InjectedSyncFailure))),
+        SyncEnd::Unknown => Poll::Ready(Err(Error::UnknownToken)),
     }
 }
 
-const RELEASES: &[(Release, Answer)] = &[
-    (Release::First, Answer::Done),
-    (Release::Taken, Answer::Closed),
-    (Release::Failure, Answer::Failure),
-    (Release::Drive, Answer::Done),
-    (Release::Unblock, Answer::Failure),
+const RELEASES: &[(Release, SyncEnd)] = &[
+    (Release::First, SyncEnd::Done),
+    (Release::Taken, SyncEnd::Closed),
+    (Release::Failure, SyncEnd::Failure),
+    (Release::Drive, SyncEnd::Done),
+    (Release::Unblock, SyncEnd::Failure),
     // Nothing holds it, and it fails.
-    (Release::First, Answer::Failure),
+    (Release::First, SyncEnd::Failure),
 ];
 
 /// How many releases, one after the other, come to what is written.
 fn releases_each<S: Storage>(
     store: &mut DelayedSyncContext<S>,
-    each: &[(Release, Answer)],
+    each: &[(Release, SyncEnd)],
 ) -> usize {
     let mut right = 0_usize;
     for (how, wanted) in each {
@@ -276,10 +276,10 @@ fn polls_again<S: Storage>(
     ticket: Ticket,
 ) -> bool {
     let _ = release_pending_syncs(store.pending_mut());
-    let first = same(poll_and_end(store, ticket), polled(Answer::Done));
+    let first = same(poll_and_end(store, ticket), polled(SyncEnd::Done));
     let second = same(
         poll_and_end(store, Ticket::Numbered(0)),
-        polled(Answer::Unknown),
+        polled(SyncEnd::Unknown),
     );
     store.give_up_sync(Ticket::Numbered(0));
     first & second & went(store.resize(&mut NoEnv, blob, 1))
