@@ -1,31 +1,15 @@
 -- Places of names in order.
-use Rattle.std.proofs.Common.{◌≡◌, ℕ, zero, suc, ◌<◌, ◌≤◌, Bool, true, false, cond, List, [], ◌∷◌, length, get_or, Option, Some, ⊎_elim, refl, sym, ap, subst, ◌∙◌, arith}
+use Rattle.std.proofs.Common.{◌≡◌, ℕ, zero, suc, ◌<◌, ◌≤◌, Bool, true, false, List, [], ◌∷◌, length, get_or, ⊎_elim, refl, ap, ◌∙◌, arith}
 use Rattle.std.specs.declared.cmp.Ordering.{Ordering}
 use Rattle.std.specs.declared.cmp.Ordering.TheVariants.{Less, Equal, Greater}
-use Rattle.std.specs.Map.{update}
-use Rattle.std.specs.Option.{IfSome}
 use Rattle.std.specs.Ordering.{is_lt, ordering_reverse}
-use Rattle.std.specs.Str.{bytes_eq}
 use Rattle.std.specs.List.{filter}
-use Rattle.std.specs.List.Sorted.{IsStrictlySortedBy, IsPartitionedBy, IsPartitionPoint}
-use Rattle.std.specs.Cmp.Lexicographic.{nat_list_cmp_total, same_text}
+use Rattle.std.specs.List.Sorted.{IsStrictlySortedBy, IsPartitionPoint}
+use Rattle.std.specs.Cmp.Lexicographic.{nat_list_cmp_total}
 use Rattle.std.proofs.lemmas.Bool.{cases_lt}
 use Rattle.std.proofs.lemmas.Map.Keys.{Less-from_sorted}
 use Rattle.rt_base.specs.Attributes.{text_cmp}
 use Rattle.rt_scenario.specs.Scripts.{place_of}
-
-less : (r : Ordering) → is_lt r ≡ true → r ≡ Less
-less Less e = refl
-less Equal e = absurd (cc)
-less Greater e = absurd (cc)
-
--- those before a name come before all others
-pub names_parted : (names : List (List ℕ)) (name : List ℕ) → IsStrictlySortedBy text_cmp names → IsPartitionedBy (λ other. is_lt (text_cmp other name)) names
-names_parted names name sorted i j d below inside up =
-    ⊎_elim
-    (λ before. ap is_lt (nat_list_cmp_total.trans (get_or names i d) (get_or names j d) name (Less-from_sorted text_cmp names i j d sorted before inside) (less _ up)))
-    (λ after. let same : i ≡ j = omega (arith, below, after) in rw same up)
-    (cases_lt i j)
 
 -- the names that pass, where just the first ones do
 pub count_parted : {X : Type 0} (p : X → Bool) (xs : List X) (i : ℕ) → i ≤ length xs → IsPartitionPoint (λ x. p x ≡ true) (λ x. p x ≡ false) xs i → length (filter p xs) ≡ i
@@ -59,14 +43,3 @@ own_place names i d sorted inside =
       (λ k e low high. ap is_lt (ap (text_cmp (get_or names k e)) (same_at names i d e inside) ∙ Less-from_sorted text_cmp names k i e sorted high inside)),
       (λ k e low high. ap (λ name. is_lt (text_cmp (get_or names k e) name)) (same_at names i d e inside) ∙ not_under names i k e sorted low high),
     )
-
--- a name more is found at its own place
-pub place_more : (names : List (List ℕ)) (old : List ℕ → Option ℕ) (name : List ℕ) (i : ℕ) → ((q : List ℕ) → IfSome (old q) (λ p. p ≡ place_of names q)) → place_of names name ≡ i → (q : List ℕ) (new : Option ℕ) → new ≡ update bytes_eq old name (Some i) q → IfSome new (λ p. p ≡ place_of names q)
-place_more names old name i holds own q new e = subst (λ o. IfSome o (λ p. p ≡ place_of names q)) (sym e) (by (bytes_eq name q) refl)
-  where
-    by : (b : Bool) → bytes_eq name q ≡ b → IfSome (cond b (Some i) (old q)) (λ p. p ≡ place_of names q)
-    by true f = sym own ∙ ap (place_of names) (same_text name q (sym f))
-    by false f = holds q
-
-pub found_place : (names : List (List ℕ)) (name : List ℕ) (o : Option ℕ) (place : ℕ) → IfSome o (λ p. p ≡ place_of names name) → o ≡ Some place → place ≡ place_of names name
-found_place names name o place holds e = subst (λ x. IfSome x (λ p. p ≡ place_of names name)) e holds

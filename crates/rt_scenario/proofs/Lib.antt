@@ -3,6 +3,8 @@ pub mod CommonLines
 pub mod Cuts
 pub mod Digits
 pub mod InOrder
+pub mod Indexed
+pub mod FirstUse
 pub mod Placed
 pub mod Scripts
 pub mod Seen

@@ -81,21 +81,21 @@ with_one : (names : List (List ℕ)) (name : List ℕ) (o : Option (List ℕ)) �
 with_one names name None h = h
 with_one names name (Some k) h = kept name k names h
 
-with_more : (names : List (List ℕ)) (name : List ℕ) (lines : List NamedLine) → Lies names name → Lies (with_handles names lines) name
+with_more : (names : List (List ℕ)) (name : List ℕ) (lines : List (NamedLine (List ℕ))) → Lies names name → Lies (with_handles names lines) name
 with_more names name [] h = h
 with_more names name (line ∷ lines) h = with_more (with_handle names (handle_of line)) name lines (with_one names name (handle_of line) h)
 
-own : (names : List (List ℕ)) (o : Option (List ℕ)) (lines : List NamedLine) → IfSome o (Lies (with_handles (with_handle names o) lines))
+own : (names : List (List ℕ)) (o : Option (List ℕ)) (lines : List (NamedLine (List ℕ))) → IfSome o (Lies (with_handles (with_handle names o) lines))
 own names None lines = tt
 own names (Some k) lines = with_more (insert_key text_cmp names k) k lines (taken k names)
 
 -- each handle of the lines has a place
-all_lie : (names : List (List ℕ)) (lines : List NamedLine) → All (λ line. IfSome (handle_of line) (Lies (with_handles names lines))) lines
+all_lie : (names : List (List ℕ)) (lines : List (NamedLine (List ℕ))) → All (λ line. IfSome (handle_of line) (Lies (with_handles names lines))) lines
 all_lie names [] = λ k d inside. absurd (omega (arith, inside))
 all_lie names (line ∷ lines) =
     All-cons (λ l. IfSome (handle_of l) (Lies (with_handles names (line ∷ lines)))) line lines (own names (handle_of line) lines) (all_lie (with_handle names (handle_of line)) lines)
 
-placed_one : (scripts : ℕ) (s : ScriptText) (line : NamedLine) → IsNamed scripts (length s.words) line → IfSome (handle_of line) (Lies s.handles) → IsWithin scripts s (placed s.handles line)
+placed_one : (scripts : ℕ) (s : ScriptText) (line : NamedLine (List ℕ)) → IsNamed scripts (length s.words) line → IfSome (handle_of line) (Lies s.handles) → IsWithin scripts s (placed s.handles line)
 placed_one scripts s (Plain (step.Panic word)) named lies = named
 placed_one scripts s (Plain (step.Spawn handle script)) named lies = absurd named
 placed_one scripts s (Plain (step.Abort handle)) named lies = absurd named
@@ -143,7 +143,7 @@ have_push ss s have has k d inside =
     subst (λ n. HasPlaces n (get_or (ss ++ s ∷ []) k d)) (sym (length_push ss s))
     (All-push (HasPlaces (length ss + 1)) ss s (λ i e below. has_more (length ss) (get_or ss i e) (have i e below)) (has_more (length ss) s has) k d inside)
 
-free_named : (scripts words : ℕ) (line : NamedLine) → IsFree scripts line → IsNamed scripts words line
+free_named : (scripts words : ℕ) (line : NamedLine (List ℕ)) → IsFree scripts line → IsNamed scripts words line
 free_named scripts words (Plain (step.Panic word)) h = absurd h
 free_named scripts words (Plain (step.Spawn handle script)) h = absurd h
 free_named scripts words (Plain (step.Abort handle)) h = absurd h
@@ -162,10 +162,10 @@ free_named scripts words (Drop handle) h = tt
 free_named scripts words (Join handle) h = tt
 
 -- a line more
-pub begun_line : (scripts : ℕ) (s : Begun) (line : NamedLine) → IsBegun scripts s → IsFree scripts line → IsBegun scripts (with_line line s)
+pub begun_line : (scripts : ℕ) (s : Begun) (line : NamedLine (List ℕ)) → IsBegun scripts s → IsFree scripts line → IsBegun scripts (with_line line s)
 begun_line scripts s line begun free = All-push (IsNamed scripts (length s.words)) s.lines line begun (free_named scripts (length s.words) line free)
 
-named_more : (scripts words : ℕ) (line : NamedLine) → IsNamed scripts words line → IsNamed scripts (words + 1) line
+named_more : (scripts words : ℕ) (line : NamedLine (List ℕ)) → IsNamed scripts words line → IsNamed scripts (words + 1) line
 named_more scripts words (Plain (step.Panic word)) h = omega (arith, h)
 named_more scripts words (Plain (step.Spawn handle script)) h = absurd h
 named_more scripts words (Plain (step.Abort handle)) h = absurd h

@@ -1,12 +1,9 @@
 -- Names that are taken in often.
-use Rattle.std.proofs.Common.{◌≡◌, ℕ, Bool, true, false, cond, List, [], ◌∷◌, length, Option, Some, None, is_none, refl, sym, ap, subst, ◌∙◌, arith}
+use Rattle.std.proofs.Common.{◌≡◌, ℕ, List, [], ◌∷◌, length, refl, sym, ap, ◌∙◌, arith}
 use Rattle.std.specs.declared.cmp.Ordering.{Ordering}
 use Rattle.std.specs.declared.cmp.Ordering.TheVariants.{Less, Equal, Greater}
 use Rattle.std.specs.BTreeSet.{insert_key}
-use Rattle.std.specs.Map.{update}
-use Rattle.std.specs.Option.{IfSome}
 use Rattle.std.specs.Ordering.{is_eq, ordering_reverse, match_ordering}
-use Rattle.std.specs.Str.{bytes_eq}
 use Rattle.std.specs.Cmp.Lexicographic.{nat_list_cmp_total, same_text}
 use Rattle.std.proofs.lemmas.Map.Text.{is_eq-slice_cmp}
 use Rattle.rt_base.specs.Attributes.{text_cmp}
@@ -23,10 +20,12 @@ equal Greater e = absurd (cc)
 itself : (name : List ℕ) → text_cmp name name ≡ Equal
 itself name = equal (text_cmp name name) (nat_list_cmp_total.antisymm name name)
 
-turned : (a b : List ℕ) (r : Ordering) → text_cmp a b ≡ r → text_cmp b a ≡ ordering_reverse r
+-- the other way round
+pub turned : (a b : List ℕ) (r : Ordering) → text_cmp a b ≡ r → text_cmp b a ≡ ordering_reverse r
 turned a b r e = nat_list_cmp_total.antisymm b a ∙ ap ordering_reverse e
 
-same : (a b : List ℕ) → text_cmp a b ≡ Equal → a ≡ b
+-- an order that ties no other texts
+pub same : (a b : List ℕ) → text_cmp a b ≡ Equal → a ≡ b
 same a b e = same_text a b (sym (sym (is_eq-slice_cmp a b) ∙ ap is_eq e))
 
 -- a name that was taken in is there
@@ -55,20 +54,3 @@ has_kept q k (x ∷ xs) h = by (text_cmp q x) refl (text_cmp k x) refl (has_kept
     by Greater e Less f more g = behind q k x xs (nat_list_cmp_total.trans k x q f (turned q x Greater e)) h
     by Greater e Equal f more g = h
     by Greater e Greater f more g = let rest : insert_key text_cmp xs q ≡ xs = cc in rw e (ap (λ l. x ∷ l) (more rest))
-
--- what was seen is there
-pub was_seen : {V : Type 0} (o : Option V) (P : Type 0) → IfSome o (λ _. P) → is_none o ≡ false → P
-was_seen None P h e = absurd (cc)
-was_seen (Some v) P h e = h
-
--- a name more is seen
-pub seen_more : {V : Type 0} (names more : List (List ℕ)) (old : List ℕ → Option V) (name : List ℕ) (v : V) → ((q : List ℕ) → IfSome (old q) (λ _. Has names q)) → ((q : List ℕ) → Has names q → Has more q) → Has more name → (q : List ℕ) (new : Option V) → new ≡ update bytes_eq old name (Some v) q → IfSome new (λ _. Has more q)
-seen_more {V} names more old name v holds kept own q new e = subst (λ o. IfSome o (λ _. Has more q)) (sym e) (by (bytes_eq name q) refl)
-  where
-    stays : (o : Option V) → IfSome o (λ _. Has names q) → IfSome o (λ _. Has more q)
-    stays None h = tt
-    stays (Some w) h = kept q h
-
-    by : (b : Bool) → bytes_eq name q ≡ b → IfSome (cond b (Some v) (old q)) (λ _. Has more q)
-    by true f = subst (Has more) (same_text name q (sym f)) own
-    by false f = stays (old q) (holds q)

@@ -1,5 +1,6 @@
 -- What calls of the reader answer, out of memory apart.
 use Rattle.std.specs.Prelude.{◌≡◌, ℕ, true, false, if◌then◌else◌, List, Option, Some, None, Result, Ok, Err}
+use Rattle.std.specs.Borrow.{Bor}
 use Rattle.rt_scenario.specs.Scenario.{Draft, Reading, Whole, BrokenAt, ending, is_name, script_at, scripts_at}
 use Rattle.rt_scenario.specs.declared.scenario.ScriptText.{ScriptText}
 use Rattle.rt_scenario.specs.declared.kind.Kind.{Kind}
@@ -26,10 +27,10 @@ IsBare Done = Unit {0}
 IsBare word = ⊥
 
 -- the word is this name, or no name
-abbrev pub Named : List ℕ → Result (List ℕ) Stop → Type 0
-Named word (Ok text) = (is_name word ≡ true) × (text ≡ word)
+abbrev pub Named : List ℕ → Result (Bor (List ℕ)) Stop → Type 0
+Named word (Ok name) = (is_name word ≡ true) × (name.now ≡ word)
 Named word (Err (Breaks k)) = (is_name word ≡ false) × (k ≡ Name)
-Named word (Err NoMemory) = Unit {0}
+Named word (Err NoMemory) = ⊥
 
 abbrev pub or_missing : Option ℕ → Result ℕ Kind
 or_missing None = Err Missing

@@ -1,5 +1,6 @@
 pub mod Answers
 pub mod Capped
+pub mod Indexed
 pub mod KindWords
 pub mod Lines
 pub mod Numbers

@@ -76,10 +76,10 @@ script_row d name =
     else (if is_some (script_at d.scripts name) then Err kind.Twice
     else Ok (record d { current = Some (record { name = name; lines = []; words = [] }) }))
 
-abbrev pub with_line : NamedLine → Begun → Begun
+abbrev pub with_line : NamedLine (List ℕ) → Begun → Begun
 with_line line s = record s { lines = s.lines ++ line ∷ [] }
 
-abbrev pub step_row : Draft → NamedLine → Result Draft Kind
+abbrev pub step_row : Draft → NamedLine (List ℕ) → Result Draft Kind
 step_row d line = Ok (record d { current = option_map (with_line line) d.current })
 
 abbrev pub sleep_row : Draft → Option ℕ → Result Draft Kind
@@ -112,7 +112,7 @@ abbrev pub spawn_row : Draft → List ℕ → List ℕ → Result Draft Kind
 spawn_row d handle name = if not (is_name handle && is_name name) then Err kind.Name else spawned_row d handle (script_at d.scripts name)
 
 -- a step with a handle
-abbrev pub handle_row : Draft → (List ℕ → NamedLine) → List ℕ → Result Draft Kind
+abbrev pub handle_row : Draft → (List ℕ → NamedLine (List ℕ)) → List ℕ → Result Draft Kind
 handle_row d line handle = if not (is_name handle) then Err kind.Name else step_row d (line handle)
 
 abbrev pub abort_row : Draft → List ℕ → Result Draft Kind

@@ -13,10 +13,10 @@ use Rattle.rt_scenario.specs.declared.scenario.ScriptText.{ScriptText}
 -- a script without its `done`; handles stand in its lines by their names
 pub record Begun : Type 0 where
   pub name : List ℕ
-  pub lines : List NamedLine
+  pub lines : List (NamedLine (List ℕ))
   pub words : List (List ℕ)
 
-abbrev pub handle_of : NamedLine → Option (List ℕ)
+abbrev pub handle_of : NamedLine (List ℕ) → Option (List ℕ)
 handle_of (Plain line) = None
 handle_of (Spawn handle script) = Some handle
 handle_of (Abort handle) = Some handle
@@ -28,12 +28,12 @@ abbrev pub with_handle : List (List ℕ) → Option (List ℕ) → List (List �
 with_handle names None = names
 with_handle names (Some name) = insert_key text_cmp names name
 
-abbrev pub with_handles : List (List ℕ) → List NamedLine → List (List ℕ)
+abbrev pub with_handles : List (List ℕ) → List (NamedLine (List ℕ)) → List (List ℕ)
 with_handles names [] = names
 with_handles names (line ∷ lines) = with_handles (with_handle names (handle_of line)) lines
 
 -- the handles of the lines, each once, in byte order
-abbrev pub handles_of : List NamedLine → List (List ℕ)
+abbrev pub handles_of : List (NamedLine (List ℕ)) → List (List ℕ)
 handles_of lines = with_handles [] lines
 
 -- the place of a name among these: as many stand before it
@@ -41,7 +41,7 @@ abbrev pub place_of : List (List ℕ) → List ℕ → ℕ
 place_of names name = length (filter (λ other. is_lt (text_cmp other name)) names)
 
 -- the line with the place of its handle among these
-abbrev pub placed : List (List ℕ) → NamedLine → Line
+abbrev pub placed : List (List ℕ) → NamedLine (List ℕ) → Line
 placed names (Plain line) = line
 placed names (Spawn handle script) = step.Spawn (place_of names handle) script
 placed names (Abort handle) = step.Abort (place_of names handle)

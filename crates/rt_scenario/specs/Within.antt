@@ -25,7 +25,7 @@ abbrev pub HavePlaces : List ScriptText → Type 0
 HavePlaces scripts = All (HasPlaces (length scripts)) scripts
 
 -- a line without a word, whose handle is a name, and whose script is among so many
-abbrev pub IsFree : ℕ → NamedLine → Type 0
+abbrev pub IsFree : ℕ → NamedLine (List ℕ) → Type 0
 IsFree scripts (Plain (step.Panic word)) = ⊥
 IsFree scripts (Plain (step.Spawn handle script)) = ⊥
 IsFree scripts (Plain (step.Abort handle)) = ⊥
@@ -35,7 +35,7 @@ IsFree scripts (Spawn handle script) = script < scripts
 IsFree scripts line = Unit {0}
 
 -- such a line, or a panic whose word is among so many
-abbrev pub IsNamed : ℕ → ℕ → NamedLine → Type 0
+abbrev pub IsNamed : ℕ → ℕ → NamedLine (List ℕ) → Type 0
 IsNamed scripts words (Plain (step.Panic word)) = word < words
 IsNamed scripts words line = IsFree scripts line
 

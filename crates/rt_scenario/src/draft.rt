@@ -7,6 +7,7 @@ ghost use Rattle.rt_scenario.specs.Numbers.{number_of, value_of};
 ghost use Rattle.rt_scenario.specs.Words.{switch_of};
 ghost use Rattle.rt_scenario.specs.Scenario.{Draft, blank, CanRun, is_between, is_name, is_placed, is_printable, names_run, row, after_line, after_text, after_words, timeout_row, catch_row, script_row, step_row, sleep_row, until_row, end_row, panic_row, spawn_row, abort_row, handle_row, done_row, found_row, run_row, script_at, scripts_at};
 ghost use Rattle.rt_scenario.specs.Answers.{Answers, Finishes, IsBare, Lacks, found_at};
+ghost use Rattle.rt_scenario.specs.Indexed.{read};
 ghost use Rattle.rt_scenario.specs.Scripts.{tasks_of, tasks_at as total_at};
 ghost use Rattle.rt_scenario.specs.Within.{HasPlaces, HavePlaces, IsFree};
 ghost use Rattle.rt_scenario.specs.declared.named_line.NamedLine.TheVariants as named_line;
@@ -42,7 +43,7 @@ pub struct Draft {
     places: HashMap<String, usize>,
     current: Option<OpenScript>,
     /// Room for the lines of the next script.
-    spare: Vec<NamedLine>,
+    spare: Vec<NamedLine<usize>>,
     /// The places of the scripts that are run, the root first.
     run: Vec<usize>,
 }
@@ -261,10 +262,10 @@ impl Draft {
         Ok(())
     }
 
-    fn push(&mut self, line: NamedLine) -> Result<(), Stop>
+    fn push(&mut self, line: NamedLine<&str>) -> Result<(), Stop>
         requires open { is_some self.old.current ≡ true }
-        requires free { IsFree (length self.old.scripts) line }
-        ensures { Answers (step_row self.old line) result self.new }
+        requires free { IsFree (length self.old.scripts) (read line) }
+        ensures { Answers (step_row self.old (read line.entry)) result self.new }
     {
         match &mut self.current {
             Some(script) => script.push(line)?,
@@ -332,7 +333,7 @@ impl Draft {
         requires { is_some self.old.current ≡ true }
         ensures { Answers (spawn_row self.old handle.now script.now) result self.new }
     {
-        let handle = named(*self.closed.allocator(), handle)?;
+        let handle = named(handle)?;
         let place = self.find(script)?;
         self.push(NamedLine::Spawn(handle, place))
     }
@@ -344,7 +345,7 @@ impl Draft {
         if word == b"self".as_slice() {
             return self.push_plain(Line::AbortSelf);
         }
-        let handle = named(*self.closed.allocator(), word)?;
+        let handle = named(word)?;
         self.push(NamedLine::Abort(handle))
     }
 
@@ -352,7 +353,7 @@ impl Draft {
         requires { is_some self.old.current ≡ true }
         ensures { Answers (handle_row self.old named_line.Drop word.now) result self.new }
     {
-        let handle = named(*self.closed.allocator(), word)?;
+        let handle = named(word)?;
         self.push(NamedLine::Drop(handle))
     }
 
@@ -360,7 +361,7 @@ impl Draft {
         requires { is_some self.old.current ≡ true }
         ensures { Answers (handle_row self.old named_line.Join word.now) result self.new }
     {
-        let handle = named(*self.closed.allocator(), word)?;
+        let handle = named(word)?;
         self.push(NamedLine::Join(handle))
     }
 

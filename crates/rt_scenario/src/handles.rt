@@ -1,89 +1,95 @@
-// The handles of a script, in order.
-ghost use Rattle.std.specs.Prelude.{◌≡◌, ℕ, List, IfOk, IfSome, OnOk};
-ghost use Rattle.std.specs.BTreeSet.{insert_key};
-ghost use Rattle.std.specs.HashMap.{get_by};
-ghost use Rattle.std.specs.List.Sorted.{IsStrictlySortedBy};
+// The names of the handles of a script.
+ghost use Rattle.std.specs.Prelude.{◌≡◌, ◌<◌, ℕ, List, [], Some, IfOk, OnOk, OnErr, length, map, slice_index_or};
+ghost use Rattle.std.specs.List.{All, IsDistinct};
+ghost use Rattle.std.specs.List.Sorted.{IsPermutation, IsStrictlySortedBy};
 ghost use Rattle.std.specs.Str.{bytes_eq};
 ghost use Rattle.rt_base.specs.Attributes.{text_cmp};
-ghost use Rattle.rt_scenario.specs.Scripts.{handles_of, place_of};
+ghost use Rattle.rt_scenario.specs.Indexed.{in_order, numbered_from, with_name};
+ghost use Rattle.rt_scenario.specs.Scripts.{place_of};
 
-use crate::named_line::NamedLine;
+use indexmap::IndexSet;
 use rt_base::{NoMemory, Text};
 use std::alloc::Global;
-use std::collections::{BTreeSet, HashMap};
+use std::marker::Model;
 
-/// The handles of the lines, each once, in byte order.
-pub fn handles_of(alloc: Global, lines: &[NamedLine]) -> Result<Vec<Text>, NoMemory>
-    ensures names { IfOk result (λ names. names.items ≡ handles_of lines.now) }
-    ensures sorted { IfOk result (λ names. IsStrictlySortedBy text_cmp names.items) }
-{
-    let mut names = BTreeSet::new(alloc);
-    let mut seen = HashMap::new(alloc);
-    let mut rest = lines;
-    while let Some((line, tail)) = rest.split_first() {
-        if let Some(handle) = line.handle() {
-            add_handle(&mut names, &mut seen, handle)?;
+/// Names, each once, in the order of their first use.
+#[derive(Drop)]
+pub struct Handles {
+    names: IndexSet<String>,
+}
+
+impl Model for Handles {
+    ghost use Rattle.std.specs.Prelude.{ℕ, List, map, string_bytes};
+    ghost use Rattle.std.specs.List.{IsDistinct};
+    ghost use Rattle.std.specs.Str.{bytes_eq};
+
+    ghost Value = { List (List ℕ) };
+
+    ghost view = { λ h. map string_bytes h.names.keys };
+
+    ghost invariant = { λ h. IsDistinct bytes_eq (map string_bytes h.names.keys) };
+}
+
+impl Handles {
+    pub fn new(alloc: Global) -> Handles
+        ensures { result ≡ [] }
+    {
+        Handles {
+            names: IndexSet::new(alloc),
         }
-        rest = tail;
     }
-    in_a_list(alloc, names)
+
+    /// The index of this name, which goes behind the others if it is new. A name that is there takes no memory.
+    pub fn index_of(&mut self, name: &str) -> Result<usize, NoMemory>
+        ensures names { OnOk result (self.new ≡ with_name self.old (Some name.now)) }
+        ensures index { IfOk result (λ index. slice_index_or self.new index [] ≡ name.now) }
+        ensures within { IfOk result (λ index. index < length self.new) }
+        ensures refused { OnErr result (self.new ≡ self.old) }
+    {
+        if let Some(index) = self.names.get_index_of(name) {
+            return Ok(index);
+        }
+        let name = String::from_str(*self.names.allocator(), name)?;
+        let (index, _) = self.names.insert_full(name)?;
+        Ok(index)
+    }
+
+    /// The names in byte order, and the place there of each.
+    pub fn in_order(self) -> Result<(Vec<Text>, Vec<usize>), NoMemory>
+        ensures names { IfOk result (λ both. both.0.items ≡ in_order self) }
+        ensures places { IfOk result (λ both. both.1.items ≡ map (place_of (in_order self)) self) }
+    {
+        let mut numbered = self.numbered()?;
+        numbered.sort_unstable();
+        apart(numbered)
+    }
+
+    /// The names with their indices.
+    fn numbered(self) -> Result<Vec<(Text, usize)>, NoMemory>
+        ensures names { IfOk result (λ numbered. numbered.items ≡ numbered_from 0 self) }
+        ensures distinct { IfOk result (λ _. IsDistinct bytes_eq self) }
+    {
+        let mut numbered = Vec::with_capacity(*self.names.allocator(), self.names.len())?;
+        for name in self.names {
+            numbered.push((Text::of(name), numbered.len()))?;
+        }
+        Ok(numbered)
+    }
 }
 
-/// Puts a handle among the names, where it isn't seen yet.
-fn add_handle<'a>(
-    names: &mut BTreeSet<Text>,
-    seen: &mut HashMap<&'a str, ()>,
-    handle: &'a Text,
-) -> Result<(), NoMemory>
-    requires { (name : List ℕ) → IfSome (get_by (λ k. bytes_eq name k.now) seen.old) (λ _. insert_key text_cmp names.old.keys name ≡ names.old.keys) }
-    ensures names { OnOk result (names.new.keys ≡ insert_key text_cmp names.old.keys handle.now) }
-    ensures seen { OnOk result ((name : List ℕ) → IfSome (get_by (λ k. bytes_eq name k.now) seen.new) (λ _. insert_key text_cmp names.new.keys name ≡ names.new.keys)) }
+/// The names, and the place of each by its index.
+fn apart(numbered: Vec<(Text, usize)>) -> Result<(Vec<Text>, Vec<usize>), NoMemory>
+    requires sorted { IsStrictlySortedBy text_cmp (map (λ p. p.0) numbered.items) }
+    requires within { All (λ p. p.1 < length numbered.items) numbered.items }
+    ensures names { IfOk result (λ both. both.0.items ≡ map (λ p. p.0) numbered.items) }
+    ensures places { IfOk result (λ both. (names : List (List ℕ)) → IsPermutation (numbered_from 0 names) numbered.items → both.1.items ≡ map (place_of (map (λ p. p.0) numbered.items)) names) }
 {
-    if seen.insert(handle.as_str(), ())?.is_none() {
-        names.insert(handle.clone_value()?)?;
+    let alloc = *numbered.allocator();
+    let mut places = vec![in alloc; 0usize; numbered.len()]?;
+    let mut names = Vec::with_capacity(alloc, numbered.len())?;
+    for (name, index) in numbered {
+        places[index] = names.len();
+        names.push(name)?;
     }
-    Ok(())
-}
-
-fn in_a_list(alloc: Global, names: BTreeSet<Text>) -> Result<Vec<Text>, NoMemory>
-    ensures names { IfOk result (λ list. list.items ≡ names.keys) }
-    ensures sorted { IfOk result (λ list. IsStrictlySortedBy text_cmp list.items) }
-{
-    let mut list = Vec::with_capacity(alloc, names.len())?;
-    for name in names {
-        list.push(name)?;
-    }
-    Ok(list)
-}
-
-/// The place of a name among names in order: how many stand before it.
-pub fn place_of(names: &[Text], name: &Text) -> usize
-    requires { IsStrictlySortedBy text_cmp names.now }
-    ensures { result ≡ place_of names.now name.now }
-{
-    names.partition_point(|other| *other < *name)
-}
-
-/// The places of names in order, by the names.
-pub fn places_of<'a>(alloc: Global, names: &'a [Text]) -> Result<HashMap<&'a str, usize>, NoMemory>
-    requires { IsStrictlySortedBy text_cmp names.now }
-    ensures { IfOk result (λ places. (name : List ℕ) → IfSome (get_by (λ k. bytes_eq name k.now) places) (λ place. place ≡ place_of names.now name)) }
-{
-    let mut places = HashMap::with_capacity(alloc, names.len())?;
-    for (place, name) in names.iter().enumerate() {
-        places.insert(name.as_str(), place)?;
-    }
-    Ok(places)
-}
-
-/// The place of a name among names in order, by their places.
-pub fn place_in(names: &[Text], places: &HashMap<&str, usize>, name: &Text) -> usize
-    requires sorted { IsStrictlySortedBy text_cmp names.now }
-    requires places { (name : List ℕ) → IfSome (get_by (λ k. bytes_eq name k.now) places.now) (λ place. place ≡ place_of names.now name) }
-    ensures { result ≡ place_of names.now name.now }
-{
-    match places.get(&name.as_str()) {
-        Some(place) => *place,
-        None => place_of(names, name),
-    }
+    Ok((names, places))
 }

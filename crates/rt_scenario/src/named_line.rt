@@ -1,57 +1,55 @@
-// A line whose handle is still a name.
-ghost use Rattle.std.specs.Prelude.{◌≡◌, ℕ, List, IfSome, MatchOption, Some, None};
-ghost use Rattle.std.specs.HashMap.{get_by};
-ghost use Rattle.std.specs.List.Sorted.{IsStrictlySortedBy};
-ghost use Rattle.std.specs.Str.{bytes_eq};
-ghost use Rattle.rt_base.specs.Attributes.{text_cmp};
-ghost use Rattle.rt_scenario.specs.Scripts.{handle_of, place_of, placed};
+// A line whose handle has no place yet.
+ghost use Rattle.std.specs.Prelude.{◌≡◌, length, slice_index, IfOk, OnOk, OnErr};
+ghost use Rattle.rt_scenario.specs.Indexed.{HasIndex, named_by, placed_at, read, with_name};
+ghost use Rattle.rt_scenario.specs.Scripts.{handle_of};
 
-use crate::handles::place_in;
+use crate::handles::Handles;
 use crate::line::Line;
-use rt_base::Text;
-use std::collections::HashMap;
+use rt_base::NoMemory;
 
-/// What a line says, where its handle has no place yet.
-#[derive(Drop)]
-pub enum NamedLine {
+/// What a line says, where an `N` stands for its handle: the name, or the index of the name among a script's names.
+#[derive(Clone, Copy)]
+pub enum NamedLine<N> {
     /// A line without a handle.
     Plain(Line),
     /// A spawn of the script at this place.
-    Spawn(Text, usize),
-    Abort(Text),
-    Drop(Text),
-    Join(Text),
+    Spawn(N, usize),
+    Abort(N),
+    Drop(N),
+    Join(N),
 }
 
-impl NamedLine {
-    /// The name of its handle.
-    pub fn handle(&self) -> Option<&Text>
-        ensures { MatchOption result (handle_of self.now ≡ None) (λ name. handle_of self.now ≡ Some name.now) }
-    {
-        match self {
-            NamedLine::Plain(_) => None,
-            NamedLine::Spawn(handle, _)
-            | NamedLine::Abort(handle)
-            | NamedLine::Drop(handle)
-            | NamedLine::Join(handle) => Some(handle),
-        }
+/// The line by the index of its handle, whose name goes behind the others if it is new.
+pub fn indexed(line: NamedLine<&str>, handles: &mut Handles) -> Result<NamedLine<usize>, NoMemory>
+    ensures line { IfOk result (λ indexed. named_by handles.new indexed ≡ read line.entry) }
+    ensures index { IfOk result (HasIndex (length handles.new)) }
+    ensures names { OnOk result (handles.new ≡ with_name handles.old (handle_of (read line.entry))) }
+    ensures refused { OnErr result (handles.new ≡ handles.old) }
+{
+    match line {
+        NamedLine::Plain(line) => Ok(NamedLine::Plain(line)),
+        NamedLine::Spawn(name, script) => Ok(NamedLine::Spawn(handles.index_of(name)?, script)),
+        NamedLine::Abort(name) => Ok(NamedLine::Abort(handles.index_of(name)?)),
+        NamedLine::Drop(name) => Ok(NamedLine::Drop(handles.index_of(name)?)),
+        NamedLine::Join(name) => Ok(NamedLine::Join(handles.index_of(name)?)),
     }
+}
 
-    /// The line with the place of its handle among these, by their places.
-    pub fn placed(&self, handles: &[Text], places: &HashMap<&str, usize>) -> Line
-        requires sorted { IsStrictlySortedBy text_cmp handles.now }
-        requires places { (name : List ℕ) → IfSome (get_by (λ k. bytes_eq name k.now) places.now) (λ place. place ≡ place_of handles.now name) }
-        ensures { result ≡ placed handles.now self.now }
-    {
-        match self {
-            NamedLine::Plain(line) => *line,
-            NamedLine::Spawn(handle, script) => Line::Spawn(
-                place_in(handles, places, handle),
-                *script,
-            ),
-            NamedLine::Abort(handle) => Line::Abort(place_in(handles, places, handle)),
-            NamedLine::Drop(handle) => Line::Drop(place_in(handles, places, handle)),
-            NamedLine::Join(handle) => Line::Join(place_in(handles, places, handle)),
-        }
+/// The line with the place of its handle, by the places of the names.
+pub fn placed(line: NamedLine<usize>, places: &[usize]) -> Line
+    ensures { result ≡ placed_at places.now line }
+{
+    match line {
+        NamedLine::Plain(line) => line,
+        NamedLine::Spawn(index, script) => Line::Spawn(place_at(places, index), script),
+        NamedLine::Abort(index) => Line::Abort(place_at(places, index)),
+        NamedLine::Drop(index) => Line::Drop(place_at(places, index)),
+        NamedLine::Join(index) => Line::Join(place_at(places, index)),
     }
+}
+
+fn place_at(places: &[usize], index: usize) -> usize
+    ensures { result ≡ slice_index places.now index }
+{
+    places.get(index).copied().unwrap_or(0)
 }

@@ -43,12 +43,12 @@ pub fn are_names(words: Option<&[u8]>) -> bool
     true
 }
 
-/// The word as a text, where it is a name.
-pub fn named(alloc: Global, word: &[u8]) -> Result<Text, Stop>
+/// The name that the word is.
+pub fn named(word: &[u8]) -> Result<&str, Stop>
     ensures { Named word.now result }
 {
     match name_of(word) {
-        Some(name) => Ok(Text::of(String::from_str(alloc, name)?)),
+        Some(name) => Ok(name),
         None => Err(Stop::Breaks(Kind::Name)),
     }
 }

@@ -1,0 +1,97 @@
+-- Lines by the indices of their handles.
+use Rattle.std.proofs.Common.{◌≡◌, ℕ, ◌≤◌, ◌<◌, Bool, true, false, if◌then◌else◌, List, [], ◌∷◌, ◌++◌, length, map, get_or, Option, Some, None, refl, sym, ap, subst, ◌∙◌, arith}
+use Rattle.std.specs.List.{All, list_any}
+use Rattle.std.specs.Str.{bytes_eq}
+use Rattle.std.proofs.lemmas.List.{get_or_append_left, get_or-map, length_push, map_push}
+use Rattle.std.proofs.lemmas.List.Elements.{All-push, All-tail}
+use Rattle.rt_scenario.specs.Indexed.{HasIndex, in_order, named_by, placed_at, with_name}
+use Rattle.rt_scenario.specs.Scripts.{handle_of, handles_of, place_of, placed, with_handle, with_handles}
+use Rattle.rt_scenario.specs.declared.line.Line.TheVariants as step
+use Rattle.rt_scenario.specs.declared.named_line.NamedLine.{NamedLine}
+use Rattle.rt_scenario.specs.declared.named_line.NamedLine.TheVariants.{Plain, Spawn, Abort, Drop, Join}
+use Rattle.rt_scenario.proofs.FirstUse.{in_order_more}
+
+-- the names that were there keep their indices
+kept_at : (names : List (List ℕ)) (o : Option (List ℕ)) (i : ℕ) → i < length names → get_or (with_name names o) i [] ≡ get_or names i []
+kept_at names None i inside = refl
+kept_at names (Some name) i inside = by (list_any (bytes_eq name) names)
+  where
+    by : (b : Bool) → get_or (if b then names else names ++ name ∷ []) i [] ≡ get_or names i []
+    by true = refl
+    by false = get_or_append_left names (name ∷ []) [] i inside
+
+longer : (names : List (List ℕ)) (o : Option (List ℕ)) → length names ≤ length (with_name names o)
+longer names None = omega arith
+longer names (Some name) = by (list_any (bytes_eq name) names)
+  where
+    by : (b : Bool) → length names ≤ length (if b then names else names ++ name ∷ [])
+    by true = omega arith
+    by false = omega (arith, length_push names name)
+
+named_same : (names more : List (List ℕ)) → ((i : ℕ) → i < length names → get_or more i [] ≡ get_or names i []) → (line : NamedLine ℕ) → HasIndex (length names) line → named_by more line ≡ named_by names line
+named_same names more h (Plain line) inside = refl
+named_same names more h (Spawn index script) inside = ap (λ n. Spawn n script) (h index inside)
+named_same names more h (Abort index) inside = ap Abort (h index inside)
+named_same names more h (Drop index) inside = ap Drop (h index inside)
+named_same names more h (Join index) inside = ap Join (h index inside)
+
+-- the lines so far stay where a name more is taken in
+named_kept : (names : List (List ℕ)) (o : Option (List ℕ)) (lines : List (NamedLine ℕ)) → All (HasIndex (length names)) lines → map (named_by (with_name names o)) lines ≡ map (named_by names) lines
+named_kept names o [] inside = refl
+named_kept names o (line ∷ lines) inside =
+    let one : named_by (with_name names o) line ≡ named_by names line = named_same names (with_name names o) (kept_at names o) line (inside 0 line (omega arith)) in
+    let rest : map (named_by (with_name names o)) lines ≡ map (named_by names) lines = named_kept names o lines (All-tail (HasIndex (length names)) line lines inside) in
+    ap (λ l. l ∷ map (named_by (with_name names o)) lines) one ∙ ap (λ ls. named_by names line ∷ ls) rest
+
+index_more : (n m : ℕ) (line : NamedLine ℕ) → n ≤ m → HasIndex n line → HasIndex m line
+index_more n m (Plain line) h inside = tt
+index_more n m (Spawn index script) h inside = omega (arith, h, inside)
+index_more n m (Abort index) h inside = omega (arith, h, inside)
+index_more n m (Drop index) h inside = omega (arith, h, inside)
+index_more n m (Join index) h inside = omega (arith, h, inside)
+
+indices_more : (n m : ℕ) (lines : List (NamedLine ℕ)) → n ≤ m → All (HasIndex n) lines → All (HasIndex m) lines
+indices_more n m lines h inside = λ k d low. index_more n m (get_or lines k d) h (inside k d low)
+
+with_push : (names : List (List ℕ)) (lines : List (NamedLine (List ℕ))) (line : NamedLine (List ℕ)) → with_handles names (lines ++ line ∷ []) ≡ with_handle (with_handles names lines) (handle_of line)
+with_push names [] line = refl
+with_push names (l ∷ lines) line = with_push (with_handle names (handle_of l)) lines line
+
+in_order_with : (names : List (List ℕ)) (o : Option (List ℕ)) → with_handle (in_order names) o ≡ in_order (with_name names o)
+in_order_with names None = refl
+in_order_with names (Some name) = sym (in_order_more names name)
+
+-- a line more has its handle among those in order
+handles_push : (names : List (List ℕ)) (lines : List (NamedLine (List ℕ))) (line : NamedLine (List ℕ)) → handles_of lines ≡ in_order names → handles_of (lines ++ line ∷ []) ≡ in_order (with_name names (handle_of line))
+handles_push names lines line h = with_push [] lines line ∙ ap (λ ns. with_handle ns (handle_of line)) h ∙ in_order_with names (handle_of line)
+
+module _ (names more : List (List ℕ)) (lines : List (NamedLine ℕ)) (line : NamedLine ℕ) (whole : NamedLine (List ℕ)) (taken : more ≡ with_name names (handle_of whole)) (inside : All (HasIndex (length names)) lines) where
+  kept : map (named_by more) lines ≡ map (named_by names) lines
+  kept = ap (λ m. map (named_by m) lines) taken ∙ named_kept names (handle_of whole) lines inside
+
+  -- the lines with one more
+  pub lines_more : named_by more line ≡ whole → map (named_by more) (lines ++ line ∷ []) ≡ map (named_by names) lines ++ whole ∷ []
+  lines_more is = map_push (named_by more) lines line ∙ ap (λ l. map (named_by more) lines ++ l ∷ []) is ∙ ap (λ ls. ls ++ whole ∷ []) kept
+
+  pub indices_push : HasIndex (length more) line → All (HasIndex (length more)) (lines ++ line ∷ [])
+  indices_push own =
+      let low : length names ≤ length more = subst (λ m. length names ≤ length m) (sym taken) (longer names (handle_of whole)) in
+      All-push (HasIndex (length more)) lines line (indices_more (length names) (length more) lines low inside) own
+
+  pub order_push : named_by more line ≡ whole → handles_of (map (named_by names) lines) ≡ in_order names → handles_of (map (named_by more) (lines ++ line ∷ [])) ≡ in_order more
+  order_push is h = ap handles_of (lines_more is) ∙ handles_push names (map (named_by names) lines) whole h ∙ ap in_order (sym taken)
+
+placed_one : (names order : List (List ℕ)) (line : NamedLine ℕ) → HasIndex (length names) line → placed_at (map (place_of order) names) line ≡ placed order (named_by names line)
+placed_one names order (Plain line) inside = refl
+placed_one names order (Spawn index script) inside = ap (λ p. step.Spawn p script) (get_or-map (place_of order) names index [] 0 inside)
+placed_one names order (Abort index) inside = ap step.Abort (get_or-map (place_of order) names index [] 0 inside)
+placed_one names order (Drop index) inside = ap step.Drop (get_or-map (place_of order) names index [] 0 inside)
+placed_one names order (Join index) inside = ap step.Join (get_or-map (place_of order) names index [] 0 inside)
+
+-- the places of the names give the lines their places
+pub placed_named : (names order : List (List ℕ)) (lines : List (NamedLine ℕ)) → All (HasIndex (length names)) lines → map (placed_at (map (place_of order) names)) lines ≡ map (placed order) (map (named_by names) lines)
+placed_named names order [] inside = refl
+placed_named names order (line ∷ lines) inside =
+    let one : placed_at (map (place_of order) names) line ≡ placed order (named_by names line) = placed_one names order line (inside 0 line (omega arith)) in
+    let rest = placed_named names order lines (All-tail (HasIndex (length names)) line lines inside) in
+    ap (λ l. l ∷ map (placed_at (map (place_of order) names)) lines) one ∙ ap (λ ls. placed order (named_by names line) ∷ ls) rest
