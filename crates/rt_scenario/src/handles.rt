@@ -39,13 +39,14 @@ impl Handles {
         }
     }
 
-    /// The index of this name, which goes behind the others if it is new. A name that is there takes no memory.
+    /// The index of this name, which goes behind the others if it is new.
     pub fn index_of(&mut self, name: &str) -> Result<usize, NoMemory>
         ensures names { OnOk result (self.new ≡ with_name self.old (Some name.now)) }
         ensures index { IfOk result (λ index. slice_index_or self.new index [] ≡ name.now) }
         ensures within { IfOk result (λ index. index < length self.new) }
         ensures refused { OnErr result (self.new ≡ self.old) }
     {
+        // So a name that is there takes no memory.
         if let Some(index) = self.names.get_index_of(name) {
             return Ok(index);
         }
@@ -59,6 +60,10 @@ impl Handles {
         ensures names { IfOk result (λ both. both.0.items ≡ in_order self) }
         ensures places { IfOk result (λ both. both.1.items ≡ map (place_of (in_order self)) self) }
     {
+        if self.names.is_empty() {
+            let alloc = *self.names.allocator();
+            return Ok((Vec::new(alloc), Vec::new(alloc)));
+        }
         let mut numbered = self.numbered()?;
         numbered.sort_unstable();
         apart(numbered)
