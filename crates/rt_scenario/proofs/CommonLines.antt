@@ -1,16 +1,19 @@
 -- Lines that are told by their bytes at once.
-use Rattle.std.proofs.Common.{◌≡◌, ℕ, ◌==◌, ◌≤◌, ◌++◌, true, false, List, [], ◌∷◌, length, drop, codes, refl, arith, nat_lt, Some, is_some, Bool, if◌then◌else◌, None, ◌^◌}
+use Rattle.std.proofs.Common.{◌≡◌, ℕ, ◌==◌, ◌≤◌, ◌++◌, true, false, List, [], ◌∷◌, length, drop, codes, refl, arith, nat_lt, Some, is_some, Bool, if◌then◌else◌, None, ◌^◌, Option, ℤ, sym, nat_le}
 use Rattle.std.proofs.lemmas.Bool.{and_parts}
 use Rattle.std.proofs.lemmas.Bool.Decides.{nat_tests}
 use Rattle.std.proofs.lemmas.Slice.Eq.{HasBytesAt}
-use Rattle.std.specs.Char.{is_ascii_digit}
+use Rattle.std.specs.Char.{is_ascii_alphabetic, is_ascii_digit}
 use Rattle.std.specs.List.{list_all}
 use Rattle.std.specs.Str.Parse.{digits_value}
+use Rattle.std.specs.Cmp.Lexicographic.{same_text}
+use Rattle.rt_base.specs.Label.{is_label, is_word_byte}
 use Rattle.rt_scenario.specs.Lines.{words_of}
-use Rattle.rt_scenario.specs.Numbers.{below, is_decimal, number_of}
-use Rattle.rt_scenario.specs.Scenario.{Draft, after_text, is_printable, step_row}
+use Rattle.rt_scenario.specs.Numbers.{below, is_decimal, minus, number_of, plus, value_of}
+use Rattle.rt_scenario.specs.Scenario.{Draft, after_text, is_name, is_printable, step_row}
+use Rattle.rt_scenario.specs.Words.{is_text}
 use Rattle.rt_scenario.specs.declared.line.Line.TheVariants as step
-use Rattle.rt_scenario.specs.declared.named_line.NamedLine.TheVariants.{Plain}
+use Rattle.rt_scenario.specs.declared.named_line.NamedLine.TheVariants.{Plain, Join}
 
 digit_printable : (d : ℕ) → is_ascii_digit d ≡ true → is_printable d ≡ true
 digit_printable d h = grind (arith, nat_tests)
@@ -59,3 +62,106 @@ pub sleeps_so : (text number : List ℕ) (n : ℕ) (d : Draft) → length text �
 sleeps_so text number n d short long reads rest read script =
     let is : text ≡ codes "sleep " ++ number = rw rest (begins text long reads) in
     rw is (sleeps number n d (rw is at short) read script)
+
+not_space : (b : ℕ) → (b == 45) ≡ true → (is_printable b ≡ true) × ((b == 32) ≡ false)
+not_space b e = ((grind (arith, nat_tests)), (grind (arith, nat_tests)))
+
+-- a word that a line may hold alone
+abbrev IsWord : List ℕ → Type 0
+IsWord text = (list_all is_printable text ≡ true) × (words_of text ≡ text ∷ []) × ((length text == 0) ≡ false)
+
+digits_are : (text : List ℕ) (n : ℕ) → number_of text ≡ Some n → IsWord text
+digits_are text n h = let digits = number_digits text n h in (digits_printable text digits.0, digits_word text digits.0, digits.1)
+
+-- what is a value has digits alone, behind a minus sign or none
+value_is : (text : List ℕ) (v : ℤ) → value_of text ≡ Some v → IsWord text
+value_is [] v h = absurd (cc)
+value_is (b ∷ bs) v h = by (b == 45) refl h
+  where
+    below_minus : (b == 45) ≡ true → (o : Option ℕ) → number_of bs ≡ o → minus o ≡ Some v → IsWord (b ∷ bs)
+    below_minus e None r k = absurd (cc)
+    below_minus e (Some n) r k =
+        let sign = not_space b e in
+        let word = digits_are bs n r in
+        ((rw (sign.0, word.0) refl), (rw (sign.1, word.1) refl), not_empty b bs)
+
+    alone : (o : Option ℕ) → number_of (b ∷ bs) ≡ o → plus o ≡ Some v → IsWord (b ∷ bs)
+    alone None r k = absurd (cc)
+    alone (Some n) r k = digits_are (b ∷ bs) n r
+
+    by : (t : Bool) → (b == 45) ≡ t → (if t then minus (number_of bs) else plus (number_of (b ∷ bs))) ≡ Some v → IsWord (b ∷ bs)
+    by true e k = below_minus e (number_of bs) refl k
+    by false e k = alone (number_of (b ∷ bs)) refl k
+
+-- no value is the word `last`
+not_last : (text : List ℕ) (v : ℤ) → value_of text ≡ Some v → is_text text (codes "last") ≡ false
+not_last text v h = by (is_text text (codes "last")) refl
+  where
+    by : (t : Bool) → is_text text (codes "last") ≡ t → t ≡ false
+    by true e = absurd (let none : value_of text ≡ None = rw (same_text text (codes "last") (sym e)) refl in cc)
+    by false e = refl
+
+-- a text by its first four bytes
+begins_end : (text : List ℕ) → 4 ≤ length text → HasBytesAt text 0 (codes "end ") → text ≡ codes "end " ++ drop 4 text
+begins_end [] long reads = absurd (omega (arith, long))
+begins_end (a ∷ []) long reads = absurd (omega (arith, long))
+begins_end (a ∷ b ∷ []) long reads = absurd (omega (arith, long))
+begins_end (a ∷ b ∷ c ∷ []) long reads = absurd (omega (arith, long))
+begins_end (a ∷ b ∷ c ∷ d ∷ rest) long reads = rw (reads.0, reads.1.0, reads.1.1.0, reads.1.1.1.0) refl
+
+ends : (value : List ℕ) (v : ℤ) (d : Draft) → length (codes "end " ++ value) ≤ 64 → value_of value ≡ Some v → is_some d.current ≡ true → after_text d (codes "end " ++ value) ≡ step_row d (Plain (step.End v))
+ends value v d short read script =
+    let word = value_is value v read in
+    let fits : nat_lt 4096 (length (codes "end " ++ value)) ≡ false = grind (arith, nat_tests) in
+    let some : (length (codes "end " ++ value) == 0) ≡ false = grind (arith, nat_tests) in
+    rw (fits, some, word.0, word.1, word.2, script, not_last value v read, read) refl
+
+pub ends_so : (text value : List ℕ) (v : ℤ) (d : Draft) → length text ≤ 64 → 4 ≤ length text → HasBytesAt text 0 (codes "end ") → value ≡ drop 4 text → value_of value ≡ Some v → is_some d.current ≡ true → after_text d text ≡ step_row d (Plain (step.End v))
+ends_so text value v d short long reads rest read script =
+    let is : text ≡ codes "end " ++ value = rw rest (begins_end text long reads) in
+    rw is (ends value v d (rw is at short) read script)
+
+letter_is : (b : ℕ) → is_ascii_alphabetic b ≡ true → (is_printable b ≡ true) × ((b == 32) ≡ false)
+letter_is b h = ((grind (arith, nat_tests)), (grind (arith, nat_tests)))
+
+word_byte_is : (b : ℕ) → is_word_byte b ≡ true → (is_printable b ≡ true) × ((b == 32) ≡ false)
+word_byte_is b h = ((grind (arith, nat_tests)), (grind (arith, nat_tests)))
+
+word_bytes_are : (bs : List ℕ) → list_all is_word_byte bs ≡ true → (list_all is_printable bs ≡ true) × (words_of bs ≡ bs ∷ [])
+word_bytes_are [] h = (refl, refl)
+word_bytes_are (b ∷ bs) h =
+    let parts = and_parts _ _ h in
+    let one = word_byte_is b parts.0 in
+    let rest = word_bytes_are bs parts.1 in
+    ((rw (one.0, rest.0) refl), (rw (one.1, rest.1) refl))
+
+label_is : (text : List ℕ) → is_label text ≡ true → IsWord text
+label_is [] h = absurd (cc)
+label_is (b ∷ bs) h =
+    let parts = and_parts _ _ h in
+    let one = letter_is b parts.0 in
+    let rest = word_bytes_are bs parts.1 in
+    ((rw (one.0, rest.0) refl), (rw (one.1, rest.1) refl), not_empty b bs)
+
+-- a text by its first five bytes
+begins_join : (text : List ℕ) → 5 ≤ length text → HasBytesAt text 0 (codes "join ") → text ≡ codes "join " ++ drop 5 text
+begins_join [] long reads = absurd (omega (arith, long))
+begins_join (a ∷ []) long reads = absurd (omega (arith, long))
+begins_join (a ∷ b ∷ []) long reads = absurd (omega (arith, long))
+begins_join (a ∷ b ∷ c ∷ []) long reads = absurd (omega (arith, long))
+begins_join (a ∷ b ∷ c ∷ d ∷ []) long reads = absurd (omega (arith, long))
+begins_join (a ∷ b ∷ c ∷ d ∷ e ∷ rest) long reads = rw (reads.0, reads.1.0, reads.1.1.0, reads.1.1.1.0, reads.1.1.1.1.0) refl
+
+joins : (name : List ℕ) (d : Draft) → is_name name ≡ true → is_some d.current ≡ true → after_text d (codes "join " ++ name) ≡ step_row d (Join name)
+joins name d named script =
+    let parts = and_parts _ _ named in
+    let word = label_is name parts.0 in
+    let short : nat_le (length name) 32 ≡ true = parts.1 in
+    let fits : nat_lt 4096 (length (codes "join " ++ name)) ≡ false = grind (arith, nat_tests) in
+    let some : (length (codes "join " ++ name) == 0) ≡ false = grind (arith, nat_tests) in
+    rw (fits, some, word.0, word.1, word.2, script, named) refl
+
+pub joins_so : (text name : List ℕ) (d : Draft) → 5 ≤ length text → HasBytesAt text 0 (codes "join ") → name ≡ drop 5 text → is_name name ≡ true → is_some d.current ≡ true → after_text d text ≡ step_row d (Join name)
+joins_so text name d long reads rest named script =
+    let is : text ≡ codes "join " ++ name = rw rest (begins_join text long reads) in
+    rw is (joins name d named script)

@@ -1,16 +1,17 @@
 // The lines that stand most often in scripts, each told by its bytes at once.
-ghost use Rattle.std.specs.Prelude.{◌≡◌, true, ℕ, IfSome, is_some};
+ghost use Rattle.std.specs.Prelude.{◌≡◌, ◌≤◌, true, ℕ, IfSome, is_some, length};
 ghost use Rattle.rt_scenario.specs.Scenario.{Draft, after_text, step_row};
 ghost use Rattle.rt_scenario.specs.Within.{IsFree};
-ghost use Rattle.rt_scenario.specs.declared.named_line.NamedLine.TheVariants.{Plain};
+ghost use Rattle.rt_scenario.specs.declared.named_line.NamedLine.TheVariants.{Join, Plain};
 
 use crate::line::Line;
-use crate::numbers::number_of;
+use crate::names::name_of;
+use crate::numbers::{number_of, value_of};
 
 /// So many bytes these lines have at most.
 const SHORT: usize = 64;
 
-/// The line that a text of a script is, where it is `yield`, or `sleep` with a number: it needs no other test.
+/// The line that a text of a script is, where it is `yield`, `sleep` with a number or `end` with a value: it needs no other test.
 pub fn common_line(text: &[u8]) -> Option<Line>
     ensures line { IfSome result (λ line. (d : Draft) → is_some d.current ≡ true → after_text d text.now ≡ step_row d (Plain line)) }
     ensures free { IfSome result (λ line. (scripts : ℕ) → IsFree scripts (Plain line)) }
@@ -21,6 +22,27 @@ pub fn common_line(text: &[u8]) -> Option<Line>
     match text {
         b"yield" => Some(Line::Yield),
         [b's', b'l', b'e', b'e', b'p', b' ', number @ ..] => Some(Line::Sleep(number_of(number)?)),
+        _ => end_line(text),
+    }
+}
+
+fn end_line(text: &[u8]) -> Option<Line>
+    requires { length text.now ≤ 64 }
+    ensures line { IfSome result (λ line. (d : Draft) → is_some d.current ≡ true → after_text d text.now ≡ step_row d (Plain line)) }
+    ensures free { IfSome result (λ line. (scripts : ℕ) → IsFree scripts (Plain line)) }
+{
+    match text {
+        [b'e', b'n', b'd', b' ', value @ ..] => Some(Line::End(value_of(value)?)),
+        _ => None,
+    }
+}
+
+/// The name of the handle that a text of a script joins, where it is `join` with a name: it needs no other test.
+pub fn joined(text: &[u8]) -> Option<&str>
+    ensures { IfSome result (λ name. (d : Draft) → is_some d.current ≡ true → after_text d text.now ≡ step_row d (Join name.now)) }
+{
+    match text {
+        [b'j', b'o', b'i', b'n', b' ', name @ ..] => name_of(name),
         _ => None,
     }
 }

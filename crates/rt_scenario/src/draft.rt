@@ -12,7 +12,7 @@ ghost use Rattle.rt_scenario.specs.Scripts.{tasks_of, tasks_at as total_at};
 ghost use Rattle.rt_scenario.specs.Within.{HasPlaces, HavePlaces, IsFree};
 ghost use Rattle.rt_scenario.specs.declared.named_line.NamedLine.TheVariants as named_line;
 
-use crate::common::common_line;
+use crate::common::{common_line, joined};
 use crate::kind::Kind;
 use crate::line::Line;
 use crate::named_line::NamedLine;
@@ -129,6 +129,12 @@ impl Draft {
         if self.current.is_some() {
             if let Some(line) = common_line(text) {
                 return self.push_plain(line);
+            }
+            if let Some(name) = joined(text) {
+                return self.push(NamedLine::Join(name));
+            }
+            if text == b"done".as_slice() {
+                return self.close_script();
             }
         }
         if text.len() > LINE_LEN {

@@ -185,6 +185,9 @@ fn refused_lines_of_supervision(rt: HostRuntime) -> Result<(), Fail> {
     for (text, line, word) in [
         ("catch on", 1u64, "cut"),
         ("catch  on\n", 1, "space"),
+        ("script a\njoin  h\n", 2, "space"),
+        ("script a\nend 1 \n", 2, "space"),
+        ("script a\ndone \n", 2, "space"),
         ("script a\ncatch on\n", 2, "place"),
         ("script a\ndone\ncatch on\n", 3, "place"),
         ("until 1\n", 1, "place"),
