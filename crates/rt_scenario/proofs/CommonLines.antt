@@ -1,5 +1,5 @@
 -- Lines that are told by their bytes at once.
-use Rattle.std.proofs.Common.{◌≡◌, ℕ, ◌==◌, ◌≤◌, ◌++◌, true, false, List, [], ◌∷◌, length, drop, codes, refl, arith, nat_lt, Some, is_some, Bool, if◌then◌else◌, None, ◌^◌, Option, ℤ, sym, nat_le}
+use Rattle.std.proofs.Common.{◌≡◌, ℕ, ◌==◌, ◌≤◌, ◌++◌, true, false, List, [], ◌∷◌, length, drop, codes, refl, arith, nat_lt, Some, is_some, Bool, if◌then◌else◌, None, ◌^◌, Option, ℤ, sym, nat_le, suc, ap, ◌∙◌}
 use Rattle.std.proofs.lemmas.Bool.{and_parts}
 use Rattle.std.proofs.lemmas.Bool.Decides.{nat_tests}
 use Rattle.std.proofs.lemmas.Slice.Eq.{HasBytesAt}
@@ -8,9 +8,9 @@ use Rattle.std.specs.List.{list_all}
 use Rattle.std.specs.Str.Parse.{digits_value}
 use Rattle.std.specs.Cmp.Lexicographic.{same_text}
 use Rattle.rt_base.specs.Label.{is_label, is_word_byte}
-use Rattle.rt_scenario.specs.Lines.{words_of}
+use Rattle.rt_scenario.specs.Lines.{onto_first, words_of}
 use Rattle.rt_scenario.specs.Numbers.{below, is_decimal, minus, number_of, plus, value_of}
-use Rattle.rt_scenario.specs.Scenario.{Draft, after_text, is_name, is_printable, step_row}
+use Rattle.rt_scenario.specs.Scenario.{Draft, after_text, is_name, is_printable, script_at, spawned_row, step_row}
 use Rattle.rt_scenario.specs.Words.{is_text}
 use Rattle.rt_scenario.specs.declared.line.Line.TheVariants as step
 use Rattle.rt_scenario.specs.declared.named_line.NamedLine.TheVariants.{Plain, Join}
@@ -41,15 +41,15 @@ number_digits (d ∷ ds) n h = by (is_decimal (d ∷ ds)) refl h
     by true e k = ((and_parts _ _ e).0, not_empty d ds)
     by false e k = absurd (cc)
 
--- a text by its first six bytes
-begins : (text : List ℕ) → 6 ≤ length text → HasBytesAt text 0 (codes "sleep ") → text ≡ codes "sleep " ++ drop 6 text
-begins [] long reads = absurd (omega (arith, long))
-begins (a ∷ []) long reads = absurd (omega (arith, long))
-begins (a ∷ b ∷ []) long reads = absurd (omega (arith, long))
-begins (a ∷ b ∷ c ∷ []) long reads = absurd (omega (arith, long))
-begins (a ∷ b ∷ c ∷ d ∷ []) long reads = absurd (omega (arith, long))
-begins (a ∷ b ∷ c ∷ d ∷ e ∷ []) long reads = absurd (omega (arith, long))
-begins (a ∷ b ∷ c ∷ d ∷ e ∷ f ∷ rest) long reads = rw (reads.0, reads.1.0, reads.1.1.0, reads.1.1.1.0, reads.1.1.1.1.0, reads.1.1.1.1.1.0) refl
+shifted : (t : ℕ) (text : List ℕ) (i : ℕ) (ps : List ℕ) → HasBytesAt (t ∷ text) (suc i) ps → HasBytesAt text i ps
+shifted t text i [] reads = tt
+shifted t text i (p ∷ ps) reads = (reads.0, shifted t text (suc i) ps reads.1)
+
+-- a text by its first bytes
+begins : (front text : List ℕ) → length front ≤ length text → HasBytesAt text 0 front → text ≡ front ++ drop (length front) text
+begins [] text long reads = refl
+begins (p ∷ ps) [] long reads = absurd (omega (arith, long))
+begins (p ∷ ps) (t ∷ text) long reads = ap (λ b. b ∷ text) reads.0 ∙ ap (λ l. p ∷ l) (begins ps text (omega (arith, long)) (shifted t text 0 ps reads.1))
 
 sleeps : (number : List ℕ) (n : ℕ) (d : Draft) → length (codes "sleep " ++ number) ≤ 64 → number_of number ≡ Some n → is_some d.current ≡ true → after_text d (codes "sleep " ++ number) ≡ step_row d (Plain (step.Sleep n))
 sleeps number n d short read script =
@@ -60,7 +60,7 @@ sleeps number n d short read script =
 
 pub sleeps_so : (text number : List ℕ) (n : ℕ) (d : Draft) → length text ≤ 64 → 6 ≤ length text → HasBytesAt text 0 (codes "sleep ") → number ≡ drop 6 text → number_of number ≡ Some n → is_some d.current ≡ true → after_text d text ≡ step_row d (Plain (step.Sleep n))
 sleeps_so text number n d short long reads rest read script =
-    let is : text ≡ codes "sleep " ++ number = rw rest (begins text long reads) in
+    let is : text ≡ codes "sleep " ++ number = rw rest (begins (codes "sleep ") text long reads) in
     rw is (sleeps number n d (rw is at short) read script)
 
 not_space : (b : ℕ) → (b == 45) ≡ true → (is_printable b ≡ true) × ((b == 32) ≡ false)
@@ -101,14 +101,6 @@ not_last text v h = by (is_text text (codes "last")) refl
     by true e = absurd (let none : value_of text ≡ None = rw (same_text text (codes "last") (sym e)) refl in cc)
     by false e = refl
 
--- a text by its first four bytes
-begins_end : (text : List ℕ) → 4 ≤ length text → HasBytesAt text 0 (codes "end ") → text ≡ codes "end " ++ drop 4 text
-begins_end [] long reads = absurd (omega (arith, long))
-begins_end (a ∷ []) long reads = absurd (omega (arith, long))
-begins_end (a ∷ b ∷ []) long reads = absurd (omega (arith, long))
-begins_end (a ∷ b ∷ c ∷ []) long reads = absurd (omega (arith, long))
-begins_end (a ∷ b ∷ c ∷ d ∷ rest) long reads = rw (reads.0, reads.1.0, reads.1.1.0, reads.1.1.1.0) refl
-
 ends : (value : List ℕ) (v : ℤ) (d : Draft) → length (codes "end " ++ value) ≤ 64 → value_of value ≡ Some v → is_some d.current ≡ true → after_text d (codes "end " ++ value) ≡ step_row d (Plain (step.End v))
 ends value v d short read script =
     let word = value_is value v read in
@@ -118,7 +110,7 @@ ends value v d short read script =
 
 pub ends_so : (text value : List ℕ) (v : ℤ) (d : Draft) → length text ≤ 64 → 4 ≤ length text → HasBytesAt text 0 (codes "end ") → value ≡ drop 4 text → value_of value ≡ Some v → is_some d.current ≡ true → after_text d text ≡ step_row d (Plain (step.End v))
 ends_so text value v d short long reads rest read script =
-    let is : text ≡ codes "end " ++ value = rw rest (begins_end text long reads) in
+    let is : text ≡ codes "end " ++ value = rw rest (begins (codes "end ") text long reads) in
     rw is (ends value v d (rw is at short) read script)
 
 letter_is : (b : ℕ) → is_ascii_alphabetic b ≡ true → (is_printable b ≡ true) × ((b == 32) ≡ false)
@@ -143,15 +135,6 @@ label_is (b ∷ bs) h =
     let rest = word_bytes_are bs parts.1 in
     ((rw (one.0, rest.0) refl), (rw (one.1, rest.1) refl), not_empty b bs)
 
--- a text by its first five bytes
-begins_join : (text : List ℕ) → 5 ≤ length text → HasBytesAt text 0 (codes "join ") → text ≡ codes "join " ++ drop 5 text
-begins_join [] long reads = absurd (omega (arith, long))
-begins_join (a ∷ []) long reads = absurd (omega (arith, long))
-begins_join (a ∷ b ∷ []) long reads = absurd (omega (arith, long))
-begins_join (a ∷ b ∷ c ∷ []) long reads = absurd (omega (arith, long))
-begins_join (a ∷ b ∷ c ∷ d ∷ []) long reads = absurd (omega (arith, long))
-begins_join (a ∷ b ∷ c ∷ d ∷ e ∷ rest) long reads = rw (reads.0, reads.1.0, reads.1.1.0, reads.1.1.1.0, reads.1.1.1.1.0) refl
-
 joins : (name : List ℕ) (d : Draft) → is_name name ≡ true → is_some d.current ≡ true → after_text d (codes "join " ++ name) ≡ step_row d (Join name)
 joins name d named script =
     let parts = and_parts _ _ named in
@@ -163,5 +146,40 @@ joins name d named script =
 
 pub joins_so : (text name : List ℕ) (d : Draft) → 5 ≤ length text → HasBytesAt text 0 (codes "join ") → name ≡ drop 5 text → is_name name ≡ true → is_some d.current ≡ true → after_text d text ≡ step_row d (Join name)
 joins_so text name d long reads rest named script =
-    let is : text ≡ codes "join " ++ name = rw rest (begins_join text long reads) in
+    let is : text ≡ codes "join " ++ name = rw rest (begins (codes "join ") text long reads) in
     rw is (joins name d named script)
+
+-- a text whose words have allowed bytes has them
+printable_first : (b : ℕ) (words : List (List ℕ)) → list_all (list_all is_printable) (onto_first b words) ≡ true → (is_printable b ≡ true) × (list_all (list_all is_printable) words ≡ true)
+printable_first b [] h = let parts = and_parts _ _ h in ((and_parts _ _ parts.0).0, refl)
+printable_first b (word ∷ words) h =
+    let parts = and_parts _ _ h in
+    let one = and_parts _ _ parts.0 in
+    (one.0, (rw (one.1, parts.1) refl))
+
+is_space : (b : ℕ) → (b == 32) ≡ true → is_printable b ≡ true
+is_space b e = grind (arith, nat_tests)
+
+printable_text : (text : List ℕ) → list_all (list_all is_printable) (words_of text) ≡ true → list_all is_printable text ≡ true
+printable_text [] h = refl
+printable_text (b ∷ bs) h = by (b == 32) refl h (printable_text bs)
+  where
+    by : (t : Bool) → (b == 32) ≡ t → list_all (list_all is_printable) (if t then [] ∷ words_of bs else onto_first b (words_of bs)) ≡ true → (list_all (list_all is_printable) (words_of bs) ≡ true → list_all is_printable bs ≡ true) → list_all is_printable (b ∷ bs) ≡ true
+    by true e k more = rw (is_space b e, more k) refl
+    by false e k more =
+        let parts = printable_first b (words_of bs) k in
+        rw (parts.0, more parts.1) refl
+
+spawns : (rest handle script : List ℕ) (d : Draft) → length (codes "spawn " ++ rest) ≤ 64 → words_of rest ≡ handle ∷ script ∷ [] → is_name handle ≡ true → is_name script ≡ true → is_some d.current ≡ true → after_text d (codes "spawn " ++ rest) ≡ spawned_row d handle (script_at d.scripts script)
+spawns rest handle script d short words named known open_ =
+    let first = label_is handle (and_parts _ _ named).0 in
+    let second = label_is script (and_parts _ _ known).0 in
+    let fits : nat_lt 4096 (length (codes "spawn " ++ rest)) ≡ false = grind (arith, nat_tests) in
+    let some : (length (codes "spawn " ++ rest) == 0) ≡ false = grind (arith, nat_tests) in
+    let all : list_all is_printable rest ≡ true = printable_text rest (rw (words, first.0, second.0) refl) in
+    rw (fits, some, all, words, first.2, second.2, open_, named, known) refl
+
+pub spawns_so : (text rest handle script : List ℕ) (d : Draft) → length text ≤ 64 → 6 ≤ length text → HasBytesAt text 0 (codes "spawn ") → rest ≡ drop 6 text → words_of rest ≡ handle ∷ script ∷ [] → is_name handle ≡ true → is_name script ≡ true → is_some d.current ≡ true → after_text d text ≡ spawned_row d handle (script_at d.scripts script)
+spawns_so text rest handle script d short long reads cut words named known open_ =
+    let is : text ≡ codes "spawn " ++ rest = rw cut (begins (codes "spawn ") text long reads) in
+    rw is (spawns rest handle script d (rw is at short) words named known open_)

@@ -1,12 +1,13 @@
 // The lines that stand most often in scripts, each told by its bytes at once.
 ghost use Rattle.std.specs.Prelude.{◌≡◌, ◌≤◌, true, ℕ, IfSome, is_some, length};
-ghost use Rattle.rt_scenario.specs.Scenario.{Draft, after_text, step_row};
+ghost use Rattle.rt_scenario.specs.Scenario.{Draft, after_text, script_at, spawned_row, step_row};
 ghost use Rattle.rt_scenario.specs.Within.{IsFree};
 ghost use Rattle.rt_scenario.specs.declared.named_line.NamedLine.TheVariants.{Join, Plain};
 
 use crate::line::Line;
 use crate::names::name_of;
 use crate::numbers::{number_of, value_of};
+use crate::split::two_words;
 
 /// So many bytes these lines have at most.
 const SHORT: usize = 64;
@@ -43,6 +44,22 @@ pub fn joined(text: &[u8]) -> Option<&str>
 {
     match text {
         [b'j', b'o', b'i', b'n', b' ', name @ ..] => name_of(name),
+        _ => None,
+    }
+}
+
+/// The names of the handle and of the script, where a text of a script is `spawn` with two names: it needs no other test.
+pub fn spawned(text: &[u8]) -> Option<(&str, &str)>
+    ensures { IfSome result (λ names. (d : Draft) → is_some d.current ≡ true → after_text d text.now ≡ spawned_row d names.0.now (script_at d.scripts names.1.now)) }
+{
+    if text.len() > SHORT {
+        return None;
+    }
+    match text {
+        [b's', b'p', b'a', b'w', b'n', b' ', rest @ ..] => {
+            let (handle, script) = two_words(Some(rest))?;
+            Some((name_of(handle)?, name_of(script)?))
+        }
         _ => None,
     }
 }

@@ -5,14 +5,14 @@ ghost use Rattle.std.specs.List.{All, list_all};
 ghost use Rattle.rt_scenario.specs.Lines.{words_of, words_in};
 ghost use Rattle.rt_scenario.specs.Numbers.{number_of, value_of};
 ghost use Rattle.rt_scenario.specs.Words.{switch_of};
-ghost use Rattle.rt_scenario.specs.Scenario.{Draft, blank, CanRun, is_between, is_name, is_placed, is_printable, names_run, row, after_line, after_text, after_words, timeout_row, catch_row, script_row, step_row, sleep_row, until_row, end_row, panic_row, spawn_row, abort_row, handle_row, done_row, found_row, run_row, script_at, scripts_at};
-ghost use Rattle.rt_scenario.specs.Answers.{Answers, Finishes, IsBare, Lacks, found_at};
+ghost use Rattle.rt_scenario.specs.Scenario.{Draft, blank, CanRun, is_between, is_name, is_placed, is_printable, names_run, row, after_line, after_text, after_words, timeout_row, catch_row, script_row, step_row, sleep_row, until_row, end_row, panic_row, spawn_row, spawned_row, abort_row, handle_row, done_row, found_row, run_row, script_at, scripts_at};
+ghost use Rattle.rt_scenario.specs.Answers.{Answers, Finishes, IsBare, Lacks, found_at, or_missing};
 ghost use Rattle.rt_scenario.specs.Indexed.{read};
 ghost use Rattle.rt_scenario.specs.Scripts.{tasks_of, tasks_at as total_at};
 ghost use Rattle.rt_scenario.specs.Within.{HasPlaces, HavePlaces, IsFree};
 ghost use Rattle.rt_scenario.specs.declared.named_line.NamedLine.TheVariants as named_line;
 
-use crate::common::{common_line, joined};
+use crate::common::{common_line, joined, spawned};
 use crate::kind::Kind;
 use crate::line::Line;
 use crate::named_line::NamedLine;
@@ -132,6 +132,9 @@ impl Draft {
             }
             if let Some(name) = joined(text) {
                 return self.push(NamedLine::Join(name));
+            }
+            if let Some((handle, script)) = spawned(text) {
+                return self.spawn_named(handle, script);
             }
             if text == b"done".as_slice() {
                 return self.close_script();
@@ -340,7 +343,16 @@ impl Draft {
         ensures { Answers (spawn_row self.old handle.now script.now) result self.new }
     {
         let handle = named(handle)?;
-        let place = self.find(script)?;
+        let script = named(script)?;
+        self.spawn_named(handle, script)
+    }
+
+    /// Takes a spawn in, by the names of its handle and its script.
+    fn spawn_named(&mut self, handle: &str, script: &str) -> Result<(), Stop>
+        requires { is_some self.old.current ≡ true }
+        ensures { Answers (spawned_row self.old handle.now (script_at self.old.scripts script.now)) result self.new }
+    {
+        let place = self.find_named(script)?;
         self.push(NamedLine::Spawn(handle, place))
     }
 
@@ -454,9 +466,17 @@ impl Draft {
         ensures found { result ≡ found_at self.now.scripts word.now }
         ensures there { IfOk result (λ place. place < length self.now.scripts) }
     {
-        let Some(name) = name_of(word) else {
-            return Err(Kind::Name);
-        };
+        match name_of(word) {
+            Some(name) => self.find_named(name),
+            None => Err(Kind::Name),
+        }
+    }
+
+    /// The place of the script of this name.
+    fn find_named(&self, name: &str) -> Result<usize, Kind>
+        ensures found { result ≡ or_missing (script_at self.now.scripts name.now) }
+        ensures there { IfOk result (λ place. place < length self.now.scripts) }
+    {
         match self.places.get(name) {
             Some(place) => Ok(*place),
             None => Err(Kind::Missing),

@@ -185,6 +185,7 @@ fn refused_lines_of_supervision(rt: HostRuntime) -> Result<(), Fail> {
     for (text, line, word) in [
         ("catch on", 1u64, "cut"),
         ("catch  on\n", 1, "space"),
+        ("script a\nspawn h  a\n", 2, "space"),
         ("script a\njoin  h\n", 2, "space"),
         ("script a\nend 1 \n", 2, "space"),
         ("script a\ndone \n", 2, "space"),
