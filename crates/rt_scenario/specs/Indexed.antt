@@ -1,4 +1,5 @@
--- Lines as they are kept while a script is open: for a handle stands the index of its name among the names, each of which stands there once.
+-- Lines as they are kept while a script is open: for a handle stands the index of its name among the names,
+-- each of which stands there once.
 use Rattle.std.specs.Prelude.{ℕ, ◌+◌, ◌<◌, List, [], ◌∷◌, fold, slice_index, slice_index_or, Option, Some, None}
 use Rattle.std.specs.Borrow.{Bor}
 use Rattle.std.specs.BTreeSet.{insert_key}
