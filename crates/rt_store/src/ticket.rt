@@ -8,7 +8,7 @@ ghost use Rattle.rt_store.specs.declared.ticket.Ticket.{Ticket};
 use rt_base::Error;
 use std::mem;
 
-/// A sync that was started: its answer, or the number by which a store holds it. It must be spent by
+/// A sync that was started: its answer, or the number by which a store holds it. Until it is ready it must be spent by
 /// `Storage::give_up_sync`.
 #[derive(Debug)]
 pub enum Ticket {
