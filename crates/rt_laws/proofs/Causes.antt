@@ -1,5 +1,6 @@
 -- What stands where a run has reached its cause, and where tasks are visited.
-use Rattle.std.proofs.Common.{◌≡◌, ◌≢◌, ℕ, List, [], ◌∷◌, ◌++◌, drop, Option, Some, None, Bool, true, false, leb, ◌-◌, ◌^◌, ◌&&◌, refl, arith, Contains}
+use Rattle.std.proofs.Common.{◌≡◌, ◌≢◌, ◌≤◌, ℕ, List, [], ◌∷◌, ◌++◌, drop, Option, Some, None, Bool, true, false, leb, ◌-◌, ◌^◌, ◌&&◌, refl, arith, Contains}
+use Rattle.std.proofs.lemmas.Bool.{leb-true}
 use Rattle.rt_audit.specs.declared.answer.AnswerKind.{AnswerKind}
 use Rattle.rt_audit.specs.declared.answer.AnswerKind.TheVariants.{Pending, Ready, Panicked, Stopped, NoMemory, Ended}
 use Rattle.rt_audit.specs.declared.finish.FinishCause.{FinishCause}
@@ -157,35 +158,48 @@ late-turning None false None [] [] h = absurd (cc)
 late-turning None false None [] (a ∷ alarms) h = absurd (cc)
 late-turning None false None (k ∷ ready) set h = absurd (cc)
 
-no-overflow-turning : (skip : Option ℕ) (late : Bool) (firing : Option ℕ) (ready : List ℕ) (alarms : List Alarm) → turning_cause skip late firing ready alarms ≡ Some TimeOverflow → ⊥
-no-overflow-turning (Some due) late firing ready alarms h = cc
-no-overflow-turning None true firing ready alarms h = cc
-no-overflow-turning None false (Some alarm) ready alarms h = cc
-no-overflow-turning None false None [] [] h = cc
-no-overflow-turning None false None [] (a ∷ alarms) h = cc
-no-overflow-turning None false None (k ∷ ready) set h = cc
+-- a clock step reaches no other cause than these two
+no-turning : (cause : FinishCause) (skip : Option ℕ) (late : Bool) (firing : Option ℕ) (ready : List ℕ) (alarms : List Alarm) → cause ≢ Stalled → cause ≢ Timeout → turning_cause skip late firing ready alarms ≡ Some cause → ⊥
+no-turning cause (Some due) late firing ready alarms n k h = cc
+no-turning cause None true firing ready alarms n k h = k (cc)
+no-turning cause None false (Some alarm) ready alarms n k h = cc
+no-turning cause None false None [] [] n k h = n (cc)
+no-turning cause None false None [] (a ∷ alarms) n k h = cc
+no-turning cause None false None (j ∷ ready) set n k h = cc
 
 -- what each cause needs
-abbrev Needs : FinishCause → State → Type 0
-Needs Stalled s = (s.ready ≡ []) × (s.alarms.alarms ≡ [])
-Needs Timeout s = is_late s.clock ≡ true
-Needs TimeOverflow s = overflows s.clock ≡ true
-Needs _ s = Unit {0}
+abbrev Needs : FinishCause → Phase → State → Type 0
+Needs Stalled p s = (s.ready ≡ []) × (s.alarms.alarms ≡ [])
+Needs Timeout p s = is_late s.clock ≡ true
+Needs TimeOverflow p s = overflows s.clock ≡ true
+Needs TooManyTasks p s = (p ≡ Making) × (leb (2 ^ 64 - 1) s.numbers.next ≡ true)
+Needs TaskPanicked p s = p ≡ Over TaskPanicked
+Needs _ p s = Unit {0}
 
-needs-round : (cause : FinishCause) (s : State) → IsRoundCause cause → Needs cause s
+needs-round : (cause : FinishCause) (s : State) → IsRoundCause cause → Needs cause (Over cause) s
 needs-round Stalled s h = absurd h
 needs-round Timeout s h = absurd h
 needs-round TimeOverflow s h = absurd h
+needs-round TooManyTasks s h = absurd h
+needs-round TaskPanicked s h = refl
 needs-round _ s h = tt
 
-needs-turning : (cause : FinishCause) (s : State) → cause_at Turning s ≡ Some cause → Needs cause s
+abbrev Turns : FinishCause → State → Type 0
+Turns cause s = cause_at Turning s ≡ Some cause
+
+turns-not : (cause : FinishCause) (s : State) → cause ≢ Stalled → cause ≢ Timeout → Turns cause s → ⊥
+turns-not cause s n k h = no-turning cause (skip_to s.ready s.alarms.alarms s.clock.time) (is_late s.clock) (fires s.alarms.alarms s.clock.time) s.ready s.alarms.alarms n k h
+
+needs-turning : (cause : FinishCause) (s : State) → Turns cause s → Needs cause Turning s
 needs-turning Stalled s h = stalled-turning (skip_to s.ready s.alarms.alarms s.clock.time) (is_late s.clock) (fires s.alarms.alarms s.clock.time) s.ready s.alarms.alarms h
 needs-turning Timeout s h = late-turning (skip_to s.ready s.alarms.alarms s.clock.time) (is_late s.clock) (fires s.alarms.alarms s.clock.time) s.ready s.alarms.alarms h
-needs-turning TimeOverflow s h = absurd (no-overflow-turning (skip_to s.ready s.alarms.alarms s.clock.time) (is_late s.clock) (fires s.alarms.alarms s.clock.time) s.ready s.alarms.alarms h)
+needs-turning TimeOverflow s h = absurd (turns-not TimeOverflow s (λ e. cc) (λ e. cc) h)
+needs-turning TooManyTasks s h = absurd (turns-not TooManyTasks s (λ e. cc) (λ e. cc) h)
+needs-turning TaskPanicked s h = absurd (turns-not TaskPanicked s (λ e. cc) (λ e. cc) h)
 needs-turning _ s h = tt
 
-needs-at : (p : Phase) (cause : FinishCause) (s : State) → IsSoundAt p s.clock → MayClose p → cause_at p s ≡ Some cause → Needs cause s
-needs-at Making cause s k m h = let w = where-true (leb (2 ^ 64 - 1) s.numbers.next) TooManyTasks cause h in rw (← w.1) tt
+needs-at : (p : Phase) (cause : FinishCause) (s : State) → IsSoundAt p s.clock → MayClose p → cause_at p s ≡ Some cause → Needs cause p s
+needs-at Making cause s k m h = let w = where-true (leb (2 ^ 64 - 1) s.numbers.next) TooManyTasks cause h in rw (← w.1) (refl, w.0)
 needs-at Between cause s k m h = let w = where-true (is_late s.clock) Timeout cause h in rw (← w.1) w.0
 needs-at (Visiting left) cause s k m h =
     let w = where-true (is_nil (from_running s.running left) && overflows s.clock) TimeOverflow cause h in
@@ -198,7 +212,7 @@ needs-at (Crashed of) cause s k m h = absurd m
 needs-at (Finished of) cause s k m h = absurd m
 needs-at _ cause s k m h = absurd (cc)
 
-needs : (b : Begin) (x y : List Entry) (cause : FinishCause) → IsLawful (begun b) (x ++ Cleanup ∷ y) → (after_all (begun b) (x ++ Cleanup ∷ y)).phase ≡ Finished cause → cause ≢ OutOfMemory → Needs cause (after_all (begun b) x)
+needs : (b : Begin) (x y : List Entry) (cause : FinishCause) → IsLawful (begun b) (x ++ Cleanup ∷ y) → (after_all (begun b) (x ++ Cleanup ∷ y)).phase ≡ Finished cause → cause ≢ OutOfMemory → Needs cause (after_all (begun b) x).phase (after_all (begun b) x)
 needs b x y cause l h n =
     let s = after_all (begun b) x in
     needs-at s.phase cause s (run_sound b x (lawful-front (begun b) x (Cleanup ∷ y) l)) (lawful-tail (begun b) x (Cleanup ∷ y) l).0.1 (run_cause b x y cause l h n)
@@ -212,3 +226,11 @@ module _ (b : Begin) (x y : List Entry) (l : IsLawful (begun b) (x ++ Cleanup �
 
   pub run_overflows : (after_all (begun b) (x ++ Cleanup ∷ y)).phase ≡ Finished TimeOverflow → overflows (after_all (begun b) x).clock ≡ true
   run_overflows h = needs b x y TimeOverflow l h (λ e. cc)
+
+  pub run_panicked : (after_all (begun b) (x ++ Cleanup ∷ y)).phase ≡ Finished TaskPanicked → (after_all (begun b) x).phase ≡ Over TaskPanicked
+  run_panicked h = needs b x y TaskPanicked l h (λ e. cc)
+
+  pub run_numberless : (after_all (begun b) (x ++ Cleanup ∷ y)).phase ≡ Finished TooManyTasks → ((after_all (begun b) x).phase ≡ Making) × (2 ^ 64 - 1 ≤ (after_all (begun b) x).numbers.next)
+  run_numberless h =
+      let k = needs b x y TooManyTasks l h (λ e. cc) in
+      (k.0, leb-true (2 ^ 64 - 1) (after_all (begun b) x).numbers.next k.1)

@@ -7,6 +7,7 @@ pub mod Flags
 pub mod Fronts
 pub mod Endings
 pub mod Ends
+pub mod Kindred
 pub mod Misses
 pub mod Nearby
 pub mod Nodes
@@ -14,7 +15,9 @@ pub mod Numbers
 pub mod OneTask
 pub mod Order
 pub mod Others
+pub mod Panicking
 pub mod Ranges
+pub mod Refusing
 pub mod Results
 pub mod Rounds
 pub mod Runs
@@ -23,6 +26,7 @@ pub mod Spawned
 pub mod Stands
 pub mod Starts
 pub mod Stays
+pub mod Stopped
 pub mod Supervising
 pub mod Tasks
 pub mod Timely

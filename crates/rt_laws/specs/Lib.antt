@@ -2,7 +2,10 @@ pub mod Aborts
 pub mod Cleanup
 pub mod Earliest
 pub mod Examples
+pub mod Kin
+pub mod Panics
 pub mod Polls
+pub mod Refusals
 pub mod Several
 pub mod Spawns
 pub mod Stored

@@ -2,24 +2,27 @@
 #![tactic(auto)]
 
 mod examples;
+mod kin;
+mod panics;
+mod refusals;
 mod supervised;
 
-ghost use Rattle.std.specs.Prelude.{Bool, ◌≡◌, ◌≢◌, ◌≤◌, ◌<◌, ◌+◌, ◌++◌, ◌⊎◌, ◌↔◌, [], ◌∷◌, ℕ, List, Option, Some, None, true, false, All, Contains};
+ghost use Rattle.std.specs.Prelude.{Bool, ◌≡◌, ◌≢◌, ◌≤◌, ◌<◌, ◌+◌, ◌-◌, ◌^◌, ◌++◌, ◌⊎◌, ◌↔◌, [], ◌∷◌, ℕ, List, Option, Some, None, true, false, All, Contains};
 ghost use Rattle.rt_base.specs.declared.time.TheConstants.{MAX_TIME};
 ghost use Rattle.rt_audit.specs.declared.call.Call.{Call};
 ghost use Rattle.rt_audit.specs.declared.call.Call.TheVariants.{Child, Join, SleepPoll};
 ghost use Rattle.rt_audit.specs.declared.reply.CallReply.{CallReply};
 ghost use Rattle.rt_audit.specs.declared.reply.CallReply.TheVariants.{NodeAt, PendingAt, Ready};
-ghost use Rattle.rt_audit.specs.declared.answer.AnswerKind.TheVariants.{NoMemory, Ended};
+ghost use Rattle.rt_audit.specs.declared.answer.AnswerKind.TheVariants.{Stopped, NoMemory, Ended};
 ghost use Rattle.rt_audit.specs.declared.entry.Entry.{Entry};
 ghost use Rattle.rt_audit.specs.declared.entry.Entry.TheVariants.{Start, Call as Called, Event, Wake, Root, Round, Visit, Answer, Advance, Skip, Fire, Cleanup};
 ghost use Rattle.rt_audit.specs.declared.finish.FinishCause.{FinishCause};
-ghost use Rattle.rt_audit.specs.declared.finish.FinishCause.TheVariants.{Completed, Timeout, Stalled, TimeOverflow, NoMemory as OutOfMemory};
+ghost use Rattle.rt_audit.specs.declared.finish.FinishCause.TheVariants.{Completed, Timeout, Stalled, TaskPanicked, TimeOverflow, TooManyTasks, NoMemory as OutOfMemory};
 ghost use Rattle.rt_super.specs.Alarms.{Alarm};
 ghost use Rattle.rt_super.specs.Ancestry.{is_known, is_ended, links, nodes_below};
 ghost use Rattle.rt_model.specs.declared.begin.Begin.{Begin};
 ghost use Rattle.rt_model.specs.declared.mark.Mark.{Mark};
-ghost use Rattle.rt_model.specs.State.{State, Turn, Ending, Turning, Finished, begun};
+ghost use Rattle.rt_model.specs.State.{State, Turn, Making, Ending, Turning, Over, Finished, begun};
 ghost use Rattle.rt_model.specs.Causes.{is_late, overflows, reached};
 ghost use Rattle.rt_model.specs.Effects.{after, after_all};
 ghost use Rattle.rt_model.specs.Rules.{IsLawful};
@@ -42,9 +45,19 @@ pub use examples::{
     each_other_cause_ends_a_run, near_misses_are_no_runs, near_misses_are_not_cut_off,
     near_misses_are_not_lawful, small_inputs_are_valid, small_rounds_are_not_drawn,
 };
+pub use kin::{
+    a_child_ends_with_its_parent, near_misses_of_ends_are_lawful_but_for_one_place,
+    near_misses_of_ends_are_not_lawful,
+};
+pub use panics::{
+    a_caught_panic_has_its_run, a_panic_of_the_root_has_its_run, a_reported_panic_has_its_run,
+    near_misses_of_panics_are_not_lawful,
+};
+pub use refusals::{calls_are_refused_for_their_cause, near_misses_of_refusals_are_not_lawful};
 pub use supervised::{
-    a_task_of_the_maker_has_its_run, a_task_that_aborts_itself_has_its_run,
-    inputs_with_spawned_tasks_are_valid, near_misses_of_tasks_are_not_lawful,
+    a_task_of_the_maker_has_its_run, a_task_that_aborts_itself_and_is_pending_has_its_run,
+    a_task_that_aborts_itself_has_its_run, inputs_with_spawned_tasks_are_valid,
+    near_misses_of_tasks_are_lawful_but_for_one_place, near_misses_of_tasks_are_not_lawful,
     no_run_begins_behind_one_that_failed,
 };
 
@@ -122,13 +135,24 @@ pub fn a_cleanup_only_ends_tasks()
     ensures clock { (b : Begin) (x y : List Entry) → IsLawful (begun b) (x ++ Cleanup ∷ y) → (after_all (begun b) (x ++ Cleanup ∷ y)).clock ≡ (after_all (begun b) x).clock }
 {}
 
-/// A run that isn't cut off ends for the cause that it had reached where its cleanup began, and there this cause holds.
-#[tactic(auto, using(crate::proofs::Causes::run_stalled, crate::proofs::Causes::run_late, crate::proofs::Causes::run_overflows))]
+/// A run that isn't cut off ends for the cause that it had reached where its cleanup began, and there this cause holds: nobody
+/// is ready and no alarm is set, the deadline is there, a cycle would pass the last moment, the root panicked or was stopped,
+/// or the root isn't taken in since no number is left for it.
+#[tactic(auto, using(crate::proofs::Causes::run_stalled, crate::proofs::Causes::run_late, crate::proofs::Causes::run_overflows, crate::proofs::Causes::run_panicked, crate::proofs::Causes::run_numberless))]
 pub fn a_run_ends_for_a_cause_that_holds()
     ensures reached { (b : Begin) (x y : List Entry) (cause : FinishCause) → IsLawful (begun b) (x ++ Cleanup ∷ y) → (after_all (begun b) (x ++ Cleanup ∷ y)).phase ≡ Finished cause → cause ≢ OutOfMemory → reached (after_all (begun b) x) ≡ Some cause }
     ensures stalled { (b : Begin) (x y : List Entry) → IsLawful (begun b) (x ++ Cleanup ∷ y) → (after_all (begun b) (x ++ Cleanup ∷ y)).phase ≡ Finished Stalled → ((after_all (begun b) x).ready ≡ []) × ((after_all (begun b) x).alarms.alarms ≡ []) }
     ensures timeout { (b : Begin) (x y : List Entry) → IsLawful (begun b) (x ++ Cleanup ∷ y) → (after_all (begun b) (x ++ Cleanup ∷ y)).phase ≡ Finished Timeout → is_late (after_all (begun b) x).clock ≡ true }
     ensures overflow { (b : Begin) (x y : List Entry) → IsLawful (begun b) (x ++ Cleanup ∷ y) → (after_all (begun b) (x ++ Cleanup ∷ y)).phase ≡ Finished TimeOverflow → overflows (after_all (begun b) x).clock ≡ true }
+    ensures panicked { (b : Begin) (x y : List Entry) → IsLawful (begun b) (x ++ Cleanup ∷ y) → (after_all (begun b) (x ++ Cleanup ∷ y)).phase ≡ Finished TaskPanicked → (after_all (begun b) x).phase ≡ Over TaskPanicked }
+    ensures tasks { (b : Begin) (x y : List Entry) → IsLawful (begun b) (x ++ Cleanup ∷ y) → (after_all (begun b) (x ++ Cleanup ∷ y)).phase ≡ Finished TooManyTasks → ((after_all (begun b) x).phase ≡ Making) × (2 ^ 64 - 1 ≤ (after_all (begun b) x).numbers.next) }
+{}
+
+/// Only the root is stopped, and only where a panic is kept. None is kept where panics are caught.
+#[tactic(auto, using(crate::proofs::Stopped::run_stops, crate::proofs::Stopped::run_keeps))]
+pub fn the_root_is_stopped_by_a_kept_panic()
+    ensures stopped { (b : Begin) (x y : List Entry) (task : ℕ) → IsLawful (begun b) (x ++ Answer task Stopped ∷ y) → ((after_all (begun b) x).root ≡ Some task) × ((after_all (begun b) x).panicked ≡ true) }
+    ensures kept { (b : Begin) (x : List Entry) → (after_all (begun b) x).panicked ≡ true → b.catch ≡ false }
 {}
 
 /// The entries of a run determine its beginning and its cause, whatever the tasks. No entry keeps whether panics are
