@@ -9,9 +9,9 @@ use Rattle.rt_model.specs.Effects.{after, after_all}
 use Rattle.rt_model.specs.Rules.{IsLawful}
 use Rattle.rt_model.specs.Turns.{Held, put, with_spawned, freed}
 use Rattle.rt_model.specs.Tied.{Value, nothing, taken, with_result, IsTied}
-use Rattle.rt_model.specs.Run.{IsRun}
+use Rattle.rt_model.specs.Run.{IsRun, IsCutOff}
 use Rattle.rt_laws.specs.Examples.{small_begin}
-use Rattle.rt_laws.specs.Supervised.{gave_beside, Prompt, prompt_root, with_side, side_journal, Aborting, Parent, Joining, Aborter, aborting_root, aborting_journal, stopping_journal}
+use Rattle.rt_laws.specs.Supervised.{gave_beside, Prompt, prompt_root, with_side, side_journal, Aborting, Parent, Joining, Aborter, aborting_root, aborting_journal, stopping_journal, beside_journal}
 
 side-lawful : IsLawful (begun small_begin) side_journal
 unfolding begun after
@@ -83,3 +83,23 @@ aborting_time = refl
 pub stopping_time : (after_all (begun small_begin) stopping_journal).clock.time ≡ 2000000
 unfolding begun after
 stopping_time = refl
+
+beside-lawful : IsLawful (begun small_begin) beside_journal
+unfolding begun after
+beside-lawful = ((refl, (refl, refl, refl, refl, refl)), ((refl, (refl, refl, omega arith)), ((refl, (refl, IsPermutation-refl (0 ∷ []))), ((refl, (refl, refl)), ((refl, (refl, refl, refl)), ((refl, (refl, (refl, refl, refl))), ((refl, (refl, (refl, refl, refl))), ((refl, (refl, refl)), ((refl, refl), ((refl, (refl, refl, refl, omega arith)), ((refl, (((λ z. cc), refl, refl), IsPermutation-refl (1 ∷ []))), ((refl, (refl, refl)), ((refl, (refl, refl, refl)), ((refl, refl), ((refl, tt), ((refl, refl), ((refl, (refl, refl)), ((refl, refl), ((refl, (refl, refl)), ((refl, (refl, refl)), ((refl, refl), ((refl, (refl, refl)), ((refl, inl refl), tt)))))))))))))))))))))))
+
+pub lacks_beside : IsCutOff (aborting_root Pending) small_begin beside_journal
+unfolding begun after
+lacks_beside =
+    let v0 : Value Aborting ℕ = nothing in
+    let v1 : Value Aborting ℕ = record v0 { held = put 0 Parent v0.held } in
+    let v2 : Value Aborting ℕ = record v1 { held = put 0 (Joining 1) (with_spawned 1 (Shared false) (Aborter 2) (taken 0 v1.held)) } in
+    let v3 : Value Aborting ℕ = record v2 { held = put 1 (Aborter 2) (taken 1 v2.held); whole = false } in
+    let v4 : Value Aborting ℕ = record v3 { held = taken 1 v3.held } in
+    let v5 : Value Aborting ℕ = record v4 { held = freed 1 (taken 0 v4.held) } in
+    record {
+      value = v5;
+      lawful = beside-lawful;
+      ends = refl;
+      tied = (v0, refl, (v1, (Parent, v0.held, (refl, refl, refl), refl), (v1, (refl, refl), (v1, (refl, refl), (v1, refl, (v1, refl, (v1, refl, (v1, refl, (v2, (v2.held, record { before = Parent; left = Joining 1; moved = with_spawned 1 (Shared false) (Aborter 2) (taken 0 v1.held); there = refl; walks = ((refl, tt), ((refl, tt), ((refl, tt), (refl, refl, refl)))); is = refl }, refl), (v2, (refl, refl), (v2, (refl, refl), (v2, (refl, refl), (v2, refl, (v3, record { before = Aborter 2; left = Aborter 2; there = refl; breaks = inr tt; moved = taken 1 v2.held; frees = refl; is = refl }, (v3, refl, (v3, refl, (v3, refl, (v4, (Aborter 2, refl, inl ((λ there. (refl, refl, (refl, refl, refl)), λ gone. absurd (cc)), refl)), (v4, refl, (v4, refl, (v5, (Joining 1, refl, inl ((λ there. (refl, refl, (λ there. (refl, refl, (refl, refl, refl)), λ gone. absurd (cc))), λ gone. absurd (cc)), refl)), (v5, (refl, refl), (v5, refl, refl)))))))))))))))))))))));
+    }

@@ -5,8 +5,8 @@ use Rattle.rt_base.specs.declared.execution.Execution.TheVariants.{Shared}
 use Rattle.rt_audit.specs.declared.call.Call.TheVariants.{Child, CloseNode, Spawn, AbortTask, Join, GiveUp}
 use Rattle.rt_audit.specs.declared.reply.CallReply.{CallReply}
 use Rattle.rt_audit.specs.declared.reply.CallReply.TheVariants.{Done, NodeAt, TaskAt, Pending as StillPending, Ready as IsReady, Refused}
-use Rattle.rt_audit.specs.declared.answer.AnswerKind.TheVariants.{Pending as AnswersPending, Ready as AnswersReady, Ended}
-use Rattle.rt_audit.specs.declared.finish.FinishCause.TheVariants.{Completed}
+use Rattle.rt_audit.specs.declared.answer.AnswerKind.TheVariants.{Pending as AnswersPending, Ready as AnswersReady, NoMemory as LacksMemory, Ended}
+use Rattle.rt_audit.specs.declared.finish.FinishCause.TheVariants.{Completed, NoMemory}
 use Rattle.rt_audit.specs.declared.entry.Entry.{Entry}
 use Rattle.rt_audit.specs.declared.entry.Entry.TheVariants.{Start, Call, Event, Wake, Root, Round, Visit, Answer as Answered, NodeEnd, Advance, Cleanup}
 use Rattle.rt_model.specs.declared.answer.Answer.{Answer}
@@ -176,6 +176,15 @@ refused = Call (Some 0) (Join 1) (Refused Closed) ∷ []
 
 abbrev pub stopping_journal : List Entry
 stopping_journal = aborter_joined ++ aborts_itself ++ aborter_stops ++ both_woken ++ visiting_root ++ refused ++ parent_ends
+
+-- the task's poll lacks memory while the root waits for it, and the ends of both make their own calls
+abbrev pub beside_journal : List Entry
+beside_journal =
+    aborter_joined
+    ++ (Visit 1 ∷ Event process_task (task_fields 1 handle) ∷ Answered 1 LacksMemory ∷ Cleanup ∷ NodeEnd 0 ∷ [])
+    ++ aborter_closes
+    ++ (Call (Some 0) (GiveUp 1) Done ∷ Call (Some 0) (CloseNode 0) Done ∷ Answered 0 Ended ∷ [])
+    ++ finishing NoMemory
 
 -- near misses, each beside a journal that differs in this one place and is lawful
 

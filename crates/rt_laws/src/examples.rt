@@ -9,11 +9,13 @@ ghost use Rattle.rt_audit.specs.declared.reply.CallReply.{CallReply};
 ghost use Rattle.rt_audit.specs.declared.reply.CallReply.TheVariants.{Done};
 ghost use Rattle.rt_audit.specs.declared.finish.FinishCause.{FinishCause};
 ghost use Rattle.rt_audit.specs.declared.finish.FinishCause.TheVariants.{Completed, Timeout, Stalled, TimeOverflow, TooManyTasks, NoMemory};
+ghost use Rattle.rt_model.specs.declared.answer.Answer.TheVariants.{Pending};
 ghost use Rattle.rt_model.specs.State.{State, begun};
 ghost use Rattle.rt_model.specs.Effects.{after_all};
 ghost use Rattle.rt_model.specs.Rules.{IsLawful, AreDrawn};
 ghost use Rattle.rt_model.specs.Tied.{Value, nothing};
 ghost use Rattle.rt_model.specs.Run.{IsRun, IsCutOff, IsValidInput};
+ghost use Rattle.rt_laws.specs.Supervised.{aborting_root, beside_journal};
 ghost use Rattle.rt_laws.specs.Examples.{small_begin, begin_by, ready_root, pending_root, sleeping_root, gave, ready_journal, skipped_journal, short_journal, cut_journal, stalled_journal, late_journal, at_once_late_journal, overflow_journal, no_number_journal, drawn, stray_call, open_node, unanswered_poll, second_task, ordered, finished_for, called, missing_wake, early_fire, early_sleep, silent_end, busy_root, lacking_journal, invented_in_poll, invented_in_end};
 
 /// A root that is ready with a number at its first poll gives it, at time 0.
@@ -34,11 +36,13 @@ pub fn a_sleeping_root_has_its_run()
 {}
 
 /// A run whose root lacked memory in its first poll is cut off, whether a call was made before or not. What is called
-/// behind the lack is free while it may come where it stands, and an end may lack memory as well.
+/// behind the lack is free while it may come where it stands, and an end may lack memory as well. Where a spawned task lacked
+/// it, the end of the root makes the calls of its own steps.
 pub fn a_run_that_lacked_memory_is_cut_off()
     ensures at_once { (due : ℕ) → IsCutOff (sleeping_root due) small_begin cut_journal }
     ensures within { (call : Call) (reply : CallReply) → IsLawful (begun small_begin) (lacking_journal call reply) → IsCutOff busy_root small_begin (lacking_journal call reply) }
     ensures lawful { IsLawful (begun small_begin) (lacking_journal (CloseNode 0) Done) }
+    ensures beside { IsCutOff (aborting_root Pending) small_begin beside_journal }
 {}
 
 /// A root that is never ready stalls. With a deadline its run is late behind the first cycle, or at once. Where a cycle

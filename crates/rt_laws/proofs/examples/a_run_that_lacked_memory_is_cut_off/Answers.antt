@@ -1,5 +1,6 @@
 use Rattle.rt_laws.proofs.Runs.{cut_off}
 use Rattle.rt_laws.proofs.Cut.{lacks_within, lacks_lawfully}
+use Rattle.rt_laws.proofs.Spawned.{lacks_beside}
 use Rattle.rt_laws.proofs.examples.a_run_that_lacked_memory_is_cut_off.Goals as goal
 
 pub returns-clause-at_once : goal.returns-clause-at_once
@@ -10,3 +11,6 @@ returns-clause-within c = lacks_within
 
 pub returns-clause-lawful : goal.returns-clause-lawful
 returns-clause-lawful c = lacks_lawfully
+
+pub returns-clause-beside : goal.returns-clause-beside
+returns-clause-beside c = lacks_beside
