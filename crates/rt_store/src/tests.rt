@@ -1,7 +1,11 @@
-// What no clause says: that calls succeed where there is memory.
+// What no clause says: that calls succeed where there is memory, and the worked examples.
+//
+// A case is a function that makes its calls and says whether they came to what is written beside them, or how many did. The functions
+// are over any store where they can be, since those are proved in less time.
 
 use crate::{
-    Done, FaultConfig, MemStore, PartialWriteMode, Storage, Ticket, WriteConfig, collect_reads,
+    Blob, Done, FaultConfig, MemStore, PartialWriteMode, Storage, Ticket, WriteConfig,
+    collect_reads,
 };
 use rt_base::{
     BlobVersion, Choice, Env, Error, Event, IoKind, NoEnv, NoMemory, Poll, ReadOptions,
@@ -9,16 +13,35 @@ use rt_base::{
 };
 use rt_bufs::{IoBuf, IoBufMut, IoBufs, IoBufsMut};
 use std::alloc::Global;
-use std::process::Abort;
 use std::test::Fail;
 
-fn bufs(alloc: Global, bytes: &[u8]) -> Result<IoBufs, Error> {
-    let mut copy = Vec::new(alloc);
-    copy.extend_from_slice(bytes)?;
-    Ok(IoBufs::from_buf(alloc, IoBuf::from_vec(copy)?)?)
+/// Whether these are the same.
+fn same<T: Drop + PartialEq>(seen: T, wanted: T) -> bool {
+    seen == wanted
 }
 
-// The answer of a call that is done at once.
+/// Whether a call came to this.
+fn came<T: Drop + PartialEq, E: Drop>(answer: Result<T, E>, wanted: T) -> bool {
+    match answer {
+        Ok(seen) => seen == wanted,
+        Err(_) => false,
+    }
+}
+
+/// Whether a call was answered at all.
+fn went<T: Drop, E: Drop>(answer: Result<T, E>) -> bool {
+    answer.is_ok()
+}
+
+/// Whether a call failed so.
+fn failed<T: Drop, E: Drop + PartialEq>(answer: Result<T, E>, why: E) -> bool {
+    match answer {
+        Ok(_) => false,
+        Err(error) => error == why,
+    }
+}
+
+/// The answer of a call that is done at once.
 fn done(answer: Result<Done, Error>) -> Result<(), Error> {
     match answer {
         Ok(Done::Now) => Ok(()),
@@ -28,276 +51,409 @@ fn done(answer: Result<Done, Error>) -> Result<(), Error> {
     }
 }
 
-// Whether these bytes were read.
-fn are(answer: Result<IoBufsMut, Error>, bytes: &[u8]) -> bool {
-    match answer {
-        Ok(bufs) => match bufs.coalesce() {
-            Ok(buf) => buf.as_slice() == bytes,
-            Err(_) => false,
-        },
-        Err(_) => false,
-    }
+fn bufs(alloc: Global, bytes: Vec<u8>) -> Result<IoBufs, NoMemory> {
+    IoBufs::from_buf(alloc, IoBuf::from_vec(bytes)?)
 }
 
-// Writes three bytes from an offset on.
+/// Three bytes.
+fn letters(alloc: Global) -> Result<IoBufs, NoMemory> {
+    let mut bytes = Vec::new(alloc);
+    bytes.extend_from_slice(b"abc")?;
+    bufs(alloc, bytes)
+}
+
+/// Writes three bytes from an offset on.
 fn write<S: Storage>(
     alloc: Global,
     store: &mut S,
     blob: &S::Blob,
     offset: u64,
+    options: WriteOptions,
 ) -> Result<(), Error> {
-    let bytes = bufs(alloc, b"abc")?;
-    done(store.write_at(&mut NoEnv, blob, offset, bytes, WriteOptions::SYNC))
+    let bytes = letters(alloc)?;
+    done(store.write_at(&mut NoEnv, blob, offset, bytes, options))
 }
 
-// Starts a sync, polls it and gives it up.
-fn sync_later<S: Storage>(store: &mut S, blob: &S::Blob) -> Result<(), Error> {
-    match store.start_sync(&mut NoEnv, blob) {
-        Ok(mut ticket) => {
-            let answer = store.poll_sync(&mut NoEnv, &mut ticket, 0);
-            store.give_up_sync(ticket);
-            match answer {
-                Poll::Ready(answer) => answer,
-                Poll::Pending => Err(Error::Timeout),
-            }
-        }
-        Err(error) => Err(error),
-    }
+fn writes<S: Storage>(alloc: Global, store: &mut S, blob: &S::Blob, offset: u64) -> bool {
+    went(write(alloc, store, blob, offset, WriteOptions::SYNC))
 }
 
-fn on_a_blob<S: Storage>(
-    rt: &impl Abort,
+/// Whether a write there is refused so.
+fn refuses<S: Storage>(
     alloc: Global,
     store: &mut S,
     blob: &S::Blob,
-) -> Result<(), Error> {
-    let none = ReadOptions::default();
-    write(alloc, store, blob, 2)?;
-    assert!(rt; are(store.read_at(&mut NoEnv, blob, 0, 5, none), b"\0\0abc"));
-    store.resize(&mut NoEnv, blob, 4)?;
-    done(store.sync(&mut NoEnv, blob))?;
-    sync_later(store, blob)?;
-    let room = IoBufsMut::from_mut(alloc, IoBufMut::with_capacity(alloc, 2)?)?;
-    if room.capacity() >= 2 {
-        assert!(rt; are(store.read_at_buf(&mut NoEnv, blob, 2, 2, room, none), b"ab"));
-    }
-    assert_eq!(rt;
-        write(alloc, store, blob, u64::MAX),
-        Err(Error::OffsetOverflow)
-    );
-    assert_eq!(rt;
-        write(alloc, store, blob, u64::MAX - 3),
-        Err(Error::NoMemory)
-    );
-    assert_eq!(rt;
-        store.resize(&mut NoEnv, blob, u64::MAX),
-        Err(Error::NoMemory)
-    );
-    assert!(rt;
-        store
-            .read_at(&mut NoEnv, blob, 0, usize::MAX, none)
-            .is_err()
-    );
-    Ok(())
+    offset: u64,
+    why: Error,
+) -> bool {
+    failed(write(alloc, store, blob, offset, WriteOptions::SYNC), why)
 }
 
-#[test]
-fn surface(rt: HostRuntime) -> Result<(), Fail> {
-    let alloc = rt.alloc();
-    let mut store = MemStore::new(alloc, FaultConfig::default())?;
-    match store.open(&mut NoEnv, "p", b"a") {
-        Ok((blob, len)) => {
-            assert_eq!(rt; (blob.number(), len), (0, 0));
-            let seen = on_a_blob(&rt, alloc, &mut store, &blob);
-            store.close(blob);
-            assert_eq!(rt; seen, Ok(()));
-        }
-        Err(error) => panic!(rt; "{error}"),
-    }
-    let versions = (BlobVersion::new(0), BlobVersion::new(7));
-    match store.open_versioned(&mut NoEnv, "p", b"a", versions) {
-        Ok((blob, len, version)) => {
-            assert_eq!(rt; (blob.number(), len, version.get()), (1, 4, 0));
-            store.close(blob);
-        }
-        Err(error) => panic!(rt; "{error}"),
-    }
-    assert_eq!(rt;
-        (*store.config(), store.injected()),
-        (FaultConfig::default(), 0)
-    );
-    Ok(())
-}
-
-#[test]
-fn write_fault_by_rate(rt: HostRuntime) -> Result<(), Fail> {
-    let alloc = rt.alloc();
-    let mut faults = FaultConfig::default();
-    faults.write.rate = 1_000_000;
-    let mut store = MemStore::new(alloc, faults)?;
-    match store.open(&mut NoEnv, "p", b"a") {
-        Ok((blob, _)) => {
-            let seen = write(alloc, &mut store, &blob, 0);
-            store.close(blob);
-            assert_eq!(rt; seen, Err(Error::Io(IoKind::InjectedStorageFault)));
-        }
-        Err(error) => panic!(rt; "{error}"),
-    }
-    assert_eq!(rt; store.injected(), 1);
-    Ok(())
-}
-
-// Whether the partition has exactly these names.
-fn names_are<S: Storage>(store: &mut S, partition: &str, names: &[&[u8]]) -> bool {
-    match store.scan(&mut NoEnv, partition) {
-        Ok(found) => {
-            found.len() == names.len()
-                && found
-                    .iter()
-                    .zip(names.iter())
-                    .all(|(found, name)| found.as_slice() == *name)
-        }
+/// Whether buffers have these bytes.
+fn hold(bufs: IoBufsMut, expected: &[u8]) -> bool {
+    match bufs.coalesce() {
+        Ok(buf) => buf.as_slice() == expected,
         Err(_) => false,
     }
 }
 
-// Opens and closes a blob.
+/// Whether these bytes were read.
+fn are(answer: Result<IoBufsMut, Error>, expected: &[u8]) -> bool {
+    match answer.ok() {
+        Some(bufs) => hold(bufs, expected),
+        None => false,
+    }
+}
+
+fn reads<S: Storage>(
+    store: &mut S,
+    blob: &S::Blob,
+    offset: u64,
+    len: usize,
+    expected: &[u8],
+) -> bool {
+    let answer = store.read_at(&mut NoEnv, blob, offset, len, ReadOptions::default());
+    are(answer, expected)
+}
+
+/// Whether the last of four bytes are read into buffers that were made before.
+fn reads_in_room<S: Storage>(store: &mut S, blob: &S::Blob, room: IoBufsMut) -> bool {
+    if room.capacity() < 2 {
+        return false;
+    }
+    let answer = store.read_at_buf(&mut NoEnv, blob, 2, 2, room, ReadOptions::default());
+    are(answer, b"ab")
+}
+
+fn room(alloc: Global) -> Result<IoBufsMut, NoMemory> {
+    IoBufsMut::from_mut(alloc, IoBufMut::with_capacity(alloc, 2)?)
+}
+
+fn reads_in_place<S: Storage>(alloc: Global, store: &mut S, blob: &S::Blob) -> bool {
+    match room(alloc) {
+        Ok(room) => reads_in_room(store, blob, room),
+        Err(_) => false,
+    }
+}
+
+fn syncs<S: Storage>(store: &mut S, blob: &S::Blob) -> bool {
+    went(done(store.sync(&mut NoEnv, blob)))
+}
+
+/// Whether a started sync is done. It is given up then.
+fn polls<S: Storage>(store: &mut S, mut ticket: Ticket) -> bool {
+    let answer = store.poll_sync(&mut NoEnv, &mut ticket, 0);
+    store.give_up_sync(ticket);
+    same(answer, Poll::Ready(Ok(())))
+}
+
+fn syncs_later<S: Storage>(store: &mut S, blob: &S::Blob) -> bool {
+    match store.start_sync(&mut NoEnv, blob) {
+        Ok(ticket) => polls(store, ticket),
+        Err(_) => false,
+    }
+}
+
+/// Writes, reads, cuts and syncs a blob.
+fn changes<S: Storage>(alloc: Global, store: &mut S, blob: &S::Blob) -> bool {
+    let written = writes(alloc, store, blob, 2) & reads(store, blob, 0, 5, b"\0\0abc");
+    let cut = went(store.resize(&mut NoEnv, blob, 4));
+    let synced = syncs(store, blob) & syncs_later(store, blob);
+    written & cut & synced & reads_in_place(alloc, store, blob)
+}
+
+/// Writes and lengths past the end of numbers, and past what there is memory for.
+fn refuses_ends<S: Storage>(alloc: Global, store: &mut S, blob: &S::Blob) -> bool {
+    let past = refuses(alloc, store, blob, u64::MAX, Error::OffsetOverflow);
+    let large = refuses(alloc, store, blob, u64::MAX - 3, Error::NoMemory);
+    let long = failed(store.resize(&mut NoEnv, blob, u64::MAX), Error::NoMemory);
+    let all = went(store.read_at(&mut NoEnv, blob, 0, usize::MAX, ReadOptions::default()));
+    past & large & long & !all
+}
+
+fn opens_first<S: Storage<Blob = Blob>>(alloc: Global, store: &mut S) -> Result<bool, Error> {
+    let (blob, len) = store.open(&mut NoEnv, "p", b"a")?;
+    let is_first = (blob.number() == 0) & (len == 0);
+    let changed = changes(alloc, store, &blob);
+    let refused = refuses_ends(alloc, store, &blob);
+    store.close(blob);
+    Ok(is_first & changed & refused)
+}
+
+fn opens_again<S: Storage<Blob = Blob>>(store: &mut S) -> Result<bool, Error> {
+    let versions = (BlobVersion::new(0), BlobVersion::new(7));
+    let (blob, len, version) = store.open_versioned(&mut NoEnv, "p", b"a", versions)?;
+    let is_second = (blob.number() == 1) & (len == 4) & (version.get() == 0);
+    store.close(blob);
+    Ok(is_second)
+}
+
+fn has_no_faults(store: &MemStore) -> bool {
+    (*store.config() == FaultConfig::default()) & (store.injected() == 0)
+}
+
+#[test]
+fn surface(rt: HostRuntime) -> Result<(), Fail> {
+    let mut store = MemStore::new(rt.alloc(), FaultConfig::default())?;
+    let first = came(opens_first(rt.alloc(), &mut store), true);
+    let again = came(opens_again(&mut store), true);
+    assert!(rt; first & again & has_no_faults(&store));
+    Ok(())
+}
+
+/// A store whose writes come to this.
+fn store_of(alloc: Global, write: WriteConfig) -> Result<MemStore, NoMemory> {
+    let mut faults = FaultConfig::default();
+    faults.write = write;
+    MemStore::new(alloc, faults)
+}
+
+fn write_faults<S: Storage>(alloc: Global, store: &mut S) -> Result<bool, Error> {
+    let (blob, _) = store.open(&mut NoEnv, "p", b"a")?;
+    let fault = Error::Io(IoKind::InjectedStorageFault);
+    let seen = refuses(alloc, store, &blob, 0, fault);
+    store.close(blob);
+    Ok(seen)
+}
+
+const HEIGHT: u32 = 1_000_000;
+
+#[test]
+fn write_fault_by_rate(rt: HostRuntime) -> Result<(), Fail> {
+    let write = WriteConfig {
+        rate: HEIGHT,
+        keep: 0,
+        partial: PartialWriteMode::Off,
+    };
+    let mut store = store_of(rt.alloc(), write)?;
+    let seen = came(write_faults(rt.alloc(), &mut store), true);
+    assert!(rt; seen & (store.injected() == 1));
+    Ok(())
+}
+
+/// How many of the names are found where they stand.
+fn found_in_place(found: &[Vec<u8>], names: &[&[u8]]) -> usize {
+    let mut right = 0_usize;
+    for (found, name) in found.iter().zip(names.iter()) {
+        if found.as_slice() == *name {
+            right = right.wrapping_add(1);
+        }
+    }
+    right
+}
+
+fn are_names(found: Vec<Vec<u8>>, names: &[&[u8]]) -> bool {
+    let right = found_in_place(found.as_slice(), names);
+    (found.len() == names.len()) & (right == names.len())
+}
+
+/// Whether the partition has exactly these names.
+fn names_are<S: Storage>(store: &mut S, partition: &str, names: &[&[u8]]) -> bool {
+    match store.scan(&mut NoEnv, partition).ok() {
+        Some(found) => are_names(found, names),
+        None => false,
+    }
+}
+
+/// Opens and closes a blob, and answers its length.
 fn make<S: Storage>(store: &mut S, partition: &str, name: &[u8]) -> Result<u64, Error> {
     let (blob, len) = store.open(&mut NoEnv, partition, name)?;
     store.close(blob);
     Ok(len)
 }
 
-fn names_of_partitions<S: Storage>(rt: &impl Abort, store: &mut S) -> Result<(), Error> {
-    make(store, "q", b"b")?;
-    make(store, "q", b"a\0")?;
-    make(store, "q", b"a")?;
-    assert!(rt; names_are(store, "q", &[b"a", b"a\0", b"b"]));
-    store.remove(&mut NoEnv, "q", Some(b"a\0"))?;
-    assert!(rt; names_are(store, "q", &[b"a", b"b"]));
-    store.remove(&mut NoEnv, "q", Some(b"a"))?;
-    store.remove(&mut NoEnv, "q", Some(b"b"))?;
-    assert!(rt; names_are(store, "q", &[]));
-    store.remove(&mut NoEnv, "q", None)?;
-    assert!(rt; store.scan(&mut NoEnv, "q").is_err());
-    Ok(())
+/// Whether there is a blob of that name, of that length.
+fn has<S: Storage>(store: &mut S, partition: &str, name: &[u8], len: u64) -> bool {
+    came(make(store, partition, name), len)
+}
+
+fn removes<S: Storage>(store: &mut S, partition: &str, name: Option<&[u8]>) -> bool {
+    went(store.remove(&mut NoEnv, partition, name))
+}
+
+fn lists_names<S: Storage>(store: &mut S) -> bool {
+    let made = has(store, "q", b"b", 0) & has(store, "q", b"a\0", 0) & has(store, "q", b"a", 0);
+    let all = names_are(store, "q", &[b"a", b"a\0", b"b"]);
+    made & all
+}
+
+fn removes_names<S: Storage>(store: &mut S) -> bool {
+    let first = removes(store, "q", Some(b"a\0")) & names_are(store, "q", &[b"a", b"b"]);
+    let others = removes(store, "q", Some(b"a")) & removes(store, "q", Some(b"b"));
+    first & others & names_are(store, "q", &[])
+}
+
+fn removes_partition<S: Storage>(store: &mut S) -> bool {
+    let removed = removes(store, "q", None);
+    let more = went(store.scan(&mut NoEnv, "q"));
+    removed & !more
 }
 
 #[test]
 fn names_are_listed_and_removed(rt: HostRuntime) -> Result<(), Fail> {
     let mut store = MemStore::new(rt.alloc(), FaultConfig::default())?;
-    assert_eq!(rt; names_of_partitions(&rt, &mut store), Ok(()));
+    let listed = lists_names(&mut store);
+    let removed = removes_names(&mut store);
+    assert!(rt; listed & removed & removes_partition(&mut store));
     Ok(())
 }
 
-fn detached<S: Storage>(
-    rt: &impl Abort,
-    alloc: Global,
-    store: &mut S,
-    blob: &S::Blob,
-) -> Result<(), Error> {
-    write(alloc, store, blob, 0)?;
-    store.remove(&mut NoEnv, "p", None)?;
-    write(alloc, store, blob, 3)?;
-    let none = ReadOptions::default();
-    assert!(rt; are(store.read_at(&mut NoEnv, blob, 1, 5, none), b"bcabc"));
-    assert_eq!(rt; make(store, "p", b"a"), Ok(0));
-    assert!(rt; are(store.read_at(&mut NoEnv, blob, 1, 5, none), b"bcabc"));
-    Ok(())
+/// Removes the partition of a blob that goes on.
+fn goes_on<S: Storage>(alloc: Global, store: &mut S, blob: &S::Blob) -> bool {
+    let removed = writes(alloc, store, blob, 0) & removes(store, "p", None);
+    let before = writes(alloc, store, blob, 3) & reads(store, blob, 1, 5, b"bcabc");
+    removed & before & has(store, "p", b"a", 0) & reads(store, blob, 1, 5, b"bcabc")
+}
+
+fn lives_on<S: Storage>(alloc: Global, store: &mut S) -> Result<bool, Error> {
+    let (blob, _) = store.open(&mut NoEnv, "p", b"a")?;
+    let seen = goes_on(alloc, store, &blob);
+    store.close(blob);
+    Ok(seen)
 }
 
 #[test]
 fn removed_blob_lives_on(rt: HostRuntime) -> Result<(), Fail> {
     let mut store = MemStore::new(rt.alloc(), FaultConfig::default())?;
-    let (blob, _) = store.open(&mut NoEnv, "p", b"a").expect(&rt, "room");
-    let seen = detached(&rt, rt.alloc(), &mut store, &blob);
-    store.close(blob);
-    assert_eq!(rt; seen, Ok(()));
+    assert!(rt; came(lives_on(rt.alloc(), &mut store), true));
     Ok(())
 }
 
-// Whether these pieces were read, in this order.
-fn are_all(answer: Result<Vec<IoBufsMut>, Error>, pieces: &[&[u8]]) -> bool {
-    match answer {
-        Ok(all) => {
-            let mut at = 0;
-            for bufs in all {
-                if at >= pieces.len() || !are(Ok(bufs), pieces[at]) {
-                    return false;
-                }
-                at += 1;
-            }
-            at == pieces.len()
-        }
-        Err(_) => false,
+/// Whether the piece at this place is in the buffers.
+fn hold_at(bufs: IoBufsMut, pieces: &[&[u8]], place: usize) -> bool {
+    match pieces.get(place) {
+        Some(piece) => hold(bufs, piece),
+        None => false,
     }
 }
 
-fn several<S: Storage>(
-    rt: &impl Abort,
-    alloc: Global,
+/// Whether these pieces are in the buffers, in this order.
+fn hold_each(all: Vec<IoBufsMut>, pieces: &[&[u8]]) -> bool {
+    let mut place = 0_usize;
+    let mut right = 0_usize;
+    for bufs in all {
+        if hold_at(bufs, pieces, place) {
+            right = right.wrapping_add(1);
+        }
+        place = place.wrapping_add(1);
+    }
+    (place == pieces.len()) & (right == place)
+}
+
+fn are_all(answer: Result<Vec<IoBufsMut>, Error>, pieces: &[&[u8]]) -> bool {
+    match answer.ok() {
+        Some(all) => hold_each(all, pieces),
+        None => false,
+    }
+}
+
+fn collected(
+    answer: Result<Vec<(usize, IoBufsMut)>, Error>,
+    ranges: usize,
+) -> Result<Vec<IoBufsMut>, Error> {
+    collect_reads(answer?, ranges)
+}
+
+const RANGES: &[(u64, usize)] = &[(2, 1), (0, 0), (0, 2)];
+
+const PIECES: &[&[u8]] = &[b"c", b"", b"ab"];
+
+fn reads_placed<S: Storage>(store: &mut S, blob: &S::Blob) -> bool {
+    let answer = store.read_many(&mut NoEnv, blob, RANGES, ReadOptions::default());
+    are_all(collected(answer, 3), PIECES)
+}
+
+fn reads_each<S: Storage>(
     store: &mut S,
     blob: &S::Blob,
-) -> Result<(), Error> {
-    let none = ReadOptions::default();
-    let ranges = [(2, 1), (0, 0), (0, 2)];
-    write(alloc, store, blob, 0)?;
-    let reads = store.read_many(&mut NoEnv, blob, &ranges, none)?;
-    assert!(rt; are_all(collect_reads(reads, 3), &[b"c", b"", b"ab"]));
-    assert!(rt;
-        are_all(
-            store.start_read_many(&mut NoEnv, blob, &ranges, none),
-            &[b"c", b"", b"ab"]
-        )
-    );
-    assert!(rt; are_all(store.start_read_many(&mut NoEnv, blob, &[], none), &[]));
-    let reads = store.read_many(&mut NoEnv, blob, &[(0, 3), (0, 4), (u64::MAX, 1)], none);
-    assert!(rt; matches!(reads, Err(Error::BlobInsufficientLength)));
-    Ok(())
+    ranges: &[(u64, usize)],
+    pieces: &[&[u8]],
+) -> bool {
+    let answer = store.start_read_many(&mut NoEnv, blob, ranges, ReadOptions::default());
+    are_all(answer, pieces)
+}
+
+const TOO_LONG: &[(u64, usize)] = &[(0, 3), (0, 4), (u64::MAX, 1)];
+
+fn refuses_ranges<S: Storage>(store: &mut S, blob: &S::Blob) -> bool {
+    let answer = store.read_many(&mut NoEnv, blob, TOO_LONG, ReadOptions::default());
+    failed(answer, Error::BlobInsufficientLength)
+}
+
+fn reads_ranges<S: Storage>(alloc: Global, store: &mut S) -> Result<bool, Error> {
+    let (blob, _) = store.open(&mut NoEnv, "p", b"a")?;
+    let placed = writes(alloc, store, &blob, 0) & reads_placed(store, &blob);
+    let each = reads_each(store, &blob, RANGES, PIECES) & reads_each(store, &blob, &[], &[]);
+    let refused = refuses_ranges(store, &blob);
+    store.close(blob);
+    Ok(placed & each & refused)
 }
 
 #[test]
 fn several_ranges(rt: HostRuntime) -> Result<(), Fail> {
     let mut store = MemStore::new(rt.alloc(), FaultConfig::default())?;
-    let (blob, _) = store.open(&mut NoEnv, "p", b"a").expect(&rt, "room");
-    let seen = several(&rt, rt.alloc(), &mut store, &blob);
-    store.close(blob);
-    assert_eq!(rt; seen, Ok(()));
+    assert!(rt; came(reads_ranges(rt.alloc(), &mut store), true));
     Ok(())
 }
 
-// A buffer of one byte.
-fn byte(alloc: Global, byte: u8) -> Result<IoBufsMut, Error> {
+/// A buffer of one byte.
+fn byte(alloc: Global, byte: u8) -> Result<IoBufsMut, NoMemory> {
     let mut buf = IoBufMut::with_capacity(alloc, 1)?;
-    if buf.capacity() >= 1 {
-        buf.clear();
-        buf.put_slice(&[byte]);
-    }
-    Ok(IoBufsMut::from_mut(alloc, buf)?)
+    buf.clear();
+    buf.put_slice(&[byte]);
+    IoBufsMut::from_mut(alloc, buf)
 }
 
-// Collects buffers of these places, each of which holds its number.
-fn collect(alloc: Global, places: &[usize], ranges: usize) -> Result<Vec<IoBufsMut>, Error> {
+fn add(
+    alloc: Global,
+    reads: &mut Vec<(usize, IoBufsMut)>,
+    place: usize,
+    number: u8,
+) -> Result<(), NoMemory> {
+    let bufs = byte(alloc, number)?;
+    reads.push((place, bufs))?;
+    Ok(())
+}
+
+/// Buffers of these places, each of which holds its number.
+fn numbered(alloc: Global, places: &[usize]) -> Result<Vec<(usize, IoBufsMut)>, Error> {
     let mut reads = Vec::new(alloc);
     let mut number = b'0';
     for place in places {
-        reads.push((*place, byte(alloc, number)?))?;
+        add(alloc, &mut reads, *place, number)?;
         number = number.wrapping_add(1);
     }
-    collect_reads(reads, ranges)
+    Ok(reads)
 }
+
+fn collect(alloc: Global, places: &[usize], ranges: usize) -> Result<Vec<IoBufsMut>, Error> {
+    collected(numbered(alloc, places), ranges)
+}
+
+/// Places of buffers, and how many ranges there are.
+type Places = (&'static [usize], usize);
+
+/// How many of these lack a buffer, or have one too many.
+fn fail_each(alloc: Global, each: &[Places]) -> usize {
+    let mut right = 0_usize;
+    for (places, ranges) in each {
+        if failed(collect(alloc, places, *ranges), Error::ReadFailed) {
+            right = right.wrapping_add(1);
+        }
+    }
+    right
+}
+
+const INCOMPLETE: &[Places] = &[(&[1, 1], 2), (&[0, 2, 1], 2), (&[0], usize::MAX)];
 
 #[test]
 fn collected_reads(rt: HostRuntime) -> Result<(), Fail> {
-    let alloc = rt.alloc();
-    assert!(rt; are_all(collect(alloc, &[1, 0, 1], 2), &[b"1", b"2"]));
-    assert!(rt; matches!(collect(alloc, &[1, 1], 2), Err(Error::ReadFailed)));
-    assert!(rt; matches!(collect(alloc, &[0, 2, 1], 2), Err(Error::ReadFailed)));
-    assert!(rt; matches!(collect(alloc, &[0], usize::MAX), Err(Error::ReadFailed)));
+    let last = are_all(collect(rt.alloc(), &[1, 0, 1], 2), &[b"1", b"2"]);
+    assert!(rt; last & (fail_each(rt.alloc(), INCOMPLETE) == 3));
     Ok(())
 }
 
-// Draws this number, then the next ones.
+/// Draws this number, then the next ones.
 #[derive(Drop)]
 struct Numbers {
     next: u64,
@@ -326,7 +482,7 @@ impl Env for Numbers {
     }
 }
 
-// Crashes, and answers the choices.
+/// Crashes, and answers the choices.
 fn crash<E: Env>(alloc: Global, store: &mut MemStore, env: &mut E) -> Result<Vec<Choice>, Error> {
     let draws = store.crash_draws();
     env.reserve(draws)?;
@@ -336,194 +492,215 @@ fn crash<E: Env>(alloc: Global, store: &mut MemStore, env: &mut E) -> Result<Vec
     Ok(choices)
 }
 
-// Writes three bytes to a blob of a partition, and syncs them or not.
+fn chooses<E: Env>(alloc: Global, store: &mut MemStore, env: &mut E, expected: &[Choice]) -> bool {
+    match crash(alloc, store, env).ok() {
+        Some(choices) => choices.as_slice() == expected,
+        None => false,
+    }
+}
+
+fn syncs_or_not<S: Storage>(store: &mut S, blob: &S::Blob, is_synced: bool) -> bool {
+    if is_synced {
+        return syncs(store, blob);
+    }
+    true
+}
+
+/// Writes three bytes to a blob of a partition, and syncs them or not.
 fn keep<S: Storage>(
     alloc: Global,
     store: &mut S,
     partition: &str,
-    synced: bool,
-) -> Result<(), Error> {
+    is_synced: bool,
+) -> Result<bool, Error> {
     let (blob, _) = store.open(&mut NoEnv, partition, b"n")?;
-    let answer = match bufs(alloc, b"abc") {
-        Ok(bytes) => done(store.write_at(&mut NoEnv, &blob, 0, bytes, WriteOptions::default())),
-        Err(error) => Err(error),
-    };
-    let last = if synced {
-        done(store.sync(&mut NoEnv, &blob))
-    } else {
-        Ok(())
-    };
+    let written = went(write(alloc, store, &blob, 0, WriteOptions::default()));
+    let synced = syncs_or_not(store, &blob, is_synced);
     store.close(blob);
-    answer?;
-    last
+    Ok(written & synced)
 }
 
-// What a crash leaves of three bytes: how many, how many numbers it drew from `first` on, and the choices.
-fn left(
-    alloc: Global,
-    write: WriteConfig,
-    synced: bool,
-    first: u64,
-) -> Result<(u64, u64, Vec<Choice>), Error> {
-    let mut faults = FaultConfig::default();
-    faults.write = write;
-    let mut store = MemStore::new(alloc, faults)?;
-    let mut numbers = Numbers { next: first };
-    keep(alloc, &mut store, "p", synced)?;
-    let choices = crash(alloc, &mut store, &mut numbers)?;
-    let len = make(&mut store, "p", b"n")?;
-    Ok((len, numbers.next.wrapping_sub(first), choices))
+fn keeps<S: Storage>(alloc: Global, store: &mut S, partition: &str, is_synced: bool) -> bool {
+    came(keep(alloc, store, partition, is_synced), true)
 }
 
-fn is_left(
-    alloc: Global,
-    write: WriteConfig,
-    first: u64,
-    len: u64,
-    draws: u64,
-    choice: Choice,
-) -> bool {
-    match left(alloc, write, false, first) {
-        Ok(seen) => seen.0 == len && seen.1 == draws && seen.2.as_slice() == [choice].as_slice(),
-        Err(_) => false,
-    }
-}
+/// What a crash keeps of writes in a million, and else of their bytes; and from which number on it draws. Then how many of three
+/// bytes it leaves, how many numbers it drew, and the choices.
+type Crash = (u32, PartialWriteMode, u64, u64, u64, &'static [Choice]);
 
-fn keeps(keep: u32, partial: PartialWriteMode) -> WriteConfig {
-    WriteConfig {
+fn leaves(alloc: Global, is_synced: bool, crash: &Crash) -> Result<bool, NoMemory> {
+    let (keep, partial, first, len, draws, choices) = *crash;
+    let write = WriteConfig {
         rate: 0,
         keep,
         partial,
-    }
+    };
+    let mut store = store_of(alloc, write)?;
+    let mut numbers = Numbers { next: first };
+    let kept = keeps(alloc, &mut store, "p", is_synced);
+    let chosen = chooses(alloc, &mut store, &mut numbers, choices);
+    let drawn = numbers.next.wrapping_sub(first);
+    Ok(kept & chosen & (drawn == draws) & has(&mut store, "p", b"n", len))
 }
+
+/// How many crashes leave what is written.
+fn leaves_each(alloc: Global, is_synced: bool, crashes: &[Crash]) -> usize {
+    let mut right = 0_usize;
+    for crash in crashes {
+        if came(leaves(alloc, is_synced, crash), true) {
+            right = right.wrapping_add(1);
+        }
+    }
+    right
+}
+
+const OFF: PartialWriteMode = PartialWriteMode::Off;
+
+const UNSYNCED: &[Crash] = &[
+    (0, OFF, 7, 0, 0, &[Choice::Dropped]),
+    (1_000_000, OFF, 999_999, 3, 1, &[Choice::Kept]),
+    (u32::MAX, OFF, 999_999, 3, 1, &[Choice::Kept]),
+    (5, OFF, 1_000_004, 3, 1, &[Choice::Kept]),
+    (5, OFF, 5, 0, 1, &[Choice::Dropped]),
+];
 
 #[test]
 fn unsynced_bytes_are_lost(rt: HostRuntime) -> Result<(), Fail> {
-    let alloc = rt.alloc();
-    let off = PartialWriteMode::Off;
-    assert!(rt; is_left(alloc, keeps(0, off), 7, 0, 0, Choice::Dropped));
-    assert!(rt; is_left(alloc, keeps(1_000_000, off), 999_999, 3, 1, Choice::Kept));
-    assert!(rt; is_left(alloc, keeps(u32::MAX, off), 999_999, 3, 1, Choice::Kept));
-    assert!(rt; is_left(alloc, keeps(5, off), 1_000_004, 3, 1, Choice::Kept));
-    assert!(rt; is_left(alloc, keeps(5, off), 5, 0, 1, Choice::Dropped));
+    assert!(rt; leaves_each(rt.alloc(), false, UNSYNCED) == 5);
     Ok(())
 }
+
+const PREFIX: PartialWriteMode = PartialWriteMode::Prefix;
+
+const PREFIXES: &[Crash] = &[
+    (0, PREFIX, 5, 2, 2, &[Choice::Prefix(2)]),
+    (5, PREFIX, 6, 3, 2, &[Choice::Prefix(3)]),
+    (5, PREFIX, 7, 0, 2, &[Choice::Prefix(0)]),
+    (5, PREFIX, 4, 3, 1, &[Choice::Kept]),
+];
 
 #[test]
 fn prefixes_stay(rt: HostRuntime) -> Result<(), Fail> {
-    let alloc = rt.alloc();
-    let prefix = PartialWriteMode::Prefix;
-    assert!(rt; is_left(alloc, keeps(0, prefix), 5, 2, 2, Choice::Prefix(2)));
-    assert!(rt; is_left(alloc, keeps(5, prefix), 6, 3, 2, Choice::Prefix(3)));
-    assert!(rt; is_left(alloc, keeps(5, prefix), 7, 0, 2, Choice::Prefix(0)));
-    assert!(rt; is_left(alloc, keeps(5, prefix), 4, 3, 1, Choice::Kept));
+    assert!(rt; leaves_each(rt.alloc(), false, PREFIXES) == 4);
     Ok(())
 }
+
+const SYNCED: &[Crash] = &[(0, OFF, 7, 3, 0, &[])];
 
 #[test]
 fn synced_bytes_stay(rt: HostRuntime) -> Result<(), Fail> {
-    match left(rt.alloc(), WriteConfig::default(), true, 7) {
-        Ok((len, draws, choices)) => assert_eq!(rt; (len, draws, choices.len()), (3, 0, 0)),
-        Err(error) => panic!(rt; "{error}"),
-    }
+    assert!(rt; leaves_each(rt.alloc(), true, SYNCED) == 1);
     Ok(())
 }
 
-// Two blobs crash in the order of their partitions, and a snapshot of them makes a store.
-fn of_two(alloc: Global) -> Result<(usize, u64, u64), Error> {
-    let mut faults = FaultConfig::default();
-    faults.write.keep = 1;
-    let mut store = MemStore::new(alloc, FaultConfig::default())?;
+fn set(store: &mut MemStore, faults: FaultConfig) {
     *store.config_mut() = faults;
-    keep(alloc, &mut store, "q", false)?;
-    keep(alloc, &mut store, "p", false)?;
+}
+
+/// Two blobs crash in the order of their partitions.
+fn crashes_two(alloc: Global, store: &mut MemStore) -> bool {
+    let kept = keeps(alloc, store, "q", false) & keeps(alloc, store, "p", false);
     let draws = store.crash_draws();
-    let _ = crash(alloc, &mut store, &mut Numbers { next: 0 })?;
+    let mut numbers = Numbers { next: 0 };
+    kept & (draws == 4) & went(crash(alloc, store, &mut numbers))
+}
+
+/// What is left is in a store that is made of a snapshot.
+fn stays_in_snapshot(store: MemStore, faults: FaultConfig) -> bool {
     let mut again = MemStore::from_snapshot(store.snapshot(), faults);
-    Ok((
-        draws,
-        make(&mut again, "p", b"n")?,
-        make(&mut again, "q", b"n")?,
-    ))
+    has(&mut again, "p", b"n", 3) & has(&mut again, "q", b"n", 0)
 }
 
 #[test]
 fn partitions_crash_in_order(rt: HostRuntime) -> Result<(), Fail> {
-    assert_eq!(rt; of_two(rt.alloc()), Ok((4, 3, 0)));
+    let mut faults = FaultConfig::default();
+    faults.write.keep = 1;
+    let mut store = MemStore::new(rt.alloc(), FaultConfig::default())?;
+    set(&mut store, faults);
+    let crashed = crashes_two(rt.alloc(), &mut store);
+    assert!(rt; crashed & stays_in_snapshot(store, faults));
     Ok(())
 }
 
-fn admitted(alloc: Global) -> Result<(usize, u64), Error> {
-    let mut store = MemStore::new(alloc, FaultConfig::default())?;
-    keep(alloc, &mut store, "p", false)?;
+fn admit(store: &mut MemStore) {
     store.admit("p", b"n");
     store.admit("p", b"m");
     store.admit("q", b"n");
-    let choices = crash(alloc, &mut store, &mut NoEnv)?;
-    Ok((choices.len(), make(&mut store, "p", b"n")?))
 }
 
 #[test]
 fn admitted_bytes_stay(rt: HostRuntime) -> Result<(), Fail> {
-    assert_eq!(rt; admitted(rt.alloc()), Ok((0, 3)));
+    let mut store = MemStore::new(rt.alloc(), FaultConfig::default())?;
+    let kept = keeps(rt.alloc(), &mut store, "p", false);
+    admit(&mut store);
+    let chosen = chooses(rt.alloc(), &mut store, &mut NoEnv, &[]);
+    assert!(rt; kept & chosen & has(&mut store, "p", b"n", 3));
     Ok(())
 }
 
-// Reads that may fault.
-fn each_read<S: Storage>(store: &mut S, blob: &S::Blob) {
-    let none = ReadOptions::default();
-    let _ = store.read_at(&mut NoEnv, blob, 0, 0, none);
-    let _ = store.read_many(&mut NoEnv, blob, &[], none);
-    let _ = store.start_read_many(&mut NoEnv, blob, &[], none);
+/// Reads that may fault.
+fn read_each<S: Storage>(store: &mut S, blob: &S::Blob) {
+    drop(store.read_at(&mut NoEnv, blob, 0, 0, ReadOptions::default()));
+    drop(store.read_many(&mut NoEnv, blob, &[], ReadOptions::default()));
+    drop(store.start_read_many(&mut NoEnv, blob, &[], ReadOptions::default()));
 }
 
-// Changes that may fault.
-fn each_change<S: Storage>(alloc: Global, store: &mut S, blob: &S::Blob) {
-    let _ = write(alloc, store, blob, 0);
-    let _ = store.resize(&mut NoEnv, blob, 3);
-    let _ = done(store.sync(&mut NoEnv, blob));
-    let _ = sync_later(store, blob);
+/// Changes that may fault.
+fn change_each<S: Storage>(alloc: Global, store: &mut S, blob: &S::Blob) {
+    let _ = writes(alloc, store, blob, 0);
+    drop(store.resize(&mut NoEnv, blob, 3));
+    let _ = syncs(store, blob);
+    let _ = syncs_later(store, blob);
 }
 
-// Calls by name that may fault.
-fn each_name<S: Storage>(store: &mut S) {
-    let _ = store.scan(&mut NoEnv, "p");
-    let _ = make(store, "p", b"b");
-    let _ = store.remove(&mut NoEnv, "p", Some(b"b"));
+/// Calls by name that may fault.
+fn name_each<S: Storage>(store: &mut S) {
+    drop(store.scan(&mut NoEnv, "p"));
+    drop(make(store, "p", b"b"));
+    drop(store.remove(&mut NoEnv, "p", Some(b"b")));
 }
 
-// How many of these calls fault.
-fn faults_of(alloc: Global, faults: FaultConfig) -> Result<u64, Error> {
-    let mut store = MemStore::new(alloc, FaultConfig::default())?;
-    make(&mut store, "p", b"b")?;
+/// Makes a blob, and opens another.
+fn opened<S: Storage>(store: &mut S) -> Result<S::Blob, Error> {
+    make(store, "p", b"b")?;
     let (blob, _) = store.open(&mut NoEnv, "p", b"a")?;
-    *store.config_mut() = faults;
-    each_read(&mut store, &blob);
-    each_change(alloc, &mut store, &blob);
-    each_name(&mut store);
+    Ok(blob)
+}
+
+/// Makes each of these calls, and closes the blob.
+fn call_each<S: Storage>(alloc: Global, store: &mut S, blob: S::Blob) {
+    read_each(store, &blob);
+    change_each(alloc, store, &blob);
+    name_each(store);
     store.close(blob);
+}
+
+/// How many of these calls fault.
+fn faults_of(alloc: Global, store: &mut MemStore, faults: FaultConfig) -> Result<u64, Error> {
+    let blob = opened(store)?;
+    set(store, faults);
+    call_each(alloc, store, blob);
     Ok(store.injected())
 }
 
 fn has_faults(alloc: Global, faults: FaultConfig, count: u64) -> bool {
-    match faults_of(alloc, faults) {
-        Ok(seen) => seen == count,
+    match MemStore::new(alloc, FaultConfig::default()) {
+        Ok(mut store) => came(faults_of(alloc, &mut store, faults), count),
         Err(_) => false,
     }
 }
 
-const HEIGHT: u32 = 1_000_000;
-
 #[test]
 fn each_rate_of_names(rt: HostRuntime) -> Result<(), Fail> {
     let mut faults = FaultConfig::default();
-    assert!(rt; has_faults(rt.alloc(), faults, 0));
+    let none = has_faults(rt.alloc(), faults, 0);
     faults.open_rate = HEIGHT;
-    assert!(rt; has_faults(rt.alloc(), faults, 1));
+    let open = has_faults(rt.alloc(), faults, 1);
     faults.scan_rate = HEIGHT;
-    assert!(rt; has_faults(rt.alloc(), faults, 2));
+    let scan = has_faults(rt.alloc(), faults, 2);
     faults.remove_rate = HEIGHT;
-    assert!(rt; has_faults(rt.alloc(), faults, 3));
+    let remove = has_faults(rt.alloc(), faults, 3);
+    assert!(rt; none & open & scan & remove);
     Ok(())
 }
 
@@ -531,67 +708,148 @@ fn each_rate_of_names(rt: HostRuntime) -> Result<(), Fail> {
 fn each_rate_of_bytes(rt: HostRuntime) -> Result<(), Fail> {
     let mut faults = FaultConfig::default();
     faults.read_rate = HEIGHT;
-    assert!(rt; has_faults(rt.alloc(), faults, 3));
+    let read = has_faults(rt.alloc(), faults, 3);
     faults.sync_rate = HEIGHT;
-    assert!(rt; has_faults(rt.alloc(), faults, 5));
+    let sync = has_faults(rt.alloc(), faults, 5);
     faults.write.rate = HEIGHT;
-    assert!(rt; has_faults(rt.alloc(), faults, 6));
+    let write = has_faults(rt.alloc(), faults, 6);
     faults.resize.rate = HEIGHT;
-    assert!(rt; has_faults(rt.alloc(), faults, 7));
+    let resize = has_faults(rt.alloc(), faults, 7);
+    assert!(rt; read & sync & write & resize);
     Ok(())
 }
 
-// Writes so many chunks of this many bytes, one behind the other.
-fn fill<S: Storage>(
+/// A chunk of this many bytes.
+fn chunk_of(alloc: Global, len: usize) -> Result<IoBufs, NoMemory> {
+    let mut bytes = Vec::new(alloc);
+    bytes.resize(len, 7)?;
+    bufs(alloc, bytes)
+}
+
+fn writes_chunk<S: Storage>(
+    alloc: Global,
+    store: &mut S,
+    blob: &S::Blob,
+    offset: u64,
+    chunk: usize,
+) -> bool {
+    match chunk_of(alloc, chunk) {
+        Ok(bytes) => went(done(store.write_at(
+            &mut NoEnv,
+            blob,
+            offset,
+            bytes,
+            WriteOptions::default(),
+        ))),
+        Err(_) => false,
+    }
+}
+
+/// Writes so many chunks of this many bytes, one behind the other, and answers how many went in.
+fn write_chunks<S: Storage>(
     alloc: Global,
     store: &mut S,
     blob: &S::Blob,
     chunk: usize,
     count: usize,
-) -> Result<(), Error> {
-    let mut at = 0u64;
+) -> usize {
+    let mut offset = 0_u64;
+    let mut right = 0_usize;
     for _ in 0..count {
-        let mut bytes = Vec::new(alloc);
-        bytes.resize(chunk, 7)?;
-        let bytes = IoBufs::from_buf(alloc, IoBuf::from_vec(bytes)?)?;
-        done(store.write_at(&mut NoEnv, blob, at, bytes, WriteOptions::default()))?;
-        at = at.saturating_add(chunk as u64);
+        if writes_chunk(alloc, store, blob, offset, chunk) {
+            right = right.wrapping_add(1);
+        }
+        offset = offset.saturating_add(chunk as u64);
     }
-    Ok(())
+    right
 }
 
-// How long a blob is after these writes and a sync or not, and how many changes a crash decided over, which keeps none.
-fn filled(alloc: Global, chunk: usize, count: usize) -> Result<(u64, usize, u64), Error> {
-    let mut store = MemStore::new(alloc, FaultConfig::default())?;
+fn fill<S: Storage>(
+    alloc: Global,
+    store: &mut S,
+    chunk: usize,
+    count: usize,
+) -> Result<usize, Error> {
     let (blob, _) = store.open(&mut NoEnv, "p", b"n")?;
-    let answer = fill(alloc, &mut store, &blob, chunk, count);
+    let written = write_chunks(alloc, store, &blob, chunk, count);
     store.close(blob);
-    answer?;
-    let len = make(&mut store, "p", b"n")?;
-    let choices = crash(alloc, &mut store, &mut NoEnv)?;
-    Ok((len, choices.len(), make(&mut store, "p", b"n")?))
+    Ok(written)
 }
 
-// Makes so many blobs in one partition, and as many partitions.
-fn make_many<S: Storage>(alloc: Global, store: &mut S, count: usize) -> Result<usize, Error> {
-    for number in 0..count {
-        let name = format!(in alloc; "{number}")?;
-        make(store, "q", name.as_bytes())?;
-        make(store, name.as_str(), b"a")?;
+/// How many changes a crash decided over.
+fn count_choices(alloc: Global, store: &mut MemStore) -> Result<usize, Error> {
+    let choices = crash(alloc, store, &mut NoEnv)?;
+    Ok(choices.len())
+}
+
+/// The length of chunks, how many there are, and their length in all.
+type Size = (usize, usize, u64);
+
+/// Whether a blob has all these chunks, and a crash decides over each and keeps none.
+fn holds(alloc: Global, store: &mut MemStore, size: &Size) -> bool {
+    let (chunk, count, len) = *size;
+    let filled = came(fill(alloc, store, chunk, count), count) & has(store, "p", b"n", len);
+    let choices = came(count_choices(alloc, store), count);
+    filled & choices & has(store, "p", b"n", 0)
+}
+
+fn holds_anew(alloc: Global, size: &Size) -> bool {
+    match MemStore::new(alloc, FaultConfig::default()) {
+        Ok(mut store) => holds(alloc, &mut store, size),
+        Err(_) => false,
     }
-    Ok(store.scan(&mut NoEnv, "q")?.len())
 }
 
-const SIZES: [(usize, usize); 3] = [(1_048_576, 1), (1, 65_536), (64, 1_000)];
+fn holds_each(alloc: Global, sizes: &[Size]) -> usize {
+    let mut right = 0_usize;
+    for size in sizes {
+        if holds_anew(alloc, size) {
+            right = right.wrapping_add(1);
+        }
+    }
+    right
+}
+
+/// Makes a blob and a partition of this name.
+fn makes_both<S: Storage>(store: &mut S, name: &str) -> bool {
+    has(store, "q", name.as_bytes(), 0) & has(store, name, b"a", 0)
+}
+
+fn makes_numbered<S: Storage>(alloc: Global, store: &mut S, number: usize) -> bool {
+    match format!(in alloc; "{number}") {
+        Ok(name) => makes_both(store, name.as_str()),
+        Err(_) => false,
+    }
+}
+
+/// Makes so many blobs in one partition, and as many partitions.
+fn makes_each<S: Storage>(alloc: Global, store: &mut S, count: usize) -> usize {
+    let mut right = 0_usize;
+    for number in 0..count {
+        if makes_numbered(alloc, store, number) {
+            right = right.wrapping_add(1);
+        }
+    }
+    right
+}
+
+/// How many blobs are in the partition.
+fn count_names<S: Storage>(store: &mut S) -> Result<usize, Error> {
+    let names = store.scan(&mut NoEnv, "q")?;
+    Ok(names.len())
+}
+
+const SIZES: &[Size] = &[
+    (1_048_576, 1, 1_048_576),
+    (1, 65_536, 65_536),
+    (64, 1_000, 64_000),
+];
 
 #[test]
 fn sizes(rt: HostRuntime) -> Result<(), Fail> {
-    let alloc = rt.alloc();
-    for (chunk, count) in SIZES {
-        let len = chunk as u64 * count as u64;
-        assert_eq!(rt; filled(alloc, chunk, count), Ok((len, count, 0)));
-    }
-    let mut store = MemStore::new(alloc, FaultConfig::default())?;
-    assert_eq!(rt; make_many(alloc, &mut store, 1_000), Ok(1_000));
+    let held = holds_each(rt.alloc(), SIZES);
+    let mut store = MemStore::new(rt.alloc(), FaultConfig::default())?;
+    let made = makes_each(rt.alloc(), &mut store, 1_000);
+    assert!(rt; (held == 3) & (made == 1_000) & came(count_names(&mut store), 1_000));
     Ok(())
 }
