@@ -79,7 +79,7 @@ impl Context {
 
     /// The context with this attribute; a key that is there gets this value. A refusal hands the context back as it was.
     ///
-    /// Errors, the first that holds: `Metric(BadLabel)` exactly where the key isn't valid, `NoMemory`.
+    /// Errors: `Metric(BadLabel)` exactly where the key isn't valid, or else `NoMemory`.
     pub fn with_attribute(self, key: &str, value: &str) -> Result<Context, Refused<Context>>
         ensures ok { IfOk result (λ context. (is_label key.now ≡ true) × (context ≡ record self { name = record self.name { attributes = with_attribute self.name.attributes key.now value.now } })) }
         ensures err { IfErr result (λ refused. (refused.back ≡ self) × IsRefusedKey key.now refused.error) }
@@ -135,8 +135,8 @@ impl Context {
     /// A context on a fresh child of its node, with the same attributes. The label is the parent's, `_` and this one. The
     /// child of a node that has ended is born ended. It takes memory.
     ///
-    /// Errors, the first that holds: `NoMemory` where there is no room for the name, `UnknownToken`, `Metric` with
-    /// `BadLabel` where the label isn't valid, or `Reserved` where the full one begins with `runtime`, `NoMemory`.
+    /// Errors: `NoMemory` at any time, or else the first that holds: `UnknownToken`, `Metric` with `BadLabel` where the label
+    /// isn't valid, or `Reserved` where the full one begins with `runtime`.
     #[tactic(auto, using(rt_world::proofs::Walked::tell_laws), unfolding(crate::specs::Contexts::childs))]
     pub fn child<T, O, G>(&self, world: &mut World<T, O, G>, label: &str) -> Result<Context, Error>
         requires { MayCall world.old.told.state world.old.out }
@@ -159,8 +159,8 @@ impl Context {
     /// Spawns a task, on its node. The task is made of a context on a fresh child of that, with the same label and
     /// attributes. On a node that has ended nothing is made, and the handle holds `Closed`. It takes memory.
     ///
-    /// Errors, the first that holds, each hands the context back: `NoMemory` where there is no room for the task,
-    /// `UnknownToken`, `TooManyTasks` exactly where the next number is `u64::MAX`, `NoMemory`.
+    /// Errors, each of which hands the context back: `NoMemory` at any time, or else the first that holds: `UnknownToken`,
+    /// `TooManyTasks` exactly where the next number is `u64::MAX`.
     #[tactic(auto, using(rt_world::proofs::Walked::tell_laws), unfolding(crate::specs::Contexts::spawns))]
     pub fn spawn<T, O, G, F: FnOnce(Context) -> T + Drop>(
         self,

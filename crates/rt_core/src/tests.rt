@@ -399,8 +399,13 @@ fn keeps_settings() -> bool {
         .with_start_time(3)
         .with_timeout(Some(4));
     let kept = config.cycle() == 2 && config.start_time() == 3 && config.timeout() == Some(4);
-    let late = config.with_timeout(Some(MAX_TIME));
-    kept && late.assert() == Err(ConfigError::DeadlineTooLate) && Runner::new(Config::new()).is_ok()
+    let catches_none = !config.catch_panics();
+    let catching = config.with_catch_panics(true);
+    let catches = catches_none && catching.catch_panics();
+    let late = catching.with_timeout(Some(MAX_TIME));
+    kept && catches
+        && late.assert() == Err(ConfigError::DeadlineTooLate)
+        && Runner::new(Config::new()).is_ok()
 }
 
 /// The world of a run whose maker is under way.

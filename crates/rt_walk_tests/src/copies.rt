@@ -445,6 +445,28 @@ pub const FAMILIES: &[Copied] = &[
     ("another task whose own number isn't queued", 69, Missing),
 ];
 
+/// Over a caught panic.
+pub const CAUGHT_PANICS: &[Copied] = &[
+    ("no wake of the root that joins", 16, Missing),
+    ("a wake of a root that isn't stopped", 17, Before("wake 0")),
+    ("a round with the root twice", 19, Instead("round 0 0")),
+    (
+        "a stop without a panic that is kept",
+        22,
+        Before("answer 0 stopped"),
+    ),
+    (
+        "a value of a task that panicked",
+        22,
+        Instead("call 0 join 1 -> ready"),
+    ),
+    (
+        "a task that panicked as closed",
+        22,
+        Instead("call 0 join 1 -> err 2"),
+    ),
+];
+
 /// Over a panic that is kept.
 pub const PANICS: &[Copied] = &[
     ("a second wake that is missing", 17, Missing),

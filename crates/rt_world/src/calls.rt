@@ -24,8 +24,8 @@ impl<T, O, G> World<T, O, G> {
     /// Makes a child of a node. Answers its number, and whether the node has ended: then the child is born ended. It
     /// takes memory.
     ///
-    /// Errors, the first that holds: `UnknownToken` where the node isn't live, `Metric` where the label isn't valid or
-    /// the full one is reserved, `NoMemory`.
+    /// Errors: `NoMemory` at any time, or else the first that holds: `UnknownToken` where the node isn't live, `Metric` where
+    /// the label isn't valid or the full one is reserved.
     pub fn child(&mut self, node: u64, label: &str) -> Result<(u64, bool), Error>
         requires { MayCall self.old.told.state self.old.out }
         ensures kept { Kept self.old self.new }

@@ -42,6 +42,7 @@ impl<T: Task, G: Rng> World<T, T::Output, G> {
         requires early { is_late self.old.told.state.clock ≡ false }
         requires none_out { self.old.out ≡ None }
         requires unmarked { self.old.lacked ≡ None }
+        ensures order { OnOk result (order.new.items ≡ self.old.told.state.ready) }
         ensures runs { Runs self.old self.new }
         ensures clock { self.new.told.state.clock ≡ self.old.told.state.clock }
         ensures stands { RoundStands self.new.told.state result }

@@ -17,8 +17,8 @@ impl<T, O, G> World<T, O, G> {
     /// node on which its own context stands. Answers the task's number and that node's, or nothing where the node has
     /// ended; it is closed then. A refusal hands back what was given. It takes memory.
     ///
-    /// Errors, the first that holds: `UnknownToken` where the node isn't live or has a task, `TooManyTasks` exactly where
-    /// the next number is `u64::MAX`, `NoMemory`.
+    /// Errors: `NoMemory` at any time, or else the first that holds: `UnknownToken` where the node isn't live or has a task,
+    /// `TooManyTasks` exactly where the next number is `u64::MAX`.
     pub fn spawn<C: Drop, F: FnOnce((C, u64)) -> T + Drop>(
         &mut self,
         node: u64,
