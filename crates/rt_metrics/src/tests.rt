@@ -1,27 +1,41 @@
 // Each call once, the worked examples, the text with all that it may hold, and many metrics.
-ghost use Rattle.std.specs.Prelude.{◌<◌, ◌-◌, ◌^◌, IsTrue, []};
-ghost use Rattle.rt_metrics.specs.Registry.{is_held, claims_of};
+//
+// A case is a function that makes its calls and says whether they came to what is written beside them, or how many did. None has a
+// contract, so that the tests' proofs stay small, and a call that wants a metric to be there is made where the registry says so.
 
 use crate::status::{CounterGuard, Status};
 use crate::{
-    Batched, Counter, CounterFamily, Detached, Gauge, GaugeExt, GaugeFamily, Home, LabelSet,
-    Metric, Registered, Registry, raw, status, task,
+    Batchable, Batched, Counter, CounterFamily, Detached, Gauge, GaugeExt, GaugeFamily, Home,
+    LabelSet, Metric, Registered, Registry, raw, status, task,
 };
 use rt_base::{Error, Execution, MetricError, NoMemory, Text};
 use std::alloc::Global;
-use std::process::Abort;
-use std::test::Fail;
 
-/// That a metric is there, and that one claim more fits.
-fn held(rt: &impl Abort, registry: &Registry, id: u64)
-    ensures held { IsTrue (is_held registry.now id) }
-    ensures few { claims_of registry.now id < 2 ^ 64 - 1 }
-{
-    assert!(rt; registry.holds(id));
-    assert!(rt; registry.claims(id) < u64::MAX);
+/// Whether these are the same.
+fn same<T: Drop + PartialEq>(seen: T, wanted: T) -> bool {
+    seen == wanted
 }
 
-// The helpers below say nothing in contracts, so that the tests' proofs stay small.
+/// Whether a call came to this.
+fn came<T: Drop + PartialEq, E: Drop>(answer: Result<T, E>, wanted: T) -> bool {
+    match answer {
+        Ok(seen) => seen == wanted,
+        Err(_) => false,
+    }
+}
+
+/// Whether a call was answered at all.
+fn went<T: Drop, E: Drop>(answer: Result<T, E>) -> bool {
+    answer.is_ok()
+}
+
+/// Whether a call failed so.
+fn failed<T: Drop, E: Drop + PartialEq>(answer: Result<T, E>, why: E) -> bool {
+    match answer {
+        Ok(_) => false,
+        Err(error) => error == why,
+    }
+}
 
 /// A counter.
 fn counter(registry: &mut Registry, name: &str, help: &str) -> Result<Counter, Error> {
@@ -29,13 +43,13 @@ fn counter(registry: &mut Registry, name: &str, help: &str) -> Result<Counter, E
 }
 
 /// A gauge.
-fn gauge(registry: &mut Registry, name: &str) -> Result<Gauge, Error> {
-    registry.register(name, "Load", &[])
+fn gauge(registry: &mut Registry) -> Result<Gauge, Error> {
+    registry.register("load", "Load", &[])
 }
 
 /// A counter by status.
-fn statuses(registry: &mut Registry, name: &str) -> Result<status::Counter, Error> {
-    registry.register(name, "Calls", &[])
+fn statuses(registry: &mut Registry) -> Result<status::Counter, Error> {
+    registry.register("calls", "Calls", &[])
 }
 
 /// Gives a claim up.
@@ -43,86 +57,312 @@ fn give_up<M>(registry: &mut Registry, metric: Registered<M>) {
     metric.release(registry);
 }
 
-/// Raises a counter, and answers its value before.
-fn raise(rt: &impl Abort, registry: &mut Registry, counter: &Counter, by: u64) -> u64 {
-    held(rt, registry, counter.metric());
-    counter.inc_by(registry, by)
+/// Whether this is the text.
+fn reads(registry: &Registry, wanted: &str) -> bool {
+    match registry.encode() {
+        Ok(text) => text.as_str() == wanted,
+        Err(_) => false,
+    }
 }
 
-/// The value of a counter.
-fn count(rt: &impl Abort, registry: &Registry, counter: &Counter) -> u64 {
-    held(rt, registry, counter.metric());
-    counter.get(registry)
+/// The text of no metric.
+const EMPTY: &str = "# EOF\n";
+
+/// Whether the number has so many claims, and a metric exactly where it has some.
+fn claimed(registry: &Registry, id: u64, claims: u64) -> bool {
+    (registry.claims(id) == claims) & (registry.holds(id) == (claims > 0))
 }
 
-/// The value of a gauge.
-fn level(rt: &impl Abort, registry: &Registry, gauge: &Gauge) -> i64 {
-    held(rt, registry, gauge.metric());
-    gauge.get(registry)
+/// Whether a counter had this value, and is raised from it.
+fn raises(registry: &mut Registry, counter: &Counter, by: u64, before: u64) -> bool {
+    if registry.holds(counter.metric()) {
+        return counter.inc_by(registry, by) == before;
+    }
+    false
 }
 
-/// Sets a gauge, and answers its value before.
-fn set(rt: &impl Abort, registry: &mut Registry, gauge: &Gauge, value: i64) -> i64 {
-    held(rt, registry, gauge.metric());
-    gauge.set(registry, value)
+/// Whether a counter has this value.
+fn counts(registry: &Registry, counter: &Counter, value: u64) -> bool {
+    if registry.holds(counter.metric()) {
+        return counter.get(registry) == value;
+    }
+    false
 }
 
-/// The text, and whether it is this one.
-fn reads(rt: &impl Abort, registry: &Registry, text: &str) -> Result<(), NoMemory> {
-    assert!(rt; registry.encode()?.as_str() == text);
-    Ok(())
+/// Whether a gauge has this value.
+fn is_at(registry: &Registry, gauge: &Gauge, value: i64) -> bool {
+    if registry.holds(gauge.metric()) {
+        return gauge.get(registry) == value;
+    }
+    false
 }
 
-/// A further update of a counter in batches.
-fn tick(registry: &mut Registry, batch: &mut Batched<raw::Counter>) {
-    batch.inc(registry);
+/// The number of a child.
+fn child<M: Metric, L: LabelSet>(
+    registry: &mut Registry,
+    family: &Registered<raw::Family<M>>,
+    labels: &L,
+) -> Result<u64, NoMemory> {
+    if registry.holds(family.metric()) {
+        return family.get_or_create_by(registry, labels);
+    }
+    Err(NoMemory)
+}
+
+/// Whether a child has this value.
+fn has_value<M: Metric, L: LabelSet>(
+    registry: &Registry,
+    family: &Registered<raw::Family<M>>,
+    labels: &L,
+    value: Option<i128>,
+) -> bool {
+    came(family.get_by(registry, labels), value)
+}
+
+/// Whether a child was there, and is removed.
+fn removes<M: Metric, L: LabelSet>(
+    registry: &mut Registry,
+    family: &Registered<raw::Family<M>>,
+    labels: &L,
+    was_there: bool,
+) -> bool {
+    came(family.remove_by(registry, labels), was_there)
+}
+
+const RAISED: &str = "# HELP votes Votes.\n# TYPE votes counter\nvotes_total 3\n# EOF\n";
+
+fn raised_text(registry: &mut Registry) -> Result<bool, Error> {
+    let votes = counter(registry, "votes", "Votes")?;
+    let raised = raises(registry, &votes, 3, 0);
+    let read = reads(registry, RAISED);
+    give_up(registry, votes);
+    Ok(raised & read)
+}
+
+#[test]
+fn text_of_a_counter(rt: HostRuntime) {
+    let mut registry = Registry::new(rt.alloc());
+    assert!(rt; came(raised_text(&mut registry), true));
+}
+
+/// Whether there are two claims with a second one, and one when that is given back.
+fn claim_again(registry: &mut Registry, id: u64) -> Result<bool, Error> {
+    let second = counter(registry, "votes", "Votes")?;
+    let twice = claimed(registry, id, 2);
+    give_up(registry, second);
+    Ok(twice & claimed(registry, id, 1))
+}
+
+/// Whether the name is there again, with another help and under another number.
+fn register_anew(registry: &mut Registry, id: u64) -> Result<bool, Error> {
+    let again = counter(registry, "votes", "Other")?;
+    let new = again.metric();
+    give_up(registry, again);
+    Ok(new != id)
+}
+
+fn claim_and_give_up(registry: &mut Registry) -> Result<bool, Error> {
+    let first = counter(registry, "votes", "Votes")?;
+    let id = first.metric();
+    let again = came(claim_again(registry, id), true);
+    give_up(registry, first);
+    let gone = claimed(registry, id, 0) & reads(registry, EMPTY);
+    Ok(again & gone & came(register_anew(registry, id), true))
+}
+
+#[test]
+fn claims_of_a_counter(rt: HostRuntime) {
+    let mut registry = Registry::new(rt.alloc());
+    assert!(rt; came(claim_and_give_up(&mut registry), true));
+}
+
+/// Publishes what a batch has, and ends it.
+fn publish<H: Home, M: Batchable>(home: &mut H, batch: Batched<M>) {
+    batch.release(home);
+}
+
+/// What a counter and its batch know.
+type Totals = (u64, u64);
+
+fn know(
+    registry: &Registry,
+    votes: &Counter,
+    batch: &Batched<raw::Counter>,
+    totals: Totals,
+) -> bool {
+    counts(registry, votes, totals.0) & (batch.get() == totals.1)
+}
+
+fn raise_by_one<H: Home>(home: &mut H, batch: &mut Batched<raw::Counter>) {
+    batch.inc(home);
+}
+
+fn raise_by_five<H: Home>(home: &mut H, batch: &mut Batched<raw::Counter>) {
+    batch.inc_by(home, 5);
+}
+
+/// After how many updates by one they know what is written.
+fn ticks_each(
+    registry: &mut Registry,
+    votes: &Counter,
+    batch: &mut Batched<raw::Counter>,
+    ticks: &[Totals],
+) -> usize {
+    let mut right = 0_usize;
+    for totals in ticks {
+        raise_by_one(registry, batch);
+        if know(registry, votes, batch, *totals) {
+            right = right.wrapping_add(1);
+        }
+    }
+    right
+}
+
+const TICKS: &[Totals] = &[(0, 1), (0, 2), (3, 3), (3, 4), (3, 5), (6, 6)];
+
+fn batch_counts(registry: &mut Registry) -> Result<bool, Error> {
+    let votes = counter(registry, "votes", "Votes")?;
+    let mut batch: Batched<raw::Counter> = Batched::new(votes.metric(), 3);
+    let ticked = ticks_each(registry, &votes, &mut batch, TICKS);
+    raise_by_five(registry, &mut batch);
+    let kept = know(registry, &votes, &batch, (6, 11));
+    publish(registry, batch);
+    let published = counts(registry, &votes, 11);
+    give_up(registry, votes);
+    Ok((ticked == 6) & kept & published)
+}
+
+#[test]
+fn batches_of_a_counter(rt: HostRuntime) {
+    let mut registry = Registry::new(rt.alloc());
+    assert!(rt; came(batch_counts(&mut registry), true));
+}
+
+fn go_up_and_down<H: Home>(home: &mut H, batch: &mut Batched<raw::Gauge>) {
+    batch.inc(home);
+    batch.dec(home);
+}
+
+fn go_down_and_up<H: Home>(home: &mut H, batch: &mut Batched<raw::Gauge>) {
+    batch.dec_by(home, 3);
+    batch.inc(home);
+}
+
+fn set_twice<H: Home>(home: &mut H, batch: &mut Batched<raw::Gauge>) {
+    batch.set(home, 5);
+    batch.set(home, 5);
+}
+
+fn lower_by_nine<H: Home>(home: &mut H, batch: &mut Batched<raw::Gauge>) {
+    batch.inc_by(home, -9);
+}
+
+fn moves(registry: &mut Registry, load: &Gauge, batch: &mut Batched<raw::Gauge>) -> bool {
+    go_up_and_down(registry, batch);
+    let even = is_at(registry, load, 0);
+    go_down_and_up(registry, batch);
+    let lower = is_at(registry, load, -2);
+    set_twice(registry, batch);
+    even & lower & is_at(registry, load, 5) & (batch.get() == 5)
+}
+
+/// The batch ends after its gauge.
+fn batch_moves(registry: &mut Registry) -> Result<bool, Error> {
+    let load = gauge(registry)?;
+    let mut batch: Batched<raw::Gauge> = Batched::new(load.metric(), 2);
+    let moved = moves(registry, &load, &mut batch);
+    lower_by_nine(registry, &mut batch);
+    give_up(registry, load);
+    publish(registry, batch);
+    Ok(moved & reads(registry, EMPTY))
+}
+
+#[test]
+fn batches_of_a_gauge(rt: HostRuntime) {
+    let mut registry = Registry::new(rt.alloc());
+    assert!(rt; came(batch_moves(&mut registry), true));
 }
 
 /// A guard at a status.
 fn guard(
-    rt: &impl Abort,
     registry: &mut Registry,
     calls: &status::Counter,
     status: Status,
 ) -> Result<CounterGuard, NoMemory> {
-    held(rt, registry, calls.metric());
-    calls.guard(registry, status)
+    if registry.holds(calls.metric()) && registry.claims(calls.metric()) < u64::MAX {
+        return calls.guard(registry, status);
+    }
+    Err(NoMemory)
 }
 
 fn finish(registry: &mut Registry, guard: CounterGuard) {
     guard.finish(registry);
 }
 
-/// The number of a child.
-fn child<M: Metric, L: LabelSet>(
-    rt: &impl Abort,
-    registry: &mut Registry,
-    family: &Registered<raw::Family<M>>,
-    labels: &L,
-) -> Result<u64, NoMemory> {
-    held(rt, registry, family.metric());
-    family.get_or_create_by(registry, labels)
+const GUARDED: &str = "# HELP calls Calls.\n# TYPE calls counter\n\
+    calls_total{status=\"Ambiguous\"} 0\n\
+    calls_total{status=\"Dropped\"} 0\n\
+    calls_total{status=\"Failure\"} 0\n\
+    calls_total{status=\"Invalid\"} 0\n\
+    calls_total{status=\"Success\"} 1\n\
+    calls_total{status=\"Timeout\"} 0\n# EOF\n";
+
+/// A guard that was made with a failure, and went well.
+fn guarded_text(registry: &mut Registry, calls: &status::Counter) -> Result<bool, NoMemory> {
+    let mut guard = guard(registry, calls, Status::Failure)?;
+    let twice = claimed(registry, calls.metric(), 2);
+    guard.set(Status::Success);
+    finish(registry, guard);
+    Ok(twice & claimed(registry, calls.metric(), 1) & reads(registry, GUARDED))
 }
 
-/// The value of a child.
-fn value<M: Metric, L: LabelSet>(
-    registry: &Registry,
-    family: &Registered<raw::Family<M>>,
-    labels: &L,
-) -> Result<Option<i128>, NoMemory> {
-    family.get_by(registry, labels)
+fn guard_calls(registry: &mut Registry) -> Result<bool, Error> {
+    let calls = statuses(registry)?;
+    let guarded = came(guarded_text(registry, &calls), true);
+    give_up(registry, calls);
+    Ok(guarded & reads(registry, EMPTY))
 }
 
-fn remove<M: Metric, L: LabelSet>(
-    registry: &mut Registry,
-    family: &Registered<raw::Family<M>>,
-    labels: &L,
-) -> Result<bool, NoMemory> {
-    family.remove_by(registry, labels)
+#[test]
+fn guarded_status(rt: HostRuntime) {
+    let mut registry = Registry::new(rt.alloc());
+    assert!(rt; came(guard_calls(&mut registry), true));
 }
 
-fn add(registry: &mut Registry, id: u64, by: u64) {
-    registry.add_counter(id, by);
+const TIMEOUT: status::Label = status::Label {
+    status: Status::Timeout,
+};
+
+/// Finishes a guard whose child is away.
+fn finish_without(registry: &mut Registry, calls: &status::Counter) -> Result<bool, NoMemory> {
+    let guard = guard(registry, calls, Status::Timeout)?;
+    let removed = removes(registry, calls, &TIMEOUT, true);
+    finish(registry, guard);
+    Ok(removed & has_value(registry, calls, &TIMEOUT, None))
+}
+
+/// Finishes a guard whose child was made anew.
+fn finish_anew(registry: &mut Registry, calls: &status::Counter) -> Result<bool, NoMemory> {
+    let guard = guard(registry, calls, Status::Timeout)?;
+    let removed = removes(registry, calls, &TIMEOUT, true);
+    let made = went(child(registry, calls, &TIMEOUT));
+    finish(registry, guard);
+    let raised = has_value(registry, calls, &TIMEOUT, Some(1));
+    Ok(removed & made & registry.holds(calls.metric()) & raised)
+}
+
+fn guard_removed(registry: &mut Registry) -> Result<bool, Error> {
+    let calls = statuses(registry)?;
+    let away = came(finish_without(registry, &calls), true);
+    let anew = came(finish_anew(registry, &calls), true);
+    give_up(registry, calls);
+    Ok(away & anew)
+}
+
+#[test]
+fn guard_of_a_removed_child(rt: HostRuntime) {
+    let mut registry = Registry::new(rt.alloc());
+    assert!(rt; came(guard_removed(&mut registry), true));
 }
 
 /// An attribute.
@@ -137,206 +377,13 @@ fn attribute(alloc: Global, key: &str, value: &str) -> Result<Vec<(Text, Text)>,
 struct NoLabels;
 
 impl LabelSet for NoLabels {
+    ghost use Rattle.std.specs.Prelude.{[]};
+
     ghost pairs = { λ _. [] };
 
     fn labels(&self, alloc: Global) -> Result<Vec<(Text, Text)>, NoMemory> {
         Ok(Vec::new(alloc))
     }
-}
-
-#[test]
-fn text_of_a_counter(rt: HostRuntime) -> Result<(), Fail> {
-    let mut registry = Registry::new(rt.alloc());
-    let votes = counter(&mut registry, "votes", "Votes")?;
-    let text = raised_text(&rt, &mut registry, &votes);
-    give_up(&mut registry, votes);
-    text?;
-    Ok(())
-}
-
-const RAISED: &str = "# HELP votes Votes.\n# TYPE votes counter\nvotes_total 3\n# EOF\n";
-
-fn raised_text(rt: &impl Abort, registry: &mut Registry, votes: &Counter) -> Result<(), NoMemory> {
-    let before = raise(rt, registry, votes, 3);
-    assert_eq!(rt; before, 0);
-    reads(rt, registry, RAISED)
-}
-
-#[test]
-fn claims_of_a_counter(rt: HostRuntime) -> Result<(), Fail> {
-    let mut registry = Registry::new(rt.alloc());
-    let first = counter(&mut registry, "votes", "Votes")?;
-    let id = first.metric();
-    claim_again(&rt, &mut registry, id);
-    give_up(&mut registry, first);
-    claimed(&rt, &registry, id, 0);
-    reads(&rt, &registry, "# EOF\n")?;
-    register_anew(&rt, &mut registry, id)?;
-    Ok(())
-}
-
-/// That the number has so many claims, and a metric exactly where it has some.
-fn claimed(rt: &impl Abort, registry: &Registry, id: u64, claims: u64) {
-    assert_eq!(rt; registry.claims(id), claims);
-    assert_eq!(rt; registry.holds(id), claims > 0);
-}
-
-/// A second claim, which is given back.
-fn claim_again(rt: &impl Abort, registry: &mut Registry, id: u64) {
-    let second = counter(registry, "votes", "Votes");
-    claimed(rt, registry, id, 2);
-    give_back(registry, second);
-    claimed(rt, registry, id, 1);
-}
-
-/// The name again, with another help and under another number.
-fn register_anew(rt: &impl Abort, registry: &mut Registry, id: u64) -> Result<(), Error> {
-    let again = counter(registry, "votes", "Other")?;
-    let new = again.metric();
-    give_up(registry, again);
-    assert!(rt; new != id);
-    Ok(())
-}
-
-#[test]
-fn batches_of_a_counter(rt: HostRuntime) -> Result<(), Fail> {
-    let mut registry = Registry::new(rt.alloc());
-    let votes = counter(&mut registry, "votes", "Votes")?;
-    let mut batch: Batched<raw::Counter> = Batched::new(votes.metric(), 3);
-    for totals in [(0, 1), (0, 2), (3, 3), (3, 4), (3, 5), (6, 6)] {
-        tick(&mut registry, &mut batch);
-        counts(&rt, &registry, &votes, &batch, totals);
-    }
-    batch.inc_by(&mut registry, 5);
-    counts(&rt, &registry, &votes, &batch, (6, 11));
-    batch.release(&mut registry);
-    assert_eq!(rt; count(&rt, &registry, &votes), 11);
-    give_up(&mut registry, votes);
-    Ok(())
-}
-
-/// What the counter and the batch know.
-fn counts(
-    rt: &impl Abort,
-    registry: &Registry,
-    votes: &Counter,
-    batch: &Batched<raw::Counter>,
-    totals: (u64, u64),
-) {
-    assert_eq!(rt; count(rt, registry, votes), totals.0);
-    assert_eq!(rt; batch.get(), totals.1);
-}
-
-#[test]
-fn batches_of_a_gauge(rt: HostRuntime) -> Result<(), Fail> {
-    let mut registry = Registry::new(rt.alloc());
-    let load = gauge(&mut registry, "load")?;
-    let mut batch: Batched<raw::Gauge> = Batched::new(load.metric(), 2);
-    move_both_ways(&rt, &mut registry, &load, &mut batch);
-    settle(&rt, &mut registry, &load, &mut batch);
-    batch.inc_by(&mut registry, -9);
-    give_up(&mut registry, load);
-    batch.release(&mut registry);
-    reads(&rt, &registry, "# EOF\n")?;
-    Ok(())
-}
-
-fn move_both_ways(
-    rt: &impl Abort,
-    registry: &mut Registry,
-    load: &Gauge,
-    batch: &mut Batched<raw::Gauge>,
-) {
-    batch.inc(registry);
-    batch.dec(registry);
-    assert_eq!(rt; level(rt, registry, load), 0);
-    batch.dec_by(registry, 3);
-    batch.inc(registry);
-    assert_eq!(rt; level(rt, registry, load), -2);
-}
-
-fn settle(rt: &impl Abort, registry: &mut Registry, load: &Gauge, batch: &mut Batched<raw::Gauge>) {
-    batch.set(registry, 5);
-    batch.set(registry, 5);
-    assert_eq!(rt; level(rt, registry, load), 5);
-    assert_eq!(rt; batch.get(), 5);
-}
-
-const GUARDED: &str = "# HELP calls Calls.\n# TYPE calls counter\n\
-    calls_total{status=\"Ambiguous\"} 0\n\
-    calls_total{status=\"Dropped\"} 0\n\
-    calls_total{status=\"Failure\"} 0\n\
-    calls_total{status=\"Invalid\"} 0\n\
-    calls_total{status=\"Success\"} 1\n\
-    calls_total{status=\"Timeout\"} 0\n# EOF\n";
-
-#[test]
-fn guarded_status(rt: HostRuntime) -> Result<(), Fail> {
-    let mut registry = Registry::new(rt.alloc());
-    let calls = statuses(&mut registry, "calls")?;
-    let made = guarded(&rt, &mut registry, &calls);
-    give_up(&mut registry, calls);
-    made?;
-    reads(&rt, &registry, "# EOF\n")?;
-    Ok(())
-}
-
-/// A guard that was made with a failure, and went well.
-fn guarded(
-    rt: &impl Abort,
-    registry: &mut Registry,
-    calls: &status::Counter,
-) -> Result<(), NoMemory> {
-    let mut guard = guard(rt, registry, calls, Status::Failure)?;
-    assert_eq!(rt; registry.claims(calls.metric()), 2);
-    guard.set(Status::Success);
-    finish(registry, guard);
-    assert_eq!(rt; registry.claims(calls.metric()), 1);
-    reads(rt, registry, GUARDED)
-}
-
-#[test]
-fn guard_of_a_removed_child(rt: HostRuntime) -> Result<(), Fail> {
-    let mut registry = Registry::new(rt.alloc());
-    let calls = statuses(&mut registry, "calls")?;
-    let away = finish_without(&rt, &mut registry, &calls);
-    let anew = finish_anew(&rt, &mut registry, &calls);
-    give_up(&mut registry, calls);
-    assert!(rt; away?.is_none());
-    assert_eq!(rt; anew?, Some(1));
-    Ok(())
-}
-
-const TIMEOUT: status::Label = status::Label {
-    status: Status::Timeout,
-};
-
-/// Finishes a guard whose child is away.
-fn finish_without(
-    rt: &impl Abort,
-    registry: &mut Registry,
-    calls: &status::Counter,
-) -> Result<Option<i128>, NoMemory> {
-    let guard = guard(rt, registry, calls, Status::Timeout)?;
-    let removed = remove(registry, calls, &TIMEOUT);
-    finish(registry, guard);
-    assert!(rt; removed?);
-    value(registry, calls, &TIMEOUT)
-}
-
-/// Finishes a guard whose child was made anew.
-fn finish_anew(
-    rt: &impl Abort,
-    registry: &mut Registry,
-    calls: &status::Counter,
-) -> Result<Option<i128>, NoMemory> {
-    let guard = guard(rt, registry, calls, Status::Timeout)?;
-    let removed = remove(registry, calls, &TIMEOUT);
-    let made = child(rt, registry, calls, &TIMEOUT);
-    finish(registry, guard);
-    assert!(rt; removed? && registry.holds(calls.metric()));
-    let _ = made?;
-    value(registry, calls, &TIMEOUT)
 }
 
 const FULL: &str = "# HELP hits Hits.\n# TYPE hits counter\n\
@@ -350,331 +397,488 @@ const FULL: &str = "# HELP hits Hits.\n# TYPE hits counter\n\
 const LESS: &str =
     "# HELP load Load.\n# TYPE load gauge\nload{host=\"y\"} 0\nload{host=\"z\"} 0\n# EOF\n";
 
-#[test]
-fn text_with_all(rt: HostRuntime) -> Result<(), Fail> {
-    let mut registry = Registry::new(rt.alloc());
-    let load = grow(rt.alloc(), &mut registry, "a\"b\\c\nd\u{e9}")?;
-    let _ = set(&rt, &mut registry, &load, -5);
-    let texts = texts_of_three(&rt, rt.alloc(), &mut registry, load);
-    texts?;
-    reads(&rt, &registry, "# EOF\n")?;
-    Ok(())
-}
-
-/// The text with two gauges more and families, and the text without the first gauge.
-fn texts_of_three(
-    rt: &impl Abort,
-    alloc: Global,
-    registry: &mut Registry,
-    load: Gauge,
-) -> Result<(), Error> {
-    let second = grow(alloc, registry, "z");
-    let third = grow(alloc, registry, "y");
-    let full = with_families(rt, alloc, registry);
-    give_up(registry, load);
-    let less = reads(rt, registry, LESS);
-    give_back(registry, second);
-    give_back(registry, third);
-    full?;
-    Ok(less?)
-}
-
 /// A gauge more.
 fn grow(alloc: Global, registry: &mut Registry, host: &str) -> Result<Gauge, Error> {
     let place = attribute(alloc, "host", host)?;
     registry.register("load", "Load", &place)
 }
 
-fn give_back<M>(registry: &mut Registry, metric: Result<Registered<M>, Error>) {
-    match metric {
-        Ok(metric) => metric.release(registry),
-        Err(_) => {}
-    }
-}
-
-/// The text with a family that has children, and one that has none.
-fn with_families(rt: &impl Abort, alloc: Global, registry: &mut Registry) -> Result<(), Error> {
-    let zone = attribute(alloc, "zone", "x")?;
-    let hits: CounterFamily = registry.register("hits", "Hits", &zone)?;
-    let none: Result<GaugeFamily, Error> = registry.register("none", "None", &[]);
-    let filled = fill(rt, alloc, registry, &hits);
-    give_up(registry, hits);
-    give_back(registry, none);
-    Ok(filled?)
-}
-
-fn fill(
-    rt: &impl Abort,
-    alloc: Global,
+/// Makes a child, and raises it.
+fn raises_child<L: LabelSet>(
     registry: &mut Registry,
     hits: &CounterFamily,
+    labels: &L,
+    by: u64,
 ) -> Result<(), NoMemory> {
-    let root = task::Label::root(alloc);
-    let id = child(rt, registry, hits, &root)?;
-    add(registry, id, 7);
-    let _ = child(rt, registry, hits, &NoLabels)?;
-    assert_eq!(rt; value(registry, hits, &root)?, Some(7));
-    reads(rt, registry, FULL)
-}
-
-#[test]
-fn refusals(rt: HostRuntime) -> Result<(), Fail> {
-    let mut registry = Registry::new(rt.alloc());
-    let votes = counter(&mut registry, "votes", "Votes")?;
-    refuse::<raw::Counter>(&rt, &mut registry, "9a", "Votes", MetricError::BadLabel);
-    refuse::<raw::Counter>(&rt, &mut registry, "", "Votes", MetricError::BadLabel);
-    refuse::<raw::Gauge>(&rt, &mut registry, "votes", "Other", MetricError::OtherHelp);
-    refuse::<raw::Gauge>(&rt, &mut registry, "votes", "Votes", MetricError::OtherType);
-    refuse::<status::Raw>(&rt, &mut registry, "votes", "Votes", MetricError::OtherType);
-    refuse_prefix(&rt, &mut registry);
-    give_up(&mut registry, votes);
+    let id = child(registry, hits, labels)?;
+    registry.add_counter(id, by);
     Ok(())
 }
 
-fn refuse<M: Metric>(
-    rt: &impl Abort,
+/// The text with a child that has labels, and one that has none.
+fn fill(alloc: Global, registry: &mut Registry, hits: &CounterFamily) -> bool {
+    let root = task::Label::root(alloc);
+    let raised = went(raises_child(registry, hits, &root, 7));
+    let made = went(child(registry, hits, &NoLabels));
+    raised & made & has_value(registry, hits, &root, Some(7)) & reads(registry, FULL)
+}
+
+/// The text with that family, and one that has no child.
+fn with_none(alloc: Global, registry: &mut Registry, hits: &CounterFamily) -> Result<bool, Error> {
+    let none: GaugeFamily = registry.register("none", "None", &[])?;
+    let filled = fill(alloc, registry, hits);
+    give_up(registry, none);
+    Ok(filled)
+}
+
+fn hits(alloc: Global, registry: &mut Registry) -> Result<CounterFamily, Error> {
+    let zone = attribute(alloc, "zone", "x")?;
+    registry.register("hits", "Hits", &zone)
+}
+
+fn with_families(alloc: Global, registry: &mut Registry) -> Result<bool, Error> {
+    let hits = hits(alloc, registry)?;
+    let filled = came(with_none(alloc, registry, &hits), true);
+    give_up(registry, hits);
+    Ok(filled)
+}
+
+/// The text with families, and the text without the first gauge.
+fn texts_of_three(alloc: Global, registry: &mut Registry, load: Gauge) -> bool {
+    let full = came(with_families(alloc, registry), true);
+    give_up(registry, load);
+    full & reads(registry, LESS)
+}
+
+/// These with a third gauge.
+fn with_third(alloc: Global, registry: &mut Registry, load: Gauge) -> bool {
+    match grow(alloc, registry, "y").ok() {
+        Some(third) => {
+            let read = texts_of_three(alloc, registry, load);
+            give_up(registry, third);
+            read
+        }
+        None => {
+            give_up(registry, load);
+            false
+        }
+    }
+}
+
+/// These with a second gauge.
+fn with_second(alloc: Global, registry: &mut Registry, load: Gauge) -> bool {
+    match grow(alloc, registry, "z").ok() {
+        Some(second) => {
+            let read = with_third(alloc, registry, load);
+            give_up(registry, second);
+            read
+        }
+        None => {
+            give_up(registry, load);
+            false
+        }
+    }
+}
+
+fn texts(alloc: Global, registry: &mut Registry) -> Result<bool, Error> {
+    let load = grow(alloc, registry, "a\"b\\c\nd\u{e9}")?;
+    let set = changes(registry, &load, &(Change::Set(-5), Some(0)));
+    let read = with_second(alloc, registry, load);
+    Ok(set & read & reads(registry, EMPTY))
+}
+
+#[test]
+fn text_with_all(rt: HostRuntime) {
+    let mut registry = Registry::new(rt.alloc());
+    assert!(rt; came(texts(rt.alloc(), &mut registry), true));
+}
+
+/// Whether a metric was refused so.
+fn is_refused<M>(
     registry: &mut Registry,
-    name: &str,
-    help: &str,
+    answer: Result<Registered<M>, Error>,
     why: MetricError,
-) {
-    match registry.register::<M>(name, help, &[]) {
+) -> bool {
+    match answer {
         Ok(metric) => {
             metric.release(registry);
-            assert!(rt; false);
+            false
         }
-        Err(error) => assert!(rt; error == Error::Metric(why)),
+        Err(error) => same(error, Error::Metric(why)),
     }
 }
 
-fn refuse_prefix(rt: &impl Abort, registry: &mut Registry) {
-    match registry.sub_registry("a-b") {
-        Ok(_) => assert!(rt; false),
-        Err(error) => assert!(rt; error == Error::Metric(MetricError::BadLabel)),
+/// A name, a help, and why they are refused.
+type Refusal = (&'static str, &'static str, MetricError);
+
+fn refuses<M: Metric>(registry: &mut Registry, name: &str, help: &str, why: MetricError) -> bool {
+    let answer = registry.register::<M>(name, help, &[]);
+    is_refused(registry, answer, why)
+}
+
+/// How many are refused so.
+fn refuses_each<M: Metric>(registry: &mut Registry, refusals: &[Refusal]) -> usize {
+    let mut right = 0_usize;
+    for (name, help, why) in refusals {
+        if refuses::<M>(registry, name, help, *why) {
+            right = right.wrapping_add(1);
+        }
     }
+    right
+}
+
+const NO_COUNTERS: &[Refusal] = &[
+    ("9a", "Votes", MetricError::BadLabel),
+    ("", "Votes", MetricError::BadLabel),
+];
+
+const NO_GAUGES: &[Refusal] = &[
+    ("votes", "Other", MetricError::OtherHelp),
+    ("votes", "Votes", MetricError::OtherType),
+];
+
+const NO_STATUSES: &[Refusal] = &[("votes", "Votes", MetricError::OtherType)];
+
+fn refuses_prefix(registry: &mut Registry) -> bool {
+    failed(
+        registry.sub_registry("a-b"),
+        Error::Metric(MetricError::BadLabel),
+    )
+}
+
+fn refuse(registry: &mut Registry) -> Result<bool, Error> {
+    let votes = counter(registry, "votes", "Votes")?;
+    let counters = refuses_each::<raw::Counter>(registry, NO_COUNTERS);
+    let gauges = refuses_each::<raw::Gauge>(registry, NO_GAUGES);
+    let statuses = refuses_each::<status::Raw>(registry, NO_STATUSES);
+    let prefix = refuses_prefix(registry);
+    give_up(registry, votes);
+    Ok((counters == 2) & (gauges == 2) & (statuses == 1) & prefix)
 }
 
 #[test]
-fn surface(rt: HostRuntime) -> Result<(), Fail> {
+fn refusals(rt: HostRuntime) {
     let mut registry = Registry::new(rt.alloc());
-    let votes = scoped(&mut registry)?;
-    held(&rt, &registry, votes.metric());
-    let more = votes.clone_claim(&mut registry);
-    give_up(&mut registry, votes);
-    let text = scoped_text(&rt, &mut registry, &more);
-    give_up(&mut registry, more);
-    text?;
-    Ok(())
+    assert!(rt; came(refuse(&mut registry), true));
 }
 
-const SCOPED: &str =
-    "# HELP a_b_votes Votes.\n# TYPE a_b_votes counter\na_b_votes_total 1\n# EOF\n";
-
-fn scoped_text(rt: &impl Abort, registry: &mut Registry, votes: &Counter) -> Result<(), NoMemory> {
-    held(rt, registry, votes.metric());
-    let before = votes.inc(registry);
-    assert_eq!(rt; before, 0);
-    reads(rt, registry, SCOPED)
-}
-
+/// A counter under two prefixes.
 fn scoped(registry: &mut Registry) -> Result<Counter, Error> {
     let scope = registry.sub_registry("a")?;
     let inner = scope.sub_registry("b")?;
     inner.register(registry, "votes", "Votes")
 }
 
+/// One claim more.
+fn claim_more(registry: &mut Registry, votes: &Counter) -> Option<Counter> {
+    if registry.holds(votes.metric()) && registry.claims(votes.metric()) < u64::MAX {
+        return Some(votes.clone_claim(registry));
+    }
+    None
+}
+
+/// Whether a counter had this value, and is raised from it by one.
+fn rises(registry: &mut Registry, counter: &Counter, before: u64) -> bool {
+    if registry.holds(counter.metric()) {
+        return counter.inc(registry) == before;
+    }
+    false
+}
+
+const SCOPED: &str =
+    "# HELP a_b_votes Votes.\n# TYPE a_b_votes counter\na_b_votes_total 1\n# EOF\n";
+
+fn scoped_text(registry: &mut Registry, votes: Option<Counter>) -> bool {
+    match votes {
+        Some(votes) => {
+            let read = rises(registry, &votes, 0) & reads(registry, SCOPED);
+            give_up(registry, votes);
+            read
+        }
+        None => false,
+    }
+}
+
+fn count_in_scope(registry: &mut Registry) -> Result<bool, Error> {
+    let votes = scoped(registry)?;
+    let more = claim_more(registry, &votes);
+    give_up(registry, votes);
+    Ok(scoped_text(registry, more))
+}
+
 #[test]
-fn surface_of_gauges(rt: HostRuntime) -> Result<(), Fail> {
+fn surface(rt: HostRuntime) {
     let mut registry = Registry::new(rt.alloc());
-    let load = gauge(&mut registry, "load")?;
-    go_up_and_down(&rt, &mut registry, &load);
-    fit_values(&rt, &mut registry, &load);
-    reach_values(&rt, &mut registry, &load);
-    give_up(&mut registry, load);
-    Ok(())
+    assert!(rt; came(count_in_scope(&mut registry), true));
 }
 
-fn go_up_and_down(rt: &impl Abort, registry: &mut Registry, load: &Gauge) {
-    assert_eq!(rt; up(rt, registry, load), (0, 1));
-    assert_eq!(rt; down(rt, registry, load), (6, 5));
-    assert_eq!(rt; set(rt, registry, load, 3), i64::MIN + 5);
+/// A change of a gauge.
+#[derive(Clone, Copy)]
+enum Change {
+    Inc,
+    IncBy(i64),
+    Dec,
+    DecBy(i64),
+    Set(i64),
+    TrySet(u64),
+    TrySetMax(u64),
+    TrySetMaxOfByte(u8),
 }
 
-fn fit_values(rt: &impl Abort, registry: &mut Registry, load: &Gauge) {
-    assert_eq!(rt; fit(rt, registry, load, 8u64), (Some(3), Some(8)));
-    assert_eq!(rt; fit(rt, registry, load, u64::MAX), (None, None));
+/// A change, and what it answers: the value before, where the new one fits.
+type Step = (Change, Option<i64>);
+
+fn answer(registry: &mut Registry, load: &Gauge, change: Change) -> Option<i64> {
+    if !registry.holds(load.metric()) {
+        return None;
+    }
+    match change {
+        Change::Inc => Some(load.inc(registry)),
+        Change::IncBy(by) => Some(load.inc_by(registry, by)),
+        Change::Dec => Some(load.dec(registry)),
+        Change::DecBy(by) => Some(load.dec_by(registry, by)),
+        Change::Set(value) => Some(load.set(registry, value)),
+        Change::TrySet(value) => load.try_set(registry, value).ok(),
+        Change::TrySetMax(value) => load.try_set_max(registry, value).ok(),
+        Change::TrySetMaxOfByte(value) => load.try_set_max(registry, value).ok(),
+    }
 }
 
-fn reach_values(rt: &impl Abort, registry: &mut Registry, load: &Gauge) {
-    assert_eq!(rt; reach(rt, registry, load, 4u8), Some(8));
-    assert_eq!(rt; reach(rt, registry, load, 9u8), Some(8));
-    assert_eq!(rt; level(rt, registry, load), 9);
+fn changes(registry: &mut Registry, load: &Gauge, step: &Step) -> bool {
+    answer(registry, load, step.0) == step.1
 }
 
-fn up(rt: &impl Abort, registry: &mut Registry, load: &Gauge) -> (i64, i64) {
-    held(rt, registry, load.metric());
-    let first = load.inc(registry);
-    held(rt, registry, load.metric());
-    (first, load.inc_by(registry, 5))
+/// How many changes, one after the other, answer so.
+fn changes_each(registry: &mut Registry, load: &Gauge, steps: &[Step]) -> usize {
+    let mut right = 0_usize;
+    for step in steps {
+        if changes(registry, load, step) {
+            right = right.wrapping_add(1);
+        }
+    }
+    right
 }
 
-fn down(rt: &impl Abort, registry: &mut Registry, load: &Gauge) -> (i64, i64) {
-    held(rt, registry, load.metric());
-    let first = load.dec(registry);
-    held(rt, registry, load.metric());
-    (first, load.dec_by(registry, i64::MIN))
-}
+const CHANGES: &[Step] = &[
+    (Change::Inc, Some(0)),
+    (Change::IncBy(5), Some(1)),
+    (Change::Dec, Some(6)),
+    (Change::DecBy(i64::MIN), Some(5)),
+    (Change::Set(3), Some(i64::MIN + 5)),
+    (Change::TrySet(8), Some(3)),
+    (Change::TrySetMax(8), Some(8)),
+    (Change::TrySet(u64::MAX), None),
+    (Change::TrySetMax(u64::MAX), None),
+    (Change::TrySetMaxOfByte(4), Some(8)),
+    (Change::TrySetMaxOfByte(9), Some(8)),
+];
 
-fn fit(
-    rt: &impl Abort,
-    registry: &mut Registry,
-    load: &Gauge,
-    value: u64,
-) -> (Option<i64>, Option<i64>) {
-    held(rt, registry, load.metric());
-    let first = load.try_set(registry, value).ok();
-    held(rt, registry, load.metric());
-    (first, load.try_set_max(registry, value).ok())
-}
-
-fn reach(rt: &impl Abort, registry: &mut Registry, load: &Gauge, value: u8) -> Option<i64> {
-    held(rt, registry, load.metric());
-    load.try_set_max(registry, value).ok()
+fn change_gauge(registry: &mut Registry) -> Result<bool, Error> {
+    let load = gauge(registry)?;
+    let changed = changes_each(registry, &load, CHANGES);
+    let last = is_at(registry, &load, 9);
+    give_up(registry, load);
+    Ok((changed == 11) & last)
 }
 
 #[test]
-fn surface_of_statuses(rt: HostRuntime) -> Result<(), Fail> {
+fn surface_of_gauges(rt: HostRuntime) {
     let mut registry = Registry::new(rt.alloc());
-    let calls = statuses(&mut registry, "calls")?;
-    let counted = count_statuses(&rt, &mut registry, &calls);
-    give_up(&mut registry, calls);
-    counted?;
-    Ok(())
+    assert!(rt; came(change_gauge(&mut registry), true));
 }
 
-fn count_statuses(
-    rt: &impl Abort,
-    registry: &mut Registry,
-    calls: &status::Counter,
-) -> Result<(), NoMemory> {
-    held(rt, registry, calls.metric());
-    calls.inc(registry, Status::Timeout)?;
-    held(rt, registry, calls.metric());
-    calls.inc_by(registry, Status::Timeout, u64::MAX)?;
-    assert_eq!(rt; value(registry, calls, &TIMEOUT)?, Some(0));
-    assert!(rt; remove(registry, calls, &TIMEOUT)?);
-    assert!(rt; !remove(registry, calls, &TIMEOUT)?);
-    Ok(())
+/// Whether a status was counted.
+fn counts_one(registry: &mut Registry, calls: &status::Counter, status: Status) -> bool {
+    if registry.holds(calls.metric()) {
+        return went(calls.inc(registry, status));
+    }
+    false
+}
+
+fn counts_more(registry: &mut Registry, calls: &status::Counter, status: Status, by: u64) -> bool {
+    if registry.holds(calls.metric()) {
+        return went(calls.inc_by(registry, status, by));
+    }
+    false
+}
+
+fn count_statuses(registry: &mut Registry) -> Result<bool, Error> {
+    let calls = statuses(registry)?;
+    let one = counts_one(registry, &calls, Status::Timeout);
+    let more = counts_more(registry, &calls, Status::Timeout, u64::MAX);
+    let wrapped = has_value(registry, &calls, &TIMEOUT, Some(0));
+    let first = removes(registry, &calls, &TIMEOUT, true);
+    let second = removes(registry, &calls, &TIMEOUT, false);
+    give_up(registry, calls);
+    Ok(one & more & wrapped & first & second)
 }
 
 #[test]
-fn surface_of_tasks(rt: HostRuntime) -> Result<(), Fail> {
-    labels_of_a_copy(&rt, rt.alloc())?;
-    let alone = task::Label::task(String::new(rt.alloc()), Execution::Dedicated);
-    assert!(rt; has_execution(rt.alloc(), &alone, "Dedicated")?);
-    Ok(())
+fn surface_of_statuses(rt: HostRuntime) {
+    let mut registry = Registry::new(rt.alloc());
+    assert!(rt; came(count_statuses(&mut registry), true));
 }
 
-fn labels_of_a_copy(rt: &impl Abort, alloc: Global) -> Result<(), NoMemory> {
+/// Whether this is one of the values of labels.
+fn has_label(labels: &[(Text, Text)], wanted: &str) -> bool {
+    let mut found = false;
+    for (_, value) in labels {
+        found |= value.as_str() == wanted;
+    }
+    found
+}
+
+fn has_execution(alloc: Global, label: &task::Label, execution: &str) -> bool {
+    match label.labels(alloc) {
+        Ok(labels) => has_label(&labels, execution),
+        Err(_) => false,
+    }
+}
+
+fn copied_label(alloc: Global) -> Result<task::Label, NoMemory> {
     let name = String::from_str(alloc, "p_c")?;
     let label = task::Label::task(name, Execution::Shared(true));
-    let copy = label.clone_value()?;
-    assert_eq!(rt; copy.name(), "p_c");
-    assert!(rt; has_execution(alloc, &copy, "SharedBlocking")?);
-    Ok(())
+    label.clone_value()
 }
 
-fn has_execution(alloc: Global, label: &task::Label, execution: &str) -> Result<bool, NoMemory> {
-    let labels = label.labels(alloc)?;
-    Ok(labels.iter().any(|label| label.1.as_str() == execution))
+fn copies(alloc: Global) -> Result<bool, NoMemory> {
+    let copy = copied_label(alloc)?;
+    Ok(has_execution(alloc, &copy, "SharedBlocking") & (copy.name() == "p_c"))
+}
+
+fn stands_alone(alloc: Global) -> bool {
+    let alone = task::Label::task(String::new(alloc), Execution::Dedicated);
+    has_execution(alloc, &alone, "Dedicated")
 }
 
 #[test]
-fn surface_of_detached(rt: HostRuntime) -> Result<(), Fail> {
+fn surface_of_tasks(rt: HostRuntime) {
+    let copied = came(copies(rt.alloc()), true);
+    assert!(rt; copied & stands_alone(rt.alloc()));
+}
+
+fn detached_counter() -> bool {
     let mut counter: Detached<raw::Counter, u8> = Detached::new(7);
     counter.add_counter(0, u64::MAX);
     counter.add_counter(9, 3);
     counter.add_gauge(0, 5);
-    assert_eq!(rt; counter.get(), 2);
-    assert_eq!(rt; counter.release(), 7);
-    detached_gauge(&rt);
-    Ok(())
+    (counter.get() == 2) & (counter.release() == 7)
 }
 
-fn detached_gauge(rt: &impl Abort) {
+fn detached_gauge() -> bool {
     let mut gauge: Detached<raw::Gauge, u8> = Detached::with_registration(8);
     gauge.add_gauge(0, -3);
     gauge.add_counter(0, 9);
-    assert_eq!(rt; gauge.get(), -3);
-    assert_eq!(rt; gauge.release(), 8);
+    (gauge.get() == -3) & (gauge.release() == 8)
 }
 
 #[test]
-fn numbers_at_their_bounds(rt: HostRuntime) -> Result<(), Fail> {
-    let mut registry = Registry::new(rt.alloc());
-    let votes = counter(&mut registry, "votes", "Votes")?;
-    wrap_a_counter(&rt, &mut registry, &votes);
-    give_up(&mut registry, votes);
-    let load = gauge(&mut registry, "load")?;
-    wrap_a_gauge(&rt, &mut registry, &load);
-    give_up(&mut registry, load);
-    Ok(())
+fn surface_of_detached(rt: HostRuntime) {
+    assert!(rt; detached_counter() & detached_gauge());
 }
 
-fn wrap_a_counter(rt: &impl Abort, registry: &mut Registry, votes: &Counter) {
-    for (by, before) in [
-        (u64::MAX, 0),
-        (1, u64::MAX),
-        (u64::MAX, 0),
-        (2, u64::MAX),
-        (0, 1),
-    ] {
-        assert_eq!(rt; raise(rt, registry, votes, by), before);
+/// By how much a counter is raised, and its value before.
+type Raise = (u64, u64);
+
+fn raises_each(registry: &mut Registry, votes: &Counter, each: &[Raise]) -> usize {
+    let mut right = 0_usize;
+    for (by, before) in each {
+        if raises(registry, votes, *by, *before) {
+            right = right.wrapping_add(1);
+        }
     }
+    right
 }
 
-fn wrap_a_gauge(rt: &impl Abort, registry: &mut Registry, load: &Gauge) {
-    assert_eq!(rt; set(rt, registry, load, i64::MAX), 0);
-    assert_eq!(rt; up(rt, registry, load), (i64::MAX, i64::MIN));
-    assert_eq!(rt; set(rt, registry, load, i64::MIN), i64::MIN + 5);
-    assert_eq!(rt; down(rt, registry, load), (i64::MIN, i64::MAX));
+const RAISES: &[Raise] = &[
+    (u64::MAX, 0),
+    (1, u64::MAX),
+    (u64::MAX, 0),
+    (2, u64::MAX),
+    (0, 1),
+];
+
+fn wrap_counter(registry: &mut Registry) -> Result<bool, Error> {
+    let votes = counter(registry, "votes", "Votes")?;
+    let raised = raises_each(registry, &votes, RAISES);
+    give_up(registry, votes);
+    Ok(raised == 5)
+}
+
+const WRAPS: &[Step] = &[
+    (Change::Set(i64::MAX), Some(0)),
+    (Change::Inc, Some(i64::MAX)),
+    (Change::IncBy(5), Some(i64::MIN)),
+    (Change::Set(i64::MIN), Some(i64::MIN + 5)),
+    (Change::Dec, Some(i64::MIN)),
+    (Change::DecBy(i64::MIN), Some(i64::MAX)),
+];
+
+fn wrap_gauge(registry: &mut Registry) -> Result<bool, Error> {
+    let load = gauge(registry)?;
+    let wrapped = changes_each(registry, &load, WRAPS);
+    give_up(registry, load);
+    Ok(wrapped == 6)
+}
+
+#[test]
+fn numbers_at_their_bounds(rt: HostRuntime) {
+    let mut registry = Registry::new(rt.alloc());
+    let counter = came(wrap_counter(&mut registry), true);
+    assert!(rt; counter & came(wrap_gauge(&mut registry), true));
 }
 
 /// How many gauges one name has at once.
 const SERIES: u32 = 2_000;
 
-#[test]
-fn thousands_of_series(rt: HostRuntime) -> Result<(), Fail> {
-    let mut registry = Registry::new(rt.alloc());
-    series(&rt, rt.alloc(), &mut registry, SERIES)?;
-    reads(&rt, &registry, "# EOF\n")?;
-    Ok(())
-}
-
-/// So many gauges at once, which are given up in turn.
-fn series(rt: &impl Abort, alloc: Global, registry: &mut Registry, left: u32) -> Result<(), Error> {
-    if left == 0 {
-        return Ok(has_lines(rt, registry, SERIES as usize + 3)?);
-    }
-    let host = format!(in alloc; "{left}")?;
-    let load = grow(alloc, registry, host.as_str())?;
-    let others = series(rt, alloc, registry, left - 1);
-    give_up(registry, load);
-    others
-}
-
-/// That the text has so many lines.
-fn has_lines(rt: &impl Abort, registry: &Registry, lines: usize) -> Result<(), NoMemory> {
-    let text = registry.encode()?;
-    let mut ends = 0usize;
-    for byte in text.as_str().as_bytes() {
+fn lines(text: &str) -> usize {
+    let mut ends = 0_usize;
+    for byte in text.as_bytes() {
         if *byte == b'\n' {
             ends = ends.saturating_add(1);
         }
     }
-    assert_eq!(rt; ends, lines);
-    Ok(())
+    ends
 }
+
+/// Whether the text has so many lines.
+fn has_lines(registry: &Registry, wanted: usize) -> bool {
+    match registry.encode() {
+        Ok(text) => lines(text.as_str()) == wanted,
+        Err(_) => false,
+    }
+}
+
+/// A gauge of that number.
+fn numbered(alloc: Global, registry: &mut Registry, number: u32) -> Result<Gauge, Error> {
+    let host = format!(in alloc; "{number}")?;
+    grow(alloc, registry, host.as_str())
+}
+
+/// Whether the text has a line of each, when so many gauges more are there at once.
+fn series(alloc: Global, registry: &mut Registry, left: u32) -> bool {
+    if left == 0 {
+        return has_lines(registry, SERIES as usize + 3);
+    }
+    match numbered(alloc, registry, left).ok() {
+        Some(load) => {
+            let seen = series(alloc, registry, left - 1);
+            give_up(registry, load);
+            seen
+        }
+        None => false,
+    }
+}
+
+#[test]
+fn thousands_of_series(rt: HostRuntime) {
+    let mut registry = Registry::new(rt.alloc());
+    let seen = series(rt.alloc(), &mut registry, SERIES);
+    assert!(rt; seen & reads(&registry, EMPTY));
+}
+
+/// Letters of a long name, help and label.
+const LONG: usize = 65_536;
 
 /// A text of so many letters.
 fn letters(alloc: Global, count: usize) -> Result<String, NoMemory> {
@@ -685,34 +889,44 @@ fn letters(alloc: Global, count: usize) -> Result<String, NoMemory> {
     Ok(text)
 }
 
-/// Letters of a long name, help and label.
-const LONG: usize = 65_536;
+/// Whether the text is as long as so many letters and what stands between them.
+fn has_length(registry: &Registry, letters: usize) -> bool {
+    let between = "# HELP  .\n# TYPE  gauge\n{=\"\"} 0\n# EOF\n";
+    match registry.encode() {
+        Ok(text) => text.as_str().len() == letters.saturating_add(between.len()),
+        Err(_) => false,
+    }
+}
+
+/// A gauge of that name, help and label.
+fn named(alloc: Global, registry: &mut Registry, name: &str) -> Result<Gauge, Error> {
+    let labels = attribute(alloc, name, name)?;
+    registry.register(name, name, &labels)
+}
+
+fn is_long(alloc: Global, registry: &mut Registry, name: &str) -> Result<bool, Error> {
+    let load = named(alloc, registry, name)?;
+    let long = has_length(registry, 6 * LONG);
+    give_up(registry, load);
+    Ok(long)
+}
+
+fn takes_long(alloc: Global, registry: &mut Registry) -> Result<bool, Error> {
+    let name = letters(alloc, LONG)?;
+    is_long(alloc, registry, name.as_str())
+}
+
+/// A long name with a dash at its end.
+fn refuses_long(alloc: Global, registry: &mut Registry) -> Result<bool, NoMemory> {
+    let mut name = letters(alloc, LONG)?;
+    name.push('-')?;
+    let why = MetricError::BadLabel;
+    Ok(refuses::<raw::Gauge>(registry, name.as_str(), "Load", why))
+}
 
 #[test]
-fn longest_texts(rt: HostRuntime) -> Result<(), Fail> {
+fn longest_texts(rt: HostRuntime) {
     let mut registry = Registry::new(rt.alloc());
-    let long = letters(rt.alloc(), LONG)?;
-    let labels = attribute(rt.alloc(), long.as_str(), long.as_str())?;
-    let load: Gauge = registry.register(long.as_str(), long.as_str(), &labels)?;
-    let text = has_length(&rt, &registry, 6 * LONG);
-    give_up(&mut registry, load);
-    text?;
-    refuse_long(&rt, &mut registry, long)?;
-    Ok(())
-}
-
-/// That the text is as long as so many letters and what stands between them.
-fn has_length(rt: &impl Abort, registry: &Registry, letters: usize) -> Result<(), NoMemory> {
-    let text = registry.encode()?;
-    let between = "# HELP  .\n# TYPE  gauge\n{=\"\"} 0\n# EOF\n";
-    assert_eq!(rt; text.as_str().len(), letters.saturating_add(between.len()));
-    Ok(())
-}
-
-/// That a long name with a dash at its end is refused.
-fn refuse_long(rt: &impl Abort, registry: &mut Registry, name: String) -> Result<(), NoMemory> {
-    let mut name = name;
-    name.push('-')?;
-    refuse::<raw::Gauge>(rt, registry, name.as_str(), "Load", MetricError::BadLabel);
-    Ok(())
+    let taken = came(takes_long(rt.alloc(), &mut registry), true);
+    assert!(rt; taken & came(refuses_long(rt.alloc(), &mut registry), true));
 }

@@ -1,4 +1,4 @@
 use Rattle.rt_metrics.proofs.tests.+series.Given as goal
 
 abbrev pub decreases-series : goal.decreases-series
-decreases-series g l = l.left
+decreases-series l = l.left
