@@ -22,10 +22,8 @@ pub fn name_of(word: &[u8]) -> Option<&str>
     if word.len() > NAME_LEN || !is_label(word) {
         return None;
     }
-    match str::from_utf8(word) {
-        Ok(name) => Some(name),
-        Err(_) => unreachable!(),
-    }
+    // A label is ASCII.
+    Some(unsafe { str::from_utf8_unchecked(word) })
 }
 
 /// Whether each of the words is a name.

@@ -14,6 +14,9 @@ use std::alloc::{AllocError, Global};
 /// From so many bytes on the buffer is written out.
 const BUFFER: usize = 65536;
 
+/// The buffer begins with room for them and for the end of a line, so that it seldom grows.
+const ROOM: usize = BUFFER + 1024;
+
 /// Why a report wasn't written whole.
 #[derive(Clone, Copy, Debug, PartialEq, Eq)]
 pub enum Unwritten {
@@ -70,7 +73,7 @@ pub fn write_report<K: Sink8>(
     ensures cause { result ≡ Err Unwritten.Failed → HasRisen (K.faults sink.old) (K.faults sink.new) }
     ensures counted { K.faults sink.old ≤ K.faults sink.new }
 {
-    let mut buffer = String::new(alloc);
+    let mut buffer = String::with_capacity(alloc, ROOM)?;
     let root = run.root.as_str();
     write!(buffer, "run {root}\n")?;
     write_entries(alloc, sink, &mut buffer, entries)?;
