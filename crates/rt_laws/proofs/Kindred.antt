@@ -1,7 +1,5 @@
 -- A task that ends unpolled with the node of its parent, and what comes near to such ends is none.
-use Rattle.std.proofs.Common.{◌≡◌, inl, inr, ℕ, true, false, List, [], ◌∷◌, ◌++◌, Some, refl, arith}
-use Rattle.std.proofs.lemmas.List.Sorted.{IsPermutation-refl}
-use Rattle.rt_base.specs.declared.execution.Execution.TheVariants.{Shared}
+use Rattle.std.proofs.Common.{false, List, [], ◌∷◌, ◌++◌, Some, refl}
 use Rattle.rt_audit.specs.declared.answer.AnswerKind.TheVariants.{Pending, Ready, Ended}
 use Rattle.rt_audit.specs.declared.call.Call.TheVariants.{Child, Spawn, AbortTask}
 use Rattle.rt_audit.specs.declared.reply.CallReply.TheVariants.{Done, NodeAt, TaskAt}
@@ -12,31 +10,22 @@ use Rattle.rt_model.specs.State.{begun}
 use Rattle.rt_model.specs.Events.{process_task, task_fields}
 use Rattle.rt_model.specs.Effects.{after, after_all}
 use Rattle.rt_model.specs.Rules.{IsLawful}
-use Rattle.rt_model.specs.Turns.{Held, put, with_spawned, freed}
-use Rattle.rt_model.specs.Tied.{Value, nothing, taken, with_result, IsTied}
+use Rattle.rt_model.specs.Tied.{nothing, IsTied}
 use Rattle.rt_model.specs.Run.{IsRun}
 use Rattle.rt_laws.specs.Examples.{small_begin, opening, visiting_root}
 use Rattle.rt_laws.specs.Supervised.{handle, aborter_spawned, aborter_joined, aborter_closes, aborts_itself, aborter_stops, waking}
-use Rattle.rt_laws.specs.Kin.{Kin, Grandparent, Awaiting, Elder, Younger, kin, kin_journal, gave_beside_both, younger_spawned, elder_ends, visiting_younger, younger_ends, younger_goes_on, behind_younger, sibling_goes_on, aborted_goes_on}
-use Rattle.rt_laws.proofs.Clock.{lawful-tail, lawful-front}
+use Rattle.rt_laws.specs.Kin.{kin, kin_journal, gave_beside_both, younger_spawned, elder_ends, visiting_younger, younger_ends, younger_goes_on, behind_younger, sibling_goes_on, aborted_goes_on}
+use Rattle.rt_laws.proofs.Clock.{lawful-tail}
+use Rattle.rt_laws.proofs.Decided.{lawful}
+use Rattle.rt_laws.proofs.Followed.{tied}
 
 kin-lawful : IsLawful (begun small_begin) kin_journal
 unfolding begun after
-kin-lawful = ((refl, (refl, refl, refl, refl, refl)), ((refl, (refl, refl, omega arith)), ((refl, (refl, IsPermutation-refl (0 ∷ []))), ((refl, (refl, refl)), ((refl, (refl, refl, refl)), ((refl, (refl, (refl, refl, refl))), ((refl, (refl, (refl, refl, refl))), ((refl, (refl, refl)), ((refl, refl), ((refl, (refl, refl, refl, omega arith)), ((refl, (((λ z. cc), refl, refl), IsPermutation-refl (1 ∷ []))), ((refl, (refl, refl)), ((refl, (refl, refl, refl)), ((refl, (refl, (refl, refl, refl))), ((refl, (refl, (refl, refl, refl))), ((refl, (refl, refl)), ((refl, refl), ((refl, (refl, refl)), ((refl, refl), (refl, ((refl, refl), ((refl, (refl, refl, refl, omega arith)), ((refl, (((λ z. cc), refl, refl), IsPermutation-refl (2 ∷ 0 ∷ []))), ((refl, (refl, refl)), ((refl, (refl, refl, refl)), ((refl, (refl, refl)), ((refl, refl), ((refl, (refl, refl)), ((refl, (refl, refl, refl)), ((refl, (refl, refl)), ((refl, (refl, refl)), ((refl, refl), ((refl, tt), ((refl, refl), ((refl, (refl, refl)), ((refl, refl), ((refl, (refl, refl)), ((refl, inr refl), tt))))))))))))))))))))))))))))))))))))))
+kin-lawful = lawful small_begin kin_journal refl
 
 kin-tied : IsTied kin (begun small_begin) nothing kin_journal (gave_beside_both 6)
 unfolding begun after
-kin-tied =
-    let v0 : Value Kin ℕ = nothing in
-    let v1 : Value Kin ℕ = record v0 { held = put 0 Grandparent v0.held } in
-    let v2 : Value Kin ℕ = record v1 { held = put 0 (Awaiting 1) (with_spawned 1 (Shared false) (Elder 2) (taken 0 v1.held)) } in
-    let moved : Held Kin ℕ = freed 2 (with_spawned 2 (Shared false) (Younger 4) (taken 1 v2.held)) in
-    let v3 : Value Kin ℕ = record v2 { held = with_result true 1 6 (put 1 (Elder 2) moved) } in
-    let v4 : Value Kin ℕ = record v3 { held = taken 1 v3.held } in
-    let v5 : Value Kin ℕ = record v4 { held = taken 2 v4.held } in
-    let v6 : Value Kin ℕ = record v5 { held = put 0 Grandparent (freed 1 (freed 1 (taken 0 v5.held))); output = Some 6 } in
-    let v7 : Value Kin ℕ = record v6 { held = taken 0 v6.held } in
-    (v0, refl, (v1, (Grandparent, v0.held, (refl, refl, refl), refl), (v1, (refl, refl), (v1, (refl, refl), (v1, refl, (v1, refl, (v1, refl, (v1, refl, (v2, (v2.held, record { before = Grandparent; left = Awaiting 1; moved = with_spawned 1 (Shared false) (Elder 2) (taken 0 v1.held); there = refl; walks = ((refl, tt), ((refl, tt), ((refl, tt), (refl, refl, refl)))); is = refl }, refl), (v2, (refl, refl), (v2, (refl, refl), (v2, (refl, refl), (v2, refl, (v2, refl, (v2, refl, (v2, refl, (v3, (6, put 1 (Elder 2) moved, record { before = Elder 2; left = Elder 2; moved = moved; there = refl; walks = ((refl, tt), ((refl, tt), (λ there. (refl, refl, (refl, refl, refl)), λ gone. absurd (cc)))); is = refl }, refl), (v3, refl, (v4, (Elder 2, refl, inl ((λ there. (refl, refl, (refl, refl, refl)), λ gone. absurd (cc)), refl)), (v4, refl, (v4, refl, (v4, (refl, refl), (v4, (refl, refl), (v4, (refl, refl), (v4, refl, (v4, refl, (v5, (Younger 4, refl, inl ((λ there. (refl, refl, (refl, refl, refl)), λ gone. absurd (cc)), refl)), (v5, (refl, refl), (v5, refl, (v5, refl, (v5, refl, (v6, (6, v6.held, record { before = Awaiting 1; left = Grandparent; moved = freed 1 (freed 1 (taken 0 v5.held)); there = refl; walks = ((refl, tt), (λ there. (refl, refl, (refl, refl, refl)), λ gone. absurd (cc))); is = refl }, refl), (v6, refl, (v6, refl, (v6, refl, (v7, (Grandparent, refl, inl ((λ there. (refl, refl, (refl, refl, refl)), λ gone. absurd (cc)), refl)), (v7, (refl, refl), (v7, refl, refl))))))))))))))))))))))))))))))))))))))
+kin-tied = tied kin (begun small_begin) nothing (gave_beside_both 6) kin_journal refl
 
 pub kin_run : IsRun kin small_begin kin_journal Completed (after_all (begun small_begin) kin_journal) (gave_beside_both 6)
 unfolding begun after
@@ -93,16 +82,16 @@ no_turned_wakes l = let h = (tail (aborter_joined ++ aborts_itself ++ aborter_st
 
 pub ended_below : IsLawful (begun small_begin) (younger_goes_on younger_ends)
 unfolding begun after
-ended_below = ((refl, (refl, refl, refl, refl, refl)), ((refl, (refl, refl, omega arith)), ((refl, (refl, IsPermutation-refl (0 ∷ []))), ((refl, (refl, refl)), ((refl, (refl, refl, refl)), ((refl, (refl, (refl, refl, refl))), ((refl, (refl, (refl, refl, refl))), ((refl, (refl, refl)), ((refl, refl), ((refl, (refl, refl, refl, omega arith)), ((refl, (((λ z. cc), refl, refl), IsPermutation-refl (1 ∷ []))), ((refl, (refl, refl)), ((refl, (refl, refl, refl)), ((refl, (refl, (refl, refl, refl))), ((refl, (refl, (refl, refl, refl))), ((refl, (refl, refl)), ((refl, refl), ((refl, (refl, refl)), ((refl, refl), (refl, ((refl, refl), ((refl, (refl, refl, refl, omega arith)), ((refl, (((λ z. cc), refl, refl), IsPermutation-refl (2 ∷ 0 ∷ []))), ((refl, (refl, refl)), ((refl, (refl, refl, refl)), ((refl, (refl, refl)), ((refl, refl), tt)))))))))))))))))))))))))))
+ended_below = lawful small_begin (younger_goes_on younger_ends) refl
 
 pub next_visit : IsLawful (begun small_begin) (behind_younger (Visit 0))
 unfolding begun after
-next_visit = ((refl, (refl, refl, refl, refl, refl)), ((refl, (refl, refl, omega arith)), ((refl, (refl, IsPermutation-refl (0 ∷ []))), ((refl, (refl, refl)), ((refl, (refl, refl, refl)), ((refl, (refl, (refl, refl, refl))), ((refl, (refl, (refl, refl, refl))), ((refl, (refl, refl)), ((refl, refl), ((refl, (refl, refl, refl, omega arith)), ((refl, (((λ z. cc), refl, refl), IsPermutation-refl (1 ∷ []))), ((refl, (refl, refl)), ((refl, (refl, refl, refl)), ((refl, (refl, (refl, refl, refl))), ((refl, (refl, (refl, refl, refl))), ((refl, (refl, refl)), ((refl, refl), ((refl, (refl, refl)), ((refl, refl), (refl, ((refl, refl), ((refl, (refl, refl, refl, omega arith)), ((refl, (((λ z. cc), refl, refl), IsPermutation-refl (2 ∷ 0 ∷ []))), ((refl, (refl, refl)), ((refl, (refl, refl, refl)), ((refl, (refl, refl)), ((refl, refl), ((refl, (refl, refl)), tt))))))))))))))))))))))))))))
+next_visit = lawful small_begin (behind_younger (Visit 0)) refl
 
 pub sibling_polled : IsLawful (begun small_begin) (sibling_goes_on (Answered 2 Ready))
 unfolding begun after
-sibling_polled = ((refl, (refl, refl, refl, refl, refl)), ((refl, (refl, refl, omega arith)), ((refl, (refl, IsPermutation-refl (0 ∷ []))), ((refl, (refl, refl)), ((refl, (refl, refl, refl)), ((refl, (refl, (refl, refl, refl))), ((refl, (refl, (refl, refl, refl))), ((refl, (refl, (refl, refl, refl))), ((refl, (refl, (refl, refl, refl))), ((refl, refl), ((refl, (refl, refl, refl, omega arith)), ((refl, (((λ z. cc), refl, refl), IsPermutation-refl (1 ∷ 2 ∷ []))), ((refl, (refl, refl)), ((refl, (refl, refl, refl)), ((refl, refl), ((refl, (refl, refl)), ((refl, refl), ((refl, refl), ((refl, (refl, refl)), ((refl, (refl, refl, refl)), ((refl, refl), tt)))))))))))))))))))))
+sibling_polled = lawful small_begin (sibling_goes_on (Answered 2 Ready)) refl
 
 pub aborted_ended : IsLawful (begun small_begin) (aborted_goes_on (aborter_closes ++ (NodeEnd 1 ∷ [])))
 unfolding begun after
-aborted_ended = ((refl, (refl, refl, refl, refl, refl)), ((refl, (refl, refl, omega arith)), ((refl, (refl, IsPermutation-refl (0 ∷ []))), ((refl, (refl, refl)), ((refl, (refl, refl, refl)), ((refl, (refl, (refl, refl, refl))), ((refl, (refl, (refl, refl, refl))), ((refl, (refl, refl)), ((refl, refl), ((refl, (refl, refl, refl, omega arith)), ((refl, (((λ z. cc), refl, refl), IsPermutation-refl (1 ∷ []))), ((refl, (refl, refl)), ((refl, (refl, refl, refl)), ((refl, (refl, refl)), ((refl, refl), ((refl, refl), tt))))))))))))))))
+aborted_ended = lawful small_begin (aborted_goes_on (aborter_closes ++ (NodeEnd 1 ∷ []))) refl

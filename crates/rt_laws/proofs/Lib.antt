@@ -2,8 +2,10 @@ pub mod Causes
 pub mod Clock
 pub mod Completing
 pub mod Cut
+pub mod Decided
 pub mod Each
 pub mod Flags
+pub mod Followed
 pub mod Fronts
 pub mod Endings
 pub mod Ends

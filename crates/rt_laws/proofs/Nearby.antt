@@ -1,6 +1,5 @@
 -- What comes near to the runs with spawned tasks is none.
-use Rattle.std.proofs.Common.{inr, false, List, [], ◌∷◌, ◌++◌, Some, None, refl, arith}
-use Rattle.std.proofs.lemmas.List.Sorted.{IsPermutation-refl}
+use Rattle.std.proofs.Common.{false, List, [], ◌∷◌, ◌++◌, Some, None, refl, arith}
 use Rattle.rt_base.specs.declared.error.Error.TheVariants.{Closed}
 use Rattle.rt_audit.specs.declared.call.Call.TheVariants.{Child, CloseNode, Spawn}
 use Rattle.rt_audit.specs.declared.reply.CallReply.TheVariants.{Done, NodeAt, TaskAt, Pending as StillPending, Ready as IsReady, Refused}
@@ -15,6 +14,7 @@ use Rattle.rt_model.specs.Runs.{Runs, AreLawful, runs_from, run_after, runs_afte
 use Rattle.rt_laws.specs.Examples.{small_begin, opening, visiting_root, finishing, stalled_journal, ready_journal}
 use Rattle.rt_laws.specs.Supervised.{handle, side_spawned, side_ready, second_ready, second_ends, aborter_spawned, aborter_joined, aborts_itself, aborter_ends, aborter_stops, joined, parent_ends, closed_by, early_join, second_join, waking, second_number, first_ended}
 use Rattle.rt_laws.proofs.Clock.{lawful-tail}
+use Rattle.rt_laws.proofs.Decided.{lawful}
 use Rattle.rt_laws.proofs.Spawned.{side_run}
 use Rattle.rt_laws.proofs.Tasks.{spawn-answers}
 
@@ -70,23 +70,23 @@ own_call = side_run.lawful
 
 pub pending_join : IsLawful (begun small_begin) (early_join StillPending)
 unfolding begun after
-pending_join = ((refl, (refl, refl, refl, refl, refl)), ((refl, (refl, refl, omega arith)), ((refl, (refl, IsPermutation-refl (0 ∷ []))), ((refl, (refl, refl)), ((refl, (refl, refl, refl)), ((refl, (refl, (refl, refl, refl))), ((refl, (refl, (refl, refl, refl))), ((refl, (refl, refl)), tt))))))))
+pending_join = lawful small_begin (early_join StillPending) refl
 
 pub refused_join : IsLawful (begun small_begin) (second_join (Refused Closed))
 unfolding begun after
-refused_join = ((refl, (refl, refl, refl, refl, refl)), ((refl, (refl, refl, omega arith)), ((refl, (refl, IsPermutation-refl (0 ∷ []))), ((refl, (refl, refl)), ((refl, (refl, refl, refl)), ((refl, (refl, (refl, refl, refl))), ((refl, (refl, (refl, refl, refl))), ((refl, (refl, refl)), ((refl, refl), ((refl, (refl, refl, refl, omega arith)), ((refl, (((λ z. cc), refl, refl), IsPermutation-refl (1 ∷ []))), ((refl, (refl, refl)), ((refl, (refl, refl, refl)), ((refl, (refl, refl)), ((refl, refl), ((refl, (refl, refl)), ((refl, refl), (refl, ((refl, refl), ((refl, (refl, refl, refl, omega arith)), ((refl, (((λ z. cc), refl, refl), IsPermutation-refl (0 ∷ []))), ((refl, (refl, refl)), ((refl, (refl, refl, refl)), ((refl, (refl, refl)), ((refl, (refl, refl)), ((refl, (refl, refl)), ((refl, refl), ((refl, tt), ((refl, refl), ((refl, (refl, refl)), ((refl, refl), ((refl, (refl, refl)), ((refl, inr refl), tt)))))))))))))))))))))))))))))))))
+refused_join = lawful small_begin (second_join (Refused Closed)) refl
 
 pub both_wakes : IsLawful (begun small_begin) (waking (Wake 1 ∷ Wake 0 ∷ []))
 unfolding begun after
-both_wakes = ((refl, (refl, refl, refl, refl, refl)), ((refl, (refl, refl, omega arith)), ((refl, (refl, IsPermutation-refl (0 ∷ []))), ((refl, (refl, refl)), ((refl, (refl, refl, refl)), ((refl, (refl, (refl, refl, refl))), ((refl, (refl, (refl, refl, refl))), ((refl, (refl, refl)), ((refl, refl), ((refl, (refl, refl, refl, omega arith)), ((refl, (((λ z. cc), refl, refl), IsPermutation-refl (1 ∷ []))), ((refl, (refl, refl)), ((refl, (refl, refl, refl)), ((refl, (refl, refl)), ((refl, refl), ((refl, (refl, refl)), ((refl, refl), ((refl, refl), (refl, (refl, ((refl, (refl, refl, refl, omega arith)), tt)))))))))))))))))))))
+both_wakes = lawful small_begin (waking (Wake 1 ∷ Wake 0 ∷ [])) refl
 
 pub next_number : IsLawful (begun small_begin) (second_number 2)
 unfolding begun after
-next_number = ((refl, (refl, refl, refl, refl, refl)), ((refl, (refl, refl, omega arith)), ((refl, (refl, IsPermutation-refl (0 ∷ []))), ((refl, (refl, refl)), ((refl, (refl, refl, refl)), ((refl, (refl, (refl, refl, refl))), ((refl, (refl, (refl, refl, refl))), ((refl, (refl, (refl, refl, refl))), ((refl, (refl, (refl, refl, refl))), ((refl, refl), tt))))))))))
+next_number = lawful small_begin (second_number 2) refl
 
 pub task_first : IsLawful (begun small_begin) (first_ended 1)
 unfolding begun after
-task_first = ((refl, (refl, refl, refl, refl, refl)), ((refl, (refl, refl, omega arith)), ((refl, (refl, IsPermutation-refl (0 ∷ []))), ((refl, (refl, refl)), ((refl, (refl, refl, refl)), ((refl, (refl, (refl, refl, refl))), ((refl, (refl, (refl, refl, refl))), ((refl, refl), ((refl, tt), ((refl, refl), ((refl, refl), tt)))))))))))
+task_first = lawful small_begin (first_ended 1) refl
 
 runs-tail : (r : Runs) (xs ys : List Entry) → AreLawful r (xs ++ ys) → AreLawful (runs_after r xs) ys
 runs-tail r [] ys l = l

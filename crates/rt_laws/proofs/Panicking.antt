@@ -1,7 +1,6 @@
 -- The runs with panics, and what comes near to them is none.
-use Rattle.std.proofs.Common.{◌≡◌, inl, inr, ℕ, Bool, true, false, List, [], ◌∷◌, ◌++◌, Some, refl, ap, arith}
-use Rattle.std.proofs.lemmas.List.Sorted.{IsPermutation-refl, length_permutation}
-use Rattle.rt_base.specs.declared.execution.Execution.TheVariants.{Shared}
+use Rattle.std.proofs.Common.{◌≡◌, ℕ, Bool, true, false, List, [], ◌∷◌, ◌++◌, Some, refl, arith}
+use Rattle.std.proofs.lemmas.List.Sorted.{length_permutation}
 use Rattle.rt_audit.specs.declared.answer.AnswerKind.TheVariants.{Pending, Stopped, Ended}
 use Rattle.rt_audit.specs.declared.call.Call.TheVariants.{CloseNode, GiveUp}
 use Rattle.rt_audit.specs.declared.reply.CallReply.TheVariants.{Done}
@@ -12,58 +11,40 @@ use Rattle.rt_audit.specs.declared.entry.Entry.TheVariants.{Call, Wake, Round, A
 use Rattle.rt_model.specs.State.{State, begun}
 use Rattle.rt_model.specs.Effects.{after, after_all}
 use Rattle.rt_model.specs.Rules.{IsLawful}
-use Rattle.rt_model.specs.Turns.{put, with_spawned, freed}
-use Rattle.rt_model.specs.Tied.{Value, nothing, taken, IsTied}
+use Rattle.rt_model.specs.Tied.{Value, nothing, IsTied}
 use Rattle.rt_model.specs.Run.{IsRun}
 use Rattle.rt_laws.specs.Examples.{finishing}
-use Rattle.rt_laws.specs.Supervised.{gave_beside, Aborting, Parent, Joining, Aborter, aborter_joined}
+use Rattle.rt_laws.specs.Supervised.{gave_beside, Aborting, aborter_joined}
 use Rattle.rt_laws.specs.Panics.{begin_catching, panicking_root, panicking_journal, raising_root, failed_beside, raises, both_wakes, kept_panic, reported_journal, caught_panic, caught_journal, answered_behind, answered_caught, wakes_behind}
 use Rattle.rt_laws.proofs.Clock.{lawful-tail}
 use Rattle.rt_laws.proofs.Values.{same_value}
+use Rattle.rt_laws.proofs.Decided.{lawful}
+use Rattle.rt_laws.proofs.Followed.{tied}
 
 reported-lawful : IsLawful (begun (begin_catching false)) reported_journal
 unfolding begun after
-reported-lawful = ((refl, (refl, refl, refl, refl, refl)), ((refl, (refl, refl, omega arith)), ((refl, (refl, IsPermutation-refl (0 ∷ []))), ((refl, (refl, refl)), ((refl, (refl, refl, refl)), ((refl, (refl, (refl, refl, refl))), ((refl, (refl, (refl, refl, refl))), ((refl, (refl, refl)), ((refl, refl), ((refl, (refl, refl, refl, omega arith)), ((refl, (((λ z. cc), refl, refl), IsPermutation-refl (1 ∷ []))), ((refl, (refl, refl)), ((refl, (refl, refl, refl)), ((refl, refl), ((refl, (refl, refl)), ((refl, refl), (refl, (refl, ((refl, refl), ((refl, (refl, refl, refl, omega arith)), ((refl, (((λ z. cc), refl, refl), IsPermutation-refl (0 ∷ 0 ∷ []))), ((refl, (refl, refl)), ((refl, (refl, refl, refl)), ((refl, refl), ((refl, tt), ((refl, refl), ((refl, (refl, refl)), ((refl, (refl, refl)), ((refl, refl), ((refl, (refl, refl)), ((refl, inr refl), tt)))))))))))))))))))))))))))))))
+reported-lawful = lawful (begin_catching false) reported_journal refl
 
 caught-lawful : IsLawful (begun (begin_catching true)) caught_journal
 unfolding begun after
-caught-lawful = ((refl, (refl, refl, refl, refl, refl)), ((refl, (refl, refl, omega arith)), ((refl, (refl, IsPermutation-refl (0 ∷ []))), ((refl, (refl, refl)), ((refl, (refl, refl, refl)), ((refl, (refl, (refl, refl, refl))), ((refl, (refl, (refl, refl, refl))), ((refl, (refl, refl)), ((refl, refl), ((refl, (refl, refl, refl, omega arith)), ((refl, (((λ z. cc), refl, refl), IsPermutation-refl (1 ∷ []))), ((refl, (refl, refl)), ((refl, (refl, refl, refl)), ((refl, refl), ((refl, (refl, refl)), ((refl, refl), (refl, ((refl, refl), ((refl, (refl, refl, refl, omega arith)), ((refl, (((λ z. cc), refl, refl), IsPermutation-refl (0 ∷ []))), ((refl, (refl, refl)), ((refl, (refl, refl, refl)), ((refl, (refl, refl)), ((refl, (refl, refl)), ((refl, refl), ((refl, tt), ((refl, refl), ((refl, (refl, refl)), ((refl, refl), ((refl, (refl, refl)), ((refl, inr refl), tt)))))))))))))))))))))))))))))))
+caught-lawful = lawful (begin_catching true) caught_journal refl
 
 panicking-lawful : (catch : Bool) → IsLawful (begun (begin_catching catch)) panicking_journal
 unfolding begun after
-panicking-lawful catch = ((refl, (refl, refl, refl, refl, refl)), ((refl, (refl, refl, omega arith)), ((refl, (refl, IsPermutation-refl (0 ∷ []))), ((refl, (refl, refl)), ((refl, (refl, refl, refl)), ((refl, refl), ((refl, tt), ((refl, refl), ((refl, (refl, refl)), ((refl, refl), ((refl, (refl, refl)), ((refl, inr refl), tt))))))))))))
+panicking-lawful catch = lawful (begin_catching catch) panicking_journal refl
 
 module _ (text : List ℕ) where
   reported-tied : IsTied (raising_root text) (begun (begin_catching false)) nothing reported_journal (failed_beside 1 text)
   unfolding begun after
-  reported-tied =
-      let v0 : Value Aborting ℕ = nothing in
-      let v1 : Value Aborting ℕ = record v0 { held = put 0 Parent v0.held } in
-      let v2 : Value Aborting ℕ = record v1 { held = put 0 (Joining 1) (with_spawned 1 (Shared false) (Aborter 2) (taken 0 v1.held)) } in
-      let v3 : Value Aborting ℕ = record v2 { panic = Some text } in
-      let v4 : Value Aborting ℕ = record v3 { held = taken 1 v3.held } in
-      let v5 : Value Aborting ℕ = record v4 { held = freed 1 (taken 0 v4.held) } in
-      (v0, refl, (v1, (Parent, v0.held, (refl, refl, refl), refl), (v1, (refl, refl), (v1, (refl, refl), (v1, refl, (v1, refl, (v1, refl, (v1, refl, (v2, (v2.held, record { before = Parent; left = Joining 1; moved = with_spawned 1 (Shared false) (Aborter 2) (taken 0 v1.held); there = refl; walks = ((refl, tt), ((refl, tt), ((refl, tt), (refl, refl, refl)))); is = refl }, refl), (v2, (refl, refl), (v2, (refl, refl), (v2, (refl, refl), (v2, refl, (v3, (text, v2.held, record { before = Aborter 2; left = Aborter 2; moved = taken 1 v2.held; there = refl; walks = (refl, refl, refl); is = refl }, refl), (v3, refl, (v4, (Aborter 2, refl, inl ((λ there. (refl, refl, (refl, refl, refl)), λ gone. absurd (cc)), refl)), (v4, refl, (v4, refl, (v4, refl, (v4, (refl, refl), (v4, (refl, refl), (v4, (refl, refl), (v4, refl, (v4, refl, (v4, refl, (v4, refl, (v4, refl, (v4, refl, (v5, (Joining 1, refl, inl ((λ there. (refl, refl, (λ there. (refl, refl, (refl, refl, refl)), λ gone. absurd (cc))), λ gone. absurd (cc)), refl)), (v5, (refl, refl), (v5, refl, refl)))))))))))))))))))))))))))))))
+  reported-tied = tied (raising_root text) (begun (begin_catching false)) nothing (failed_beside 1 text) reported_journal refl
 
   caught-tied : IsTied (raising_root text) (begun (begin_catching true)) nothing caught_journal (gave_beside 1 2)
   unfolding begun after
-  caught-tied =
-      let v0 : Value Aborting ℕ = nothing in
-      let v1 : Value Aborting ℕ = record v0 { held = put 0 Parent v0.held } in
-      let v2 : Value Aborting ℕ = record v1 { held = put 0 (Joining 1) (with_spawned 1 (Shared false) (Aborter 2) (taken 0 v1.held)) } in
-      let v3 : Value Aborting ℕ = record v2 { held = taken 1 v2.held } in
-      let v4 : Value Aborting ℕ = record v3 { held = put 0 Parent (freed 1 (taken 0 v3.held)); output = Some 2 } in
-      let v5 : Value Aborting ℕ = record v4 { held = taken 0 v4.held } in
-      (v0, refl, (v1, (Parent, v0.held, (refl, refl, refl), refl), (v1, (refl, refl), (v1, (refl, refl), (v1, refl, (v1, refl, (v1, refl, (v1, refl, (v2, (v2.held, record { before = Parent; left = Joining 1; moved = with_spawned 1 (Shared false) (Aborter 2) (taken 0 v1.held); there = refl; walks = ((refl, tt), ((refl, tt), ((refl, tt), (refl, refl, refl)))); is = refl }, refl), (v2, (refl, refl), (v2, (refl, refl), (v2, (refl, refl), (v2, refl, (v2, (text, v2.held, record { before = Aborter 2; left = Aborter 2; moved = taken 1 v2.held; there = refl; walks = (refl, refl, refl); is = refl }, refl), (v2, refl, (v3, (Aborter 2, refl, inl ((λ there. (refl, refl, (refl, refl, refl)), λ gone. absurd (cc)), refl)), (v3, refl, (v3, refl, (v3, (refl, refl), (v3, (refl, refl), (v3, (refl, refl), (v3, refl, (v3, refl, (v3, refl, (v4, (2, v4.held, record { before = Joining 1; left = Parent; moved = freed 1 (taken 0 v3.held); there = refl; walks = ((refl, tt), (λ there. (refl, refl, (refl, refl, refl)), λ gone. absurd (cc))); is = refl }, refl), (v4, refl, (v4, refl, (v4, refl, (v5, (Parent, refl, inl ((λ there. (refl, refl, (refl, refl, refl)), λ gone. absurd (cc)), refl)), (v5, (refl, refl), (v5, refl, refl)))))))))))))))))))))))))))))))
+  caught-tied = tied (raising_root text) (begun (begin_catching true)) nothing (gave_beside 1 2) caught_journal refl
 
   panicking-tied : (catch : Bool) → IsTied (panicking_root text) (begun (begin_catching catch)) nothing panicking_journal (record nothing { panic = Some text })
   unfolding begun after
-  panicking-tied catch =
-      let v0 : Value (Unit {0}) ℕ = nothing in
-      let v1 : Value (Unit {0}) ℕ = record v0 { held = put 0 tt v0.held } in
-      let v2 : Value (Unit {0}) ℕ = record v1 { panic = Some text } in
-      let v3 : Value (Unit {0}) ℕ = record v2 { held = taken 0 v2.held } in
-      (v0, refl, (v1, (tt, v0.held, (refl, refl, refl), refl), (v1, (refl, refl), (v1, (refl, refl), (v1, refl, (v2, (text, v1.held, record { before = tt; left = tt; moved = v0.held; there = refl; walks = (refl, refl, refl); is = refl }, refl), (v2, refl, (v2, refl, (v2, refl, (v3, (tt, refl, inl ((λ there. (refl, refl, (refl, refl, refl)), λ gone. absurd (cc)), refl)), (v3, (refl, refl), (v3, refl, refl))))))))))))
+  panicking-tied catch = tied (panicking_root text) (begun (begin_catching catch)) nothing (record nothing { panic = Some text }) panicking_journal refl
 
   pub reported_run : IsRun (raising_root text) (begin_catching false) reported_journal TaskPanicked (after_all (begun (begin_catching false)) reported_journal) (failed_beside 1 text)
   unfolding begun after

@@ -1,6 +1,5 @@
 -- Calls that are refused, and what comes near to them is none.
 use Rattle.std.proofs.Common.{ℕ, ◌+◌, Bool, false, List, [], ◌∷◌, ◌++◌, Some, None, codes, refl, arith}
-use Rattle.std.proofs.lemmas.List.Sorted.{IsPermutation-refl}
 use Rattle.rt_base.specs.declared.error.Error.{Error}
 use Rattle.rt_base.specs.declared.error.Error.TheVariants.{UnknownToken, TooManyTasks, Metric}
 use Rattle.rt_base.specs.declared.metric_error.MetricError.TheVariants.{BadLabel, Reserved}
@@ -18,38 +17,39 @@ use Rattle.rt_laws.specs.Examples.{small_begin, begin_by, opening, visiting_root
 use Rattle.rt_laws.specs.Supervised.{handle}
 use Rattle.rt_laws.specs.Refusals.{asked, spawn_asked, last_number, last_spawn_asked}
 use Rattle.rt_laws.proofs.Clock.{lawful-tail}
+use Rattle.rt_laws.proofs.Decided.{lawful}
 
 pub wake_refused : IsLawful (begun small_begin) (asked (Wake 1) (Refused UnknownToken))
 unfolding begun after
-wake_refused = ((refl, (refl, refl, refl, refl, refl)), ((refl, (refl, refl, omega arith)), ((refl, (refl, IsPermutation-refl (0 ∷ []))), ((refl, (refl, refl)), ((refl, (refl, refl, refl)), ((refl, (refl, (refl, (λ given. let below = given.1 in omega arith)))), tt))))))
+wake_refused = lawful small_begin (asked (Wake 1) (Refused UnknownToken)) refl
 
 pub abort_refused : IsLawful (begun small_begin) (asked (AbortTask 0) (Refused UnknownToken))
 unfolding begun after
-abort_refused = ((refl, (refl, refl, refl, refl, refl)), ((refl, (refl, refl, omega arith)), ((refl, (refl, IsPermutation-refl (0 ∷ []))), ((refl, (refl, refl)), ((refl, (refl, refl, refl)), ((refl, (refl, (refl, refl))), tt))))))
+abort_refused = lawful small_begin (asked (AbortTask 0) (Refused UnknownToken)) refl
 
 pub join_refused : IsLawful (begun small_begin) (asked (Join 1) (Refused UnknownToken))
 unfolding begun after
-join_refused = ((refl, (refl, refl, refl, refl, refl)), ((refl, (refl, refl, omega arith)), ((refl, (refl, IsPermutation-refl (0 ∷ []))), ((refl, (refl, refl)), ((refl, (refl, refl, refl)), ((refl, (refl, refl)), tt))))))
+join_refused = lawful small_begin (asked (Join 1) (Refused UnknownToken)) refl
 
 pub node_refused : IsLawful (begun small_begin) (asked (Child 7 []) (Refused UnknownToken))
 unfolding begun after
-node_refused = ((refl, (refl, refl, refl, refl, refl)), ((refl, (refl, refl, omega arith)), ((refl, (refl, IsPermutation-refl (0 ∷ []))), ((refl, (refl, refl)), ((refl, (refl, refl, refl)), ((refl, (refl, refl)), tt))))))
+node_refused = lawful small_begin (asked (Child 7 []) (Refused UnknownToken)) refl
 
 pub label_refused : IsLawful (begun small_begin) (asked (Child 0 []) (Refused (Metric BadLabel)))
 unfolding begun after
-label_refused = ((refl, (refl, refl, refl, refl, refl)), ((refl, (refl, refl, omega arith)), ((refl, (refl, IsPermutation-refl (0 ∷ []))), ((refl, (refl, refl)), ((refl, (refl, refl, refl)), ((refl, (refl, refl)), tt))))))
+label_refused = lawful small_begin (asked (Child 0 []) (Refused (Metric BadLabel))) refl
 
 pub reserved_refused : IsLawful (begun small_begin) (asked (Child 0 (codes "runtime")) (Refused (Metric Reserved)))
 unfolding begun after
-reserved_refused = ((refl, (refl, refl, refl, refl, refl)), ((refl, (refl, refl, omega arith)), ((refl, (refl, IsPermutation-refl (0 ∷ []))), ((refl, (refl, refl)), ((refl, (refl, refl, refl)), ((refl, (refl, refl)), tt))))))
+reserved_refused = lawful small_begin (asked (Child 0 (codes "runtime")) (Refused (Metric Reserved))) refl
 
 pub spawn_refused : IsLawful (begun small_begin) (asked (Spawn 7) (Refused UnknownToken))
 unfolding begun after
-spawn_refused = ((refl, (refl, refl, refl, refl, refl)), ((refl, (refl, refl, omega arith)), ((refl, (refl, IsPermutation-refl (0 ∷ []))), ((refl, (refl, refl)), ((refl, (refl, refl, refl)), ((refl, (refl, refl)), tt))))))
+spawn_refused = lawful small_begin (asked (Spawn 7) (Refused UnknownToken)) refl
 
 pub number_refused : IsLawful (begun (begin_by 1000000 None last_number)) (last_spawn_asked (Refused TooManyTasks))
 unfolding begun after
-number_refused = ((refl, (refl, refl, refl, refl, refl)), ((refl, (refl, refl, omega arith)), ((refl, (refl, IsPermutation-refl (last_number ∷ []))), ((refl, (refl, refl)), ((refl, (refl, refl, refl)), ((refl, (refl, (refl, refl, refl))), ((refl, (refl, refl)), tt)))))))
+number_refused = lawful (begin_by 1000000 None last_number) (last_spawn_asked (Refused TooManyTasks)) refl
 
 -- what is replied behind a front of these
 told : (x : List Entry) (call : CallOf) (reply : CallReply) → IsLawful (begun small_begin) (x ++ Call (Some 0) call reply ∷ []) → Answers (after_all (begun small_begin) x) call reply

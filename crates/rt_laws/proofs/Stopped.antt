@@ -1,5 +1,5 @@
 -- The root is stopped where a panic is kept, and none is kept where panics are caught.
-use Rattle.std.proofs.Common.{◌≡◌, ℕ, List, [], ◌∷◌, ◌++◌, Option, Some, None, Bool, true, false, not, ◌&&◌, ◌||◌, eqb, refl, sym, arith}
+use Rattle.std.proofs.Common.{◌≡◌, ℕ, List, [], ◌∷◌, ◌++◌, Option, Some, None, Bool, true, false, not, ◌&&◌, ◌||◌, refl, arith}
 use Rattle.rt_audit.specs.declared.answer.AnswerKind.{AnswerKind}
 use Rattle.rt_audit.specs.declared.answer.AnswerKind.TheVariants.{Pending, Ready, Panicked, Stopped, NoMemory, Ended}
 use Rattle.rt_audit.specs.declared.finish.FinishCause.{FinishCause}
@@ -15,8 +15,8 @@ use Rattle.rt_model.specs.Marks.{is_flagged}
 use Rattle.rt_model.specs.State.{State, Phase, Entered, Halted, Ending, Leaving, Cleaning, begun}
 use Rattle.rt_model.specs.Causes.{reached}
 use Rattle.rt_model.specs.Effects.{after, after_all, answered, cleans, ended, ends_in_panic, entered, entered_by, finished, is_settled, leaves, left_of, left_pending, node_ended, panics_answered}
-use Rattle.rt_model.specs.Rules.{May, IsLawful}
-use Rattle.rt_laws.proofs.Clock.{lawful-front, lawful-tail}
+use Rattle.rt_model.specs.Rules.{IsLawful}
+use Rattle.rt_laws.proofs.Clock.{lawful-tail}
 
 -- whoever is stopped is the root, behind a panic that is kept
 abbrev IsStopped : Phase → Option ℕ → Bool → Type 0

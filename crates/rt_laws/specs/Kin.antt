@@ -1,11 +1,10 @@
 -- A run in which a task ends unpolled with the node of its parent, and what comes near to it.
-use Rattle.std.specs.Prelude.{ℕ, List, [], ◌∷◌, ◌++◌, Some, None, codes, false}
+use Rattle.std.specs.Prelude.{ℕ, List, [], ◌∷◌, ◌++◌, Some, false}
 use Rattle.rt_base.specs.Label.{prefixed}
 use Rattle.rt_base.specs.declared.execution.Execution.TheVariants.{Shared}
 use Rattle.rt_audit.specs.declared.call.Call.TheVariants.{Child, CloseNode, Spawn, AbortTask, Join, GiveUp}
-use Rattle.rt_audit.specs.declared.reply.CallReply.TheVariants.{Done, NodeAt, TaskAt, Pending as StillPending, Refused}
+use Rattle.rt_audit.specs.declared.reply.CallReply.TheVariants.{Done, NodeAt, TaskAt}
 use Rattle.rt_audit.specs.declared.answer.AnswerKind.TheVariants.{Pending as AnswersPending, Ready as AnswersReady, Ended}
-use Rattle.rt_audit.specs.declared.finish.FinishCause.TheVariants.{Completed}
 use Rattle.rt_audit.specs.declared.entry.Entry.{Entry}
 use Rattle.rt_audit.specs.declared.entry.Entry.TheVariants.{Call, Event, Wake, Round, Visit, Answer as Answered, NodeEnd, Advance}
 use Rattle.rt_model.specs.declared.answer.Answer.{Answer}
@@ -14,7 +13,7 @@ use Rattle.rt_model.specs.Events.{process_task, task_fields}
 use Rattle.rt_model.specs.Turns.{Plainly, Spawning, Heard, Plain, Handed}
 use Rattle.rt_model.specs.Walk.{Step, Does, Spends, Gives, Last}
 use Rattle.rt_model.specs.Tied.{Steps, Value, with_first, nothing}
-use Rattle.rt_laws.specs.Examples.{opening, visiting_root, finishing}
+use Rattle.rt_laws.specs.Examples.{opening, visiting_root}
 use Rattle.rt_laws.specs.Supervised.{closes, handle, aborter_spawned, aborter_joined, aborter_closes, joined, parent_ends}
 
 pub data Kin : Type 0 where

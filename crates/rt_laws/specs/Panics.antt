@@ -1,5 +1,5 @@
 -- Small runs with panics, and what comes near to them.
-use Rattle.std.specs.Prelude.{ℕ, List, [], ◌∷◌, ◌++◌, Some, None, Bool, false, true}
+use Rattle.std.specs.Prelude.{ℕ, List, [], ◌∷◌, ◌++◌, Some, Bool, false}
 use Rattle.rt_base.specs.declared.error.Error.TheVariants.{Exited}
 use Rattle.rt_base.specs.declared.execution.Execution.TheVariants.{Shared}
 use Rattle.rt_audit.specs.declared.call.Call.TheVariants.{Child, CloseNode, Join, GiveUp}

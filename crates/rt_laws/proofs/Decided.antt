@@ -1,0 +1,341 @@
+-- Whether the entries of a run may come where they stand, found out by computing: each example's proof.
+use Rattle.std.proofs.Common.{◌≡◌, ◌≢◌, ◌⊎◌, inl, inr, ℕ, ◌≤◌, ◌<◌, ◌+◌, ◌-◌, ◌^◌, List, [], ◌∷◌, drop, Option, Some, None, is_some, option_map, Bool, true, false, not, eqb, ltb, leb, refl, arith}
+use Rattle.std.specs.List.Sorted.{IsPermutation}
+use Rattle.std.proofs.lemmas.Bool.{eqb-true, ltb-true, leb-true}
+use Rattle.std.proofs.lemmas.List.Sorted.{IsPermutation-refl}
+use Rattle.rt_base.specs.declared.error.Error.{Error}
+use Rattle.rt_base.specs.declared.error.Error.TheVariants.{UnknownToken, TooManyTasks, Exited as HasExited, Closed as ErrClosed, Metric}
+use Rattle.rt_base.specs.declared.metric_error.MetricError.TheVariants.{BadLabel, Reserved}
+use Rattle.rt_base.specs.declared.time.TheConstants.{MAX_TIME}
+use Rattle.rt_audit.specs.declared.call.Call.{Call}
+use Rattle.rt_audit.specs.declared.call.Call.TheVariants.{Child, CloseNode, Spawn, Abort, AbortTask, Wake as WakeCall, Join, GiveUp, SleepPoll}
+use Rattle.rt_audit.specs.declared.reply.CallReply.{CallReply}
+use Rattle.rt_audit.specs.declared.reply.CallReply.TheVariants.{Done, NodeAt, TaskAt, Closed, Pending as StillPending, PendingAt, Ready as IsReady, Refused}
+use Rattle.rt_audit.specs.declared.answer.AnswerKind.{AnswerKind}
+use Rattle.rt_audit.specs.declared.answer.AnswerKind.TheVariants.{Pending, Ready, Panicked, Stopped, NoMemory, Ended}
+use Rattle.rt_audit.specs.declared.finish.FinishCause.{FinishCause}
+use Rattle.rt_audit.specs.declared.finish.FinishCause.TheVariants as cause
+use Rattle.rt_audit.specs.declared.entry.Entry.{Entry}
+use Rattle.rt_audit.specs.declared.entry.Entry.TheVariants.{Start, Call as CallEntry, Event, Wake, Draw, Root, Round, Visit, Answer, NodeEnd, Advance, Skip, Fire, Cleanup, Crash, Finish}
+use Rattle.rt_super.specs.Ancestry.{is_live, is_known, is_ended}
+use Rattle.rt_model.specs.declared.begin.Begin.{Begin}
+use Rattle.rt_model.specs.declared.mark.Mark.{Mark}
+use Rattle.rt_model.specs.declared.result.Outcome.{Outcome}
+use Rattle.rt_model.specs.declared.result.Outcome.TheVariants.{Open, There, Exited, Closed as IsClosed}
+use Rattle.rt_model.specs.declared.result.TaskResult.{TaskResult}
+use Rattle.rt_model.specs.Lists.{find}
+use Rattle.rt_model.specs.Results.{may_abort}
+use Rattle.rt_model.specs.State.{Phase, Blank, Making, Between, Visiting, Entered, Polling, Halted, Ending, Leaving, Turning, Over, Cleaning, Closing, Crashed, Numbers, State, begun}
+use Rattle.rt_model.specs.Alarms.{is_set, skip_to, fires}
+use Rattle.rt_model.specs.Causes.{is_late, from_running, ends_next}
+use Rattle.rt_model.specs.Effects.{left_of, visited, label_at, task_label, after}
+use Rattle.rt_model.specs.Events.{process_task, task_fields}
+use Rattle.rt_model.specs.Rules.{WasGiven, IsRefusal, OutcomeAnswers, is_free, label_refusal, ChildAnswers, SpawnAnswers, Unless, JoinAnswers, Answers, IsEndedNext, CallsAt, MayEnd, MayAnswer, MayRound, MayClose, MayCrash, MayFinish, MayEndNode, MayFree, May, IsLawful}
+
+told : {P : Type 0} (o : Option P) → is_some o ≡ true → P
+told None e = absurd (cc)
+told (Some p) e = p
+
+abbrev pub both : {P Q : Type 0} → Option P → Option Q → Option (P × Q)
+both None q = None
+both (Some p) None = None
+both (Some p) (Some q) = Some (p, q)
+
+abbrev three : {P Q R : Type 0} → Option P → Option Q → Option R → Option (P × Q × R)
+three (Some p) (Some q) (Some r) = Some (p, q, r)
+three _ _ _ = None
+
+abbrev four : {P Q R S : Type 0} → Option P → Option Q → Option R → Option S → Option (P × Q × R × S)
+four (Some p) (Some q) (Some r) (Some s) = Some (p, q, r, s)
+four _ _ _ _ = None
+
+abbrev five : {P Q R S T : Type 0} → Option P → Option Q → Option R → Option S → Option T → Option (P × Q × R × S × T)
+five (Some p) (Some q) (Some r) (Some s) (Some t) = Some (p, q, r, s, t)
+five _ _ _ _ _ = None
+
+abbrev either : {P Q : Type 0} → Option P → Option Q → Option (P ⊎ Q)
+either (Some p) q = Some (inl p)
+either None None = None
+either None (Some q) = Some (inr q)
+
+abbrev if_true : {P : Type 0} (b : Bool) → (b ≡ true → P) → Option P
+if_true true f = Some (f refl)
+if_true false f = None
+
+abbrev pub is_true : (b : Bool) → Option (b ≡ true)
+is_true true = Some refl
+is_true false = None
+
+abbrev pub is_false : (b : Bool) → Option (b ≡ false)
+is_false true = None
+is_false false = Some refl
+
+-- numbers, texts and what may be none
+
+abbrev pub same : (x y : ℕ) → Option (x ≡ y)
+same x y = if_true (eqb x y) (eqb-true x y)
+
+abbrev below : (x y : ℕ) → Option (x < y)
+below x y = if_true (ltb x y) (ltb-true x y)
+
+abbrev at_most : (x y : ℕ) → Option (x ≤ y)
+at_most x y = if_true (leb x y) (leb-true x y)
+
+abbrev same_bool : (x y : Bool) → Option (x ≡ y)
+same_bool true true = Some refl
+same_bool false false = Some refl
+same_bool _ _ = None
+
+module _ {X : Type 0} (same_item : (x y : X) → Option (x ≡ y)) where
+  abbrev cons : (x y : X) (xs ys : List X) → Option (x ≡ y) → Option (xs ≡ ys) → Option (x ∷ xs ≡ y ∷ ys)
+  cons x y xs ys None f = None
+  cons x y xs ys (Some e) None = None
+  cons x y xs ys (Some e) (Some f) = Some (rw (e, f) refl)
+
+  abbrev pub same_list : (xs ys : List X) → Option (xs ≡ ys)
+  same_list [] [] = Some refl
+  same_list (x ∷ xs) (y ∷ ys) = cons x y xs ys (same_item x y) (same_list xs ys)
+  same_list _ _ = None
+
+  abbrev some : (x y : X) → Option (x ≡ y) → Option (Some x ≡ Some y)
+  some x y None = None
+  some x y (Some e) = Some (rw e refl)
+
+  abbrev same_option : (x y : Option X) → Option (x ≡ y)
+  same_option None None = Some refl
+  same_option (Some x) (Some y) = some x y (same_item x y)
+  same_option _ _ = None
+
+abbrev none_left : {X : Type 0} (xs : List X) → Option (xs ≡ [])
+none_left [] = Some refl
+none_left (x ∷ xs) = None
+
+pub none_there : {X : Type 0} (x : X) (xs : List X) → x ∷ xs ≢ []
+none_there x xs e = cc
+
+abbrev some_left : {X : Type 0} (xs : List X) → Option (xs ≢ [])
+some_left [] = None
+some_left (x ∷ xs) = Some (none_there x xs)
+
+-- errors and causes
+
+abbrev same_error : (x y : Error) → Option (x ≡ y)
+same_error UnknownToken UnknownToken = Some refl
+same_error TooManyTasks TooManyTasks = Some refl
+same_error HasExited HasExited = Some refl
+same_error ErrClosed ErrClosed = Some refl
+same_error (Metric BadLabel) (Metric BadLabel) = Some refl
+same_error (Metric Reserved) (Metric Reserved) = Some refl
+same_error _ _ = None
+
+abbrev same_cause : (x y : FinishCause) → Option (x ≡ y)
+same_cause cause.Completed cause.Completed = Some refl
+same_cause cause.Timeout cause.Timeout = Some refl
+same_cause cause.Stalled cause.Stalled = Some refl
+same_cause cause.TaskPanicked cause.TaskPanicked = Some refl
+same_cause cause.TimeOverflow cause.TimeOverflow = Some refl
+same_cause cause.TooManyTasks cause.TooManyTasks = Some refl
+same_cause cause.NoMemory cause.NoMemory = Some refl
+same_cause _ _ = None
+
+-- replies
+
+abbrev refusal : (error : Error) (reply : CallReply) → Option (IsRefusal error reply)
+refusal error (Refused other) = same_error other error
+refusal error _ = None
+
+abbrev unless : (b : Bool) (error : Error) (P : CallReply → Type 0) → ((reply : CallReply) → Option (P reply)) → (reply : CallReply) → Option (Unless b error P reply)
+unless true error P otherwise reply = refusal error reply
+unless false error P otherwise reply = otherwise reply
+
+abbrev outcome : (o : Outcome) (reply : CallReply) → Option (OutcomeAnswers o reply)
+outcome (Open waits) StillPending = Some refl
+outcome There IsReady = Some refl
+outcome Exited reply = refusal HasExited reply
+outcome IsClosed reply = refusal ErrClosed reply
+outcome _ _ = None
+
+abbrev join : (r : Option TaskResult) (reply : CallReply) → Option (JoinAnswers r reply)
+join None reply = refusal UnknownToken reply
+join (Some r) reply = outcome r.outcome reply
+
+abbrev child : (s : State) (node : ℕ) (label : List ℕ) (reply : CallReply) → Option (ChildAnswers s node label reply)
+child s node label (NodeAt number ended) =
+    three (same_option same_error (label_refusal (label_at s.labels node) label) None) (is_false (is_known s.nodes number)) (same_bool ended (is_ended s.nodes node))
+child s node label (Refused error) = same_option same_error (Some error) (label_refusal (label_at s.labels node) label)
+child s node label _ = None
+
+abbrev spawn : (s : State) (node : ℕ) (reply : CallReply) → Option (SpawnAnswers s node reply)
+spawn s node (TaskAt task number) =
+    three (same task s.numbers.next) (is_false (is_ended s.nodes node)) (is_false (is_known s.nodes number))
+spawn s node Closed = is_true (is_ended s.nodes node)
+spawn s node _ = None
+
+abbrev given : (n : Numbers) (task : ℕ) → Option (WasGiven n task)
+given n task = both (at_most n.first task) (below task n.next)
+
+abbrev not_given : (n : Numbers) (task : ℕ) → Option (WasGiven n task → ⊥)
+not_given n task = if_true (leb n.next task) (λ e. let past = leb-true n.next task e in λ given. let low = given.1 in omega (arith, past, low))
+
+abbrev answers : (s : State) (call : Call) (reply : CallReply) → Option (Answers s call reply)
+answers s (Child node label) reply = unless (not (is_live s.nodes node)) UnknownToken (ChildAnswers s node label) (child s node label) reply
+answers s (CloseNode node) Done = is_true (is_live s.nodes node)
+answers s (Spawn node) reply =
+    unless (not (is_free s.nodes node)) UnknownToken
+    (λ reply. Unless (leb (2 ^ 64 - 1) s.numbers.next) TooManyTasks (SpawnAnswers s node) reply)
+    (unless (leb (2 ^ 64 - 1) s.numbers.next) TooManyTasks (SpawnAnswers s node) (spawn s node))
+    reply
+answers s (Abort task) Done = is_true (may_abort (find task s.results))
+answers s (AbortTask task) Done = is_true (is_some (find task s.marks))
+answers s (AbortTask task) (Refused error) = both (same_error error UnknownToken) (is_false (is_some (find task s.marks)))
+answers s (Join task) reply = join (find task s.results) reply
+answers s (GiveUp task) Done = is_true (is_some (find task s.results))
+answers s (WakeCall task) Done = given s.numbers task
+answers s (WakeCall task) (Refused error) = both (same_error error UnknownToken) (not_given s.numbers task)
+answers s (SleepPoll due) IsReady = at_most due s.clock.time
+answers s (SleepPoll due) (PendingAt alarm) =
+    three (below s.clock.time due) (at_most due MAX_TIME) (either (same alarm s.alarms.count) (is_true (is_set s.alarms.alarms due alarm)))
+answers s _ _ = None
+
+-- phases
+
+abbrev ended_next : (root next by : Option ℕ) → Option (IsEndedNext root next by)
+ended_next root None by = both (same_option same root None) (same_option same by None)
+ended_next root (Some task) by = same_option same by (Some task)
+
+abbrev calls : (p : Phase) (root next by : Option ℕ) → Option (CallsAt p root next by)
+calls Making root next by = same_option same by None
+calls (Polling task left) root next by = same_option same by (Some task)
+calls (Ending task result left) root next by = same_option same by (Some task)
+calls (Closing of) root next by = ended_next root next by
+calls _ root next by = None
+
+abbrev is_blank : (p : Phase) → Option (p ≡ Blank)
+is_blank Blank = Some refl
+is_blank _ = None
+
+abbrev is_making : (p : Phase) → Option (p ≡ Making)
+is_making Making = Some refl
+is_making _ = None
+
+abbrev is_entered : (p : Phase) → Option (p ≡ Entered (visited p) (left_of p))
+is_entered (Entered task left) = Some refl
+is_entered _ = None
+
+abbrev is_visiting : (p : Phase) → Option (p ≡ Visiting (left_of p))
+is_visiting (Visiting left) = Some refl
+is_visiting _ = None
+
+abbrev is_turning : (p : Phase) → Option (p ≡ Turning)
+is_turning Turning = Some refl
+is_turning _ = None
+
+abbrev polling : (other task : ℕ) (left : List ℕ) → Option (other ≡ task) → Option (Polling other left ≡ Polling task left)
+polling other task left None = None
+polling other task left (Some e) = Some (rw e refl)
+
+abbrev is_polling : (p : Phase) (task : ℕ) → Option (p ≡ Polling task (left_of p))
+is_polling (Polling other left) task = polling other task left (same other task)
+is_polling _ task = None
+
+abbrev halted : (other task : ℕ) → Option (other ≡ task) → Option (Halted other ≡ Halted task)
+halted other task None = None
+halted other task (Some e) = Some (rw e refl)
+
+abbrev is_halted : (p : Phase) (task : ℕ) → Option (p ≡ Halted task)
+is_halted (Halted other) task = halted other task (same other task)
+is_halted _ task = None
+
+abbrev ends : (p : Phase) (next : Option ℕ) (task : ℕ) → Option (MayEnd p next task)
+ends (Ending other result left) next task = same task other
+ends (Closing of) next task = same_option same next (Some task)
+ends _ next task = None
+
+abbrev answered : (s : State) (task : ℕ) (kind : AnswerKind) → Option (MayAnswer s task kind)
+answered s task Pending = is_polling s.phase task
+answered s task Ready = is_polling s.phase task
+answered s task Panicked = is_polling s.phase task
+answered s task Stopped = is_halted s.phase task
+answered s task NoMemory = is_polling s.phase task
+answered s task Ended = ends s.phase (ends_next s.running s.root) task
+
+abbrev rounds : (p : Phase) (s : State) → Option (MayRound p s)
+rounds Between s = is_false (is_late s.clock)
+rounds Turning s = three (some_left s.ready) (is_false (is_late s.clock)) (same_option same (fires s.alarms.alarms s.clock.time) None)
+rounds _ s = None
+
+abbrev closes : (p : Phase) → Option (MayClose p)
+closes Making = Some tt
+closes Between = Some tt
+closes Turning = Some tt
+closes (Visiting left) = Some tt
+closes (Over of) = Some tt
+closes _ = None
+
+abbrev crashes : (p : Phase) (running : List ℕ) → Option (MayCrash p running)
+crashes (Closing of) running = none_left running
+crashes _ running = None
+
+abbrev finishes : (p : Phase) (end : FinishCause) → Option (MayFinish p end)
+finishes (Crashed reached) end = either (same_cause end cause.NoMemory) (same_option same_cause reached (Some end))
+finishes _ end = None
+
+abbrev node_ends : (p : Phase) (ms : List (ℕ × Mark)) (node : ℕ) → Option (MayEndNode p ms node)
+node_ends (Leaving task result left) ms node = same_option same (option_map (λ (m : Mark). m.node) (find task ms)) (Some node)
+node_ends (Cleaning of) ms node = same node 0
+node_ends _ ms node = None
+
+abbrev in_place : (ready order : List ℕ) → Option (ready ≡ order) → Option (IsPermutation ready order)
+in_place ready order None = None
+in_place ready order (Some e) = Some (rw e (IsPermutation-refl order))
+
+-- entries
+
+abbrev free : (s : State) (e : Entry) → Option (MayFree s e)
+free s (Start next now deadline cycle) =
+    five (is_blank s.phase) (same next s.clock.fixed.first) (same now s.clock.fixed.start) (same_option same deadline s.clock.fixed.deadline) (same cycle s.clock.fixed.cycle)
+free s (CallEntry by call reply) = both (calls s.phase s.root (ends_next s.running s.root) by) (answers s call reply)
+free s (Event label fields) =
+    three (is_entered s.phase) (same_list same label process_task) (same_list (same_list same) fields (task_fields (visited s.phase) (task_label s (visited s.phase))))
+free s (Wake task) = None
+free s (Draw value) = rounds s.phase s
+free s (Root task) = three (is_making s.phase) (same task s.numbers.next) (below task (2 ^ 64 - 1))
+free s (Round order) = both (rounds s.phase s) (in_place s.ready order (same_list same s.ready order))
+free s (Visit task) =
+    both (is_visiting s.phase) (same_list same (from_running s.running (left_of s.phase)) (task ∷ drop 1 (from_running s.running (left_of s.phase))))
+free s (Answer task kind) = answered s task kind
+free s (NodeEnd node) = node_ends s.phase s.marks node
+free s (Advance now) =
+    four (is_visiting s.phase) (none_left (from_running s.running (left_of s.phase))) (same now (s.clock.time + s.clock.fixed.cycle)) (at_most now MAX_TIME)
+free s (Skip now) = both (is_turning s.phase) (same_option same (skip_to s.ready s.alarms.alarms s.clock.time) (Some now))
+free s (Fire alarm) =
+    three (is_turning s.phase) (is_false (is_late s.clock)) (same_option same (fires s.alarms.alarms s.clock.time) (Some alarm))
+free s Cleanup = closes s.phase
+free s (Crash choices) = both (crashes s.phase s.running) (none_left choices)
+free s (Finish end) = finishes s.phase end
+
+abbrev may : (s : State) (e : Entry) → Option (May s e)
+may s (Start next now deadline cycle) = both (none_left s.owed) (free s (Start next now deadline cycle))
+may s (CallEntry by call reply) = both (none_left s.owed) (free s (CallEntry by call reply))
+may s (Event label fields) = both (none_left s.owed) (free s (Event label fields))
+may s (Wake task) = same_list same s.owed (task ∷ drop 1 s.owed)
+may s (Draw value) = both (none_left s.owed) (free s (Draw value))
+may s (Root task) = both (none_left s.owed) (free s (Root task))
+may s (Round order) = both (none_left s.owed) (free s (Round order))
+may s (Visit task) = both (none_left s.owed) (free s (Visit task))
+may s (Answer task kind) = both (none_left s.owed) (free s (Answer task kind))
+may s (NodeEnd node) = both (none_left s.owed) (free s (NodeEnd node))
+may s (Advance now) = both (none_left s.owed) (free s (Advance now))
+may s (Skip now) = both (none_left s.owed) (free s (Skip now))
+may s (Fire alarm) = both (none_left s.owed) (free s (Fire alarm))
+may s Cleanup = both (none_left s.owed) (free s Cleanup)
+may s (Crash choices) = both (none_left s.owed) (free s (Crash choices))
+may s (Finish end) = both (none_left s.owed) (free s (Finish end))
+
+abbrev pub may_all : (s : State) (x : List Entry) → Option (IsLawful s x)
+may_all s [] = Some tt
+may_all s (e ∷ x) = both (may s e) (may_all (after s e) x)
+
+-- a journal that is lawful, as computing it tells
+pub lawful : (b : Begin) (x : List Entry) → is_some (may_all (begun b) x) ≡ true → IsLawful (begun b) x
+lawful b x e = told (may_all (begun b) x) e
