@@ -4,13 +4,13 @@ use Rattle.std.specs.List.Sorted.{IsPermutation}
 use Rattle.std.proofs.lemmas.Bool.{eqb-true, ltb-true, leb-true}
 use Rattle.std.proofs.lemmas.List.Sorted.{IsPermutation-refl}
 use Rattle.rt_base.specs.declared.error.Error.{Error}
-use Rattle.rt_base.specs.declared.error.Error.TheVariants.{UnknownToken, TooManyTasks, Exited as HasExited, Closed as ErrClosed, Metric}
+use Rattle.rt_base.specs.declared.error.Error.TheVariants.{UnknownToken, TooManyTasks, Exited as HasExited, Closed as ErrClosed, Aborted, Timeout, Metric}
 use Rattle.rt_base.specs.declared.metric_error.MetricError.TheVariants.{BadLabel, Reserved}
 use Rattle.rt_base.specs.declared.time.TheConstants.{MAX_TIME}
 use Rattle.rt_audit.specs.declared.call.Call.{Call}
-use Rattle.rt_audit.specs.declared.call.Call.TheVariants.{Child, CloseNode, Spawn, Abort, AbortTask, Wake as WakeCall, Join, GiveUp, SleepPoll}
+use Rattle.rt_audit.specs.declared.call.Call.TheVariants.{Child, CloseNode, Spawn, Abort, AbortTask, Wake as WakeCall, Join, GiveUp, SleepPoll, Slot, SlotSend, SlotClose, SlotPoll, SlotGiveUp, AbortWait}
 use Rattle.rt_audit.specs.declared.reply.CallReply.{CallReply}
-use Rattle.rt_audit.specs.declared.reply.CallReply.TheVariants.{Done, NodeAt, TaskAt, Closed, Pending as StillPending, PendingAt, Ready as IsReady, Refused}
+use Rattle.rt_audit.specs.declared.reply.CallReply.TheVariants.{Done, NodeAt, TaskAt, Closed, SlotAt, Pending as StillPending, PendingAt, Ready as IsReady, Refused}
 use Rattle.rt_audit.specs.declared.answer.AnswerKind.{AnswerKind}
 use Rattle.rt_audit.specs.declared.answer.AnswerKind.TheVariants.{Pending, Ready, Panicked, Stopped, NoMemory, Ended}
 use Rattle.rt_audit.specs.declared.finish.FinishCause.{FinishCause}
@@ -30,7 +30,7 @@ use Rattle.rt_model.specs.Alarms.{is_set, skip_to, fires}
 use Rattle.rt_model.specs.Causes.{is_late, from_running, ends_next}
 use Rattle.rt_model.specs.Effects.{left_of, visited, label_at, task_label, after}
 use Rattle.rt_model.specs.Events.{process_task, task_fields}
-use Rattle.rt_model.specs.Rules.{WasGiven, IsRefusal, OutcomeAnswers, is_free, label_refusal, ChildAnswers, SpawnAnswers, Unless, JoinAnswers, Answers, IsEndedNext, CallsAt, MayEnd, MayAnswer, MayRound, MayClose, MayCrash, MayFinish, MayEndNode, MayFree, May, IsLawful}
+use Rattle.rt_model.specs.Rules.{WasGiven, IsRefusal, OutcomeAnswers, is_free, label_refusal, ChildAnswers, SpawnAnswers, Unless, JoinAnswers, IsSent, SlotAnswers, ReceiveAnswers, Answers, IsEndedNext, CallsAt, MayEnd, MayAnswer, MayRound, MayClose, MayCrash, MayFinish, MayEndNode, MayFree, May, IsLawful}
 
 told : {P : Type 0} (o : Option P) → is_some o ≡ true → P
 told None e = absurd (cc)
@@ -119,11 +119,13 @@ some_left (x ∷ xs) = Some (none_there x xs)
 
 -- errors and causes
 
-abbrev same_error : (x y : Error) → Option (x ≡ y)
+abbrev pub same_error : (x y : Error) → Option (x ≡ y)
 same_error UnknownToken UnknownToken = Some refl
 same_error TooManyTasks TooManyTasks = Some refl
 same_error HasExited HasExited = Some refl
 same_error ErrClosed ErrClosed = Some refl
+same_error Aborted Aborted = Some refl
+same_error Timeout Timeout = Some refl
 same_error (Metric BadLabel) (Metric BadLabel) = Some refl
 same_error (Metric Reserved) (Metric Reserved) = Some refl
 same_error _ _ = None
@@ -158,6 +160,21 @@ outcome _ _ = None
 abbrev join : (r : Option TaskResult) (reply : CallReply) → Option (JoinAnswers r reply)
 join None reply = refusal UnknownToken reply
 join (Some r) reply = outcome r.outcome reply
+
+abbrev sent : (reply : CallReply) → Option (IsSent reply)
+sent IsReady = Some tt
+sent (Refused error) = Some tt
+sent _ = None
+
+abbrev slot : (o : Outcome) (reply : CallReply) → Option (SlotAnswers o reply)
+slot (Open waits) reply = outcome (Open waits) reply
+slot There reply = sent reply
+slot Exited reply = outcome Exited reply
+slot IsClosed reply = outcome IsClosed reply
+
+abbrev receive : (r : Option TaskResult) (reply : CallReply) → Option (ReceiveAnswers r reply)
+receive None reply = refusal UnknownToken reply
+receive (Some r) reply = unless r.aborted Aborted (SlotAnswers r.outcome) (slot r.outcome) reply
 
 abbrev child : (s : State) (node : ℕ) (label : List ℕ) (reply : CallReply) → Option (ChildAnswers s node label reply)
 child s node label (NodeAt number ended) =
@@ -195,6 +212,12 @@ answers s (WakeCall task) (Refused error) = both (same_error error UnknownToken)
 answers s (SleepPoll due) IsReady = at_most due s.clock.time
 answers s (SleepPoll due) (PendingAt alarm) =
     three (below s.clock.time due) (at_most due MAX_TIME) (either (same alarm s.alarms.count) (is_true (is_set s.alarms.alarms due alarm)))
+answers s Slot (SlotAt number) = same number s.slots.count
+answers s (SlotSend number) Done = is_true (is_some (find number s.slots.senders))
+answers s (SlotClose number) Done = is_true (is_some (find number s.slots.senders))
+answers s (SlotPoll number) reply = receive (find number s.slots.results) reply
+answers s (SlotGiveUp number) Done = is_true (is_some (find number s.slots.results))
+answers s (AbortWait number) Done = is_true (may_abort (find number s.slots.results))
 answers s _ _ = None
 
 -- phases

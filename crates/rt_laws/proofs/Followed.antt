@@ -1,9 +1,10 @@
 -- Whether entries follow the steps of a task type, and which values they leave, found out by computing: each example's tie.
-use Rattle.std.proofs.Common.{◌≡◌, inl, inr, ℕ, List, [], ◌∷◌, Option, Some, None, option_map, Bool, true, false, refl, subst}
+use Rattle.std.proofs.Common.{◌≡◌, inl, inr, ℕ, List, [], ◌∷◌, Option, Some, None, Result, Ok, Err, option_map, Bool, true, false, refl, subst}
+use Rattle.rt_base.specs.declared.error.Error.{Error}
 use Rattle.rt_audit.specs.declared.call.Call.{Call}
-use Rattle.rt_audit.specs.declared.call.Call.TheVariants.{Child, CloseNode, Spawn, Abort, AbortTask, Wake as WakeCall, Join, GiveUp, SleepPoll}
+use Rattle.rt_audit.specs.declared.call.Call.TheVariants.{Child, CloseNode, Spawn, Abort, AbortTask, Wake as WakeCall, Join, GiveUp, SleepPoll, Slot, SlotSend, SlotClose, SlotPoll, SlotGiveUp, AbortWait}
 use Rattle.rt_audit.specs.declared.reply.CallReply.{CallReply}
-use Rattle.rt_audit.specs.declared.reply.CallReply.TheVariants.{Done, PendingAt, Ready as IsOver}
+use Rattle.rt_audit.specs.declared.reply.CallReply.TheVariants.{Done, PendingAt, Ready as IsOver, Refused}
 use Rattle.rt_audit.specs.declared.answer.AnswerKind.{AnswerKind}
 use Rattle.rt_audit.specs.declared.answer.AnswerKind.TheVariants.{Pending as IsPending, Ready as IsReady, Panicked as IsPanicked, Stopped as IsStopped, NoMemory as LacksMemory, Ended as IsEnded}
 use Rattle.rt_audit.specs.declared.entry.Entry.{Entry}
@@ -14,10 +15,10 @@ use Rattle.rt_model.specs.Lists.{find}
 use Rattle.rt_model.specs.State.{State, Phase, Between, Visiting, Turning, Over, Turn, Stood, stood_in}
 use Rattle.rt_model.specs.Alarms.{alarm_of}
 use Rattle.rt_model.specs.Effects.{after}
-use Rattle.rt_model.specs.Turns.{Held, Ask, Plainly, Sleeping, Sending, Spawning, IsOwn, IsPlainly, Fits, Asks, call_of, heard_of, moved, has_place, put}
+use Rattle.rt_model.specs.Turns.{Held, Ask, Plainly, Sleeping, Sending, Spawning, IsOwn, IsAnswerOf, IsPlainly, Fits, Asks, call_of, heard_of, moved, has_place, put}
 use Rattle.rt_model.specs.Walk.{Step, Does, Spends, Gives, Gave, Goes, Walks}
 use Rattle.rt_model.specs.Tied.{Steps, Value, Polls, PollBreaks, given, kept_text, taken, MovesCleanup, MovesCrash, Moves, IsTied}
-use Rattle.rt_laws.proofs.Decided.{both, is_true, is_false, same, same_list}
+use Rattle.rt_laws.proofs.Decided.{both, is_true, is_false, same, same_list, same_error}
 
 -- what follows from what was found
 abbrev found : {P Q : Type 0} → Option P → (P → Option Q) → Option Q
@@ -45,6 +46,12 @@ same_call (WakeCall n) (WakeCall m) = same_number (λ n. WakeCall n) n m
 same_call (Join n) (Join m) = same_number (λ n. Join n) n m
 same_call (GiveUp n) (GiveUp m) = same_number (λ n. GiveUp n) n m
 same_call (SleepPoll n) (SleepPoll m) = same_number (λ n. SleepPoll n) n m
+same_call Slot Slot = Some refl
+same_call (SlotSend n) (SlotSend m) = same_number (λ n. SlotSend n) n m
+same_call (SlotClose n) (SlotClose m) = same_number (λ n. SlotClose n) n m
+same_call (SlotPoll n) (SlotPoll m) = same_number (λ n. SlotPoll n) n m
+same_call (SlotGiveUp n) (SlotGiveUp m) = same_number (λ n. SlotGiveUp n) n m
+same_call (AbortWait n) (AbortWait m) = same_number (λ n. AbortWait n) n m
 same_call _ _ = None
 
 abbrev is_done : (reply : CallReply) → Option (reply ≡ Done)
@@ -56,6 +63,15 @@ own s due alarm (PendingAt number) = same number (alarm_of s.alarms due alarm)
 own s due alarm IsOver = Some tt
 own s due alarm _ = None
 
+pub refused_for : (x y : Error) → x ≡ y → Refused x ≡ Refused y
+refused_for x y e = rw e refl
+
+abbrev answer : {O : Type 0} (sent : Option (Result O Error)) (reply : CallReply) → Option (IsAnswerOf sent reply)
+answer None reply = Some tt
+answer (Some (Ok value)) IsOver = Some refl
+answer (Some (Err error)) (Refused other) = found (same_error other error) (λ e. Some (refused_for other error e))
+answer _ _ = None
+
 module _ {A O : Type 0} where
   abbrev plainly : (held : Held A O) (call : Call) (reply : CallReply) → Option (IsPlainly held.sent call reply)
   plainly held (Child node label) reply = Some tt
@@ -65,6 +81,11 @@ module _ {A O : Type 0} where
   plainly held (WakeCall task) reply = Some tt
   plainly held (Join task) reply = Some tt
   plainly held (GiveUp task) reply = Some tt
+  plainly held Slot reply = Some tt
+  plainly held (SlotClose slot) reply = Some tt
+  plainly held (SlotPoll slot) reply = answer (find slot held.sent) reply
+  plainly held (SlotGiveUp slot) reply = Some tt
+  plainly held (AbortWait slot) reply = Some tt
   plainly held call reply = None
 
   abbrev fits : (held : Held A O) (ask : Ask A O) (t : Turn) → Option (Fits held ask t)

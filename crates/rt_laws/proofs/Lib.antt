@@ -39,3 +39,4 @@ pub mod ValidAborting
 pub mod ValidSide
 pub mod Values
 pub mod Several
+pub mod Mailing

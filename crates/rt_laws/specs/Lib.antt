@@ -7,6 +7,7 @@ pub mod Panics
 pub mod Polls
 pub mod Refusals
 pub mod Several
+pub mod Slotting
 pub mod Spawns
 pub mod Stored
 pub mod Supervised

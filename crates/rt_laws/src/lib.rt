@@ -5,6 +5,7 @@ mod examples;
 mod kin;
 mod panics;
 mod refusals;
+mod slotting;
 mod supervised;
 
 ghost use Rattle.std.specs.Prelude.{Bool, ◌≡◌, ◌≢◌, ◌≤◌, ◌<◌, ◌+◌, ◌-◌, ◌^◌, ◌++◌, ◌⊎◌, ◌↔◌, [], ◌∷◌, ℕ, List, Option, Some, None, true, false, All, Contains};
@@ -54,6 +55,10 @@ pub use panics::{
     near_misses_of_panics_are_not_lawful,
 };
 pub use refusals::{calls_are_refused_for_their_cause, near_misses_of_refusals_are_not_lawful};
+pub use slotting::{
+    near_misses_of_slots_are_lawful_but_for_one_place, near_misses_of_slots_are_not_lawful,
+    what_was_sent_into_a_slot_is_received,
+};
 pub use supervised::{
     a_task_of_the_maker_has_its_run, a_task_that_aborts_itself_and_is_pending_has_its_run,
     a_task_that_aborts_itself_has_its_run, inputs_with_spawned_tasks_are_valid,

@@ -1,0 +1,106 @@
+-- A root that receives what it sends by a slot, and what comes near to its run is none.
+use Rattle.std.proofs.Common.{◌≡◌, ℕ, List, [], ◌∷◌, ◌++◌, Some, Ok, Err, refl}
+use Rattle.rt_base.specs.declared.error.Error.TheVariants.{Closed, Aborted, Timeout}
+use Rattle.rt_audit.specs.declared.call.Call.{Call as CallOf}
+use Rattle.rt_audit.specs.declared.call.Call.TheVariants.{Slot, SlotSend, SlotClose, SlotPoll, AbortWait}
+use Rattle.rt_audit.specs.declared.reply.CallReply.{CallReply}
+use Rattle.rt_audit.specs.declared.reply.CallReply.TheVariants.{Done, SlotAt, Pending as StillPending, Ready as IsReady, Refused}
+use Rattle.rt_audit.specs.declared.finish.FinishCause.{FinishCause}
+use Rattle.rt_audit.specs.declared.finish.FinishCause.TheVariants.{Completed}
+use Rattle.rt_audit.specs.declared.entry.Entry.{Entry}
+use Rattle.rt_audit.specs.declared.entry.Entry.TheVariants.{Call, Wake, Answer as Answered, Advance}
+use Rattle.rt_audit.specs.declared.answer.AnswerKind.TheVariants.{Pending}
+use Rattle.rt_model.specs.State.{State, begun}
+use Rattle.rt_model.specs.Effects.{after, after_all}
+use Rattle.rt_model.specs.Rules.{Answers, IsLawful}
+use Rattle.rt_model.specs.Tied.{Value, nothing}
+use Rattle.rt_model.specs.Run.{IsRun}
+use Rattle.rt_laws.specs.Examples.{small_begin, gave, opening, visiting_root}
+use Rattle.rt_laws.specs.Supervised.{without_value}
+use Rattle.rt_laws.specs.Slotting.{Mailer, mailing_root, slot_polled, slot_sent, slot_received, slot_used, mailing_journal}
+use Rattle.rt_laws.proofs.Clock.{lawful-tail}
+use Rattle.rt_laws.proofs.Decided.{lawful}
+use Rattle.rt_laws.proofs.Followed.{tied}
+use Rattle.rt_laws.proofs.Values.{same_value}
+
+pub number_run : IsRun (mailing_root (Ok 7)) small_begin (mailing_journal IsReady) Completed (after_all (begun small_begin) (mailing_journal IsReady)) (gave 7)
+unfolding begun after
+number_run = record {
+  lawful = lawful small_begin (mailing_journal IsReady) refl;
+  reaches = refl;
+  ends = refl;
+  caused = λ e. cc;
+  tied = tied (mailing_root (Ok 7)) (begun small_begin) nothing (gave 7) (mailing_journal IsReady) refl;
+  whole = refl;
+}
+
+pub error_run : IsRun (mailing_root (Err Timeout)) small_begin (mailing_journal (Refused Timeout)) Completed (after_all (begun small_begin) (mailing_journal (Refused Timeout))) (gave without_value)
+unfolding begun after
+error_run = record {
+  lawful = lawful small_begin (mailing_journal (Refused Timeout)) refl;
+  reaches = refl;
+  ends = refl;
+  caused = λ e. cc;
+  tied = tied (mailing_root (Err Timeout)) (begun small_begin) nothing (gave without_value) (mailing_journal (Refused Timeout)) refl;
+  whole = refl;
+}
+
+pub its_number : (cause : FinishCause) (end : State) (value : Value Mailer ℕ) → IsRun (mailing_root (Ok 7)) small_begin (mailing_journal IsReady) cause end value → value.output ≡ Some 7
+its_number cause end value run =
+    let last = after_all (begun small_begin) (mailing_journal IsReady) in
+    let e = same_value Mailer ℕ (mailing_root (Ok 7)) small_begin small_begin (mailing_journal IsReady) cause Completed end last value (gave 7) run number_run refl in
+    rw e refl
+
+-- what is replied behind a front
+told : (x : List Entry) (call : CallOf) (reply : CallReply) → IsLawful (begun small_begin) (x ++ Call (Some 0) call reply ∷ []) → Answers (after_all (begun small_begin) x) call reply
+told x call reply l = (lawful-tail (begun small_begin) x (Call (Some 0) call reply ∷ []) l).0.1.1
+
+pub no_early_number : IsLawful (begun small_begin) (slot_polled IsReady) → ⊥
+unfolding begun after
+no_early_number l = let h = told (opening ++ visiting_root ++ (Call (Some 0) Slot (SlotAt 0) ∷ [])) (SlotPoll 0) IsReady l in cc
+
+pub no_missing_wake : IsLawful (begun small_begin) (slot_sent []) → ⊥
+unfolding begun after
+no_missing_wake l =
+    let h = (lawful-tail (begun small_begin) (slot_used (Call (Some 0) (SlotSend 0) Done ∷ [])) (Answered 0 Pending ∷ Advance 1000000 ∷ []) l).0.0 in
+    cc
+
+pub no_second_number : IsLawful (begun small_begin) (slot_received IsReady ++ (Call (Some 0) (SlotPoll 0) IsReady ∷ [])) → ⊥
+unfolding begun after
+no_second_number l = told (slot_received IsReady) (SlotPoll 0) IsReady l
+
+pub no_second_send : IsLawful (begun small_begin) (slot_used (Call (Some 0) (SlotSend 0) Done ∷ Wake 0 ∷ Call (Some 0) (SlotSend 0) Done ∷ [])) → ⊥
+unfolding begun after
+no_second_send l =
+    let h = told (slot_used (Call (Some 0) (SlotSend 0) Done ∷ Wake 0 ∷ [])) (SlotSend 0) Done l in
+    cc
+
+pub no_number_behind_an_abort : IsLawful (begun small_begin) (slot_used (Call (Some 0) (AbortWait 0) Done ∷ Wake 0 ∷ Call (Some 0) (SlotPoll 0) IsReady ∷ [])) → ⊥
+unfolding begun after
+no_number_behind_an_abort l = told (slot_used (Call (Some 0) (AbortWait 0) Done ∷ Wake 0 ∷ [])) (SlotPoll 0) IsReady l
+
+pub no_wait_behind_a_close : IsLawful (begun small_begin) (slot_used (Call (Some 0) (SlotClose 0) Done ∷ Wake 0 ∷ Call (Some 0) (SlotPoll 0) StillPending ∷ [])) → ⊥
+unfolding begun after
+no_wait_behind_a_close l = told (slot_used (Call (Some 0) (SlotClose 0) Done ∷ Wake 0 ∷ [])) (SlotPoll 0) StillPending l
+
+-- what they come near to
+
+pub pending_poll : IsLawful (begun small_begin) (slot_polled StillPending)
+unfolding begun after
+pending_poll = lawful small_begin (slot_polled StillPending) refl
+
+pub its_wake : IsLawful (begun small_begin) (slot_sent (Wake 0 ∷ []))
+unfolding begun after
+its_wake = lawful small_begin (slot_sent (Wake 0 ∷ [])) refl
+
+pub closed_poll : IsLawful (begun small_begin) (slot_received IsReady ++ (Call (Some 0) (SlotPoll 0) (Refused Closed) ∷ []))
+unfolding begun after
+closed_poll = lawful small_begin (slot_received IsReady ++ (Call (Some 0) (SlotPoll 0) (Refused Closed) ∷ [])) refl
+
+pub aborted_poll : IsLawful (begun small_begin) (slot_used (Call (Some 0) (AbortWait 0) Done ∷ Wake 0 ∷ Call (Some 0) (SlotPoll 0) (Refused Aborted) ∷ []))
+unfolding begun after
+aborted_poll = lawful small_begin (slot_used (Call (Some 0) (AbortWait 0) Done ∷ Wake 0 ∷ Call (Some 0) (SlotPoll 0) (Refused Aborted) ∷ [])) refl
+
+pub poll_behind_a_close : IsLawful (begun small_begin) (slot_used (Call (Some 0) (SlotClose 0) Done ∷ Wake 0 ∷ Call (Some 0) (SlotPoll 0) (Refused Closed) ∷ []))
+unfolding begun after
+poll_behind_a_close = lawful small_begin (slot_used (Call (Some 0) (SlotClose 0) Done ∷ Wake 0 ∷ Call (Some 0) (SlotPoll 0) (Refused Closed) ∷ [])) refl

@@ -1,0 +1,65 @@
+-- A root that sends itself a number or an error by a slot, and what comes near to its run.
+use Rattle.std.specs.Prelude.{ℕ, List, [], ◌∷◌, ◌++◌, Some, Result}
+use Rattle.rt_base.specs.declared.error.Error.{Error}
+use Rattle.rt_audit.specs.declared.call.Call.TheVariants.{Slot, SlotSend, SlotPoll, SlotGiveUp}
+use Rattle.rt_audit.specs.declared.reply.CallReply.{CallReply}
+use Rattle.rt_audit.specs.declared.reply.CallReply.TheVariants.{Done, SlotAt, Pending as StillPending, Refused}
+use Rattle.rt_audit.specs.declared.answer.AnswerKind.TheVariants.{Pending as AnswersPending, Ready as AnswersReady}
+use Rattle.rt_audit.specs.declared.finish.FinishCause.TheVariants.{Completed}
+use Rattle.rt_audit.specs.declared.entry.Entry.{Entry}
+use Rattle.rt_audit.specs.declared.entry.Entry.TheVariants.{Call, Wake, Round, Answer as Answered, Advance}
+use Rattle.rt_model.specs.declared.answer.Answer.{Answer}
+use Rattle.rt_model.specs.declared.answer.Answer.TheVariants.{Pending, Ready}
+use Rattle.rt_model.specs.Turns.{Plainly, Sending, Heard, Plain, Handed}
+use Rattle.rt_model.specs.Walk.{Step, Does, Spends, Gives, Last}
+use Rattle.rt_model.specs.Tied.{Steps, with_first}
+use Rattle.rt_laws.specs.Examples.{opening, visiting_root, root_ends, finishing}
+use Rattle.rt_laws.specs.Supervised.{closes, without_value}
+
+pub data Mailer : Type 0 where
+  -- before it makes a slot, and once it gave that up
+  Idle : Mailer
+  -- it waits for what comes by this slot
+  Waiting : (slot : ℕ) → Mailer
+
+-- what came is its answer, or what stands for none. The slot is given up
+abbrev pub received : ℕ → Heard ℕ → Step Mailer Mailer ℕ (Answer ℕ)
+received slot (Handed value) = Spends (Plainly (SlotGiveUp slot)) (Gives (Ready value) Idle)
+received slot (Plain (Refused error)) = Spends (Plainly (SlotGiveUp slot)) (Gives (Ready without_value) Idle)
+received slot _ = Gives Pending (Waiting slot)
+
+-- it waits for the slot that it made, and then sends into it
+abbrev pub slot_made : Result ℕ Error → Heard ℕ → Step Mailer Mailer ℕ (Answer ℕ)
+slot_made sent (Plain (SlotAt slot)) = Does (Plainly (SlotPoll slot)) (λ heard. Spends (Sending slot sent) (Gives Pending (Waiting slot)))
+slot_made sent _ = Gives Pending Idle
+
+abbrev pub mails : Result ℕ Error → Mailer → Step Mailer Mailer ℕ (Answer ℕ)
+mails sent Idle = Does (Plainly Slot) (slot_made sent)
+mails sent (Waiting slot) = Does (Plainly (SlotPoll slot)) (received slot)
+
+abbrev pub mail_ends : Mailer → Last Mailer ℕ
+mail_ends Idle = closes 0
+mail_ends (Waiting slot) = Spends (Plainly (SlotGiveUp slot)) (closes 0)
+
+-- a root that sends itself this, and gives the number that it receives
+abbrev pub mailing_root : Result ℕ Error → Steps Mailer ℕ
+mailing_root sent = with_first (record { next = λ mailer now task. mails sent mailer; last = λ mailer now task. mail_ends mailer }) (λ now. Gives tt Idle)
+
+-- it has made a slot, and polled it so
+abbrev pub slot_polled : CallReply → List Entry
+slot_polled reply = opening ++ visiting_root ++ (Call (Some 0) Slot (SlotAt 0) ∷ Call (Some 0) (SlotPoll 0) reply ∷ [])
+
+-- the slot has what was sent, and these wakes followed
+abbrev pub slot_sent : List Entry → List Entry
+slot_sent wakes = slot_polled StillPending ++ (Call (Some 0) (SlotSend 0) Done ∷ []) ++ wakes ++ (Answered 0 AnswersPending ∷ Advance 1000000 ∷ [])
+
+-- the next poll is answered so
+abbrev pub slot_received : CallReply → List Entry
+slot_received reply = slot_sent (Wake 0 ∷ []) ++ (Round (0 ∷ []) ∷ []) ++ visiting_root ++ (Call (Some 0) (SlotPoll 0) reply ∷ [])
+
+abbrev pub mailing_journal : CallReply → List Entry
+mailing_journal reply = slot_received reply ++ (Call (Some 0) (SlotGiveUp 0) Done ∷ Answered 0 AnswersReady ∷ []) ++ root_ends ++ finishing Completed
+
+-- the root makes these calls in its first poll, behind its wait
+abbrev pub slot_used : List Entry → List Entry
+slot_used entries = slot_polled StillPending ++ entries
