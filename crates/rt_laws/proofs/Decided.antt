@@ -1,4 +1,4 @@
--- Whether the entries of a run may come where they stand, found out by computing: each example's proof.
+-- That the entries of a run may come where they stand, found out by computing: a proof for an example, or none, which says nothing.
 use Rattle.std.proofs.Common.{◌≡◌, ◌≢◌, ◌⊎◌, inl, inr, ℕ, ◌≤◌, ◌<◌, ◌+◌, ◌-◌, ◌^◌, List, [], ◌∷◌, drop, Option, Some, None, is_some, option_map, Bool, true, false, not, eqb, ltb, leb, refl, arith}
 use Rattle.std.specs.List.Sorted.{IsPermutation}
 use Rattle.std.proofs.lemmas.Bool.{eqb-true, ltb-true, leb-true}

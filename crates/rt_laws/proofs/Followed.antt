@@ -1,4 +1,5 @@
--- Whether entries follow the steps of a task type, and which values they leave, found out by computing: each example's tie.
+-- That entries follow the steps of a task type, and which values they leave, found out by computing: a tie for an example, or none, which
+-- says nothing.
 use Rattle.std.proofs.Common.{◌≡◌, inl, inr, ℕ, List, [], ◌∷◌, Option, Some, None, Result, Ok, Err, option_map, Bool, true, false, refl, subst}
 use Rattle.rt_base.specs.declared.error.Error.{Error}
 use Rattle.rt_audit.specs.declared.call.Call.{Call}

@@ -1,27 +1,31 @@
 -- A root that receives what it sends by a slot, and what comes near to its run is none.
-use Rattle.std.proofs.Common.{◌≡◌, ℕ, List, [], ◌∷◌, ◌++◌, Some, Ok, Err, refl}
+use Rattle.std.proofs.Common.{◌≡◌, ℕ, List, [], ◌∷◌, ◌++◌, Some, None, Result, Ok, Err, true, refl}
+use Rattle.rt_base.specs.declared.error.Error.{Error}
 use Rattle.rt_base.specs.declared.error.Error.TheVariants.{Closed, Aborted, Timeout}
 use Rattle.rt_audit.specs.declared.call.Call.{Call as CallOf}
-use Rattle.rt_audit.specs.declared.call.Call.TheVariants.{Slot, SlotSend, SlotClose, SlotPoll, AbortWait}
+use Rattle.rt_audit.specs.declared.call.Call.TheVariants.{Slot, SlotSend, SlotClose, SlotPoll, SlotGiveUp, AbortWait}
 use Rattle.rt_audit.specs.declared.reply.CallReply.{CallReply}
 use Rattle.rt_audit.specs.declared.reply.CallReply.TheVariants.{Done, SlotAt, Pending as StillPending, Ready as IsReady, Refused}
 use Rattle.rt_audit.specs.declared.finish.FinishCause.{FinishCause}
 use Rattle.rt_audit.specs.declared.finish.FinishCause.TheVariants.{Completed}
 use Rattle.rt_audit.specs.declared.entry.Entry.{Entry}
 use Rattle.rt_audit.specs.declared.entry.Entry.TheVariants.{Call, Wake, Answer as Answered, Advance}
-use Rattle.rt_audit.specs.declared.answer.AnswerKind.TheVariants.{Pending}
+use Rattle.rt_audit.specs.declared.answer.AnswerKind.TheVariants.{Pending, Ready as AnswersReady}
 use Rattle.rt_model.specs.State.{State, begun}
 use Rattle.rt_model.specs.Effects.{after, after_all}
 use Rattle.rt_model.specs.Rules.{Answers, IsLawful}
-use Rattle.rt_model.specs.Tied.{Value, nothing}
+use Rattle.rt_model.specs.Lists.{find}
+use Rattle.rt_model.specs.Turns.{IsAnswerOf}
+use Rattle.rt_model.specs.Tied.{Value, IsTied, nothing}
 use Rattle.rt_model.specs.Run.{IsRun}
-use Rattle.rt_laws.specs.Examples.{small_begin, gave, opening, visiting_root}
+use Rattle.rt_laws.specs.Examples.{small_begin, gave, opening, visiting_root, root_ends, finishing}
 use Rattle.rt_laws.specs.Supervised.{without_value}
-use Rattle.rt_laws.specs.Slotting.{Mailer, mailing_root, slot_polled, slot_sent, slot_received, slot_used, mailing_journal}
+use Rattle.rt_laws.specs.Slotting.{Mailer, Waiting, mailing_root, slot_polled, slot_sent, slot_received, slot_used, slot_aborted, mailing_journal}
 use Rattle.rt_laws.proofs.Clock.{lawful-tail}
 use Rattle.rt_laws.proofs.Decided.{lawful}
 use Rattle.rt_laws.proofs.Followed.{tied}
-use Rattle.rt_laws.proofs.Values.{same_value}
+use Rattle.rt_laws.proofs.Misses.{tied-front, tied-tail}
+use Rattle.rt_laws.proofs.Values.{all-whole, same_value, tied-same}
 
 pub number_run : IsRun (mailing_root (Ok 7)) small_begin (mailing_journal IsReady) Completed (after_all (begun small_begin) (mailing_journal IsReady)) (gave 7)
 unfolding begun after
@@ -51,6 +55,46 @@ its_number cause end value run =
     let e = same_value Mailer ℕ (mailing_root (Ok 7)) small_begin small_begin (mailing_journal IsReady) cause Completed end last value (gave 7) run number_run refl in
     rw e refl
 
+-- the root is answered as what it sent says
+
+-- the values behind its calls in its second visit
+abbrev mailed : Result ℕ Error → Value Mailer ℕ
+mailed sent = record nothing { held = record { tasks = (0, Waiting 0) ∷ []; results = []; sent = (0, sent) ∷ []; executions = [] } }
+
+abbrev given_up : CallReply → List Entry
+given_up reply = slot_received reply ++ (Call (Some 0) (SlotGiveUp 0) Done ∷ [])
+
+up-to-its-answer : (sent : Result ℕ Error) (reply : CallReply) → IsTied (mailing_root sent) (begun small_begin) nothing (given_up reply) (mailed sent)
+unfolding begun after
+up-to-its-answer sent reply = tied (mailing_root sent) (begun small_begin) nothing (mailed sent) (given_up reply) refl
+
+module _ (sent : Result ℕ Error) (reply : CallReply) (cause : FinishCause) (end : State) (value : Value Mailer ℕ) where
+  its-answer : IsRun (mailing_root sent) small_begin (mailing_journal reply) cause end value → IsAnswerOf (Some sent) reply
+  unfolding begun after
+  its-answer r =
+      let p = mailing_root sent in
+      let rest : List Entry = Answered 0 AnswersReady ∷ root_ends ++ finishing Completed in
+      let t = tied-tail p (begun small_begin) nothing value (given_up reply) rest r.tied in
+      let u : Value Mailer ℕ = t.0 in
+      let whole : u.whole ≡ true = all-whole p (after_all (begun small_begin) (given_up reply)) u value rest t.1 r.whole in
+      let same : u ≡ mailed sent =
+      tied-same p (begun small_begin) nothing u (mailed sent) (given_up reply) (tied-front p (begun small_begin) nothing value (given_up reply) rest r.tied) (up-to-its-answer sent reply) whole refl
+      in
+      let polls = t.1.1.2 in
+      let there : find 0 (mailed sent).held.tasks ≡ Some polls.before = rw same at polls.there in
+      let is : polls.before ≡ Waiting 0 = cc in
+      let walks = rw (is, same) at polls.walks in
+      walks.0.1
+
+pub no_error_for_a_number : (cause : FinishCause) (end : State) (value : Value Mailer ℕ) → IsRun (mailing_root (Ok 7)) small_begin (mailing_journal (Refused Timeout)) cause end value → ⊥
+no_error_for_a_number cause end value r = let h = its-answer (Ok 7) (Refused Timeout) cause end value r in cc
+
+pub no_number_for_an_error : (cause : FinishCause) (end : State) (value : Value Mailer ℕ) → IsRun (mailing_root (Err Timeout)) small_begin (mailing_journal IsReady) cause end value → ⊥
+no_number_for_an_error cause end value r = let h = its-answer (Err Timeout) IsReady cause end value r in cc
+
+pub no_other_error : (cause : FinishCause) (end : State) (value : Value Mailer ℕ) → IsRun (mailing_root (Err Timeout)) small_begin (mailing_journal (Refused Closed)) cause end value → ⊥
+no_other_error cause end value r = let h = its-answer (Err Timeout) (Refused Closed) cause end value r in cc
+
 -- what is replied behind a front
 told : (x : List Entry) (call : CallOf) (reply : CallReply) → IsLawful (begun small_begin) (x ++ Call (Some 0) call reply ∷ []) → Answers (after_all (begun small_begin) x) call reply
 told x call reply l = (lawful-tail (begun small_begin) x (Call (Some 0) call reply ∷ []) l).0.1.1
@@ -75,9 +119,10 @@ no_second_send l =
     let h = told (slot_used (Call (Some 0) (SlotSend 0) Done ∷ Wake 0 ∷ [])) (SlotSend 0) Done l in
     cc
 
-pub no_number_behind_an_abort : IsLawful (begun small_begin) (slot_used (Call (Some 0) (AbortWait 0) Done ∷ Wake 0 ∷ Call (Some 0) (SlotPoll 0) IsReady ∷ [])) → ⊥
+pub no_number_behind_an_abort : IsLawful (begun small_begin) (slot_aborted IsReady) → ⊥
 unfolding begun after
-no_number_behind_an_abort l = told (slot_used (Call (Some 0) (AbortWait 0) Done ∷ Wake 0 ∷ [])) (SlotPoll 0) IsReady l
+no_number_behind_an_abort l =
+    told (slot_used (Call (Some 0) (SlotSend 0) Done ∷ Wake 0 ∷ Call (Some 0) (AbortWait 0) Done ∷ [])) (SlotPoll 0) IsReady l
 
 pub no_wait_behind_a_close : IsLawful (begun small_begin) (slot_used (Call (Some 0) (SlotClose 0) Done ∷ Wake 0 ∷ Call (Some 0) (SlotPoll 0) StillPending ∷ [])) → ⊥
 unfolding begun after
@@ -97,9 +142,9 @@ pub closed_poll : IsLawful (begun small_begin) (slot_received IsReady ++ (Call (
 unfolding begun after
 closed_poll = lawful small_begin (slot_received IsReady ++ (Call (Some 0) (SlotPoll 0) (Refused Closed) ∷ [])) refl
 
-pub aborted_poll : IsLawful (begun small_begin) (slot_used (Call (Some 0) (AbortWait 0) Done ∷ Wake 0 ∷ Call (Some 0) (SlotPoll 0) (Refused Aborted) ∷ []))
+pub aborted_poll : IsLawful (begun small_begin) (slot_aborted (Refused Aborted))
 unfolding begun after
-aborted_poll = lawful small_begin (slot_used (Call (Some 0) (AbortWait 0) Done ∷ Wake 0 ∷ Call (Some 0) (SlotPoll 0) (Refused Aborted) ∷ [])) refl
+aborted_poll = lawful small_begin (slot_aborted (Refused Aborted)) refl
 
 pub poll_behind_a_close : IsLawful (begun small_begin) (slot_used (Call (Some 0) (SlotClose 0) Done ∷ Wake 0 ∷ Call (Some 0) (SlotPoll 0) (Refused Closed) ∷ []))
 unfolding begun after

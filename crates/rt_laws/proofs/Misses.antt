@@ -78,6 +78,12 @@ pub tied-tail : {A O : Type 0} → (p : Steps A O) (s : State) (v w : Value A O)
 tied-tail p s v w [] y t = (v, t)
 tied-tail p s v w (e ∷ x) y t = tied-tail p (after s e) t.0 w x y t.2
 
+-- and the front is tied up to that value
+pub tied-front : {A O : Type 0} → (p : Steps A O) (s : State) (v w : Value A O) (x y : List Entry) → (t : IsTied p s v (x ++ y) w) → IsTied p s v x (tied-tail p s v w x y t).0
+unfolding tied-tail
+tied-front p s v w [] y t = refl
+tied-front p s v w (e ∷ x) y t = (t.0, t.1, tied-front p (after s e) t.0 w x y t.2)
+
 module _ (number : ℕ) (cause : FinishCause) (end : State) (value : Value (Unit {0}) ℕ) where
   pub no_open_node : IsRun (ready_root number) small_begin open_node cause end value → ⊥
   unfolding begun after

@@ -176,7 +176,7 @@ pub all-whole : {A O : Type 0} → (p : Steps A O) (s : State) (v w : Value A O)
 all-whole p s v w [] h whole = ap (λ x. x.whole) (sym h) ∙ whole
 all-whole p s v w (e ∷ x) h whole = was-whole p s v h.0 (all-whole p (after s e) h.0 w x h.2 whole) e h.1
 
-tied-same : {A O : Type 0} → (p : Steps A O) (s : State) (v u w : Value A O) (x : List Entry) → IsTied p s v x u → IsTied p s v x w → u.whole ≡ true → w.whole ≡ true → u ≡ w
+pub tied-same : {A O : Type 0} → (p : Steps A O) (s : State) (v u w : Value A O) (x : List Entry) → IsTied p s v x u → IsTied p s v x w → u.whole ≡ true → w.whole ≡ true → u ≡ w
 tied-same p s v u w [] h k first second = h ∙ sym k
 tied-same p s v u w (e ∷ x) h k first second =
     let same = moves-same p s v k.0 h.0 (all-whole p (after s e) k.0 w x k.2 second) (all-whole p (after s e) h.0 u x h.2 first) e k.1 h.1 in

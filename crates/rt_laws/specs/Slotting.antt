@@ -1,7 +1,7 @@
 -- A root that sends itself a number or an error by a slot, and what comes near to its run.
 use Rattle.std.specs.Prelude.{ℕ, List, [], ◌∷◌, ◌++◌, Some, Result}
 use Rattle.rt_base.specs.declared.error.Error.{Error}
-use Rattle.rt_audit.specs.declared.call.Call.TheVariants.{Slot, SlotSend, SlotPoll, SlotGiveUp}
+use Rattle.rt_audit.specs.declared.call.Call.TheVariants.{Slot, SlotSend, SlotPoll, SlotGiveUp, AbortWait}
 use Rattle.rt_audit.specs.declared.reply.CallReply.{CallReply}
 use Rattle.rt_audit.specs.declared.reply.CallReply.TheVariants.{Done, SlotAt, Pending as StillPending, Refused}
 use Rattle.rt_audit.specs.declared.answer.AnswerKind.TheVariants.{Pending as AnswersPending, Ready as AnswersReady}
@@ -63,3 +63,7 @@ mailing_journal reply = slot_received reply ++ (Call (Some 0) (SlotGiveUp 0) Don
 -- the root makes these calls in its first poll, behind its wait
 abbrev pub slot_used : List Entry → List Entry
 slot_used entries = slot_polled StillPending ++ entries
+
+-- what was sent is there when the wait is aborted, and the next poll is answered so
+abbrev pub slot_aborted : CallReply → List Entry
+slot_aborted reply = slot_used (Call (Some 0) (SlotSend 0) Done ∷ Wake 0 ∷ Call (Some 0) (AbortWait 0) Done ∷ Call (Some 0) (SlotPoll 0) reply ∷ [])
