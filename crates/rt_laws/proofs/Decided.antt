@@ -106,7 +106,7 @@ module _ {X : Type 0} (same_item : (x y : X) → Option (x ≡ y)) where
   same_option (Some x) (Some y) = some x y (same_item x y)
   same_option _ _ = None
 
-abbrev none_left : {X : Type 0} (xs : List X) → Option (xs ≡ [])
+abbrev pub none_left : {X : Type 0} (xs : List X) → Option (xs ≡ [])
 none_left [] = Some refl
 none_left (x ∷ xs) = None
 

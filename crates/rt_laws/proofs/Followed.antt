@@ -19,7 +19,7 @@ use Rattle.rt_model.specs.Effects.{after}
 use Rattle.rt_model.specs.Turns.{Held, Ask, Plainly, Sleeping, Sending, Spawning, IsOwn, IsAnswerOf, IsPlainly, Fits, Asks, call_of, heard_of, moved, has_place, put}
 use Rattle.rt_model.specs.Walk.{Step, Does, Spends, Gives, Gave, Goes, Walks}
 use Rattle.rt_model.specs.Tied.{Steps, Value, Polls, PollBreaks, given, kept_text, taken, MovesCleanup, MovesCrash, Moves, IsTied}
-use Rattle.rt_laws.proofs.Decided.{both, is_true, is_false, same, same_list, same_error}
+use Rattle.rt_laws.proofs.Decided.{both, is_true, is_false, same, same_list, same_error, none_left}
 
 -- what follows from what was found
 abbrev found : {P Q : Type 0} → Option P → (P → Option Q) → Option Q
@@ -161,17 +161,13 @@ module _ {A O : Type 0} (p : Steps A O) (s : State) (v : Value A O) where
   broken_at_once task a e f =
       record { before = a; left = a; there = e; breaks = inr (rw f tt); moved = taken task v.held; frees = rw f refl; is = refl }
 
-  abbrev none_made : (turns : List Turn) → Option (turns ≡ [])
-  none_made [] = Some refl
-  none_made (t ∷ turns) = None
-
   abbrev answers : (task : ℕ) (kind : AnswerKind) → Option (Moved (AnswerEntry task kind))
   answers task IsPending = found (polled task) (pended task)
   answers task IsReady = found (polled task) (readied task)
   answers task IsPanicked = found (polled task) (panicked task)
   answers task IsStopped = Some (v, refl)
   answers task LacksMemory =
-      found (there (find task v.held.tasks)) (λ a. found (none_made s.turns) (λ f. Some (record v { held = put task a.0 (taken task v.held); whole = false }, broken_at_once task a.0 a.1 f)))
+      found (there (find task v.held.tasks)) (λ a. found (none_left s.turns) (λ f. Some (record v { held = put task a.0 (taken task v.held); whole = false }, broken_at_once task a.0 a.1 f)))
   answers task IsEnded =
       found (there (find task v.held.tasks)) (λ a. found (walk s.turns (stood_in s) (taken task v.held) (p.task.last a.0 s.clock.time task)) (λ g. Some (record v { held = g.2 }, (a.0, a.1, inl (g.3, refl)))))
 
@@ -183,7 +179,7 @@ module _ {A O : Type 0} (p : Steps A O) (s : State) (v : Value A O) where
   cleans _ = None
 
   abbrev crashes : (unmade : Option A) → Option ((w : Value A O) × MovesCrash p s v unmade w)
-  crashes None = found (none_made s.turns) (λ f. Some (v, (refl, f)))
+  crashes None = found (none_left s.turns) (λ f. Some (v, (refl, f)))
   crashes (Some a) = None
 
   abbrev moves : (e : Entry) → Option (Moved e)

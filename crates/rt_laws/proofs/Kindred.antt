@@ -15,9 +15,9 @@ use Rattle.rt_model.specs.Run.{IsRun}
 use Rattle.rt_laws.specs.Examples.{small_begin, opening, visiting_root}
 use Rattle.rt_laws.specs.Supervised.{handle, aborter_spawned, aborter_joined, aborter_closes, aborts_itself, aborter_stops, waking}
 use Rattle.rt_laws.specs.Kin.{kin, kin_journal, gave_beside_both, younger_spawned, elder_ends, visiting_younger, younger_ends, younger_goes_on, behind_younger, sibling_goes_on, aborted_goes_on}
-use Rattle.rt_laws.proofs.Clock.{lawful-tail}
 use Rattle.rt_laws.proofs.Decided.{lawful}
 use Rattle.rt_laws.proofs.Followed.{tied}
+use Rattle.rt_laws.proofs.Small.{tail}
 
 kin-lawful : IsLawful (begun small_begin) kin_journal
 unfolding begun after
@@ -30,10 +30,6 @@ kin-tied = tied kin (begun small_begin) nothing (gave_beside_both 6) kin_journal
 pub kin_run : IsRun kin small_begin kin_journal Completed (after_all (begun small_begin) kin_journal) (gave_beside_both 6)
 unfolding begun after
 kin_run = record { lawful = kin-lawful; reaches = refl; ends = refl; caused = λ e. cc; tied = kin-tied; whole = refl }
-
--- what may come behind a front of these
-tail : (x y : List Entry) → IsLawful (begun small_begin) (x ++ y) → IsLawful (after_all (begun small_begin) x) y
-tail x y l = lawful-tail (begun small_begin) x y l
 
 abbrev up_to_younger : List Entry
 up_to_younger = aborter_joined ++ younger_spawned ++ elder_ends ++ visiting_younger

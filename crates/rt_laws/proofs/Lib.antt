@@ -24,6 +24,7 @@ pub mod Results
 pub mod Rounds
 pub mod Runs
 pub mod Same
+pub mod Small
 pub mod Spawned
 pub mod Stands
 pub mod Starts

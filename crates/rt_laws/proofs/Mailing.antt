@@ -21,9 +21,9 @@ use Rattle.rt_model.specs.Run.{IsRun}
 use Rattle.rt_laws.specs.Examples.{small_begin, gave, opening, visiting_root, root_ends, finishing}
 use Rattle.rt_laws.specs.Supervised.{without_value}
 use Rattle.rt_laws.specs.Slotting.{Mailer, Waiting, mailing_root, slot_polled, slot_sent, slot_received, slot_used, slot_aborted, mailing_journal}
-use Rattle.rt_laws.proofs.Clock.{lawful-tail}
 use Rattle.rt_laws.proofs.Decided.{lawful}
 use Rattle.rt_laws.proofs.Followed.{tied}
+use Rattle.rt_laws.proofs.Small.{tail, told}
 use Rattle.rt_laws.proofs.Misses.{tied-front, tied-tail}
 use Rattle.rt_laws.proofs.Values.{all-whole, same_value, tied-same}
 
@@ -95,10 +95,6 @@ no_number_for_an_error cause end value r = let h = its-answer (Err Timeout) IsRe
 pub no_other_error : (cause : FinishCause) (end : State) (value : Value Mailer ℕ) → IsRun (mailing_root (Err Timeout)) small_begin (mailing_journal (Refused Closed)) cause end value → ⊥
 no_other_error cause end value r = let h = its-answer (Err Timeout) (Refused Closed) cause end value r in cc
 
--- what is replied behind a front
-told : (x : List Entry) (call : CallOf) (reply : CallReply) → IsLawful (begun small_begin) (x ++ Call (Some 0) call reply ∷ []) → Answers (after_all (begun small_begin) x) call reply
-told x call reply l = (lawful-tail (begun small_begin) x (Call (Some 0) call reply ∷ []) l).0.1.1
-
 pub no_early_number : IsLawful (begun small_begin) (slot_polled IsReady) → ⊥
 unfolding begun after
 no_early_number l = let h = told (opening ++ visiting_root ++ (Call (Some 0) Slot (SlotAt 0) ∷ [])) (SlotPoll 0) IsReady l in cc
@@ -106,7 +102,7 @@ no_early_number l = let h = told (opening ++ visiting_root ++ (Call (Some 0) Slo
 pub no_missing_wake : IsLawful (begun small_begin) (slot_sent []) → ⊥
 unfolding begun after
 no_missing_wake l =
-    let h = (lawful-tail (begun small_begin) (slot_used (Call (Some 0) (SlotSend 0) Done ∷ [])) (Answered 0 Pending ∷ Advance 1000000 ∷ []) l).0.0 in
+    let h = (tail (slot_used (Call (Some 0) (SlotSend 0) Done ∷ [])) (Answered 0 Pending ∷ Advance 1000000 ∷ []) l).0.0 in
     cc
 
 pub no_second_number : IsLawful (begun small_begin) (slot_received IsReady ++ (Call (Some 0) (SlotPoll 0) IsReady ∷ [])) → ⊥

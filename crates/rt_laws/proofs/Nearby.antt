@@ -13,14 +13,10 @@ use Rattle.rt_model.specs.Rules.{IsLawful}
 use Rattle.rt_model.specs.Runs.{Runs, AreLawful, runs_from, run_after, runs_after}
 use Rattle.rt_laws.specs.Examples.{small_begin, opening, visiting_root, finishing, stalled_journal, ready_journal}
 use Rattle.rt_laws.specs.Supervised.{handle, side_spawned, side_ready, second_ready, second_ends, aborter_spawned, aborter_joined, aborts_itself, aborter_ends, aborter_stops, joined, parent_ends, closed_by, early_join, second_join, waking, second_number, first_ended}
-use Rattle.rt_laws.proofs.Clock.{lawful-tail}
 use Rattle.rt_laws.proofs.Decided.{lawful}
+use Rattle.rt_laws.proofs.Small.{tail}
 use Rattle.rt_laws.proofs.Spawned.{side_run}
 use Rattle.rt_laws.proofs.Tasks.{spawn-answers}
-
--- what may come behind a front of these
-tail : (x y : List Entry) → IsLawful (begun small_begin) (x ++ y) → IsLawful (after_all (begun small_begin) x) y
-tail x y l = lawful-tail (begun small_begin) x y l
 
 pub no_nobodys_call : IsLawful (begun small_begin) (closed_by None) → ⊥
 unfolding begun after

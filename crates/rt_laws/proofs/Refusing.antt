@@ -18,6 +18,7 @@ use Rattle.rt_laws.specs.Supervised.{handle}
 use Rattle.rt_laws.specs.Refusals.{asked, spawn_asked, last_number, last_spawn_asked}
 use Rattle.rt_laws.proofs.Clock.{lawful-tail}
 use Rattle.rt_laws.proofs.Decided.{lawful}
+use Rattle.rt_laws.proofs.Small.{told}
 
 pub wake_refused : IsLawful (begun small_begin) (asked (Wake 1) (Refused UnknownToken))
 unfolding begun after
@@ -50,10 +51,6 @@ spawn_refused = lawful small_begin (asked (Spawn 7) (Refused UnknownToken)) refl
 pub number_refused : IsLawful (begun (begin_by 1000000 None last_number)) (last_spawn_asked (Refused TooManyTasks))
 unfolding begun after
 number_refused = lawful (begin_by 1000000 None last_number) (last_spawn_asked (Refused TooManyTasks)) refl
-
--- what is replied behind a front of these
-told : (x : List Entry) (call : CallOf) (reply : CallReply) → IsLawful (begun small_begin) (x ++ Call (Some 0) call reply ∷ []) → Answers (after_all (begun small_begin) x) call reply
-told x call reply l = (lawful-tail (begun small_begin) x (Call (Some 0) call reply ∷ []) l).0.1.1
 
 pub no_wake_of_nobody : IsLawful (begun small_begin) (asked (Wake 1) Done) → ⊥
 unfolding begun after
