@@ -1,8 +1,7 @@
 -- A root that receives what it sends by a slot, and what comes near to its run is none.
-use Rattle.std.proofs.Common.{◌≡◌, ℕ, List, [], ◌∷◌, ◌++◌, Some, None, Result, Ok, Err, true, refl}
+use Rattle.std.proofs.Common.{◌≡◌, ℕ, List, [], ◌∷◌, ◌++◌, Some, Result, Ok, Err, true, refl}
 use Rattle.rt_base.specs.declared.error.Error.{Error}
 use Rattle.rt_base.specs.declared.error.Error.TheVariants.{Closed, Aborted, Timeout}
-use Rattle.rt_audit.specs.declared.call.Call.{Call as CallOf}
 use Rattle.rt_audit.specs.declared.call.Call.TheVariants.{Slot, SlotSend, SlotClose, SlotPoll, SlotGiveUp, AbortWait}
 use Rattle.rt_audit.specs.declared.reply.CallReply.{CallReply}
 use Rattle.rt_audit.specs.declared.reply.CallReply.TheVariants.{Done, SlotAt, Pending as StillPending, Ready as IsReady, Refused}
@@ -13,7 +12,7 @@ use Rattle.rt_audit.specs.declared.entry.Entry.TheVariants.{Call, Wake, Answer a
 use Rattle.rt_audit.specs.declared.answer.AnswerKind.TheVariants.{Pending, Ready as AnswersReady}
 use Rattle.rt_model.specs.State.{State, begun}
 use Rattle.rt_model.specs.Effects.{after, after_all}
-use Rattle.rt_model.specs.Rules.{Answers, IsLawful}
+use Rattle.rt_model.specs.Rules.{IsLawful}
 use Rattle.rt_model.specs.Lists.{find}
 use Rattle.rt_model.specs.Turns.{IsAnswerOf}
 use Rattle.rt_model.specs.Tied.{Value, IsTied, nothing}

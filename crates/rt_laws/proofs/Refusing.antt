@@ -3,16 +3,14 @@ use Rattle.std.proofs.Common.{ℕ, ◌+◌, Bool, false, List, [], ◌∷◌, �
 use Rattle.rt_base.specs.declared.error.Error.{Error}
 use Rattle.rt_base.specs.declared.error.Error.TheVariants.{UnknownToken, TooManyTasks, Metric}
 use Rattle.rt_base.specs.declared.metric_error.MetricError.TheVariants.{BadLabel, Reserved}
-use Rattle.rt_audit.specs.declared.call.Call.{Call as CallOf}
 use Rattle.rt_audit.specs.declared.call.Call.TheVariants.{Child, Spawn, AbortTask, Wake, Join}
-use Rattle.rt_audit.specs.declared.reply.CallReply.{CallReply}
 use Rattle.rt_audit.specs.declared.reply.CallReply.TheVariants.{Done, NodeAt, TaskAt, Closed, Refused}
 use Rattle.rt_audit.specs.declared.entry.Entry.{Entry}
 use Rattle.rt_audit.specs.declared.entry.Entry.TheVariants.{Start, Call, Event, Root, Round, Visit}
 use Rattle.rt_model.specs.State.{begun}
 use Rattle.rt_model.specs.Events.{process_task, task_fields}
-use Rattle.rt_model.specs.Effects.{after, after_all}
-use Rattle.rt_model.specs.Rules.{Answers, IsLawful}
+use Rattle.rt_model.specs.Effects.{after}
+use Rattle.rt_model.specs.Rules.{IsLawful}
 use Rattle.rt_laws.specs.Examples.{small_begin, begin_by, opening, visiting_root}
 use Rattle.rt_laws.specs.Supervised.{handle}
 use Rattle.rt_laws.specs.Refusals.{asked, spawn_asked, last_number, last_spawn_asked}
