@@ -42,16 +42,16 @@ pub fn add_number(text: &mut String, number: u128) -> Result<(), NoMemory>
     if number < 10 {
         return add_ascii(text, &[b'0' + number as u8]);
     }
-    if number < 100_000 {
+    if number < 10_000 {
         return add_few(text, number as u64);
     }
     add_digits(text, number)
 }
 
-/// A number of two to five digits. Not inlined, so that one digit is written in place.
+/// A number of two to four digits. Not inlined, so that one digit is written in place.
 #[inline(never)]
 fn add_few(text: &mut String, number: u64) -> Result<(), NoMemory>
-    requires { (10 ≤ number) × (number < 100000) }
+    requires { (10 ≤ number) × (number < 10000) }
     ensures { OnOk result (string_bytes text.new ≡ string_bytes text.old ++ decimal number) }
 {
     let (tens, last) = (number / 10, b'0' + (number % 10) as u8);
@@ -62,15 +62,8 @@ fn add_few(text: &mut String, number: u64) -> Result<(), NoMemory>
     if hundreds < 10 {
         return add_ascii(text, &[b'0' + hundreds as u8, ten, last]);
     }
-    let (thousands, hundred) = (hundreds / 10, b'0' + (hundreds % 10) as u8);
-    if thousands < 10 {
-        return add_ascii(text, &[b'0' + thousands as u8, hundred, ten, last]);
-    }
-    let thousand = b'0' + (thousands % 10) as u8;
-    add_ascii(
-        text,
-        &[b'0' + (thousands / 10) as u8, thousand, hundred, ten, last],
-    )
+    let hundred = b'0' + (hundreds % 10) as u8;
+    add_ascii(text, &[b'0' + (hundreds / 10) as u8, hundred, ten, last])
 }
 
 /// A number of any size.
