@@ -1,21 +1,15 @@
 //! Small task types of one's own, from their definitions to their runs: an errand, a retry that pauses longer each time,
-//! a crew, whose first task spawns another and waits for it, a chief, which waits with a limit or a choice, and an heir, which
-//! spawns below a node that has ended.
+//! a crew, whose first task spawns another and waits for it, a chief, which waits with a limit or a choice, a courier, which
+//! passes a parcel through a slot, and an heir, which spawns below a node that has ended.
 #![tactic(auto)]
 
 mod chief;
-#[cfg(test)]
-mod chief_tests;
 mod courier;
-#[cfg(test)]
-mod courier_tests;
 mod crew;
 mod errand;
 mod heir;
 mod maker;
 mod retry;
-#[cfg(test)]
-mod tests;
 
 pub use chief::{Chief, Plan, RootChief};
 pub use courier::{Courier, Parcel, RootCourier};

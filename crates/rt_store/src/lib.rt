@@ -22,8 +22,6 @@ mod reading;
 mod snapshot;
 mod storage;
 mod store;
-#[cfg(test)]
-mod tests;
 mod ticket;
 
 pub use blob::Blob;

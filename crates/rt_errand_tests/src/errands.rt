@@ -1,13 +1,13 @@
 // Whole journals, as text.
 
-use crate::{
-    Crew, Errand, Heir, Retry, RootCrew, RootErrand, RootHeir, RootPair, RootRetry, Stage,
-};
 use rand_chacha::ChaCha12Rng;
 use rt_audit::Journal;
 use rt_core::utils::reschedule;
 use rt_core::{
     Config, ConfigError, Error, Failure, Finished, MAX_TIME, Nanos, NoMemory, RunError, Runner,
+};
+use rt_errand::{
+    Crew, Errand, Heir, Retry, RootCrew, RootErrand, RootHeir, RootPair, RootRetry, Stage,
 };
 use std::alloc::Global;
 use std::test::Fail;

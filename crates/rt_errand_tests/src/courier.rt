@@ -1,8 +1,8 @@
 // Whole journals of couriers, as text.
 
-use crate::tests::{Expected, is_as_expected};
-use crate::{Courier, Parcel, RootCourier};
+use crate::errands::{Expected, is_as_expected};
 use rt_core::{Config, Error, Nanos, RunError, Runner};
+use rt_errand::{Courier, Parcel, RootCourier};
 use std::test::Fail;
 
 /// Up to where a courier waits, with both ends of its slot.

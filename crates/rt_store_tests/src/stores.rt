@@ -3,15 +3,15 @@
 // A case is a function that makes its calls and says whether they came to what is written beside them, or how many did. The functions
 // are over any store where they can be, since those are proved in less time.
 
-use crate::{
-    Blob, Done, FaultConfig, MemStore, PartialWriteMode, Storage, Ticket, WriteConfig,
-    collect_reads,
-};
 use rt_base::{
     BlobVersion, Choice, Env, Error, Event, IoKind, NoEnv, NoMemory, Poll, ReadOptions,
     WriteOptions,
 };
 use rt_bufs::{IoBuf, IoBufMut, IoBufs, IoBufsMut};
+use rt_store::{
+    Blob, Done, FaultConfig, MemStore, PartialWriteMode, Storage, Ticket, WriteConfig,
+    collect_reads,
+};
 use std::alloc::Global;
 use std::test::Fail;
 

@@ -1,8 +1,8 @@
 // Whole journals of chiefs, as text.
 
-use crate::tests::{Expected, is_as_expected};
-use crate::{Chief, Plan, RootChief};
+use crate::errands::{Expected, is_as_expected};
 use rt_core::{Error, Runner};
+use rt_errand::{Chief, Plan, RootChief};
 use std::test::Fail;
 
 /// Up to where a chief has polled its worker for the first time.

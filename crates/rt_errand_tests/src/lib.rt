@@ -1,0 +1,9 @@
+//! Tests of the errands: whole journals of each.
+#![tactic(auto)]
+
+#[cfg(test)]
+mod chief;
+#[cfg(test)]
+mod courier;
+#[cfg(test)]
+mod errands;
