@@ -23,8 +23,6 @@ mod sample;
 mod scope;
 pub mod status;
 pub mod task;
-#[cfg(test)]
-mod tests;
 mod writing;
 
 pub use batched::{Batchable, Batched};

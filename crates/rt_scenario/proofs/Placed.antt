@@ -16,7 +16,7 @@ use Rattle.rt_scenario.specs.Within.{IsWithin, HasPlaces, HavePlaces, IsFree, Is
 use Rattle.rt_scenario.specs.declared.line.Line.{Line}
 use Rattle.rt_scenario.specs.declared.line.Line.TheVariants as step
 use Rattle.rt_scenario.specs.declared.named_line.NamedLine.{NamedLine}
-use Rattle.rt_scenario.specs.declared.named_line.NamedLine.TheVariants.{Plain, Spawn, Abort, Drop, Join}
+use Rattle.rt_scenario.specs.declared.named_line.NamedLine.TheVariants.{Plain, Spawn, Abort, Drop, Join, Within}
 use Rattle.rt_scenario.specs.declared.scenario.ScriptText.{ScriptText}
 
 abbrev Lies : List (List ℕ) → List ℕ → Type 0
@@ -101,6 +101,7 @@ placed_one scripts s (Plain (step.Spawn handle script)) named lies = absurd name
 placed_one scripts s (Plain (step.Abort handle)) named lies = absurd named
 placed_one scripts s (Plain (step.Drop handle)) named lies = absurd named
 placed_one scripts s (Plain (step.Join handle)) named lies = absurd named
+placed_one scripts s (Plain (step.Within handle limit)) named lies = absurd named
 placed_one scripts s (Plain (step.Sleep n)) named lies = tt
 placed_one scripts s (Plain (step.Until n)) named lies = tt
 placed_one scripts s (Plain step.Yield) named lies = tt
@@ -112,6 +113,7 @@ placed_one scripts s (Spawn handle script) named lies = (lies, named)
 placed_one scripts s (Abort handle) named lies = lies
 placed_one scripts s (Drop handle) named lies = lies
 placed_one scripts s (Join handle) named lies = lies
+placed_one scripts s (Within handle limit) named lies = lies
 
 -- a script that is closed has the places that its lines hold
 pub closed_has : (scripts : ℕ) (s : Begun) → IsBegun scripts s → HasPlaces scripts (closed_script s)
@@ -126,6 +128,7 @@ within_more n s (step.Spawn handle script) h = (h.0, omega (arith, h.1))
 within_more n s (step.Abort handle) h = h
 within_more n s (step.Drop handle) h = h
 within_more n s (step.Join handle) h = h
+within_more n s (step.Within handle limit) h = h
 within_more n s (step.Sleep d) h = tt
 within_more n s (step.Until d) h = tt
 within_more n s step.Yield h = tt
@@ -149,6 +152,7 @@ free_named scripts words (Plain (step.Spawn handle script)) h = absurd h
 free_named scripts words (Plain (step.Abort handle)) h = absurd h
 free_named scripts words (Plain (step.Drop handle)) h = absurd h
 free_named scripts words (Plain (step.Join handle)) h = absurd h
+free_named scripts words (Plain (step.Within handle limit)) h = absurd h
 free_named scripts words (Plain (step.Sleep n)) h = tt
 free_named scripts words (Plain (step.Until n)) h = tt
 free_named scripts words (Plain step.Yield) h = tt
@@ -160,6 +164,7 @@ free_named scripts words (Spawn handle script) h = h
 free_named scripts words (Abort handle) h = tt
 free_named scripts words (Drop handle) h = tt
 free_named scripts words (Join handle) h = tt
+free_named scripts words (Within handle limit) h = tt
 
 -- a line more
 pub begun_line : (scripts : ℕ) (s : Begun) (line : NamedLine (List ℕ)) → IsBegun scripts s → IsFree scripts line → IsBegun scripts (with_line line s)
@@ -171,6 +176,7 @@ named_more scripts words (Plain (step.Spawn handle script)) h = absurd h
 named_more scripts words (Plain (step.Abort handle)) h = absurd h
 named_more scripts words (Plain (step.Drop handle)) h = absurd h
 named_more scripts words (Plain (step.Join handle)) h = absurd h
+named_more scripts words (Plain (step.Within handle limit)) h = absurd h
 named_more scripts words (Plain (step.Sleep n)) h = tt
 named_more scripts words (Plain (step.Until n)) h = tt
 named_more scripts words (Plain step.Yield) h = tt
@@ -182,6 +188,7 @@ named_more scripts words (Spawn handle script) h = h
 named_more scripts words (Abort handle) h = tt
 named_more scripts words (Drop handle) h = tt
 named_more scripts words (Join handle) h = tt
+named_more scripts words (Within handle limit) h = tt
 
 -- a panic more, and its word
 pub begun_panic : (scripts : ℕ) (s : Begun) (word : List ℕ) → IsBegun scripts s → IsBegun scripts (with_panic word s)

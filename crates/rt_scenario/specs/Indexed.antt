@@ -9,7 +9,7 @@ use Rattle.rt_base.specs.Attributes.{text_cmp}
 use Rattle.rt_scenario.specs.declared.line.Line.{Line}
 use Rattle.rt_scenario.specs.declared.line.Line.TheVariants as step
 use Rattle.rt_scenario.specs.declared.named_line.NamedLine.{NamedLine}
-use Rattle.rt_scenario.specs.declared.named_line.NamedLine.TheVariants.{Plain, Spawn, Abort, Drop, Join}
+use Rattle.rt_scenario.specs.declared.named_line.NamedLine.TheVariants.{Plain, Spawn, Abort, Drop, Join, Within}
 
 -- the line with f of what stands for its handle
 abbrev pub map_handle : {M N : Type 0} → (M → N) → NamedLine M → NamedLine N
@@ -18,6 +18,7 @@ map_handle f (Spawn handle script) = Spawn (f handle) script
 map_handle f (Abort handle) = Abort (f handle)
 map_handle f (Drop handle) = Drop (f handle)
 map_handle f (Join handle) = Join (f handle)
+map_handle f (Within handle limit) = Within (f handle) limit
 
 -- the line with its handle's name, which the text lends
 abbrev pub read : NamedLine (Bor (List ℕ)) → NamedLine (List ℕ)
@@ -34,6 +35,7 @@ HasIndex names (Spawn index script) = index < names
 HasIndex names (Abort index) = index < names
 HasIndex names (Drop index) = index < names
 HasIndex names (Join index) = index < names
+HasIndex names (Within index limit) = index < names
 
 -- a name goes behind the others, unless it is there
 abbrev pub with_name : List (List ℕ) → Option (List ℕ) → List (List ℕ)
@@ -56,3 +58,4 @@ placed_at places (Spawn index script) = step.Spawn (slice_index places index) sc
 placed_at places (Abort index) = step.Abort (slice_index places index)
 placed_at places (Drop index) = step.Drop (slice_index places index)
 placed_at places (Join index) = step.Join (slice_index places index)
+placed_at places (Within index limit) = step.Within (slice_index places index) limit

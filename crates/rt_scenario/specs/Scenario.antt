@@ -12,11 +12,11 @@ use Rattle.rt_scenario.specs.declared.kind.Kind.{Kind}
 use Rattle.rt_scenario.specs.declared.kind.Kind.TheVariants as kind
 use Rattle.rt_scenario.specs.declared.line.Line.TheVariants as step
 use Rattle.rt_scenario.specs.declared.named_line.NamedLine.{NamedLine}
-use Rattle.rt_scenario.specs.declared.named_line.NamedLine.TheVariants.{Plain, Spawn, Abort, Drop, Join}
+use Rattle.rt_scenario.specs.declared.named_line.NamedLine.TheVariants.{Plain, Spawn, Abort, Drop, Join, Within}
 use Rattle.rt_scenario.specs.declared.scenario.Scenario.{Scenario}
 use Rattle.rt_scenario.specs.declared.scenario.ScriptText.{ScriptText}
 use Rattle.rt_scenario.specs.declared.word.Word.{Word}
-use Rattle.rt_scenario.specs.declared.word.Word.TheVariants.{Timeout, Catch, Script, Sleep, Until, Yield, Pend, End, Panic, Spawn as SpawnWord, Abort as AbortWord, Drop as DropWord, Join as JoinWord, Done, Run}
+use Rattle.rt_scenario.specs.declared.word.Word.TheVariants.{Timeout, Catch, Script, Sleep, Until, Yield, Pend, End, Panic, Spawn as SpawnWord, Abort as AbortWord, Drop as DropWord, Join as JoinWord, Within as WithinWord, Done, Run}
 
 -- what the lines so far say: the settings, the scripts, the one whose `done` hasn't come, and the places
 -- of the scripts that are run, the root first
@@ -115,6 +115,14 @@ spawn_row d handle name = if not (is_name handle && is_name name) then Err kind.
 abbrev pub handle_row : Draft → (List ℕ → NamedLine (List ℕ)) → List ℕ → Result Draft Kind
 handle_row d line handle = if not (is_name handle) then Err kind.Name else step_row d (line handle)
 
+-- a join with a limit
+abbrev pub limited_row : Draft → Option ℕ → List ℕ → Result Draft Kind
+limited_row d None handle = Err kind.Number
+limited_row d (Some limit) handle = step_row d (Within handle limit)
+
+abbrev pub within_row : Draft → Option ℕ → List ℕ → Result Draft Kind
+within_row d limit handle = if not (is_name handle) then Err kind.Name else limited_row d limit handle
+
 abbrev pub abort_row : Draft → List ℕ → Result Draft Kind
 abort_row d word = if is_text word (codes "self") then step_row d (Plain step.AbortSelf) else handle_row d Abort word
 
@@ -166,6 +174,7 @@ row d SpawnWord (h ∷ w ∷ []) = spawn_row d h w
 row d AbortWord (w ∷ []) = abort_row d w
 row d DropWord (h ∷ []) = handle_row d Drop h
 row d JoinWord (h ∷ []) = handle_row d Join h
+row d WithinWord (w ∷ h ∷ []) = within_row d (number_of w) h
 row d Done [] = done_row d
 row d Run ws = run_row d (names_run ws)
 row d word args = Err kind.Count

@@ -7,7 +7,7 @@ use Rattle.rt_base.specs.Attributes.{text_cmp}
 use Rattle.rt_scenario.specs.declared.line.Line.{Line}
 use Rattle.rt_scenario.specs.declared.line.Line.TheVariants as step
 use Rattle.rt_scenario.specs.declared.named_line.NamedLine.{NamedLine}
-use Rattle.rt_scenario.specs.declared.named_line.NamedLine.TheVariants.{Plain, Spawn, Abort, Drop, Join}
+use Rattle.rt_scenario.specs.declared.named_line.NamedLine.TheVariants.{Plain, Spawn, Abort, Drop, Join, Within}
 use Rattle.rt_scenario.specs.declared.scenario.ScriptText.{ScriptText}
 
 -- a script without its `done`; handles stand in its lines by their names
@@ -22,6 +22,7 @@ handle_of (Spawn handle script) = Some handle
 handle_of (Abort handle) = Some handle
 handle_of (Drop handle) = Some handle
 handle_of (Join handle) = Some handle
+handle_of (Within handle limit) = Some handle
 
 -- a name goes to its place in byte order, unless it is there
 abbrev pub with_handle : List (List ℕ) → Option (List ℕ) → List (List ℕ)
@@ -47,6 +48,7 @@ placed names (Spawn handle script) = step.Spawn (place_of names handle) script
 placed names (Abort handle) = step.Abort (place_of names handle)
 placed names (Drop handle) = step.Drop (place_of names handle)
 placed names (Join handle) = step.Join (place_of names handle)
+placed names (Within handle limit) = step.Within (place_of names handle) limit
 
 abbrev pub closed_script : Begun → ScriptText
 closed_script s = record { name = s.name; lines = map (placed (handles_of s.lines)) s.lines; handles = handles_of s.lines; words = s.words }

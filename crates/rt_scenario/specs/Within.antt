@@ -15,6 +15,7 @@ IsWithin scripts s (step.Spawn handle script) = (handle < length s.handles) × (
 IsWithin scripts s (step.Abort handle) = handle < length s.handles
 IsWithin scripts s (step.Drop handle) = handle < length s.handles
 IsWithin scripts s (step.Join handle) = handle < length s.handles
+IsWithin scripts s (step.Within handle limit) = handle < length s.handles
 IsWithin scripts s line = Unit {0}
 
 abbrev pub HasPlaces : ℕ → ScriptText → Type 0
@@ -31,6 +32,7 @@ IsFree scripts (Plain (step.Spawn handle script)) = ⊥
 IsFree scripts (Plain (step.Abort handle)) = ⊥
 IsFree scripts (Plain (step.Drop handle)) = ⊥
 IsFree scripts (Plain (step.Join handle)) = ⊥
+IsFree scripts (Plain (step.Within handle limit)) = ⊥
 IsFree scripts (Spawn handle script) = script < scripts
 IsFree scripts line = Unit {0}
 

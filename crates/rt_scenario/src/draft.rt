@@ -5,7 +5,7 @@ ghost use Rattle.std.specs.List.{All, list_all};
 ghost use Rattle.rt_scenario.specs.Lines.{words_of, words_in};
 ghost use Rattle.rt_scenario.specs.Numbers.{number_of, value_of};
 ghost use Rattle.rt_scenario.specs.Words.{switch_of};
-ghost use Rattle.rt_scenario.specs.Scenario.{Draft, blank, CanRun, is_between, is_name, is_placed, is_printable, names_run, row, after_line, after_text, after_words, timeout_row, catch_row, script_row, step_row, sleep_row, until_row, end_row, panic_row, spawn_row, spawned_row, abort_row, handle_row, done_row, found_row, run_row, script_at, scripts_at};
+ghost use Rattle.rt_scenario.specs.Scenario.{Draft, blank, CanRun, is_between, is_name, is_placed, is_printable, names_run, row, after_line, after_text, after_words, timeout_row, catch_row, script_row, step_row, sleep_row, until_row, end_row, panic_row, spawn_row, spawned_row, abort_row, handle_row, within_row, done_row, found_row, run_row, script_at, scripts_at};
 ghost use Rattle.rt_scenario.specs.Answers.{Answers, Finishes, IsBare, Lacks, found_at, or_missing};
 ghost use Rattle.rt_scenario.specs.Indexed.{read};
 ghost use Rattle.rt_scenario.specs.Scripts.{tasks_of, tasks_at as total_at};
@@ -209,6 +209,10 @@ impl Draft {
             Word::Abort => self.abort(one(args)?),
             Word::Drop => self.give_up(one(args)?),
             Word::Join => self.join(one(args)?),
+            Word::Within => {
+                let (limit, handle) = two(args)?;
+                self.within(limit, handle)
+            }
             Word::Run => self.run(args),
         }
     }
@@ -381,6 +385,17 @@ impl Draft {
     {
         let handle = named(word)?;
         self.push(NamedLine::Join(handle))
+    }
+
+    fn within(&mut self, limit: &[u8], handle: &[u8]) -> Result<(), Stop>
+        requires { is_some self.old.current ≡ true }
+        ensures { Answers (within_row self.old (number_of limit.now) handle.now) result self.new }
+    {
+        let handle = named(handle)?;
+        match numbers::number_of(limit) {
+            Some(limit) => self.push(NamedLine::Within(handle, limit)),
+            None => Err(Stop::Breaks(Kind::Number)),
+        }
     }
 
     fn close_script(&mut self) -> Result<(), Stop>

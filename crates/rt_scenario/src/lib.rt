@@ -15,8 +15,6 @@ mod scenario;
 mod split;
 mod stop;
 mod tasks;
-#[cfg(test)]
-mod tests;
 mod word;
 
 pub use kind::Kind;

@@ -32,4 +32,6 @@ pub enum Line {
     Drop(usize),
     /// Waits for the task of this handle.
     Join(usize),
+    /// Waits for the task of this handle for at most so long.
+    Within(usize, Nanos),
 }

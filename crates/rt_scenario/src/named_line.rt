@@ -5,7 +5,7 @@ ghost use Rattle.rt_scenario.specs.Scripts.{handle_of};
 
 use crate::handles::Handles;
 use crate::line::Line;
-use rt_base::NoMemory;
+use rt_base::{Nanos, NoMemory};
 
 /// What a line says, where an `N` stands for its handle: the name, or the index of the name among a script's names.
 #[derive(Clone, Copy)]
@@ -17,6 +17,8 @@ pub enum NamedLine<N> {
     Abort(N),
     Drop(N),
     Join(N),
+    /// A join that takes at most so long.
+    Within(N, Nanos),
 }
 
 /// The line by the index of its handle, whose name goes behind the others if it is new.
@@ -32,6 +34,7 @@ pub fn indexed(line: NamedLine<&str>, handles: &mut Handles) -> Result<NamedLine
         NamedLine::Abort(name) => Ok(NamedLine::Abort(handles.index_of(name)?)),
         NamedLine::Drop(name) => Ok(NamedLine::Drop(handles.index_of(name)?)),
         NamedLine::Join(name) => Ok(NamedLine::Join(handles.index_of(name)?)),
+        NamedLine::Within(name, limit) => Ok(NamedLine::Within(handles.index_of(name)?, limit)),
     }
 }
 
@@ -45,6 +48,7 @@ pub fn placed(line: NamedLine<usize>, places: &[usize]) -> Line
         NamedLine::Abort(index) => Line::Abort(place_at(places, index)),
         NamedLine::Drop(index) => Line::Drop(place_at(places, index)),
         NamedLine::Join(index) => Line::Join(place_at(places, index)),
+        NamedLine::Within(index, limit) => Line::Within(place_at(places, index), limit),
     }
 }
 

@@ -18,6 +18,7 @@ pub enum Word {
     Abort,
     Drop,
     Join,
+    Within,
     Done,
     Run,
 }
@@ -41,6 +42,7 @@ impl Word {
             b"abort" => Some(Word::Abort),
             b"drop" => Some(Word::Drop),
             b"join" => Some(Word::Join),
+            b"within" => Some(Word::Within),
             b"done" => Some(Word::Done),
             b"run" => Some(Word::Run),
             _ => None,

@@ -1,7 +1,7 @@
 -- What a script does, line by line.
 use Rattle.std.specs.Prelude.{ℕ, ◌+◌, max, List, [], ◌∷◌, drop, Option, Some, None, Result, Ok, Err, ℤ, pos, negsuc}
 use Rattle.rt_base.specs.declared.error.Error.{Error}
-use Rattle.rt_base.specs.declared.error.Error.TheVariants.{Exited, Closed as IsClosed, ClockOverflow, UnknownToken, TooManyTasks, Metric, NoMemory as LacksMemory}
+use Rattle.rt_base.specs.declared.error.Error.TheVariants.{Exited, Closed as IsClosed, Aborted, Timeout, ClockOverflow, UnknownToken, TooManyTasks, Metric, NoMemory as LacksMemory}
 use Rattle.rt_base.specs.declared.poll.Poll.{Poll}
 use Rattle.rt_base.specs.declared.poll.Poll.TheVariants.{Ready as IsReady, Pending as IsPending}
 use Rattle.rt_audit.specs.declared.call.Call.TheVariants.{AbortTask, CloseNode}
@@ -18,11 +18,11 @@ use Rattle.rt_core.specs.Sleeper.{Sleeper}
 use Rattle.rt_core.specs.Pollers.{sleep_for, sleep_until, sleep_polls, sleep_spends, reschedule_polls, reschedule_spends, unqueued, closes}
 use Rattle.rt_core.specs.declared.yields.Reschedule.{Reschedule}
 use Rattle.rt_scenario.specs.declared.line.Line.{Line}
-use Rattle.rt_scenario.specs.declared.line.Line.TheVariants.{Sleep, Until, Yield, Pend, End, EndLast, Panic, Spawn, Abort, AbortSelf, Drop, Join}
+use Rattle.rt_scenario.specs.declared.line.Line.TheVariants.{Sleep, Until, Yield, Pend, End, EndLast, Panic, Spawn, Abort, AbortSelf, Drop, Join, Within}
 use Rattle.rt_scenario.specs.declared.scenario.ScriptText.{ScriptText}
 use Rattle.rt_sim.specs.Program.{text_at, name_at, word_at}
 use Rattle.rt_sim.specs.declared.script.Waits.{Waits}
-use Rattle.rt_sim.specs.declared.script.Waits.TheVariants.{Nothing, Sleeps, Yields}
+use Rattle.rt_sim.specs.declared.script.Waits.TheVariants.{Nothing, Sleeps, Yields, Limits}
 
 -- a script that runs: all scripts, its own text, the place of its line, the value of the one before, what it waits for, the handles that
 -- it holds by the places of their names, for how many names it has places, and its context
@@ -60,6 +60,10 @@ loosed s at = record s { handles = without at s.handles }
 abbrev pub bound : Script → ℕ → TaskHandle ℤ → Script
 bound s at handle = record s { handles = with_task at handle (without at s.handles) }
 
+-- with a handle that was taken out
+abbrev pub put_back : Script → ℕ → TaskHandle ℤ → Script
+put_back s at handle = record s { handles = with_task at handle s.handles }
+
 -- with a place for this name
 abbrev pub roomed : Script → ℕ → Script
 roomed s at = record s { places = max s.places (at + 1) }
@@ -68,6 +72,8 @@ roomed s at = record s { places = max s.places (at + 1) }
 abbrev pub value_of : Error → ℤ
 value_of Exited = negsuc 0
 value_of IsClosed = negsuc 1
+value_of Aborted = negsuc 2
+value_of Timeout = negsuc 3
 value_of ClockOverflow = negsuc 10
 value_of UnknownToken = negsuc 11
 value_of TooManyTasks = negsuc 12
@@ -151,6 +157,38 @@ joins_held s on at (Some handle) = then (task_polls handle) (joined s on at)
 unfoldable pub joins : Script → (Script → Next) → ℕ → Next
 joins s on at = joins_held s on at (find at s.handles)
 
+-- a join whose time is over gives its handle up, but doesn't abort
+abbrev pub timed : Script → (Script → Next) → ℕ → TaskHandle ℤ → Polled → Sleeper → Next
+timed s on at handle IsPending sleep = Gives Pending (waiting (put_back s at handle) (Limits at sleep))
+timed s on at handle (IsReady (Ok over)) sleep = followed_by (task_spends handle) (refused s on Timeout)
+timed s on at handle (IsReady (Err error)) sleep = Gives NoMemory (put_back s at handle)
+
+-- what it was told of its handle. Its sleep is polled where the handle isn't ready
+abbrev pub limited : Script → (Script → Next) → ℕ → Sleeper → Poll (Result ℤ Error) → TaskHandle ℤ → Next
+limited s on at sleep IsPending handle = then (sleep_polls sleep) (timed s on at handle)
+limited s on at sleep (IsReady (Ok value)) handle = followed_by (task_spends handle) (on (passed s value))
+limited s on at sleep (IsReady (Err error)) handle = followed_by (task_spends handle) (refused s on error)
+
+-- a join that takes at most so long, of a handle that was taken out
+unfoldable pub limits : Script → (Script → Next) → ℕ → Sleeper → TaskHandle ℤ → Next
+limits s on at sleep handle = then (task_polls handle) (limited s on at sleep)
+
+-- the limit under way, or a new one
+abbrev pub limit_in : Waits → Result Sleeper Error → Result Sleeper Error
+limit_in (Limits at sleep) fresh = Ok sleep
+limit_in waits fresh = fresh
+
+abbrev pub begun_limit : Script → (Script → Next) → ℕ → TaskHandle ℤ → Result Sleeper Error → Next
+begun_limit s on at handle (Ok sleep) = limits s on at sleep handle
+begun_limit s on at handle (Err error) = followed_by (task_spends handle) (refused s on error)
+
+abbrev pub limits_held : Script → (Script → Next) → ℕ → Result Sleeper Error → Option (TaskHandle ℤ) → Next
+limits_held s on at fresh None = on (passed s unheld)
+limits_held s on at fresh (Some handle) = begun_limit (waiting (loosed s at) Nothing) on at handle (limit_in s.waits fresh)
+
+unfoldable pub joins_within : Script → (Script → Next) → ℕ → Result Sleeper Error → Next
+joins_within s on at fresh = limits_held s on at fresh (find at s.handles)
+
 abbrev pub aborts_held : Script → (Script → Next) → ℕ → Option (TaskHandle ℤ) → Next
 aborts_held s on at None = on (passed s unheld)
 aborts_held s on at (Some handle) = followed_by (handle_aborts handle) (on (passed (bound s at (aborted handle)) (pos 0)))
@@ -186,6 +224,7 @@ goes_on (Sleep duration ∷ lines) s time task = sleeps s (λ next. goes_on line
 goes_on (Until moment ∷ lines) s time task = sleeps s (λ next. goes_on lines next time task) (sleep_until moment)
 goes_on (Spawn at script ∷ lines) s time task = spawns s (λ next. goes_on lines next time task) at script
 goes_on (Join at ∷ lines) s time task = joins s (λ next. goes_on lines next time task) at
+goes_on (Within at limit ∷ lines) s time task = joins_within s (λ next. goes_on lines next time task) at (sleep_for time limit)
 goes_on (Abort at ∷ lines) s time task = aborts s (λ next. goes_on lines next time task) at
 goes_on (AbortSelf ∷ lines) s time task = aborts_itself s (λ next. goes_on lines next time task) task
 goes_on (Drop at ∷ lines) s time task = drops s (λ next. goes_on lines next time task) at
@@ -202,15 +241,21 @@ unfoldable pub releases_all : List (ℕ × TaskHandle ℤ) → Last Script ℤ �
 releases_all [] next = next
 releases_all (h ∷ handles) next = followed_by (task_spends h.1) (releases_all handles next)
 
--- what it waits for is given up
-abbrev pub stops_waiting : Waits → Last Script ℤ
-stops_waiting Nothing = Gives tt tt
-stops_waiting (Sleeps sleep) = sleep_spends sleep
-stops_waiting (Yields turn) = reschedule_spends turn
+-- what it waits for is given up: of a join with a limit its handle
+abbrev pub stops_waiting : Waits → List (ℕ × TaskHandle ℤ) → Last Script ℤ
+stops_waiting Nothing handles = Gives tt tt
+stops_waiting (Sleeps sleep) handles = sleep_spends sleep
+stops_waiting (Yields turn) handles = reschedule_spends turn
+stops_waiting (Limits at sleep) handles = releases (find at handles)
+
+-- the handles that are left then
+abbrev pub left_by : Waits → List (ℕ × TaskHandle ℤ) → List (ℕ × TaskHandle ℤ)
+left_by (Limits at sleep) handles = without at handles
+left_by waits handles = handles
 
 -- an end gives up what it waits for, then what it holds, and closes the context
 abbrev pub ended : Script → Last Script ℤ
-ended s = followed_by (stops_waiting s.waits) (releases_all s.handles (closes s.context.node))
+ended s = followed_by (stops_waiting s.waits s.handles) (releases_all (left_by s.waits s.handles) (closes s.context.node))
 
 abbrev pub script_steps : TaskSteps Script ℤ
 script_steps = record { next = λ s time task. polled s time task; last = λ s time number. ended s }

@@ -7,13 +7,14 @@ ghost use Rattle.rt_model.specs.Walk.{Last};
 ghost use Rattle.rt_world.specs.World.{World as AnyWorld};
 ghost use Rattle.rt_model.specs.declared.answer.Answer.TheVariants.{NoMemory as LacksMemory};
 ghost use Rattle.rt_base.specs.declared.error.Error.{Error};
+ghost use Rattle.rt_base.specs.declared.poll.Poll.TheVariants.{Pending as IsPending};
 ghost use Rattle.rt_core.specs.Sleeper.{Sleeper};
 ghost use Rattle.rt_world.specs.Calls.{IsPolling, Kept};
 ghost use Rattle.rt_world.specs.Walked.{Advanced, Leads, Spends, Spent};
 ghost use Rattle.rt_scenario.specs.Within.{IsWithin};
 ghost use Rattle.rt_scenario.specs.declared.line.Line.{Line};
 ghost use Rattle.rt_sim.specs.Program.{line_at, name_at, word_at};
-ghost use Rattle.rt_sim.specs.Script.{Next, Script, started, sleeps, yields, spawns, placed, joins, aborts, releases_all, stops_waiting, sleep_in, turn_in, aborts_itself, drops, releases, goes_on, passed, loosed, bound, roomed, refused, value_of};
+ghost use Rattle.rt_sim.specs.Script.{Next, Script, started, sleeps, yields, spawns, placed, joins, joins_within, limits, limit_in, left_by, aborts, releases_all, stops_waiting, limited, sleep_in, turn_in, aborts_itself, drops, releases, goes_on, passed, loosed, bound, roomed, refused, value_of};
 
 use crate::Program;
 use rt_core::utils::reschedule;
@@ -35,6 +36,8 @@ pub enum Waits {
     Nothing,
     Sleeps(Sleep),
     Yields(Reschedule),
+    /// Waits for the task of the handle at this place, and at most for this sleep.
+    Limits(usize, Sleep),
 }
 
 /// A script that runs.
@@ -110,6 +113,8 @@ impl Script {
             Error::NoMemory => return Some(Answer::NoMemory),
             Error::Exited => -1,
             Error::Closed => -2,
+            Error::Aborted => -3,
+            Error::Timeout => -4,
             Error::ClockOverflow => -11,
             Error::UnknownToken => -12,
             Error::TooManyTasks => -13,
@@ -326,6 +331,106 @@ impl Script {
         }
     }
 
+    /// Polls what a name holds for at most so long. Answers none where the script goes on.
+    #[tactic(auto, using(rt_world::proofs::Walked::task_laws), unfolding(crate::specs::Script::joins_within))]
+    fn join_within<G: Rng>(
+        &mut self,
+        world: &mut World<Script, i64, G>,
+        cx: &Cx,
+        at: usize,
+        fresh: Result<Sleep, Error>,
+    ) -> Option<Answer<i64>>
+        requires room { self.old.place < length self.old.text.lines }
+        requires polling { IsPolling world.old cx.now.task }
+        ensures kept { Kept world.old world.new }
+        ensures place { IfNone result (self.new.place ≡ self.old.place + 1) }
+        ensures text { self.new.text ≡ self.old.text }
+        ensures steps { (on : Script → Next) → Advanced (joins_within self.old on at fresh) (on self.new) world.old world.new result self.new }
+    {
+        let Some(handle) = self.handles.take(at as u64) else {
+            self.pass(UNHELD);
+            return None;
+        };
+        match limit_in(mem::replace(&mut self.waits, Waits::Nothing), fresh) {
+            Ok(sleep) => self.poll_within(world, cx, at, handle, sleep),
+            Err(error) => {
+                handle.give_up(world);
+                self.refuse(error)
+            }
+        }
+    }
+
+    /// Polls a handle of this name, and then the limit. Answers none where the script goes on.
+    #[tactic(auto, using(rt_world::proofs::Walked::task_laws), unfolding(crate::specs::Script::limits))]
+    fn poll_within<G: Rng>(
+        &mut self,
+        world: &mut World<Script, i64, G>,
+        cx: &Cx,
+        at: usize,
+        handle: Handle<Script>,
+        sleep: Sleep,
+    ) -> Option<Answer<i64>>
+        requires room { self.old.place < length self.old.text.lines }
+        requires polling { IsPolling world.old cx.now.task }
+        requires place { at < self.old.places }
+        requires free { find at self.old.handles ≡ None }
+        ensures kept { Kept world.old world.new }
+        ensures place { IfNone result (self.new.place ≡ self.old.place + 1) }
+        ensures text { self.new.text ≡ self.old.text }
+        ensures steps { (on : Script → Next) → Advanced (limits self.old on at sleep handle) (on self.new) world.old world.new result self.new }
+    {
+        let mut handle = handle;
+        match handle.poll(world, cx) {
+            Poll::Pending => self.poll_limit(world, cx, at, handle, sleep),
+            Poll::Ready(Ok(value)) => {
+                handle.give_up(world);
+                self.pass(value);
+                None
+            }
+            Poll::Ready(Err(error)) => {
+                handle.give_up(world);
+                self.refuse(error)
+            }
+        }
+    }
+
+    /// Polls the limit of a wait for this handle. Answers none where the script goes on.
+    #[tactic(auto, using(rt_world::proofs::Walked::task_laws))]
+    fn poll_limit<G: Rng>(
+        &mut self,
+        world: &mut World<Script, i64, G>,
+        cx: &Cx,
+        at: usize,
+        handle: Handle<Script>,
+        sleep: Sleep,
+    ) -> Option<Answer<i64>>
+        requires room { self.old.place < length self.old.text.lines }
+        requires polling { IsPolling world.old cx.now.task }
+        requires place { at < self.old.places }
+        requires free { find at self.old.handles ≡ None }
+        ensures kept { Kept world.old world.new }
+        ensures place { IfNone result (self.new.place ≡ self.old.place + 1) }
+        ensures text { self.new.text ≡ self.old.text }
+        ensures steps { (on : Script → Next) → Advanced (limited self.old on at sleep IsPending handle) (on self.new) world.old world.new result self.new }
+    {
+        let mut sleep = sleep;
+        match sleep.poll(world, cx) {
+            Poll::Pending => {
+                self.handles.put(at as u64, handle);
+                self.waits = Waits::Limits(at, sleep);
+                Some(Answer::Pending)
+            }
+            Poll::Ready(Ok(())) => {
+                handle.give_up(world);
+                self.refuse(Error::Timeout)
+            }
+            Poll::Ready(Err(_)) => {
+                self.handles.put(at as u64, handle);
+                Some(Answer::NoMemory)
+            }
+        }
+    }
+
     /// Aborts what a name holds. The script goes on.
     #[tactic(auto, using(rt_world::proofs::Walked::task_laws), unfolding(crate::specs::Script::aborts))]
     fn abort<G: Rng>(&mut self, world: &mut World<Script, i64, G>, at: usize)
@@ -419,6 +524,10 @@ impl Script {
             },
             Line::Spawn(at, script) => self.spawn(world, at, script),
             Line::Join(at) => self.join(world, cx, at),
+            Line::Within(at, limit) => {
+                let fresh = self.context.sleep(world, limit);
+                self.join_within(world, cx, at, fresh)
+            }
             Line::AbortSelf => self.abort_itself(world, cx),
             Line::Abort(at) => {
                 self.abort(world, at);
@@ -457,7 +566,7 @@ impl Task for Script {
             handles,
             context,
         } = self;
-        stop_waiting(world, waits);
+        let handles = stop_waiting(world, waits, handles);
         release_all(world, handles);
         context.close(world);
     }
@@ -473,6 +582,16 @@ fn sleep_in(waits: Waits, fresh: Result<Sleep, Error>) -> Result<Sleep, Error>
     }
 }
 
+/// The limit under way, or this one.
+fn limit_in(waits: Waits, fresh: Result<Sleep, Error>) -> Result<Sleep, Error>
+    ensures { result ≡ limit_in waits fresh }
+{
+    match waits {
+        Waits::Limits(_, sleep) => Ok(sleep),
+        _ => fresh,
+    }
+}
+
 /// The turn of the others under way, or a new one.
 fn turn_in(waits: Waits) -> Reschedule
     ensures { result ≡ turn_in waits }
@@ -483,19 +602,32 @@ fn turn_in(waits: Waits) -> Reschedule
     }
 }
 
-/// Gives up what is under way.
+/// Gives up what is under way. Answers the handles that are left.
 #[tactic(auto, using(rt_world::proofs::Walked::task_laws))]
-fn stop_waiting<G: Rng>(world: &mut World<Script, i64, G>, waits: Waits)
+fn stop_waiting<G: Rng>(
+    world: &mut World<Script, i64, G>,
+    waits: Waits,
+    handles: Tasks<Handle<Script>>,
+) -> Tasks<Handle<Script>>
     requires { MayCall world.old.told.state world.old.out }
+    ensures left { result.items ≡ left_by waits handles.items }
+    ensures first { result.first ≡ handles.first }
     ensures kept { Kept world.old world.new }
     ensures lacked { world.new.lacked ≡ world.old.lacked }
-    ensures steps { Spends (stops_waiting waits) world.old world.new }
+    ensures steps { Spends (stops_waiting waits handles.items) world.old world.new }
 {
+    let mut handles = handles;
     match waits {
         Waits::Nothing => {}
         Waits::Sleeps(sleep) => sleep.give_up(world),
         Waits::Yields(turn) => turn.give_up(world),
+        Waits::Limits(at, _) => {
+            if let Some(handle) = handles.take(at as u64) {
+                handle.give_up(world);
+            }
+        }
     }
+    handles
 }
 
 /// Gives up all handles, in order of their names.

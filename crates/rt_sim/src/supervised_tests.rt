@@ -599,6 +599,160 @@ digest 00000000
     expect_report(&rt, rt.alloc(), input, 6, report)
 }
 
+/// The limit is over first: the handle is given up, and the task goes on until the cleanup.
+#[test]
+fn within_gives_up(rt: HostRuntime) -> Result<(), Fail> {
+    let input =
+        "script w\npend\ndone\nscript main\nspawn h w\nwithin 3000000 h\nend last\ndone\nrun main\n";
+    let report = "\
+run main
+start 0 - 1000000 0
+root 0
+round 0
+visit 0
+event process_task 00000000000000000000000000000000 -
+call 0 child 0 h -> node 1
+call 0 spawn 1 -> task 1 node 2
+call 0 join 1 -> pending
+call 0 sleep-poll 3000000 -> pending 0
+answer 0 pending
+advance 1000000
+round 1
+visit 1
+event process_task 00000000000000000000000000000001 68
+answer 1 pending
+advance 2000000
+skip 3000000
+fire 0
+wake 0
+round 0
+visit 0
+event process_task 00000000000000000000000000000000 -
+call 0 join 1 -> pending
+call 0 sleep-poll 3000000 -> ready
+call 0 give-up 1 -> ok
+answer 0 ready
+cleanup
+nodeend 0
+call 1 close-node 2 -> ok
+answer 1 ended
+call 0 close-node 0 -> ok
+answer 0 ended
+crash
+finish ok
+result ok -4
+time 3000000
+rounds 3
+digest 00000000
+";
+    expect_report(&rt, rt.alloc(), input, 0, report)
+}
+
+/// The task is first: the alarm of the limit stays, and wakes the root once more.
+#[test]
+fn given_up_sleep_still_fires(rt: HostRuntime) -> Result<(), Fail> {
+    let input =
+        "script w\nend 5\ndone\nscript main\nspawn h w\nwithin 9000000 h\npend\ndone\nrun main\n";
+    let report = "\
+run main
+start 0 - 1000000 0
+root 0
+round 0
+visit 0
+event process_task 00000000000000000000000000000000 -
+call 0 child 0 h -> node 1
+call 0 spawn 1 -> task 1 node 2
+call 0 join 1 -> pending
+call 0 sleep-poll 9000000 -> pending 0
+answer 0 pending
+advance 1000000
+round 1
+visit 1
+event process_task 00000000000000000000000000000001 68
+answer 1 ready
+call 1 close-node 2 -> ok
+answer 1 ended
+wake 0
+nodeend 1
+advance 2000000
+round 0
+visit 0
+event process_task 00000000000000000000000000000000 -
+call 0 join 1 -> ready
+call 0 give-up 1 -> ok
+answer 0 pending
+advance 3000000
+skip 9000000
+fire 0
+wake 0
+round 0
+visit 0
+event process_task 00000000000000000000000000000000 -
+answer 0 pending
+advance 10000000
+cleanup
+nodeend 0
+call 0 close-node 0 -> ok
+answer 0 ended
+crash
+finish stalled
+result stalled
+time 10000000
+rounds 4
+digest 00000000
+";
+    expect_report(&rt, rt.alloc(), input, 6, report)
+}
+
+/// At its end a script first gives up what it waits for with a limit, whatever its name.
+#[test]
+fn limit_under_way_ends_first(rt: HostRuntime) -> Result<(), Fail> {
+    let input =
+        "timeout 2500000\nscript w\npend\ndone\nscript main\nspawn a w\nspawn b w\nwithin 9000000 b\ndone\nrun main\n";
+    let report = "\
+run main
+start 0 2500000 1000000 0
+root 0
+round 0
+visit 0
+event process_task 00000000000000000000000000000000 -
+call 0 child 0 a -> node 1
+call 0 spawn 1 -> task 1 node 2
+call 0 child 0 b -> node 3
+call 0 spawn 3 -> task 2 node 4
+call 0 join 2 -> pending
+call 0 sleep-poll 9000000 -> pending 0
+answer 0 pending
+advance 1000000
+round 1 2
+visit 1
+event process_task 00000000000000000000000000000001 61
+answer 1 pending
+visit 2
+event process_task 00000000000000000000000000000002 62
+answer 2 pending
+advance 2000000
+skip 9000000
+cleanup
+nodeend 0
+call 1 close-node 2 -> ok
+answer 1 ended
+call 2 close-node 4 -> ok
+answer 2 ended
+call 0 give-up 2 -> ok
+call 0 give-up 1 -> ok
+call 0 close-node 0 -> ok
+answer 0 ended
+crash
+finish timeout
+result timeout
+time 9000000
+rounds 2
+digest 00000000
+";
+    expect_report(&rt, rt.alloc(), input, 6, report)
+}
+
 /// A scenario of so many scripts, each of which spawns the one before it and is left pending. The root aborts the last,
 /// joins it, and gives what that left.
 fn chain(alloc: Global, scripts: u64) -> Result<String, AllocError> {

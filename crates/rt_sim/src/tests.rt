@@ -101,6 +101,30 @@ fn statuses_and_texts(rt: HostRuntime) -> Result<(), Fail> {
             0,
             "finish ok\nresult ok -11\ntime 0\nrounds 1\ndigest 00000000\n",
         ),
+        (
+            "run",
+            "script w\nend 5\ndone\nscript a\nspawn h w\nwithin 9223372036854775808000000000 h\nend last\ndone\nrun a\n",
+            0,
+            "finish ok\nresult ok -11\ntime 0\nrounds 1\ndigest 00000000\n",
+        ),
+        (
+            "run",
+            "script w\nend 5\ndone\nscript a\nspawn h w\nwithin 4000000 h\nend last\ndone\nrun a\n",
+            0,
+            "finish ok\nresult ok 5\ntime 2000000\nrounds 3\ndigest 00000000\n",
+        ),
+        (
+            "run",
+            "script w\nend 5\ndone\nscript a\nspawn h w\nabort h\nwithin 4000000 h\nend last\ndone\nrun a\n",
+            0,
+            "finish ok\nresult ok -2\ntime 2000000\nrounds 3\ndigest 00000000\n",
+        ),
+        (
+            "run",
+            "script a\nwithin 5 h\nend last\ndone\nrun a\n",
+            0,
+            "finish ok\nresult ok -99\ntime 0\nrounds 1\ndigest 00000000\n",
+        ),
         ("run", "", 3, "error 1 norun\n"),
         ("run", "script a\nend 7\ndone\nrun a", 3, "error 4 cut\n"),
         (

@@ -11,3 +11,8 @@ pub returns-in-timeout : goal.returns-in-timeout
 returns-in-timeout c =
     let text : c.args.text.now ≡ codes "timeout" = text_from_reads c.args.text.now (codes "timeout") (omega arith) (search rules) in
     rw text refl
+
+pub returns-in-within : goal.returns-in-within
+returns-in-within c =
+    let text : c.args.text.now ≡ codes "within" = text_from_reads c.args.text.now (codes "within") (omega arith) (search rules) in
+    rw text refl

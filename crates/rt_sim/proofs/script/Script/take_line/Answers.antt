@@ -48,3 +48,8 @@ unfolding goes_on
 returns-in-EndLast-clause-steps g c lines =
     let fits : SFits w64 c.self-in-EndLast.inside.last = (search rules) in
     rw (c.in-EndLast.is, to_z-of_z w64 c.self-in-EndLast.inside.last fits, ← c.self-in-EndLast.view_is) (polled-gives c.args.world.now _ (Ready c.self-in-EndLast.inside.last) _ refl)
+
+pub returns-in-Within-clause-steps : goal.returns-in-Within-clause-steps
+unfolding goes_on
+returns-in-Within-clause-steps g c lines =
+    rw (c.in-Within.is) (rw c.sleep-fresh-in-Within.ensures at (c.join_within.ensures.steps (λ next. goes_on lines next c.args.world.now.told.state.clock.time c.args.cx.now.task)))

@@ -1,6 +1,6 @@
 // Which line is broken first and how, and what a whole scenario says.
 
-use crate::{Kind, Line, Refusal, read_scenario};
+use rt_scenario::{Kind, Line, Refusal, read_scenario};
 use std::alloc::{AllocError, Global};
 use std::process::Abort;
 use std::test::Fail;
@@ -118,7 +118,7 @@ fn refused_numbers_and_names(rt: HostRuntime) -> Result<(), Fail> {
 #[test]
 fn surface_of_supervision(rt: HostRuntime) -> Result<(), Fail> {
     let text =
-        b"catch on\nscript idle\npend\ndone\nscript self\npanic a~\ndone\nscript main\nspawn z idle\nspawn b_1 self\nuntil 340282366920938463463374607431768211455\npanic boom\nabort b_1\nabort self\ndrop self\nabort z\njoin z\njoin B\npanic boom\nspawn z idle\ndone\nrun main with self idle self\n";
+        b"catch on\nscript idle\npend\ndone\nscript self\npanic a~\ndone\nscript main\nspawn z idle\nspawn b_1 self\nuntil 340282366920938463463374607431768211455\npanic boom\nabort b_1\nabort self\ndrop self\nabort z\njoin z\njoin B\nwithin 7 b_1\npanic boom\nspawn z idle\ndone\nrun main with self idle self\n";
     let scenario = read_scenario(rt.alloc(), text)?;
     assert!(rt; scenario.catch);
     assert!(rt; scenario.timeout.is_none());
@@ -144,6 +144,7 @@ fn surface_of_supervision(rt: HostRuntime) -> Result<(), Fail> {
             Line::Abort(3),
             Line::Join(3),
             Line::Join(0),
+            Line::Within(1, 7),
             Line::Panic(1),
             Line::Spawn(3, 0)
         ]
@@ -174,6 +175,7 @@ fn read_lines_of_supervision(rt: HostRuntime) -> Result<(), Fail> {
         "script with\ndone\nrun with with with with\n",
         "script a\nabort nobody\ndrop nobody\njoin nobody\nuntil 0\npanic #!~\ndone\nrun a\n",
         "script a\ndone\nscript b\nspawn h a\nspawn h a\nspawn self a\nabort self\njoin self\ndone\nrun b\n",
+        "script a\nwithin 340282366920938463463374607431768211455 within\ndone\nrun a\n",
     ] {
         expect_read(&rt, rt.alloc(), text);
     }
@@ -210,6 +212,8 @@ fn refused_lines_of_supervision(rt: HostRuntime) -> Result<(), Fail> {
         ("script a\nabort self h\n", 2, "count"),
         ("script a\ndrop\n", 2, "count"),
         ("script a\njoin h i\n", 2, "count"),
+        ("script a\nwithin 1\n", 2, "count"),
+        ("script a\nwithin 1 h i\n", 2, "count"),
         ("run\n", 1, "count"),
         ("script a\ndone\nrun a with\n", 3, "count"),
         ("script a\ndone\nrun a a\n", 3, "count"),
@@ -237,6 +241,8 @@ fn refused_lines_of_supervision(rt: HostRuntime) -> Result<(), Fail> {
         ("script a\nabort 9\n", 2, "name"),
         ("script a\ndrop a-b\n", 2, "name"),
         ("script a\njoin _h\n", 2, "name"),
+        ("script a\nwithin x 9\n", 2, "name"),
+        ("script a\nwithin x h\n", 2, "number"),
         ("run none with a-b\n", 1, "name"),
         ("run 9 with none\n", 1, "name"),
         ("script a\nspawn h a\n", 2, "missing"),

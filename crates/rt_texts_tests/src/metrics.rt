@@ -3,12 +3,12 @@
 // A case is a function that makes its calls and says whether they came to what is written beside them, or how many did. None has a
 // contract, so that the tests' proofs stay small, and a call that wants a metric to be there is made where the registry says so.
 
-use crate::status::{CounterGuard, Status};
-use crate::{
+use rt_base::{Error, Execution, MetricError, NoMemory, Text};
+use rt_metrics::status::{CounterGuard, Status};
+use rt_metrics::{
     Batchable, Batched, Counter, CounterFamily, Detached, Gauge, GaugeExt, GaugeFamily, Home,
     LabelSet, Metric, Registered, Registry, raw, status, task,
 };
-use rt_base::{Error, Execution, MetricError, NoMemory, Text};
 use std::alloc::Global;
 
 /// Whether these are the same.
