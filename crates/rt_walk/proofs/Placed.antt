@@ -1,5 +1,5 @@
 -- Numbers and their places.
-use Rattle.std.proofs.Common.{◌≡◌, ◌<◌, ◌+◌, ◌∙◌, sym, ap, refl, arith, ℕ, zero, suc, Bool, true, false, cond, eqb, nat_eq, get_or, List, [], ◌∷◌, ◌++◌, length, map, Option, Some, None, option_map, is_some, ◌⊎◌, inl, inr}
+use Rattle.std.proofs.Common.{◌≡◌, ◌<◌, ◌+◌, ◌∙◌, sym, ap, refl, arith, ℕ, zero, suc, Bool, true, false, cond, eqb, nat_eq, get_or, List, [], ◌∷◌, ◌++◌, length, Option, Some, None, option_map, is_some, inl, inr}
 use Rattle.std.proofs.lemmas.Bool.{cases_Bool}
 use Rattle.std.proofs.lemmas.Bool.Decides.{nat_tests}
 use Rattle.std.specs.List.{slice_get, slice_set}

@@ -10,7 +10,8 @@ use Rattle.rt_audit.specs.declared.reply.CallReply.TheVariants.{Closed, Done, No
 use Rattle.rt_audit.specs.declared.entry.Entry.{Entry}
 use Rattle.rt_audit.specs.declared.entry.Entry.TheVariants.{Call as CallEntry, Event, Wake, Draw, NodeEnd, Round, Answer, Cleanup}
 use Rattle.rt_super.specs.Ancestry.{is_ended, is_live}
-use Rattle.rt_model.specs.State.{State, Phase, Making, Between, Entered, Visiting, Turning}
+use Rattle.rt_model.specs.declared.begin.Begin.{Begin}
+use Rattle.rt_model.specs.State.{State, Phase, begun, Making, Between, Entered, Visiting, Turning}
 use Rattle.rt_model.specs.Causes.{cause_at}
 use Rattle.rt_model.specs.Effects.{after, cleans, due_node, entered, is_closing, marks_after, nodes_after, owed_after, panicked_after, phase_after, results_after}
 use Rattle.rt_model.specs.Rules.{Answers, ChildAnswers, May, MayAnswer, MayRound, SpawnAnswers, Unless, is_free}
@@ -130,6 +131,10 @@ after-quiet : (s : State) (e : Entry) → quiet (after s e) ≡ quiet (after (qu
 unfolding after
 after-quiet s e =
     rw (phase-quiet s e, panicked-quiet s e, nodes-quiet s e, marks-quiet s e, results-quiet s e, owed-quiet s e) refl
+
+pub begun-quiet : (b : Begin) → quiet (begun b) ≡ begun b
+unfolding begun
+begun-quiet b = refl
 
 pub may-states : (r : Bool) (w s : State) (e : Entry) → quiet s ≡ w → (IsTrue r ↔ May w e) → IsTrue r ↔ May s e
 may-states r w s e is h = rw (may-quiet s e, is) h

@@ -10,6 +10,7 @@ use rt_audit::Entry;
 use rt_base::NoMemory;
 use rt_model::Begin;
 use std::alloc::Global;
+use std::mem;
 
 /// The place of the first entry of a journal that may not come where it stands, if there is one. Its first run begins as
 /// `begin` says, and each further one, whose `Start` stands right behind a finished run, as the next of `later`. A
@@ -25,10 +26,25 @@ pub fn first_unlawful(
     ensures lawful { IfOk result (λ place. (place ≡ None) ↔ AreLawful (runs_from begin later.now) entries.now) }
 {
     let mut walker = Walker::new(alloc, begin)?;
+    let place = first_refused(alloc, &mut walker, later, entries);
+    drop(walker);
+    place
+}
+
+/// The place of the first entry that a walker refuses, if there is one.
+fn first_refused(
+    alloc: Global,
+    walker: &mut Walker,
+    later: &[Begin],
+    entries: &[Entry],
+) -> Result<Option<usize>, NoMemory>
+    ensures first { (r : Runs) → quiet r.state ≡ walker.old → r.later ≡ later.now → IfOk result (λ place. IsFirstUnlawful r entries.now place) }
+    ensures lawful { (r : Runs) → quiet r.state ≡ walker.old → r.later ≡ later.now → IfOk result (λ place. (place ≡ None) ↔ AreLawful r entries.now) }
+{
     let mut begun = 0;
     for place in 0..entries.len() {
         let entry = &entries[place];
-        begin_next(alloc, &mut walker, later, &mut begun, entry)?;
+        begin_next(alloc, walker, later, &mut begun, entry)?;
         if !walker.may(entry)? {
             return Ok(Some(place));
         }
@@ -50,7 +66,8 @@ fn begin_next(
     if walker.renews(entry)
         && let Some(begin) = later.get(*begun)
     {
-        *walker = Walker::new(alloc, *begin)?;
+        let next = Walker::new(alloc, *begin)?;
+        drop(mem::replace(walker, next));
         *begun += 1;
     }
     Ok(())

@@ -229,13 +229,29 @@ fn is_metric(error: &Error, kind: MetricError) -> bool
     }
 }
 
+/// Why a label is refused, where that is why.
+fn metric_error(error: &Error) -> Result<Option<MetricError>, NoMemory>
+    ensures { IfOk result (λ refusal. (kind : MetricError) × (refusal ≡ Some kind) × (error.now ≡ Error.Metric kind)) }
+{
+    match error {
+        Error::Metric(kind) => Ok(Some(*kind)),
+        _ => Err(NoMemory),
+    }
+}
+
 /// Why a label is refused under that of a node.
 fn refusal_of(alloc: Global, prefix: &str, label: &str) -> Result<Option<MetricError>, NoMemory>
     ensures { IfOk result (λ refusal. option_map Metric refusal ≡ label_refusal prefix.now label.now) }
 {
     match child_label(alloc, prefix, label) {
-        Ok(_) => Ok(None),
-        Err(Error::Metric(kind)) => Ok(Some(kind)),
-        Err(_) => Err(NoMemory),
+        Ok(label) => {
+            drop(label);
+            Ok(None)
+        }
+        Err(error) => {
+            let refusal = metric_error(&error);
+            drop(error);
+            refusal
+        }
     }
 }

@@ -5,8 +5,9 @@ ghost use Rattle.rt_audit.specs.declared.entry.Entry.TheVariants.{Start, Call as
 ghost use Rattle.rt_base.specs.declared.choice.Choice.{Choice};
 ghost use Rattle.rt_model.specs.Lists.{is_some_number};
 ghost use Rattle.rt_model.specs.State.{State, Blank, Over};
-ghost use Rattle.rt_model.specs.Effects.{after, due_answered, due_panic, finished, left_of};
+ghost use Rattle.rt_model.specs.Effects.{after, due_answered, due_called, due_panic, finished, is_closing, left_of};
 ghost use Rattle.rt_walk.specs.Quiet.{quiet};
+ghost use Rattle.rt_walk.specs.Stage.{phase_of};
 
 use crate::Walker;
 use crate::called::{
@@ -56,7 +57,14 @@ impl Walker {
     fn start(&mut self)
         ensures { (next now : ℕ) (deadline : Option ℕ) (cycle : ℕ) → self.new ≡ quiet (after self.old (Start next now deadline cycle)) }
     {
-        self.stage = Stage::Making;
+        self.turn_to(Stage::Making);
+    }
+
+    /// The run stands so from here on, and nobody is to be woken.
+    fn turn_to(&mut self, stage: Stage)
+        ensures { self.new ≡ record self.old { phase = phase_of stage; owed = []; turns = [] } }
+    {
+        drop(mem::replace(&mut self.stage, stage));
         self.owe_nobody();
     }
 
@@ -70,8 +78,26 @@ impl Walker {
     fn call(&mut self, by: Option<u64>, call: &Call, reply: &CallReply) -> Result<(), NoMemory>
         ensures { OnOk result (self.new ≡ quiet (after self.old (CallEntry by call.now reply.now))) }
     {
-        let alloc = self.allocator();
-        let mut due = Vec::new(alloc);
+        let due = self.due_called(call, reply)?;
+        self.owed = Left::from_vec(due);
+        if let (Call::Spawn { .. }, CallReply::TaskAt { task, .. }) = (call, reply) {
+            self.next = *task as u128 + 1;
+        }
+        call_running(&mut self.running, call, reply)?;
+        call_ready(&mut self.ready, call, reply)?;
+        call_alarms(&mut self.alarms, by, call, reply)?;
+        call_nodes(&mut self.nodes, call, reply)?;
+        call_labels(self.allocator(), &mut self.labels, call, reply)?;
+        call_marks(&mut self.marks, call, reply)?;
+        call_results(&mut self.results, by, call, reply)?;
+        self.slots.call(by, call, reply)
+    }
+
+    /// Whom a call must wake.
+    fn due_called(&self, call: &Call, reply: &CallReply) -> Result<Vec<u64>, NoMemory>
+        ensures { IfOk result (λ due. due.items ≡ due_called (is_closing self.now.phase) self.now.marks self.now.slots call.now reply.now) }
+    {
+        let mut due = Vec::new(self.allocator());
         add_due_called(
             self.stage.is_closing(),
             &self.marks,
@@ -80,19 +106,7 @@ impl Walker {
             reply,
             &mut due,
         )?;
-        if let (Call::Spawn { .. }, CallReply::TaskAt { task, .. }) = (call, reply) {
-            self.next = *task as u128 + 1;
-        }
-        call_running(&mut self.running, call, reply)?;
-        call_ready(&mut self.ready, call, reply)?;
-        call_alarms(&mut self.alarms, by, call, reply)?;
-        call_nodes(&mut self.nodes, call, reply)?;
-        call_labels(alloc, &mut self.labels, call, reply)?;
-        call_marks(&mut self.marks, call, reply)?;
-        call_results(&mut self.results, by, call, reply)?;
-        self.slots.call(by, call, reply)?;
-        self.owed = Left::from_vec(due);
-        Ok(())
+        Ok(due)
     }
 
     fn wake(&mut self, task: u64) -> Result<(), NoMemory>
@@ -118,8 +132,7 @@ impl Walker {
         self.ready.push(task)?;
         self.next = task as u128 + 1;
         self.root = Some(task);
-        self.stage = Stage::Between;
-        self.owe_nobody();
+        self.turn_to(Stage::Between);
         Ok(())
     }
 
@@ -129,8 +142,7 @@ impl Walker {
         let left = Left::of(self.allocator(), order)?;
         self.ready.clear();
         self.draws.clear();
-        self.stage = Stage::Visiting { left };
-        self.owe_nobody();
+        self.turn_to(Stage::Visiting { left });
         Ok(())
     }
 
@@ -146,7 +158,8 @@ impl Walker {
         }
         leave_result(&self.stage, &mut self.results);
         remove_left(&mut self.marks, self.stage.leaving());
-        self.stage = mem::replace(&mut self.stage, Stage::Blank).into_node_ended();
+        let stage = mem::replace(&mut self.stage, Stage::Blank).into_node_ended();
+        self.turn_to(stage);
         self.owed = Left::from_vec(due);
         Ok(())
     }
@@ -154,14 +167,14 @@ impl Walker {
     fn enter(&mut self)
         ensures { (label : List ℕ) (fields : List (List ℕ)) → self.new ≡ quiet (after self.old (Event label fields)) }
     {
-        self.stage = match mem::replace(&mut self.stage, Stage::Blank) {
+        let stage = match mem::replace(&mut self.stage, Stage::Blank) {
             Stage::Entered { task, left } => {
                 let halts = self.root == Some(task) && self.panicked;
                 Stage::after_event(halts, is_flagged(&self.marks, task), task, left)
             }
             stage => stage,
         };
-        self.owe_nobody();
+        self.turn_to(stage);
     }
 
     fn visit(&mut self, task: u64)
@@ -169,8 +182,7 @@ impl Walker {
     {
         let mut left = self.take_left();
         left.pass(&self.running);
-        self.stage = Stage::Entered { task, left };
-        self.owe_nobody();
+        self.turn_to(Stage::Entered { task, left });
     }
 
     /// Takes what is left of the round under way out.
@@ -206,8 +218,7 @@ impl Walker {
         let flagged = is_flagged(&self.marks, task);
         marks::leave(&mut self.marks, task);
         let left = self.take_left();
-        self.stage = Stage::after_pending(flagged, task, left);
-        self.owe_nobody();
+        self.turn_to(Stage::after_pending(flagged, task, left));
     }
 
     /// A task has finished so.
@@ -215,16 +226,15 @@ impl Walker {
         ensures { self.new ≡ record self.old { phase = finished (is_some_number task self.old.root) cause outcome task (left_of self.old.phase); owed = []; turns = [] } }
     {
         let left = self.take_left();
-        self.stage = Stage::after_last(self.root == Some(task), cause, outcome, task, left);
-        self.owe_nobody();
+        let stage = Stage::after_last(self.root == Some(task), cause, outcome, task, left);
+        self.turn_to(stage);
     }
 
     /// The rounds end for this cause.
     fn go_over(&mut self, cause: FinishCause)
         ensures { self.new ≡ record self.old { phase = Over cause; owed = []; turns = [] } }
     {
-        self.stage = Stage::Over { cause };
-        self.owe_nobody();
+        self.turn_to(Stage::Over { cause });
     }
 
     /// The state of a task is ended.
@@ -238,7 +248,8 @@ impl Walker {
         marks::release(&mut self.nodes, &self.marks, task);
         remove_if(settles, &mut self.marks, task);
         end_result(&self.stage, settles, &mut self.results, task);
-        self.stage = mem::replace(&mut self.stage, Stage::Blank).into_ended(settles);
+        let stage = mem::replace(&mut self.stage, Stage::Blank).into_ended(settles);
+        self.turn_to(stage);
         self.owed = Left::from_vec(due);
         Ok(())
     }
@@ -277,8 +288,7 @@ impl Walker {
         ensures { self.new ≡ quiet (after self.old (Advance now)) }
     {
         self.time = now;
-        self.stage = Stage::Turning;
-        self.owe_nobody();
+        self.turn_to(Stage::Turning);
     }
 
     fn skip(&mut self, now: Nanos)
@@ -298,25 +308,22 @@ impl Walker {
     fn clean_up(&mut self)
         ensures { self.new ≡ quiet (after self.old Cleanup) }
     {
-        self.stage = Stage::cleaned(self.nodes.is_ended(0), self.reached());
+        let stage = Stage::cleaned(self.nodes.is_ended(0), self.reached());
+        self.turn_to(stage);
         self.ready.clear();
         self.alarms.clear();
-        self.owe_nobody();
     }
 
     fn crash(&mut self)
         ensures { (choices : List Choice) → self.new ≡ quiet (after self.old (Crash choices)) }
     {
-        self.stage = Stage::Crashed {
-            cause: self.stage.kept_cause(),
-        };
-        self.owe_nobody();
+        let cause = self.stage.kept_cause();
+        self.turn_to(Stage::Crashed { cause });
     }
 
     fn finish(&mut self, cause: FinishCause)
         ensures { self.new ≡ quiet (after self.old (Finish cause)) }
     {
-        self.stage = Stage::Finished { cause };
-        self.owe_nobody();
+        self.turn_to(Stage::Finished { cause });
     }
 }

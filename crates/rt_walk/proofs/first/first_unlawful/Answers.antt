@@ -1,32 +1,10 @@
-use Rattle.std.proofs.Common.{◌≡◌, ◌∙◌, ap, true, sym, rules}
-use Rattle.std.proofs.Common.{take}
-use Rattle.rt_model.specs.Runs.{Runs, runs_from, runs_after, renewed}
-use Rattle.rt_walk.proofs.Prefixes.{after-further, breaks-here, broken-unlawful, lawful-further}
+use Rattle.std.proofs.Common.{◌∙◌, sym, refl}
+use Rattle.rt_model.specs.Runs.{runs_from}
+use Rattle.rt_walk.proofs.Quiet.{begun-quiet}
 use Rattle.rt_walk.proofs.first.first_unlawful.Goals as goal
 
-pub returns-then-not-branch-clause-first : goal.returns-then-not-branch-clause-first
-returns-then-not-branch-clause-first c =
-    let from = runs_from c.args.begin c.args.later.now in
-    let r = runs_after from (take c.loop-place.place c.args.entries.now) in
-    let e = c.index-entries-place.result in
-    let here = (c.in_ok-begin_next.ensures r c.loop-place.invariant.walked c.loop-place.invariant.later).0 in
-    breaks-here from c.args.entries.now c.loop-place.place e c.loop-place-test.true c.index-entries-place.is c.loop-place.invariant.lawful
-    (λ m. let t : c.in_ok-may.field-0 ≡ true = (c.in_ok-may.ensures.alike (renewed r e).state here).1 m in cc)
+pub returns-clause-first : goal.returns-clause-first
+returns-clause-first c = c.first_refused-place.ensures.first (runs_from c.args.begin c.args.later.now) (begun-quiet c.args.begin ∙ sym c.in_ok-walker.ensures) refl
 
-pub returns-then-not-branch-clause-lawful : goal.returns-then-not-branch-clause-lawful
-returns-then-not-branch-clause-lawful c =
-    let from = runs_from c.args.begin c.args.later.now in
-    (λ e. cc, λ h. absurd (broken-unlawful from c.args.entries.now c.loop-place.place (returns-then-not-branch-clause-first c) h))
-
-pub loop-place-preserved : goal.loop-place-preserved
-loop-place-preserved c =
-    let from = runs_from c.args.begin c.args.later.now in
-    let r = runs_after from (take c.loop-place.place c.args.entries.now) in
-    let e = c.index-entries-place.result in
-    let here = c.in_ok-begin_next.ensures r c.loop-place.invariant.walked c.loop-place.invariant.later in
-    let further = after-further from c.args.entries.now c.loop-place.place e c.loop-place-test.true c.index-entries-place.is in
-    record {
-      walked = rw further (sym (c.in_ok-step.ensures.alike (renewed r e).state here.0));
-      later = ap (λ (runs : Runs). runs.later) further ∙ here.1;
-      lawful = lawful-further from c.args.entries.now c.loop-place.place e c.loop-place-test.true c.index-entries-place.is c.loop-place.invariant.lawful ((c.in_ok-may.ensures.alike (renewed r e).state here.0).0 (search rules));
-    }
+pub returns-clause-lawful : goal.returns-clause-lawful
+returns-clause-lawful c = c.first_refused-place.ensures.lawful (runs_from c.args.begin c.args.later.now) (begun-quiet c.args.begin ∙ sym c.in_ok-walker.ensures) refl

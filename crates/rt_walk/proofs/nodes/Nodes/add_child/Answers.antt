@@ -1,4 +1,4 @@
-use Rattle.std.proofs.Common.{rules, ◌≡◌, ◌∙◌, ap, sym, refl, true, false, ◌++◌, ◌∷◌, [], Some, None}
+use Rattle.std.proofs.Common.{rules, ◌≡◌, ◌∙◌, sym, refl, true, false, ◌++◌, ◌∷◌, [], Some, None}
 use Rattle.std.proofs.lemmas.List.{append-nil}
 use Rattle.rt_super.specs.Ancestry.{is_child, is_ended, new_node}
 use Rattle.rt_model.specs.Lists.{has_number}

@@ -1,4 +1,4 @@
-use Rattle.std.proofs.Common.{◌≡◌, ◌∙◌, sym}
+use Rattle.std.proofs.Common.{◌≡◌, sym}
 use Rattle.std.specs.List.{remove}
 use Rattle.rt_model.specs.Lists.{without_number}
 use Rattle.rt_walk.proofs.Rising.{rising-without, remove-found, without-missed}
