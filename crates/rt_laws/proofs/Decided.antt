@@ -1,6 +1,7 @@
 -- That the entries of a run may come where they stand, found out by computing: a proof for an example, or none, which says nothing.
 use Rattle.std.proofs.Common.{◌≡◌, ◌≢◌, ◌⊎◌, inl, inr, ℕ, ◌≤◌, ◌<◌, ◌+◌, ◌-◌, ◌^◌, List, [], ◌∷◌, drop, Option, Some, None, is_some, option_map, Bool, true, false, not, eqb, ltb, leb, refl, arith}
 use Rattle.std.specs.List.Sorted.{IsPermutation}
+use Rattle.std.specs.Option.{option_zip}
 use Rattle.std.proofs.lemmas.Bool.{eqb-true, ltb-true, leb-true}
 use Rattle.std.proofs.lemmas.List.Sorted.{IsPermutation-refl}
 use Rattle.rt_base.specs.declared.error.Error.{Error}
@@ -32,14 +33,9 @@ use Rattle.rt_model.specs.Effects.{left_of, visited, label_at, task_label, after
 use Rattle.rt_model.specs.Events.{process_task, task_fields}
 use Rattle.rt_model.specs.Rules.{WasGiven, IsRefusal, OutcomeAnswers, is_free, label_refusal, ChildAnswers, SpawnAnswers, Unless, JoinAnswers, IsSent, SlotAnswers, ReceiveAnswers, Answers, IsEndedNext, CallsAt, MayEnd, MayAnswer, MayRound, MayClose, MayCrash, MayFinish, MayEndNode, MayFree, May, IsLawful}
 
-told : {P : Type 0} (o : Option P) → is_some o ≡ true → P
-told None e = absurd (cc)
-told (Some p) e = p
-
-abbrev pub both : {P Q : Type 0} → Option P → Option Q → Option (P × Q)
-both None q = None
-both (Some p) None = None
-both (Some p) (Some q) = Some (p, q)
+unwrapped : {P : Type 0} (o : Option P) → is_some o ≡ true → P
+unwrapped None e = absurd (cc)
+unwrapped (Some p) e = p
 
 abbrev three : {P Q R : Type 0} → Option P → Option Q → Option R → Option (P × Q × R)
 three (Some p) (Some q) (Some r) = Some (p, q, r)
@@ -189,7 +185,7 @@ spawn s node Closed = is_true (is_ended s.nodes node)
 spawn s node _ = None
 
 abbrev given : (n : Numbers) (task : ℕ) → Option (WasGiven n task)
-given n task = both (at_most n.first task) (below task n.next)
+given n task = option_zip (at_most n.first task) (below task n.next)
 
 abbrev not_given : (n : Numbers) (task : ℕ) → Option (WasGiven n task → ⊥)
 not_given n task = if_true (leb n.next task) (λ e. let past = leb-true n.next task e in λ given. let low = given.1 in omega (arith, past, low))
@@ -204,11 +200,11 @@ answers s (Spawn node) reply =
     reply
 answers s (Abort task) Done = is_true (may_abort (find task s.results))
 answers s (AbortTask task) Done = is_true (is_some (find task s.marks))
-answers s (AbortTask task) (Refused error) = both (same_error error UnknownToken) (is_false (is_some (find task s.marks)))
+answers s (AbortTask task) (Refused error) = option_zip (same_error error UnknownToken) (is_false (is_some (find task s.marks)))
 answers s (Join task) reply = join (find task s.results) reply
 answers s (GiveUp task) Done = is_true (is_some (find task s.results))
 answers s (WakeCall task) Done = given s.numbers task
-answers s (WakeCall task) (Refused error) = both (same_error error UnknownToken) (not_given s.numbers task)
+answers s (WakeCall task) (Refused error) = option_zip (same_error error UnknownToken) (not_given s.numbers task)
 answers s (SleepPoll due) IsReady = at_most due s.clock.time
 answers s (SleepPoll due) (PendingAt alarm) =
     three (below s.clock.time due) (at_most due MAX_TIME) (either (same alarm s.alarms.count) (is_true (is_set s.alarms.alarms due alarm)))
@@ -223,7 +219,7 @@ answers s _ _ = None
 -- phases
 
 abbrev ended_next : (root next by : Option ℕ) → Option (IsEndedNext root next by)
-ended_next root None by = both (same_option same root None) (same_option same by None)
+ended_next root None by = option_zip (same_option same root None) (same_option same by None)
 ended_next root (Some task) by = same_option same by (Some task)
 
 abbrev calls : (p : Phase) (root next by : Option ℕ) → Option (CallsAt p root next by)
@@ -317,48 +313,48 @@ in_place ready order (Some e) = Some (rw e (IsPermutation-refl order))
 abbrev free : (s : State) (e : Entry) → Option (MayFree s e)
 free s (Start next now deadline cycle) =
     five (is_blank s.phase) (same next s.clock.fixed.first) (same now s.clock.fixed.start) (same_option same deadline s.clock.fixed.deadline) (same cycle s.clock.fixed.cycle)
-free s (CallEntry by call reply) = both (calls s.phase s.root (ends_next s.running s.root) by) (answers s call reply)
+free s (CallEntry by call reply) = option_zip (calls s.phase s.root (ends_next s.running s.root) by) (answers s call reply)
 free s (Event label fields) =
     three (is_entered s.phase) (same_list same label process_task) (same_list (same_list same) fields (task_fields (visited s.phase) (task_label s (visited s.phase))))
 free s (Wake task) = None
 free s (Draw value) = rounds s.phase s
 free s (Root task) = three (is_making s.phase) (same task s.numbers.next) (below task (2 ^ 64 - 1))
-free s (Round order) = both (rounds s.phase s) (in_place s.ready order (same_list same s.ready order))
+free s (Round order) = option_zip (rounds s.phase s) (in_place s.ready order (same_list same s.ready order))
 free s (Visit task) =
-    both (is_visiting s.phase) (same_list same (from_running s.running (left_of s.phase)) (task ∷ drop 1 (from_running s.running (left_of s.phase))))
+    option_zip (is_visiting s.phase) (same_list same (from_running s.running (left_of s.phase)) (task ∷ drop 1 (from_running s.running (left_of s.phase))))
 free s (Answer task kind) = answered s task kind
 free s (NodeEnd node) = node_ends s.phase s.marks node
 free s (Advance now) =
     four (is_visiting s.phase) (none_left (from_running s.running (left_of s.phase))) (same now (s.clock.time + s.clock.fixed.cycle)) (at_most now MAX_TIME)
-free s (Skip now) = both (is_turning s.phase) (same_option same (skip_to s.ready s.alarms.alarms s.clock.time) (Some now))
+free s (Skip now) = option_zip (is_turning s.phase) (same_option same (skip_to s.ready s.alarms.alarms s.clock.time) (Some now))
 free s (Fire alarm) =
     three (is_turning s.phase) (is_false (is_late s.clock)) (same_option same (fires s.alarms.alarms s.clock.time) (Some alarm))
 free s Cleanup = closes s.phase
-free s (Crash choices) = both (crashes s.phase s.running) (none_left choices)
+free s (Crash choices) = option_zip (crashes s.phase s.running) (none_left choices)
 free s (Finish end) = finishes s.phase end
 
 abbrev may : (s : State) (e : Entry) → Option (May s e)
-may s (Start next now deadline cycle) = both (none_left s.owed) (free s (Start next now deadline cycle))
-may s (CallEntry by call reply) = both (none_left s.owed) (free s (CallEntry by call reply))
-may s (Event label fields) = both (none_left s.owed) (free s (Event label fields))
+may s (Start next now deadline cycle) = option_zip (none_left s.owed) (free s (Start next now deadline cycle))
+may s (CallEntry by call reply) = option_zip (none_left s.owed) (free s (CallEntry by call reply))
+may s (Event label fields) = option_zip (none_left s.owed) (free s (Event label fields))
 may s (Wake task) = same_list same s.owed (task ∷ drop 1 s.owed)
-may s (Draw value) = both (none_left s.owed) (free s (Draw value))
-may s (Root task) = both (none_left s.owed) (free s (Root task))
-may s (Round order) = both (none_left s.owed) (free s (Round order))
-may s (Visit task) = both (none_left s.owed) (free s (Visit task))
-may s (Answer task kind) = both (none_left s.owed) (free s (Answer task kind))
-may s (NodeEnd node) = both (none_left s.owed) (free s (NodeEnd node))
-may s (Advance now) = both (none_left s.owed) (free s (Advance now))
-may s (Skip now) = both (none_left s.owed) (free s (Skip now))
-may s (Fire alarm) = both (none_left s.owed) (free s (Fire alarm))
-may s Cleanup = both (none_left s.owed) (free s Cleanup)
-may s (Crash choices) = both (none_left s.owed) (free s (Crash choices))
-may s (Finish end) = both (none_left s.owed) (free s (Finish end))
+may s (Draw value) = option_zip (none_left s.owed) (free s (Draw value))
+may s (Root task) = option_zip (none_left s.owed) (free s (Root task))
+may s (Round order) = option_zip (none_left s.owed) (free s (Round order))
+may s (Visit task) = option_zip (none_left s.owed) (free s (Visit task))
+may s (Answer task kind) = option_zip (none_left s.owed) (free s (Answer task kind))
+may s (NodeEnd node) = option_zip (none_left s.owed) (free s (NodeEnd node))
+may s (Advance now) = option_zip (none_left s.owed) (free s (Advance now))
+may s (Skip now) = option_zip (none_left s.owed) (free s (Skip now))
+may s (Fire alarm) = option_zip (none_left s.owed) (free s (Fire alarm))
+may s Cleanup = option_zip (none_left s.owed) (free s Cleanup)
+may s (Crash choices) = option_zip (none_left s.owed) (free s (Crash choices))
+may s (Finish end) = option_zip (none_left s.owed) (free s (Finish end))
 
 abbrev pub may_all : (s : State) (x : List Entry) → Option (IsLawful s x)
 may_all s [] = Some tt
-may_all s (e ∷ x) = both (may s e) (may_all (after s e) x)
+may_all s (e ∷ x) = option_zip (may s e) (may_all (after s e) x)
 
 -- a journal that is lawful, as computing it tells
 pub lawful : (b : Begin) (x : List Entry) → is_some (may_all (begun b) x) ≡ true → IsLawful (begun b) x
-lawful b x e = told (may_all (begun b) x) e
+lawful b x e = unwrapped (may_all (begun b) x) e

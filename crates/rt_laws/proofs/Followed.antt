@@ -1,6 +1,7 @@
 -- That entries follow the steps of a task type, and which values they leave, found out by computing: a tie for an example, or none, which
 -- says nothing.
 use Rattle.std.proofs.Common.{◌≡◌, inl, inr, ℕ, List, [], ◌∷◌, Option, Some, None, Result, Ok, Err, option_map, Bool, true, false, refl, subst}
+use Rattle.std.specs.Option.{option_zip}
 use Rattle.rt_base.specs.declared.error.Error.{Error}
 use Rattle.rt_audit.specs.declared.call.Call.{Call}
 use Rattle.rt_audit.specs.declared.call.Call.TheVariants.{Child, CloseNode, Spawn, Abort, AbortTask, Wake as WakeCall, Join, GiveUp, SleepPoll, Slot, SlotSend, SlotClose, SlotPoll, SlotGiveUp, AbortWait}
@@ -19,7 +20,7 @@ use Rattle.rt_model.specs.Effects.{after}
 use Rattle.rt_model.specs.Turns.{Held, Ask, Plainly, Sleeping, Sending, Spawning, IsOwn, IsAnswerOf, IsPlainly, Fits, Asks, call_of, heard_of, moved, has_place, put}
 use Rattle.rt_model.specs.Walk.{Step, Does, Spends, Gives, Gave, Goes, Walks}
 use Rattle.rt_model.specs.Tied.{Steps, Value, Polls, PollBreaks, given, kept_text, taken, MovesCleanup, MovesCrash, Moves, IsTied}
-use Rattle.rt_laws.proofs.Decided.{both, is_true, is_false, same, same_list, same_error, none_left}
+use Rattle.rt_laws.proofs.Decided.{is_true, is_false, same, same_list, same_error, none_left}
 
 -- what follows from what was found
 abbrev found : {P Q : Type 0} → Option P → (P → Option Q) → Option Q
@@ -96,7 +97,7 @@ module _ {A O : Type 0} where
   fits held (Spawning node execution made) t = Some tt
 
   abbrev asks : (held : Held A O) (ask : Ask A O) (t : Turn) → Option (Asks held ask t)
-  asks held ask t = both (same_call t.call (call_of ask)) (fits held ask t)
+  asks held ask t = option_zip (same_call t.call (call_of ask)) (fits held ask t)
 
 -- walks
 
@@ -118,7 +119,7 @@ module _ {A L O R : Type 0} where
       where
         spends : (held : Held A O) (ask : Ask A O) (next : Step A L O R) (b : Bool) → has_place t.stood (call_of ask) ≡ b → Option ((answer : R) × (left : L) × (end : Held A O) × Goes (P answer left end) held next t) → Option ((answer : R) × (left : L) × (end : Held A O) × Goes (P answer left end) held (Spends ask next) t)
         spends held ask next true e later =
-            found (both (same_call t.call (call_of ask)) (is_done t.reply)) (λ c. found (rest (moved held ask t) next) (λ g. Some (g.0, g.1, g.2, (λ there. (c.0, c.1, g.3), λ gone. absurd (there_is _ e gone)))))
+            found (option_zip (same_call t.call (call_of ask)) (is_done t.reply)) (λ c. found (rest (moved held ask t) next) (λ g. Some (g.0, g.1, g.2, (λ there. (c.0, c.1, g.3), λ gone. absurd (there_is _ e gone)))))
         spends held ask next false e later = found later (λ g. Some (g.0, g.1, g.2, (λ there. absurd (there_is _ there e), λ gone. g.3)))
     goes held (Gives answer left) = None
 

@@ -1,8 +1,8 @@
 -- A task that ends unpolled with the node of its parent, and what comes near to such ends is none.
 use Rattle.std.proofs.Common.{false, List, [], ◌∷◌, ◌++◌, Some, refl}
 use Rattle.rt_audit.specs.declared.answer.AnswerKind.TheVariants.{Pending, Ready, Ended}
-use Rattle.rt_audit.specs.declared.call.Call.TheVariants.{Child, Spawn, AbortTask}
-use Rattle.rt_audit.specs.declared.reply.CallReply.TheVariants.{Done, NodeAt, TaskAt}
+use Rattle.rt_audit.specs.declared.call.Call.TheVariants.{Child, Spawn}
+use Rattle.rt_audit.specs.declared.reply.CallReply.TheVariants.{NodeAt, TaskAt}
 use Rattle.rt_audit.specs.declared.finish.FinishCause.TheVariants.{Completed}
 use Rattle.rt_audit.specs.declared.entry.Entry.{Entry}
 use Rattle.rt_audit.specs.declared.entry.Entry.TheVariants.{Call, Event, Wake, Round, Visit, Answer as Answered, NodeEnd, Advance}
@@ -14,7 +14,7 @@ use Rattle.rt_model.specs.Tied.{nothing, IsTied}
 use Rattle.rt_model.specs.Run.{IsRun}
 use Rattle.rt_laws.specs.Examples.{small_begin, opening, visiting_root}
 use Rattle.rt_laws.specs.Supervised.{handle, aborter_spawned, aborter_joined, aborter_closes, aborts_itself, aborter_stops, waking}
-use Rattle.rt_laws.specs.Kin.{kin, kin_journal, gave_beside_both, younger_spawned, elder_ends, visiting_younger, younger_ends, younger_goes_on, behind_younger, sibling_goes_on, aborted_goes_on}
+use Rattle.rt_laws.specs.Kin.{kin, kin_journal, gave_beside_both, younger_spawned, elder_ends, visiting_younger, younger_ends, younger_goes_on, behind_younger, sibling_goes_on, aborted_goes_on, aborted_again_goes_on}
 use Rattle.rt_laws.proofs.Decided.{lawful}
 use Rattle.rt_laws.proofs.Followed.{tied}
 use Rattle.rt_laws.proofs.Small.{tail}
@@ -57,18 +57,13 @@ pub no_end_of_a_sibling : IsLawful (begun small_begin) (sibling_goes_on (Answere
 unfolding begun after
 no_end_of_a_sibling l = (tail up_to_sibling (Answered 2 Ended ∷ []) l).0.1
 
--- up to the visit of the aborted task
-abbrev up_to_aborted : List Entry
-up_to_aborted =
-    opening
-    ++ visiting_root
-    ++ aborter_spawned
-    ++ (Call (Some 0) (AbortTask 1) Done ∷ Answered 0 Pending ∷ Advance 1000000 ∷ Round (1 ∷ []) ∷ [])
-    ++ (Visit 1 ∷ Event process_task (task_fields 1 handle) ∷ [])
-
 pub no_poll_of_aborted : IsLawful (begun small_begin) (aborted_goes_on (Answered 1 Ready ∷ [])) → ⊥
 unfolding begun after
-no_poll_of_aborted l = let h = (tail up_to_aborted (Answered 1 Ready ∷ []) l).0.1 in cc
+no_poll_of_aborted l = let h = (tail (aborted_goes_on []) (Answered 1 Ready ∷ []) l).0.1 in cc
+
+pub no_poll_again : IsLawful (begun small_begin) (aborted_again_goes_on (Answered 1 Ready ∷ [])) → ⊥
+unfolding begun after
+no_poll_again l = let h = (tail (aborted_again_goes_on []) (Answered 1 Ready ∷ []) l).0.1 in cc
 
 pub no_turned_wakes : IsLawful (begun small_begin) (waking (Wake 0 ∷ Wake 1 ∷ [])) → ⊥
 unfolding begun after
@@ -91,3 +86,7 @@ sibling_polled = lawful small_begin (sibling_goes_on (Answered 2 Ready)) refl
 pub aborted_ended : IsLawful (begun small_begin) (aborted_goes_on (aborter_closes ++ (NodeEnd 1 ∷ [])))
 unfolding begun after
 aborted_ended = lawful small_begin (aborted_goes_on (aborter_closes ++ (NodeEnd 1 ∷ []))) refl
+
+pub ended_again : IsLawful (begun small_begin) (aborted_again_goes_on (aborter_closes ++ (NodeEnd 1 ∷ [])))
+unfolding begun after
+ended_again = lawful small_begin (aborted_again_goes_on (aborter_closes ++ (NodeEnd 1 ∷ []))) refl

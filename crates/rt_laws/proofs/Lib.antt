@@ -5,8 +5,10 @@ pub mod Cut
 pub mod Decided
 pub mod Each
 pub mod Flags
+pub mod Doubled
 pub mod Followed
 pub mod Fronts
+pub mod Handed
 pub mod Endings
 pub mod Ends
 pub mod Kindred

@@ -97,11 +97,11 @@ abbrev pub AreApart : {A : Type 0} → List (ℕ × A) → Type 0
 AreApart [] = Unit {0}
 AreApart (x ∷ xs) = (is_some (find x.0 xs) ≡ false) × AreApart xs
 
-lacks-add : {A : Type 0} (k other : ℕ) (a : A) (xs : List (ℕ × A)) → is_some (find k xs) ≡ false → eqb other k ≡ false → is_some (find k (xs ++ (other, a) ∷ [])) ≡ false
+pub lacks-add : {A : Type 0} (k other : ℕ) (a : A) (xs : List (ℕ × A)) → is_some (find k xs) ≡ false → eqb other k ≡ false → is_some (find k (xs ++ (other, a) ∷ [])) ≡ false
 lacks-add k other a [] h e = grind arith
 lacks-add k other a (x ∷ xs) h e = grind (arith, lacks-add k other a xs)
 
-apart-add : {A : Type 0} (k : ℕ) (a : A) (xs : List (ℕ × A)) → is_some (find k xs) ≡ false → AreApart xs → AreApart (xs ++ (k, a) ∷ [])
+pub apart-add : {A : Type 0} (k : ℕ) (a : A) (xs : List (ℕ × A)) → is_some (find k xs) ≡ false → AreApart xs → AreApart (xs ++ (k, a) ∷ [])
 apart-add k a [] h p = (refl, tt)
 apart-add k a (x ∷ xs) h p = grind (arith, apart-add k a xs, lacks-add x.0 k a xs, eqb-swap)
 
@@ -116,7 +116,7 @@ apart-replaced other f (x ∷ xs) p = elim (cases_Bool (eqb x.0 other)) [
   | inr e ↦ rw e (lacks-replaced x.0 other f xs p.0, apart-replaced other f xs p.1)
 ]
 
-lacks-removed : {A : Type 0} (k other : ℕ) (xs : List (ℕ × A)) → is_some (find k xs) ≡ false → is_some (find k (without other xs)) ≡ false
+pub lacks-removed : {A : Type 0} (k other : ℕ) (xs : List (ℕ × A)) → is_some (find k xs) ≡ false → is_some (find k (without other xs)) ≡ false
 lacks-removed k other [] h = h
 lacks-removed k other (x ∷ xs) h = grind (arith, lacks-removed k other xs)
 

@@ -2,7 +2,7 @@
 use Rattle.std.specs.Prelude.{ℕ, List, [], ◌∷◌, ◌++◌, Some, false}
 use Rattle.rt_base.specs.Label.{prefixed}
 use Rattle.rt_base.specs.declared.execution.Execution.TheVariants.{Shared}
-use Rattle.rt_audit.specs.declared.call.Call.TheVariants.{Child, CloseNode, Spawn, AbortTask, Join, GiveUp}
+use Rattle.rt_audit.specs.declared.call.Call.TheVariants.{Child, CloseNode, Spawn, AbortTask, Wake as WakeCall, Join, GiveUp}
 use Rattle.rt_audit.specs.declared.reply.CallReply.TheVariants.{Done, NodeAt, TaskAt}
 use Rattle.rt_audit.specs.declared.answer.AnswerKind.TheVariants.{Pending as AnswersPending, Ready as AnswersReady, Ended}
 use Rattle.rt_audit.specs.declared.entry.Entry.{Entry}
@@ -125,4 +125,16 @@ aborted_goes_on rest =
     ++ visiting_root
     ++ aborter_spawned
     ++ (Call (Some 0) (AbortTask 1) Done ∷ Answered 0 AnswersPending ∷ Advance 1000000 ∷ Round (1 ∷ []) ∷ [])
+    ++ (Visit 1 ∷ Event process_task (task_fields 1 handle) ∷ rest)
+
+-- the task was polled and left pending before the root, which wakes itself for that, aborts it. Its next visit goes on so
+abbrev pub aborted_again_goes_on : List Entry → List Entry
+aborted_again_goes_on rest =
+    opening
+    ++ visiting_root
+    ++ aborter_spawned
+    ++ (Call (Some 0) (WakeCall 0) Done ∷ Wake 0 ∷ Answered 0 AnswersPending ∷ Advance 1000000 ∷ Round (1 ∷ 0 ∷ []) ∷ [])
+    ++ (Visit 1 ∷ Event process_task (task_fields 1 handle) ∷ Answered 1 AnswersPending ∷ [])
+    ++ visiting_root
+    ++ (Call (Some 0) (AbortTask 1) Done ∷ Wake 1 ∷ Answered 0 AnswersPending ∷ Advance 2000000 ∷ Round (1 ∷ []) ∷ [])
     ++ (Visit 1 ∷ Event process_task (task_fields 1 handle) ∷ rest)

@@ -6,9 +6,11 @@ pub mod Kin
 pub mod Panics
 pub mod Polls
 pub mod Refusals
+pub mod Sends
 pub mod Several
 pub mod Slotting
 pub mod Spawns
 pub mod Stored
 pub mod Supervised
+pub mod Twice
 pub mod Visits

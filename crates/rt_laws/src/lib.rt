@@ -7,11 +7,12 @@ mod panics;
 mod refusals;
 mod slotting;
 mod supervised;
+mod twice;
 
 ghost use Rattle.std.specs.Prelude.{Bool, ◌≡◌, ◌≢◌, ◌≤◌, ◌<◌, ◌+◌, ◌-◌, ◌^◌, ◌++◌, ◌⊎◌, ◌↔◌, [], ◌∷◌, ℕ, List, Option, Some, None, true, false, All, Contains};
 ghost use Rattle.rt_base.specs.declared.time.TheConstants.{MAX_TIME};
 ghost use Rattle.rt_audit.specs.declared.call.Call.{Call};
-ghost use Rattle.rt_audit.specs.declared.call.Call.TheVariants.{Child, Join, SleepPoll};
+ghost use Rattle.rt_audit.specs.declared.call.Call.TheVariants.{Child, Join, SleepPoll, SlotPoll};
 ghost use Rattle.rt_audit.specs.declared.reply.CallReply.{CallReply};
 ghost use Rattle.rt_audit.specs.declared.reply.CallReply.TheVariants.{NodeAt, PendingAt, Ready};
 ghost use Rattle.rt_audit.specs.declared.answer.AnswerKind.TheVariants.{Stopped, NoMemory, Ended};
@@ -36,6 +37,7 @@ ghost use Rattle.rt_laws.specs.Aborts.{IsAbortOf};
 ghost use Rattle.rt_laws.specs.Cleanup.{IsOfCleanup};
 ghost use Rattle.rt_laws.specs.Earliest.{IsEarliest};
 ghost use Rattle.rt_laws.specs.Polls.{PollsNone};
+ghost use Rattle.rt_laws.specs.Sends.{SpendsSender};
 ghost use Rattle.rt_laws.specs.Several.{GoesOn};
 ghost use Rattle.rt_laws.specs.Spawns.{Spawns};
 ghost use Rattle.rt_laws.specs.Stored.{IsStored};
@@ -64,6 +66,11 @@ pub use supervised::{
     a_task_that_aborts_itself_has_its_run, inputs_with_spawned_tasks_are_valid,
     near_misses_of_tasks_are_lawful_but_for_one_place, near_misses_of_tasks_are_not_lawful,
     no_run_begins_behind_one_that_failed,
+};
+pub use twice::{
+    a_task_that_is_woken_twice_has_its_run,
+    near_misses_of_double_wakes_are_lawful_but_for_one_place,
+    near_misses_of_double_wakes_are_not_lawful,
 };
 
 /// Time never goes back: not behind any state, and so nowhere in a run.
@@ -233,6 +240,13 @@ pub fn a_result_is_stored_and_handed_out_once()
     ensures ends { (b : Begin) (x y : List Entry) (task : ℕ) → IsLawful (begun b) (x ++ Answer task Ended ∷ y) → All (λ (e : Entry). e ≢ Answer task Ended) y }
     ensures stored { (b : Begin) (x y : List Entry) (e : Entry) (task : ℕ) → IsLawful (begun b) (x ++ e ∷ y) → (IsStored (after_all (begun b) x) task → ⊥) → IsStored (after (after_all (begun b) x) e) task → e ≡ Answer task Ended }
     ensures handed_out { (b : Begin) (x y : List Entry) (by : Option ℕ) (task : ℕ) → IsLawful (begun b) (x ++ Called by (Join task) Ready ∷ y) → All (λ (e : Entry). (other : Option ℕ) → e ≢ Called other (Join task) Ready) y }
+{}
+
+/// The sender of a slot is spent at most once: behind a send or a close of it there is no other of either. A value is handed out
+/// at most once.
+pub fn a_value_of_a_slot_is_sent_and_handed_out_once()
+    ensures sent { (b : Begin) (x y : List Entry) (e : Entry) (slot : ℕ) → IsLawful (begun b) (x ++ e ∷ y) → SpendsSender slot e → All (λ (f : Entry). SpendsSender slot f → ⊥) y }
+    ensures handed_out { (b : Begin) (x y : List Entry) (by : Option ℕ) (slot : ℕ) → IsLawful (begun b) (x ++ Called by (SlotPoll slot) Ready ∷ y) → All (λ (e : Entry). (other : Option ℕ) → e ≢ Called other (SlotPoll slot) Ready) y }
 {}
 
 /// No poll begins of a task on an ended node. From the visit that ends a task on, none begins of a task below its node,

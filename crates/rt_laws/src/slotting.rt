@@ -39,8 +39,10 @@ pub fn near_misses_of_slots_are_not_lawful()
     ensures other_error { (cause : FinishCause) (end : State) (value : Value Mailer ℕ) → IsRun (mailing_root (Err Timeout)) small_begin (mailing_journal (Refused Closed)) cause end value → ⊥ }
 {}
 
-/// Each of those journals but that of the second send differs in one place from what may come: the poll is pending, the wake comes, the second poll is refused as
-/// closed, that behind an abort as aborted, and that behind a close as closed.
+/// Each of those that may not come differs in one place from what may: the poll is pending, the wake comes, the second poll
+/// is refused as closed, the poll is answered where the second send stood (`wake`), that behind an abort is refused as
+/// aborted, and that behind a close as closed. `number`, `error` and `other_error` differ in one reply from the runs of
+/// `what_was_sent_into_a_slot_is_received`.
 pub fn near_misses_of_slots_are_lawful_but_for_one_place()
     ensures pending { IsLawful (begun small_begin) (slot_polled Pending) }
     ensures wake { IsLawful (begun small_begin) (slot_sent (Wake 0 ∷ [])) }
