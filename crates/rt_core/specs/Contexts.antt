@@ -89,3 +89,15 @@ spawns context makes = tells (spawning context makes) handle_heard
 abbrev pub IsSpawned : {A O G : Type 0} → Context → (Context → A) → World A O G → World A O G → TaskHandle O → Type 0
 IsSpawned context makes old new handle =
     (reply : CallReply) × Made old new (spawning context makes) reply × (handle_replied reply ≡ Ok handle)
+
+-- the same of whatever may be made of a context: on the node of the task's own this state was made, and every maker that gives it there
+-- has asked for the task. On a node that had ended nothing was made, and every maker has
+abbrev pub IsAskedBy : {A O G : Type 0} → (Context → A → Type 0) → Context → World A O G → World A O G → CallReply → Type 0
+IsAskedBy {A = A} post context old new (TaskAt task number) =
+    let own = context_on number context.name in
+    (state : A) × post own state × ((makes : Context → A) → makes own ≡ state → Made old new (spawning context makes) (TaskAt task number))
+IsAskedBy {A = A} post context old new reply = (makes : Context → A) → Made old new (spawning context makes) reply
+
+abbrev pub IsSpawnedBy : {A O G : Type 0} → (Context → A → Type 0) → Context → World A O G → World A O G → TaskHandle O → Type 0
+IsSpawnedBy post context old new handle =
+    (reply : CallReply) × IsAskedBy post context old new reply × (handle_replied reply ≡ Ok handle)

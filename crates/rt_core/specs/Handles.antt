@@ -69,7 +69,7 @@ aborted (Task claim) = Task (record claim { aborted = true })
 aborted (Received r) = Received (record r { aborted = true })
 aborted (Completion c) = Completion (record c { stage = Aborted })
 
--- what is no poller is closed
+-- nothing makes such a poller; it would be closed
 unfoldable pub no_polls : {A O V : Type 0} → NoPoller → Step A NoPoller O (Poll (Result V Error))
 no_polls none = Gives (Ready (Err Closed)) none
 

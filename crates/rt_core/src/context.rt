@@ -12,7 +12,7 @@ ghost use Rattle.rt_model.specs.Walk.{Step, then};
 ghost use Rattle.rt_model.specs.declared.answer.Answer.{Answer};
 ghost use Rattle.rt_world.specs.Calls.{IsRefused, Kept, Made};
 ghost use Rattle.rt_world.specs.Walked.{Closes, Goes, Polled, Rooted};
-ghost use Rattle.rt_core.specs.Contexts.{IsMakerOf, IsRefusedKey, IsSpawned, child_name, childs, context_on, root_context, spawn_told, spawning, spawns};
+ghost use Rattle.rt_core.specs.Contexts.{IsMakerOf, IsRefusedKey, IsSpawned, IsSpawnedBy, child_name, childs, context_on, root_context, spawn_told, spawning, spawns};
 ghost use Rattle.rt_core.specs.Handles.{TaskHandle};
 ghost use Rattle.rt_core.specs.Pollers.{sleep_for, sleep_until};
 
@@ -172,6 +172,7 @@ impl Context {
         ensures kept { Kept world.old world.new }
         ensures back { IfErr result (λ refused. refused.back ≡ self) }
         ensures ok { (makes : Context → T) → IsMakerOf (F.post make) makes → IfOk result (λ handle. IsSpawned self makes world.old world.new handle) }
+        ensures taken_in { IfOk result (λ handle. IsSpawnedBy (F.post make) self world.old world.new handle) }
         ensures err { (makes : Context → T) → IfErr result (λ refused. IsRefused world.old world.new (spawning self makes) refused.error) }
         ensures steps { (makes : Context → T) → IsMakerOf (F.post make) makes → Goes (spawns self makes) world.old world.new (spawn_told result) tt }
         ensures polls { (makes : Context → T) (more : Result (TaskHandle O) Error → Unit {0} → Step T T O (Answer O)) (end : World T O G) (answer : Answer O) (left : T) → IsMakerOf (F.post make) makes → Polled (more (spawn_told result) tt) world.new end answer left → Polled (then (spawns self makes) more) world.old end answer left }

@@ -14,9 +14,9 @@ use rt_base::{Error, Poll};
 use rt_world::{Cx, Outcome, Poller, ResultReceiver, World, polled};
 use std::marker::Model;
 
-/// The poller of a handle that has none of its own. It is closed.
+/// The poller of a handle that has none of its own. Nothing makes one; it would be closed.
 #[derive(Debug, Drop)]
-pub struct NoPoller;
+pub struct NoPoller(());
 
 /// A task whose result is claimed: its number, and whether it was aborted by this handle.
 #[derive(Debug, Drop)]

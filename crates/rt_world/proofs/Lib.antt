@@ -5,6 +5,7 @@ pub mod Seats
 pub mod Follows
 pub mod Coming
 pub mod Calling
+pub mod Fronts
 pub mod Running
 pub mod Ending
 pub mod Slotted

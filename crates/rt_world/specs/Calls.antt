@@ -2,13 +2,14 @@
 use Rattle.std.specs.Prelude.{◌≡◌, ◌⊎◌, ℕ, List, [], ◌∷◌, ◌++◌, true, false, Option, Some, None, Ok, Err}
 use Rattle.rt_base.specs.declared.error.Error.{Error}
 use Rattle.rt_base.specs.declared.error.Error.TheVariants.{NoMemory}
+use Rattle.rt_base.specs.declared.execution.Execution.{Execution}
 use Rattle.rt_audit.specs.declared.call.Call.TheVariants.{Join, SlotPoll}
 use Rattle.rt_audit.specs.declared.reply.CallReply.{CallReply}
-use Rattle.rt_audit.specs.declared.reply.CallReply.TheVariants.{Done, Pending, Ready, Refused}
+use Rattle.rt_audit.specs.declared.reply.CallReply.TheVariants.{Done, TaskAt, Closed, Pending, Ready, Refused}
 use Rattle.rt_model.specs.Lists.{find, has_number}
 use Rattle.rt_model.specs.Slots.{is_there}
 use Rattle.rt_model.specs.State.{Phase, Turn, stood_in}
-use Rattle.rt_model.specs.Turns.{Ask, Plainly, call_of, moved_by, has_place}
+use Rattle.rt_model.specs.Turns.{Ask, Plainly, Spawning, call_of, moved_by, has_place}
 use Rattle.rt_model.specs.Effects.{stood_called, is_closing}
 use Rattle.rt_model.specs.Rules.{Answers, MayCall}
 use Rattle.rt_machine.specs.Calls.{turn_in, marked}
@@ -87,3 +88,10 @@ IsUnreceived old new slot error =
 -- what is made of this for a node's number
 abbrev pub IsMadeBy : {A C : Type 0} → (C × ℕ → A → Type 0) → C → (ℕ → A) → Type 0
 IsMadeBy {A = A} post given made = (number : ℕ) (state : A) → post (given, number) state → state ≡ made number
+
+-- a task was taken in: of what is given and the number of its node this state was made, one of those that may be, and every maker that
+-- gives it there has asked so. On a node that had ended nothing was made, and every maker has
+abbrev pub IsTakenIn : {A C O G : Type 0} → (C × ℕ → A → Type 0) → C → World A O G → World A O G → ℕ → Execution → Option (ℕ × ℕ) → Type 0
+IsTakenIn {A = A} post given old new node execution None = (made : ℕ → A) → Made old new (Spawning node execution made) Closed
+IsTakenIn {A = A} post given old new node execution (Some at) =
+    (state : A) × post (given, at.1) state × ((made : ℕ → A) → made at.1 ≡ state → Made old new (Spawning node execution made) (TaskAt at.0 at.1))

@@ -6,7 +6,7 @@ use Rattle.rt_model.specs.State.{State, Closing}
 use Rattle.rt_model.specs.Causes.{reached}
 use Rattle.rt_model.specs.Effects.{cause_of}
 use Rattle.rt_model.specs.Tied.{Steps}
-use Rattle.rt_world.specs.World.{World}
+use Rattle.rt_world.specs.World.{World, IsFront}
 use Rattle.rt_world.specs.Follows.{AgreesWith, still}
 
 -- a cleanup is under way, and no call of it
@@ -31,6 +31,7 @@ pub record Ends {A O G : Type 0} (old new : World A O G) : Type 0 where
 pub record Seals {A O G : Type 0} (old new : World A O G) : Type 0 where
   pub begin : new.told.begin ≡ old.told.begin
   pub given : new.told.given ≡ old.told.given
+  pub front : IsFront old.told new.told
   pub clock : new.told.state.clock ≡ old.told.state.clock
   pub rng : new.rng ≡ old.rng
   pub tasks : new.held.tasks ≡ []

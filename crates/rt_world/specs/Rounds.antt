@@ -6,7 +6,7 @@ use Rattle.rt_model.specs.State.{State, Between, Turning, Over}
 use Rattle.rt_model.specs.Rules.{MayRound}
 use Rattle.rt_model.specs.Tied.{Steps}
 use Rattle.rt_machine.specs.Steps.{StandsFor}
-use Rattle.rt_world.specs.World.{World}
+use Rattle.rt_world.specs.World.{World, IsFront}
 use Rattle.rt_world.specs.Follows.{Agrees}
 use Rattle.rt_world.specs.Visits.{CauseAgrees}
 
@@ -14,6 +14,7 @@ use Rattle.rt_world.specs.Visits.{CauseAgrees}
 pub record Runs {A O G : Type 0} (old new : World A O G) : Type 0 where
   pub begin : new.told.begin ≡ old.told.begin
   pub given : new.told.given ≡ old.told.given
+  pub front : IsFront old.told new.told
   pub fixed : new.told.state.clock.fixed ≡ old.told.state.clock.fixed
   pub root : new.told.state.root ≡ old.told.state.root
   pub out : new.out ≡ None

@@ -8,7 +8,7 @@ use Rattle.rt_model.specs.Effects.{left_of}
 use Rattle.rt_model.specs.Tied.{Steps}
 use Rattle.rt_machine.specs.Ends.{open_in}
 use Rattle.rt_machine.specs.Steps.{StandsFor}
-use Rattle.rt_world.specs.World.{World}
+use Rattle.rt_world.specs.World.{World, IsFront}
 use Rattle.rt_world.specs.Follows.{Agrees, AgreesAtLeast}
 use Rattle.rt_world.specs.declared.visits.Turnout.{Turnout}
 use Rattle.rt_world.specs.declared.visits.Turnout.TheVariants.{Stays, Gave, Ends}
@@ -17,6 +17,7 @@ use Rattle.rt_world.specs.declared.visits.Turnout.TheVariants.{Stays, Gave, Ends
 pub record Passes {A O G : Type 0} (old new : World A O G) : Type 0 where
   pub begin : new.told.begin ≡ old.told.begin
   pub given : new.told.given ≡ old.told.given
+  pub front : IsFront old.told new.told
   pub clock : new.told.state.clock ≡ old.told.state.clock
   pub root : new.told.state.root ≡ old.told.state.root
   pub out : new.out ≡ None

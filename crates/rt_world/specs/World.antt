@@ -1,8 +1,9 @@
 -- What contracts see of a world.
-use Rattle.std.specs.Prelude.{ℕ, List, Option}
+use Rattle.std.specs.Prelude.{◌≡◌, ◌++◌, ℕ, List, Option}
+use Rattle.rt_audit.specs.declared.entry.Entry.{Entry}
 use Rattle.rt_model.specs.State.{Turn}
 use Rattle.rt_model.specs.Turns.{Held}
-use Rattle.rt_machine.specs.Told.{Told}
+use Rattle.rt_machine.specs.Told.{Told, own}
 
 -- what its journal tells; the turns that were made before a call of the part under way lacked memory, if one did; the values that it
 -- holds; the text of a panic that is kept; whose state is out; and its generator
@@ -13,3 +14,8 @@ pub record World (A O G : Type 0) : Type 0 where
   pub panic : Option (List ℕ)
   pub out : Option ℕ
   pub rng : G
+
+-- the entries so far are a front of those of the run: further ones stand behind them
+pub record IsFront (old new : Told) : Type 0 where
+  pub more : List Entry
+  pub are : own new ≡ own old ++ more

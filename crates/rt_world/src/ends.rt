@@ -9,6 +9,7 @@ ghost use Rattle.rt_model.specs.Rules.{MayClose, MayCrash, MayFinish};
 ghost use Rattle.rt_model.specs.Tied.{Steps, First, with_first};
 ghost use Rattle.rt_machine.specs.Steps.{IsCut};
 ghost use Rattle.rt_machine.specs.Told.{pushed};
+ghost use Rattle.rt_world.specs.World.{IsFront};
 ghost use Rattle.rt_world.specs.Follows.{Agrees, AgreesWith, MakingAgrees, still};
 ghost use Rattle.rt_world.specs.Ends.{Ends, EndsFor, IsClosing, IsFinal, Makes, Reaches, Seals, unless};
 
@@ -26,6 +27,7 @@ impl<T, O, G> World<T, O, G> {
         ensures phase { self.new.told.state.phase ≡ Closing (reached self.old.told.state) }
         ensures begin { self.new.told.begin ≡ self.old.told.begin }
         ensures given { self.new.told.given ≡ self.old.told.given }
+        ensures front { IsFront self.old.told self.new.told }
         ensures clock { self.new.told.state.clock ≡ self.old.told.state.clock }
         ensures root { self.new.told.state.root ≡ self.old.told.state.root }
         ensures rng { self.new.rng ≡ self.old.rng }
@@ -77,6 +79,7 @@ impl<T: Task, G: Rng> World<T, T::Output, G> {
     fn end_task(&mut self) -> Option<bool>
         requires { IsClosing self.old }
         ensures ends { Ends self.old self.new }
+        ensures front { IsFront self.old.told self.new.told }
         ensures fewer { OnSome result (length self.new.told.state.running < length self.old.told.state.running) }
         ensures none { IfNone result ((self.new.told.state.running ≡ []) × (self.new.held.tasks ≡ [])) }
         ensures agrees { (first : First T T.Output) (whole : Bool) (output : Option T.Output) (unmade : Option T) → AgreesWith (with_first T.steps first) whole self.old output unmade → AgreesWith (with_first T.steps first) (unless result whole) self.new output unmade }
@@ -94,9 +97,11 @@ impl<T: Task, G: Rng> World<T, T::Output, G> {
     }
 
     /// Ends the states of all tasks. Answers whether an end lacked memory.
+    #[tactic(auto, using(crate::proofs::Fronts::front_laws))]
     fn end_all(&mut self) -> bool
         requires { IsClosing self.old }
         ensures ends { Ends self.old self.new }
+        ensures front { IsFront self.old.told self.new.told }
         ensures none { (self.new.told.state.running ≡ []) × (self.new.held.tasks ≡ []) }
         ensures agrees { (first : First T T.Output) (whole : Bool) (output : Option T.Output) (unmade : Option T) → AgreesWith (with_first T.steps first) whole self.old output unmade → AgreesWith (with_first T.steps first) (still result whole) self.new output unmade }
     {

@@ -6,6 +6,7 @@ ghost use Rattle.rt_model.specs.Causes.{from_running, is_late};
 ghost use Rattle.rt_model.specs.Effects.{left_of};
 ghost use Rattle.rt_model.specs.Tied.{First, with_first, Steps};
 ghost use Rattle.rt_machine.specs.Steps.{Turns, StepStands};
+ghost use Rattle.rt_world.specs.World.{IsFront};
 ghost use Rattle.rt_world.specs.Follows.{Agrees};
 ghost use Rattle.rt_world.specs.Rounds.{Runs, StandsBetween, EndStands, EndAgrees};
 ghost use Rattle.rt_world.specs.Visits.{RoundStands, AgreesAfter};
@@ -23,6 +24,7 @@ impl<T, O, G> World<T, O, G> {
         requires phase { self.old.told.state.phase ≡ Visiting (left_of self.old.told.state.phase) }
         requires round { from_running self.old.told.state.running (left_of self.old.told.state.phase) ≡ [] }
         ensures turns { Turns self.old.told self.new.told }
+        ensures front { IsFront self.old.told self.new.told }
         ensures later { OnOk result (self.old.told.state.clock.time + self.old.told.state.clock.fixed.cycle ≤ self.new.told.state.clock.time) }
         ensures within { OnOk result (self.old.told.state.clock.time + self.old.told.state.clock.fixed.cycle ≤ MAX_TIME) }
         ensures stands { StepStands self.new.told.state result }

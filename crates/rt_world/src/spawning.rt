@@ -4,7 +4,7 @@ ghost use Rattle.std.specs.Prelude.{ℕ, ◌≡◌, ◌<◌, IfOk, IfErr, OnOk, 
 ghost use Rattle.rt_model.specs.Rules.{MayCall};
 ghost use Rattle.rt_model.specs.Turns.{Spawning};
 ghost use Rattle.rt_machine.specs.Calls.{spawn_reply};
-ghost use Rattle.rt_world.specs.Calls.{Kept, Made, IsMadeBy, IsRefused};
+ghost use Rattle.rt_world.specs.Calls.{Kept, Made, IsMadeBy, IsRefused, IsTakenIn};
 ghost use Rattle.rt_world.specs.Walked.{Called, spawn_told};
 
 use crate::World;
@@ -31,6 +31,7 @@ impl<T, O, G> World<T, O, G> {
         ensures kept { Kept self.old self.new }
         ensures back { IfErr result (λ back. back.1 ≡ given) }
         ensures ok { (made : ℕ → T) → IsMadeBy (F.post make) given made → IfOk result (λ at. Made self.old self.new (Spawning node execution made) (spawn_reply at)) }
+        ensures taken_in { IfOk result (λ at. IsTakenIn (F.post make) given self.old self.new node execution at) }
         ensures err { (made : ℕ → T) → IfErr result (λ back. IsRefused self.old self.new (Spawning node execution made) back.0) }
         ensures called { (made : ℕ → T) → IsMadeBy (F.post make) given made → Called (Spawning node execution made) self.old self.new (spawn_told result) }
     {

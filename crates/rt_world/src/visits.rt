@@ -106,6 +106,7 @@ impl<T, O: Drop, G> World<T, O, G> {
 impl<T: Task, G: Rng> World<T, T::Output, G> {
     /// Visits a task that runs: the root is stopped where a panic is kept, a flagged task ends unpolled, and any other is
     /// polled, and then makes the calls of its own steps and answers so. Answers the root's output, once it has one.
+    #[tactic(auto, using(crate::proofs::Running::pass_laws))]
     pub fn visit(&mut self, task: u64) -> Result<Option<T::Output>, FinishCause>
         requires phase { self.old.told.state.phase ≡ Visiting (left_of self.old.told.state.phase) }
         requires next { from_running self.old.told.state.running (left_of self.old.told.state.phase) ≡ task ∷ drop 1 (from_running self.old.told.state.running (left_of self.old.told.state.phase)) }
@@ -233,6 +234,7 @@ impl<T: Task, G: Rng> World<T, T::Output, G> {
     }
 
     /// Visits the numbers of a round that run, until the run ends. Answers the root's output, if it has one.
+    #[tactic(auto, using(crate::proofs::Running::pass_laws))]
     pub(crate) fn visit_all(&mut self, order: &[u64]) -> Result<Option<T::Output>, FinishCause>
         requires phase { self.old.told.state.phase ≡ Visiting order.now }
         requires none_out { self.old.out ≡ None }

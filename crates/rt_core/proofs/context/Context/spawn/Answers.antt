@@ -9,6 +9,12 @@ returns-in-Ok-Some-clause-ok g c makes by =
     rw (← c.self.view_is)
     (TaskAt c.in-Ok-Some.task c.in-Ok-Some.number, rw c.in-Ok-Some.field-0-is at (c.in-Ok-Some.ensures.ok (λ number. makes (context_on number c.self.inside.name)) (λ number state post. by (context_on number c.self.inside.name) state (search rules))), rw (c.of.ensures, c.in-Ok-Some.task-is) refl)
 
+pub returns-in-Ok-Some-clause-taken_in : goal.returns-in-Ok-Some-clause-taken_in
+returns-in-Ok-Some-clause-taken_in g c =
+    let taken = rw c.in-Ok-Some.field-0-is at c.in-Ok-Some.ensures.taken_in in
+    rw (← c.self.view_is)
+    (TaskAt c.in-Ok-Some.task c.in-Ok-Some.number, (taken.0, (search rules), λ makes same. taken.2 (λ number. makes (context_on number c.self.inside.name)) same), rw (c.of.ensures, c.in-Ok-Some.task-is) refl)
+
 pub returns-in-Ok-Some-clause-steps : goal.returns-in-Ok-Some-clause-steps
 unfolding spawns
 returns-in-Ok-Some-clause-steps g c makes by =
@@ -25,6 +31,11 @@ pub returns-in-Ok-None-clause-ok : goal.returns-in-Ok-None-clause-ok
 returns-in-Ok-None-clause-ok g c makes by =
     rw (← c.self.view_is)
     (Closed, rw c.in-Ok-None.field-0-is at (c.in-Ok-None.ensures.ok (λ number. makes (context_on number c.self.inside.name)) (λ number state post. by (context_on number c.self.inside.name) state (search rules))), rw c.ready.ensures refl)
+
+pub returns-in-Ok-None-clause-taken_in : goal.returns-in-Ok-None-clause-taken_in
+returns-in-Ok-None-clause-taken_in g c =
+    rw (← c.self.view_is)
+    (Closed, (λ makes. (rw c.in-Ok-None.field-0-is at c.in-Ok-None.ensures.taken_in) (λ number. makes (context_on number c.self.inside.name))), rw c.ready.ensures refl)
 
 pub returns-in-Ok-None-clause-steps : goal.returns-in-Ok-None-clause-steps
 unfolding spawns

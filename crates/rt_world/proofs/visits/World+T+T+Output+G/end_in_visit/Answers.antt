@@ -2,6 +2,7 @@ use Rattle.std.proofs.Common.{◌≡◌, sym, ◌∙◌, refl, None, true, false
 use Rattle.rt_model.specs.Tied.{with_first, Steps}
 use Rattle.rt_machine.specs.Places.{number_of}
 use Rattle.rt_world.proofs.Follows.{ended-tied, ended-broken, follows-calmly}
+use Rattle.rt_world.proofs.Fronts.{passes-ended}
 use Rattle.rt_world.proofs.Walked.{spent-fresh, spent-short, spent-frees, long}
 use Rattle.rt_world.proofs.visits.World+T+T+Output+G.end_in_visit.Goals as goal
 
@@ -29,3 +30,13 @@ returns-clause-agrees g c first f =
     (follows-calmly p _ c.end_visit.new.self.told _ (rw c.take_short-lacked.ensures.gone at c.end_visit.ensures.calm)
     (ended-tied p c.args.self.now c.take_state-state.new.self c.end.new.world c.args.task c.take_state-state.result taken fresh.calls c.end.ensures.kept c.facts.ensures.calls c.facts.ensures.state None None true c.take_state-state.ensures.state
     (rw number at (spent-fresh c.take_state-state.new.self c.end.new.world _ (rw taken fresh.turns) (long (sym c.if-lacked.false ∙ c.take_short-lacked.ensures.was)) c.end.ensures.steps)) f))
+
+pub returns-then-lacked-clause-passes : goal.returns-then-lacked-clause-passes
+returns-then-lacked-clause-passes g c =
+    passes-ended c.args.self.now c.take_state-state.new.self c.end.new.world c.args.task c.requires.fresh.calls c.take_state-state.ensures.rest c.end.ensures.kept c.end_visit.new.self
+    (rw c.take_short-lacked.ensures.gone at c.end_visit.ensures.passes)
+
+pub returns-clause-passes : goal.returns-clause-passes
+returns-clause-passes g c =
+    passes-ended c.args.self.now c.take_state-state.new.self c.end.new.world c.args.task c.requires.fresh.calls c.take_state-state.ensures.rest c.end.ensures.kept c.end_visit.new.self
+    (rw c.take_short-lacked.ensures.gone at c.end_visit.ensures.passes)

@@ -2,6 +2,7 @@ use Rattle.std.proofs.Common.{◌≡◌, sym, refl, inl, inr, true, false}
 use Rattle.rt_model.specs.Lists.{is_some_number}
 use Rattle.rt_model.specs.Tied.{with_first, Steps}
 use Rattle.rt_world.proofs.Follows.{visit-pending, visit-ready, visit-panicked, visit-cut}
+use Rattle.rt_world.proofs.Fronts.{passes-answered}
 use Rattle.rt_world.proofs.Walked.{polled-fresh, polled-short, polled-broken, polled-frees, long}
 use Rattle.rt_world.proofs.visits.World+T+T+Output+G.poll_task.Goals as goal
 
@@ -78,3 +79,35 @@ returns-else-root-clause-agrees g c first f =
     let fresh = c.requires.fresh in
     rw c.answer_panicked.ensures (visit-panicked p c.args.self.now c.take_state-state.new.self c.poll-answer.new.world c.args.task c.take_state-state.result c.poll-answer.new.self taken c.take_state-state.ensures.state fresh.calls c.poll-answer.ensures.kept c.facts.ensures.calls c.facts.ensures.state c.in-Panicked.text
     (rw c.new-cx.ensures at (polled-fresh c.take_state-state.new.self c.poll-answer.new.world _ _ _ (rw taken fresh.turns) (long c.if-is_short.ensures) refl c.in-Panicked.ensures.steps)) f)
+
+pub returns-then-is_short-clause-passes : goal.returns-then-is_short-clause-passes
+returns-then-is_short-clause-passes g c =
+    passes-answered c.args.self.now c.take_state-state.new.self c.poll-answer.new.world c.args.task c.requires.fresh.calls c.take_state-state.ensures.rest c.poll-answer.ensures.kept c.answer.new.self _ _ _ c.answer.ensures
+
+pub returns-then-flagged-clause-passes : goal.returns-then-flagged-clause-passes
+returns-then-flagged-clause-passes g c =
+    passes-answered c.args.self.now c.take_state-state.new.self c.poll-answer.new.world c.args.task c.requires.fresh.calls c.take_state-state.ensures.rest c.poll-answer.ensures.kept c.answer-in-Pending.new.self _ _ _ c.answer-in-Pending.ensures
+
+pub returns-else-flagged-clause-passes : goal.returns-else-flagged-clause-passes
+returns-else-flagged-clause-passes g c =
+    passes-answered c.args.self.now c.take_state-state.new.self c.poll-answer.new.world c.args.task c.requires.fresh.calls c.take_state-state.ensures.rest c.poll-answer.ensures.kept c.answer-in-Pending.new.self _ _ _ c.answer-in-Pending.ensures
+
+pub returns-then-is_root-clause-passes : goal.returns-then-is_root-clause-passes
+returns-then-is_root-clause-passes g c =
+    passes-answered c.args.self.now c.take_state-state.new.self c.poll-answer.new.world c.args.task c.requires.fresh.calls c.take_state-state.ensures.rest c.poll-answer.ensures.kept c.answer_root.new.self _ _ _ c.answer_root.ensures
+
+pub returns-else-is_root-clause-passes : goal.returns-else-is_root-clause-passes
+returns-else-is_root-clause-passes g c =
+    passes-answered c.args.self.now c.take_state-state.new.self c.poll-answer.new.world c.args.task c.requires.fresh.calls c.take_state-state.ensures.rest c.poll-answer.ensures.kept c.answer_result.new.self _ _ _ c.answer_result.ensures
+
+pub returns-then-root-clause-passes : goal.returns-then-root-clause-passes
+returns-then-root-clause-passes g c =
+    passes-answered c.args.self.now c.take_state-state.new.self c.poll-answer.new.world c.args.task c.requires.fresh.calls c.take_state-state.ensures.rest c.poll-answer.ensures.kept c.answer_panicked.new.self _ _ _ c.answer_panicked.ensures
+
+pub returns-else-root-clause-passes : goal.returns-else-root-clause-passes
+returns-else-root-clause-passes g c =
+    passes-answered c.args.self.now c.take_state-state.new.self c.poll-answer.new.world c.args.task c.requires.fresh.calls c.take_state-state.ensures.rest c.poll-answer.ensures.kept c.answer_panicked.new.self _ _ _ c.answer_panicked.ensures
+
+pub returns-in-NoMemory-clause-passes : goal.returns-in-NoMemory-clause-passes
+returns-in-NoMemory-clause-passes g c =
+    passes-answered c.args.self.now c.take_state-state.new.self c.poll-answer.new.world c.args.task c.requires.fresh.calls c.take_state-state.ensures.rest c.poll-answer.ensures.kept c.answer-in-NoMemory.new.self _ _ _ c.answer-in-NoMemory.ensures
