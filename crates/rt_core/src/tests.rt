@@ -1,4 +1,4 @@
-// Each call once. Whole runs of a task type of one's own are compared in `rt_errand`.
+// Each call once. Whole runs of a task type of one's own are compared in `rt_errand_tests`.
 
 ghost use Rattle.std.specs.Prelude.{◌≡◌, None};
 ghost use Rattle.rt_model.specs.Rules.{MayCall};
@@ -44,10 +44,10 @@ impl Task for Probe {
         let Ok(mut sleep) = self.context.sleep_until(5) else {
             return Answer::NoMemory;
         };
-        let _ = sleep.poll(world, cx);
+        drop(sleep.poll(world, cx));
         sleep.give_up(world);
         let mut turn = reschedule();
-        let _ = turn.poll(world, cx);
+        drop(turn.poll(world, cx));
         turn.give_up(world);
         Answer::NoMemory
     }
@@ -111,10 +111,10 @@ impl Task for Juggler {
     ghost steps = { record { next = λ j now task. then (sleep_polls j.first) (λ one first. then (sleep_polls j.second) (λ two second. then (reschedule_polls unqueued task) (λ three turn. then (reschedule_polls unqueued task) (λ four again. Gives Pending (record { context = j.context; first = first; second = second }))))); last = λ j now task. followed_by (sleep_spends j.first) (followed_by (sleep_spends j.second) (closes j.context.node)) } };
 
     fn poll<G: Rng>(&mut self, world: &mut World<Self, u64, G>, cx: &Cx) -> Answer<u64> {
-        let _ = self.first.poll(world, cx);
-        let _ = self.second.poll(world, cx);
-        let _ = reschedule().poll(world, cx);
-        let _ = reschedule().poll(world, cx);
+        drop(self.first.poll(world, cx));
+        drop(self.second.poll(world, cx));
+        drop(reschedule().poll(world, cx));
+        drop(reschedule().poll(world, cx));
         Answer::Pending
     }
 
@@ -175,7 +175,7 @@ impl Task for Hasty {
     ghost steps = { record { next = λ h now task. then (timeout_polls (λ sleep now task. sleep_polls sleep) h.waits now task) (λ answer waits. Gives Pending (record { context = h.context; waits = waits })); last = λ h now task. followed_by (timeout_spends sleep_spends h.waits) (closes h.context.node) } };
 
     fn poll<G: Rng>(&mut self, world: &mut World<Self, u64, G>, cx: &Cx) -> Answer<u64> {
-        let _ = self.waits.poll(world, cx);
+        drop(self.waits.poll(world, cx));
         Answer::Pending
     }
 
@@ -411,13 +411,27 @@ fn keeps_settings() -> bool {
 /// The world of a run whose maker is under way.
 type Making = WorldOf<Probe, ChaCha12Rng>;
 
-/// A context with a further attribute, or as it was where it was refused.
-fn with_attribute(context: Context, key: &str, value: &str) -> (Context, Option<Error>) {
+/// A context with a further attribute, or as it was where it was refused, and whether it was taken.
+fn taking(context: Context, key: &str, value: &str) -> (Context, bool) {
     match context.with_attribute(key, value) {
-        Ok(context) => (context, None),
+        Ok(context) => (context, true),
         Err(refused) => {
             let Refused { back, error } = refused;
-            (back, Some(error))
+            drop(error);
+            (back, false)
+        }
+    }
+}
+
+/// The same, and whether the key was refused as a bad label.
+fn refusing(context: Context, key: &str, value: &str) -> (Context, bool) {
+    match context.with_attribute(key, value) {
+        Ok(context) => (context, false),
+        Err(refused) => {
+            let Refused { back, error } = refused;
+            let bad = matches!(&error, Error::Metric(MetricError::BadLabel));
+            drop(error);
+            (back, bad)
         }
     }
 }
@@ -436,12 +450,14 @@ fn name_text(alloc: Global, name: &Name) -> Result<String, NoMemory> {
 
 /// Whether a context has the name that is this as text.
 fn has_name(alloc: Global, context: &Context, expected: &str) -> bool {
-    let Ok(name) = context.name() else {
+    let Some(name) = context.name().ok() else {
         return false;
     };
-    match name_text(alloc, &name) {
+    let text = name_text(alloc, &name);
+    drop(name);
+    match text {
         Ok(text) => text.as_str() == expected,
-        Err(_) => false,
+        Err(NoMemory) => false,
     }
 }
 
@@ -474,14 +490,12 @@ fn spawns_aborted(context: Context, world: &mut Making) -> bool
 
 /// Whether attributes are taken and refused as they should be. The context comes back.
 fn takes_attributes(alloc: Global) -> (Context, bool) {
-    let (context, late) = with_attribute(Context::root(alloc), "b", "2");
-    let (context, early) = with_attribute(context, "a", "1");
-    let (context, again) = with_attribute(context, "b", "3");
-    let (context, bad) = with_attribute(context, "9", "4");
-    let taken = late.is_none() && early.is_none() && again.is_none();
-    let refused = bad == Some(Error::Metric(MetricError::BadLabel));
+    let (context, late) = taking(Context::root(alloc), "b", "2");
+    let (context, early) = taking(context, "a", "1");
+    let (context, again) = taking(context, "b", "3");
+    let (context, refused) = refusing(context, "9", "4");
     let named = has_name(alloc, &context, " a=1 b=3");
-    (context, taken && refused && named)
+    (context, late && early && again && refused && named)
 }
 
 /// Why a child is refused, if it is.

@@ -33,44 +33,38 @@ fn surface(rt: HostRuntime) -> Result<(), Fail> {
 fn small_types(rt: &impl Abort, alloc: Global) -> Result<(), Fail> {
     let word = text(alloc, "ab")?;
     assert!(rt; word == word.clone_value()?);
-    assert_eq!(rt; word.as_str(), "ab");
-    assert_eq!(rt; word.into_inner().len(), 2);
+    assert!(rt; word.as_str() == "ab");
+    assert!(rt; word.into_inner().len() == 2);
     let items: Items<u64> = Items::of(vec![in alloc; 1u64, 2]?);
-    assert_eq!(rt; items.as_slice(), [1u64, 2].as_slice());
-    assert_eq!(rt; items.into_inner().len(), 2);
-    assert_ne!(rt; Poll::Ready(3u64), Poll::Pending);
-    assert_ne!(rt; Choice::Kept, Choice::Prefix(0));
-    assert_eq!(rt; Execution::default(), Execution::Shared(false));
-    assert_eq!(rt; MAX_TIME / 1_000_000_000, 9223372036854775807);
+    assert!(rt; items.as_slice() == [1u64, 2].as_slice());
+    assert!(rt; items.into_inner().len() == 2);
+    assert!(rt; Poll::Ready(3u64) != Poll::Pending);
+    assert!(rt; Choice::Kept != Choice::Prefix(0));
+    assert!(rt; Execution::default() == Execution::Shared(false));
+    assert!(rt; MAX_TIME / 1_000_000_000 == 9223372036854775807);
     Ok(())
 }
 
 fn blobs(rt: &impl Abort, alloc: Global) -> Result<(), Fail> {
     let mut read = ReadOptions::default();
-    assert_eq!(rt;
-        (read.bits(), read.contains(ReadOptions::DONT_CACHE)),
-        (0, false)
-    );
+    assert!(rt; (read.bits(), read.contains(ReadOptions::DONT_CACHE)) == (0, false));
     read |= ReadOptions::DONT_CACHE;
     assert!(rt; read == ReadOptions::DONT_CACHE | ReadOptions::default());
-    assert_eq!(rt; read.without(read), ReadOptions::default());
+    assert!(rt; read.without(read) == ReadOptions::default());
     let mut write = WriteOptions::default();
     for (option, bits) in [(WriteOptions::SYNC, 1), (WriteOptions::DONT_CACHE, 3)] {
         assert!(rt; !write.contains(option));
         write |= option;
-        assert_eq!(rt; (write.contains(option), write.bits()), (true, bits));
+        assert!(rt; (write.contains(option), write.bits()) == (true, bits));
     }
     assert!(rt; write == WriteOptions::SYNC | WriteOptions::DONT_CACHE);
-    assert_eq!(rt; write.without(WriteOptions::SYNC).bits(), 2);
-    assert_eq!(rt;
-        (BLOB_PAGE_SIZE, DEFAULT_BLOB_LAYOUT),
-        (4096, BlobLayout::ALL.1)
-    );
+    assert!(rt; write.without(WriteOptions::SYNC).bits() == 2);
+    assert!(rt; (BLOB_PAGE_SIZE, DEFAULT_BLOB_LAYOUT) == (4096, BlobLayout::ALL.1));
     assert!(rt; BlobLayout::ALL.0 < BlobLayout::V1);
-    assert_eq!(rt; BlobVersion::default(), DEFAULT_BLOB_VERSION);
+    assert!(rt; BlobVersion::default() == DEFAULT_BLOB_VERSION);
     let version = BlobVersion::new(65535);
     assert!(rt; DEFAULT_BLOB_VERSION < version && version.get() == 65535);
-    assert_eq!(rt; format!(in alloc; "{version}")?.as_str(), "65535");
+    assert!(rt; format!(in alloc; "{version}")?.as_str() == "65535");
     Ok(())
 }
 
@@ -79,7 +73,7 @@ fn errors(rt: &impl Abort, alloc: Global) -> Result<(), Fail> {
     assert!(rt; error.clone_value()? == error);
     let refused = Refused { back: 7u64, error };
     let Refused { back, error } = refused;
-    assert_eq!(rt; back, 7);
+    assert!(rt; back == 7);
     assert!(rt; error != Error::from(MetricError::OtherHelp));
     assert!(rt; Error::from(NoMemory) == Error::NoMemory);
     assert!(rt;
@@ -89,7 +83,7 @@ fn errors(rt: &impl Abort, alloc: Global) -> Result<(), Fail> {
 }
 
 fn names(rt: &impl Abort, alloc: Global) -> Result<(), Fail> {
-    assert_eq!(rt; validate_label("a_1"), Ok(()));
+    assert!(rt; validate_label("a_1") == Ok(()));
     let mut attributes = Vec::new(alloc);
     for (key, value) in [("b", "1"), ("a", "2"), ("c", "3"), ("b", "4")] {
         add_attribute(alloc, &mut attributes, key, value)?;
@@ -104,7 +98,7 @@ fn names(rt: &impl Abort, alloc: Global) -> Result<(), Fail> {
     for (key, value) in name.attributes.as_slice() {
         write!(line, " {key}={value}")?;
     }
-    assert_eq!(rt; line.as_str(), "p_c a=2 b=4 c=3");
+    assert!(rt; line.as_str() == "p_c a=2 b=4 c=3");
     Ok(())
 }
 
@@ -115,38 +109,32 @@ fn environment(rt: &impl Abort, alloc: Global) -> Result<(), Fail> {
         label: text(alloc, "stop")?,
         fields: Items::of(Vec::new(alloc)),
     });
-    assert_eq!(rt; none.draw(), 0);
+    assert!(rt; none.draw() == 0);
     Ok(())
 }
 
 fn sources(rt: &impl Abort, alloc: Global) -> Result<(), Fail> {
     let mut safe = SafeSource::new(vec![in alloc; 1u8, 2, 3]?);
-    assert_eq!(rt;
-        read_whole(alloc, &mut safe, 3)?.as_slice(),
-        [1u8, 2, 3].as_slice()
-    );
+    assert!(rt; read_whole(alloc, &mut safe, 3)?.as_slice() == [1u8, 2, 3].as_slice());
     let mut long = SafeSource::new(vec![in alloc; 1u8, 2, 3]?);
-    assert_eq!(rt;
-        read_whole(alloc, &mut long, 2).err(),
-        Some(Unread::TooLong)
-    );
+    assert!(rt; read_whole(alloc, &mut long, 2).err() == Some(Unread::TooLong));
     let mut list = ListSource::new(vec![in alloc; 1u8, 2, 3]?, vec![in alloc; 2u64]?, 2);
     let mut piece = [0u8; 4];
-    assert_eq!(rt; list.read(&mut piece), Ok(2));
-    assert_eq!(rt; list.read(&mut piece), Err(Failed));
-    assert_eq!(rt; list.read(&mut piece), Ok(1));
-    assert_eq!(rt; list.read(&mut piece), Ok(0));
+    assert!(rt; list.read(&mut piece) == Ok(2));
+    assert!(rt; list.read(&mut piece) == Err(Failed));
+    assert!(rt; list.read(&mut piece) == Ok(1));
+    assert!(rt; list.read(&mut piece) == Ok(0));
     Ok(())
 }
 
 fn sinks(rt: &impl Abort, alloc: Global) -> Result<(), Fail> {
     let mut safe = SafeSink::new(alloc);
-    assert_eq!(rt; write_whole(&mut safe, b"run"), Ok(()));
-    assert_eq!(rt; safe.as_slice(), b"run".as_slice());
+    assert!(rt; write_whole(&mut safe, b"run") == Ok(()));
+    assert!(rt; safe.as_slice() == b"run".as_slice());
     let mut list = ListSink::new(alloc, vec![in alloc; 3u64]?, 1);
-    assert_eq!(rt; write_whole(&mut list, b"run"), Err(Failed));
-    assert_eq!(rt; list.as_slice(), b"ru".as_slice());
-    assert_eq!(rt; list.write(b"n"), Ok(1));
+    assert!(rt; write_whole(&mut list, b"run") == Err(Failed));
+    assert!(rt; list.as_slice() == b"ru".as_slice());
+    assert!(rt; list.write(b"n") == Ok(1));
     Ok(())
 }
 
@@ -154,10 +142,10 @@ fn sinks(rt: &impl Abort, alloc: Global) -> Result<(), Fail> {
 fn standard_input_and_output(rt: HostRuntime) {
     let mut input = StdSource::new(&rt);
     let mut piece = [0u8; 4];
-    assert_eq!(rt; input.read(&mut piece), Ok(0));
+    assert!(rt; input.read(&mut piece) == Ok(0));
     let mut output = StdSink::new(&rt);
-    assert_eq!(rt; output.write(b""), Ok(0));
-    assert_eq!(rt; output.write(b"\n"), Ok(1));
+    assert!(rt; output.write(b"") == Ok(0));
+    assert!(rt; output.write(b"\n") == Ok(1));
 }
 
 /// A reader or a writer whose first calls fail with this number of the system.
@@ -216,7 +204,7 @@ fn calls_that_a_signal_cut_short_are_made_again(rt: HostRuntime) {
         let mut errors = 0;
         let mut piece = [0u8; 4];
         let read = read_retried(&mut reader, &mut errors, &mut piece);
-        assert_eq!(rt; (read, errors), (answer, counted), "reads at {first}");
+        assert!(rt; (read, errors) == (answer, counted), "reads at {first}");
         let mut writer = Failing {
             inner: Vec::new(rt.alloc()),
             first,
@@ -224,8 +212,8 @@ fn calls_that_a_signal_cut_short_are_made_again(rt: HostRuntime) {
         };
         errors = 0;
         let written = write_retried(&mut writer, &mut errors, b"run");
-        assert_eq!(rt; (written, errors), (answer, counted), "writes at {first}");
-        assert_eq!(rt; writer.inner.len(), answer.unwrap_or(0));
+        assert!(rt; (written, errors) == (answer, counted), "writes at {first}");
+        assert!(rt; writer.inner.len() == answer.unwrap_or(0));
     }
 }
 
@@ -235,31 +223,25 @@ fn a_mebibyte(rt: HostRuntime) -> Result<(), Fail> {
     let size = 1_048_576;
     let bytes = vec![in alloc; b'a'; size]?;
     let mut safe = SafeSink::new(alloc);
-    assert_eq!(rt; write_whole(&mut safe, bytes.as_slice()), Ok(()));
+    assert!(rt; write_whole(&mut safe, bytes.as_slice()) == Ok(()));
     assert!(rt; safe.as_slice() == bytes.as_slice());
     let mut list = ListSink::new(alloc, Vec::new(alloc), 1000);
-    assert_eq!(rt; write_whole(&mut list, bytes.as_slice()), Ok(()));
+    assert!(rt; write_whole(&mut list, bytes.as_slice()) == Ok(()));
     assert!(rt; list.as_slice() == bytes.as_slice());
     let mut reader = bytes.as_slice();
     let mut errors = 0;
     let mut read = vec![in alloc; 0u8; size]?;
-    assert_eq!(rt; read_retried(&mut reader, &mut errors, &mut read), Ok(size));
+    assert!(rt; read_retried(&mut reader, &mut errors, &mut read) == Ok(size));
     assert!(rt; read == bytes);
     let mut writer = Vec::new(alloc);
-    assert_eq!(rt;
-        write_retried(&mut writer, &mut errors, bytes.as_slice()),
-        Ok(size)
-    );
+    assert!(rt; write_retried(&mut writer, &mut errors, bytes.as_slice()) == Ok(size));
     assert!(rt; writer == bytes && errors == 0);
     let word = text(alloc, str::from_utf8(bytes.as_slice())?)?;
     assert!(rt; word.clone_value()? == word);
     let mut short = ListSource::new(bytes.clone()?, Vec::new(alloc), 1000);
     assert!(rt; read_whole(alloc, &mut short, size)? == bytes);
     let mut source = SafeSource::new(bytes);
-    assert_eq!(rt;
-        read_whole(alloc, &mut source, size - 1).err(),
-        Some(Unread::TooLong)
-    );
+    assert!(rt; read_whole(alloc, &mut source, size - 1).err() == Some(Unread::TooLong));
     Ok(())
 }
 
@@ -331,7 +313,7 @@ fn error_words(rt: HostRuntime) -> Result<(), Fail> {
         ),
         (Error::NoMemory, "no memory"),
     ] {
-        assert_eq!(rt; format!(in rt.alloc(); "{error}")?.as_str(), words);
+        assert!(rt; format!(in rt.alloc(); "{error}")?.as_str() == words);
     }
     Ok(())
 }
@@ -396,7 +378,7 @@ fn error_texts(rt: HostRuntime) -> Result<(), Fail> {
             "blob corrupt: a/b reason: c",
         ),
     ] {
-        assert_eq!(rt; format!(in alloc; "{error}")?.as_str(), words);
+        assert!(rt; format!(in alloc; "{error}")?.as_str() == words);
     }
     Ok(())
 }
@@ -410,7 +392,7 @@ fn address_texts(rt: HostRuntime) -> Result<(), Fail> {
         (there, 0, "[2001:db8:0:0:0:0:0:1f]:0"),
     ] {
         let addr = Addr { ip, port };
-        assert_eq!(rt; format!(in rt.alloc(); "{addr}")?.as_str(), words);
+        assert!(rt; format!(in rt.alloc(); "{addr}")?.as_str() == words);
     }
     Ok(())
 }
@@ -418,9 +400,8 @@ fn address_texts(rt: HostRuntime) -> Result<(), Fail> {
 #[test]
 fn refused_labels(rt: HostRuntime) {
     for label in ["", "9a", "_a", "a-b", "a b", "\u{e9}"] {
-        assert_eq!(rt;
-            validate_label(label),
-            Err(MetricError::BadLabel),
+        assert!(rt;
+            validate_label(label) == Err(MetricError::BadLabel),
             "at {label}"
         );
     }

@@ -163,9 +163,9 @@ fn line_of_each_entry(rt: HostRuntime) -> Result<(), Fail> {
     add_tasks(alloc, &mut text)?;
     add_times(alloc, &mut text)?;
     add_ends(alloc, &mut text)?;
-    assert_eq!(rt;
-        text.as_str(),
-        "\
+    assert!(rt;
+        text.as_str()
+            == "\
 start 5 90 1000000 3
 start 0 - 1 0
 call 3 sleep-poll 7 -> ready
@@ -208,14 +208,13 @@ fn long_lines(rt: HostRuntime) -> Result<(), Fail> {
     for size in [32, 33, 524_288] {
         let mut text = String::new(alloc);
         add_event(alloc, &mut text, size)?;
-        assert_eq!(rt;
-            text.len(),
-            "event process_task  -\n".len() + 2 * size,
+        assert!(rt;
+            text.len() == "event process_task  -\n".len() + 2 * size,
             "at {size}"
         );
         add_round(alloc, &mut text, u64::MAX, size)?;
         let lines = "event process_task  -\nround\n".len();
-        assert_eq!(rt; text.len(), lines + 23 * size, "at {size}");
+        assert!(rt; text.len() == lines + 23 * size, "at {size}");
     }
     Ok(())
 }
@@ -291,7 +290,7 @@ fn parts_are_shown(alloc: Global) -> Result<bool, NoMemory> {
 fn surface(rt: HostRuntime) -> Result<(), Fail> {
     let alloc = rt.alloc();
     let refusal = Refusal::new(alloc, Error::ClockOverflow)?;
-    assert_eq!(rt; error_code(refusal.error()), 11);
+    assert!(rt; error_code(refusal.error()) == 11);
     assert!(rt; has_words(alloc)?);
     assert!(rt; keeps_entries(alloc)?);
     assert!(rt; agree_on_an_event(alloc)?);

@@ -17,9 +17,9 @@ fn surface(rt: HostRuntime) -> Result<(), Fail> {
     let mut tree = Tree::new(rt.alloc())?;
     let root = tree.root();
     let child = grow(&mut tree, root, 7)?;
-    assert_eq!(rt; tree.task_of(child), Some(7));
+    assert!(rt; tree.task_of(child) == Some(7));
     tree.end(child);
-    assert_eq!(rt; tree.next_flag(), Some(7));
+    assert!(rt; tree.next_flag() == Some(7));
     assert!(rt; tree.is_ended(child) && tree.lives(child));
     tree.release(child);
     assert!(rt; !tree.is_ended(child) && !tree.lives(child) && tree.has_ended(child));
@@ -35,23 +35,22 @@ fn surface_of_alarms(rt: &impl Abort, alloc: Global) -> Result<(), Fail> {
     assert!(rt; alarms.is_empty());
     let alarm = alarms.set(30, 1)?;
     alarms.rewake(alarm, 2);
-    assert_eq!(rt; alarms.earliest(), Some(30));
-    assert_eq!(rt; alarms.due_of(alarm), Some(30));
-    assert_eq!(rt; alarms.due(29), None);
-    assert_eq!(rt; alarms.pop_due(29), None);
-    assert_eq!(rt; alarms.due(30), Some(alarm));
-    assert_eq!(rt; alarms.pop_due(30), Some((alarm, 2)));
+    assert!(rt; alarms.earliest() == Some(30));
+    assert!(rt; alarms.due_of(alarm) == Some(30));
+    assert!(rt; alarms.due(29).is_none());
+    assert!(rt; alarms.pop_due(29).is_none());
+    assert!(rt; alarms.due(30) == Some(alarm));
+    assert!(rt; alarms.pop_due(30) == Some((alarm, 2)));
     let next = alarms.set(40, NOBODY)?;
-    assert_eq!(rt; alarms.len(), 1);
-    assert_eq!(rt; alarms.count(), 2);
-    assert_eq!(rt; alarms.pop_due(40), Some((next, NOBODY)));
+    assert!(rt; alarms.len() == 1);
+    assert!(rt; alarms.count() == 2);
+    assert!(rt; alarms.pop_due(40) == Some((next, NOBODY)));
     let later = (alarms.set(60, 1)?, alarms.set(50, 3)?, alarms.set(70, 4)?);
     alarms.rewake(later.0, 5);
-    assert_eq!(rt;
-        (alarms.pop_due(60), alarms.pop_due(60)),
-        (Some((later.1, 3)), Some((later.0, 5)))
+    assert!(rt;
+        (alarms.pop_due(60), alarms.pop_due(60)) == (Some((later.1, 3)), Some((later.0, 5)))
     );
-    assert_eq!(rt; (alarms.len(), alarms.due_of(later.2)), (1, Some(70)));
+    assert!(rt; (alarms.len(), alarms.due_of(later.2)) == (1, Some(70)));
     alarms.clear();
     assert!(rt; later == (2, 3, 4) && alarms.is_empty());
     Ok(())
@@ -61,16 +60,15 @@ fn surface_of_slots(rt: &impl Abort, alloc: Global) -> Result<(), Fail> {
     let mut slots: Slots<u8> = Slots::new(alloc);
     let slot = slots.add()?;
     assert!(rt; slots.holds(slot));
-    assert_eq!(rt; slots.poll(slot, 3), Poll::Pending);
-    assert_eq!(rt; slots.put(slot, 9), Some(3));
-    assert_eq!(rt;
-        (slots.poll(slot, 3), slots.poll(slot, 3)),
-        (Poll::Ready(Some(9)), Poll::Ready(None))
+    assert!(rt; slots.poll(slot, 3) == Poll::Pending);
+    assert!(rt; slots.put(slot, 9) == Some(3));
+    assert!(rt;
+        (slots.poll(slot, 3), slots.poll(slot, 3)) == (Poll::Ready(Some(9)), Poll::Ready(None))
     );
-    assert_eq!(rt; slots.close(slot), None);
-    assert_eq!(rt; slots.abort(slot), None);
+    assert!(rt; slots.close(slot).is_none());
+    assert!(rt; slots.abort(slot).is_none());
     assert!(rt; slots.is_aborted(slot));
-    assert_eq!(rt; slots.poll(slot, NOBODY), Poll::Ready(None));
+    assert!(rt; slots.poll(slot, NOBODY) == Poll::Ready(None));
     slots.give_up(slot);
     assert!(rt; !slots.holds(slot));
     Ok(())
@@ -86,9 +84,9 @@ fn child_ends_with_its_parent(rt: HostRuntime) -> Result<(), Fail> {
     let other = grow(&mut tree, first, 5)?;
     tree.end(first);
     for task in [1, 2, 4, 5] {
-        assert_eq!(rt; tree.next_flag(), Some(task));
+        assert!(rt; tree.next_flag() == Some(task));
     }
-    assert_eq!(rt; tree.next_flag(), None);
+    assert!(rt; tree.next_flag().is_none());
     assert!(rt; tree.is_ended(last) && tree.is_ended(other) && !tree.is_ended(second));
     Ok(())
 }
@@ -102,9 +100,9 @@ fn deep_chain_is_flagged(rt: HostRuntime) -> Result<(), Fail> {
     }
     tree.end(0);
     for task in 0..50_000 {
-        assert_eq!(rt; tree.next_flag(), Some(task));
+        assert!(rt; tree.next_flag() == Some(task));
     }
-    assert_eq!(rt; tree.next_flag(), None);
+    assert!(rt; tree.next_flag().is_none());
     assert!(rt; tree.is_ended(last));
     Ok(())
 }
@@ -122,9 +120,9 @@ fn children_come_while_flags_are_pending(rt: HostRuntime) -> Result<(), Fail> {
         assert!(rt; ended && tree.is_ended(late));
         let (other, ended) = tree.child(0)?;
         assert!(rt; !ended && !tree.is_ended(other));
-        assert_eq!(rt; tree.next_flag(), Some(task));
+        assert!(rt; tree.next_flag() == Some(task));
     }
-    assert_eq!(rt; tree.next_flag(), None);
+    assert!(rt; tree.next_flag().is_none());
     Ok(())
 }
 
@@ -143,9 +141,9 @@ fn many_alarms_go_off_in_order(rt: HostRuntime) -> Result<(), Fail> {
         let mut alarms = Alarms::new(rt.alloc());
         for number in 0..2_000u64 {
             let due = number.wrapping_mul(factor) & mask;
-            assert_eq!(rt; alarms.set(due as u128, woken_by(number))?, number);
+            assert!(rt; alarms.set(due as u128, woken_by(number))? == number);
         }
-        assert_eq!(rt; alarms.set(MAX_TIME, NOBODY)?, 2_000);
+        assert!(rt; alarms.set(MAX_TIME, NOBODY)? == 2_000);
         let mut last = None;
         for _ in 0..2_000 {
             let Some((number, task)) = alarms.pop_due(4_095) else {
@@ -155,11 +153,11 @@ fn many_alarms_go_off_in_order(rt: HostRuntime) -> Result<(), Fail> {
             assert!(rt; last < next && task == woken_by(number), "{}", number);
             last = next;
         }
-        assert_eq!(rt; alarms.pop_due(4_095), None);
-        assert_eq!(rt; alarms.pop_due(MAX_TIME), Some((2_000, NOBODY)));
-        assert_eq!(rt; alarms.set(MAX_TIME, 1)?, 2_001);
+        assert!(rt; alarms.pop_due(4_095).is_none());
+        assert!(rt; alarms.pop_due(MAX_TIME) == Some((2_000, NOBODY)));
+        assert!(rt; alarms.set(MAX_TIME, 1)? == 2_001);
         alarms.clear();
-        assert_eq!(rt; alarms.set(MAX_TIME, 1)?, 2_002);
+        assert!(rt; alarms.set(MAX_TIME, 1)? == 2_002);
     }
     Ok(())
 }
@@ -170,7 +168,7 @@ fn slots_come_beside_slots_of_all_kinds(rt: HostRuntime) -> Result<(), Fail> {
     for number in 0..5_000 {
         let slot = slots.add()?;
         assert!(rt; slot == number && slots.holds(slot));
-        assert_eq!(rt; slots.poll(slot, number), Poll::Pending);
+        assert!(rt; slots.poll(slot, number) == Poll::Pending);
         let waiting = match number % 5 {
             0 => slots.close(slot),
             1 => slots.abort(slot),
@@ -181,7 +179,7 @@ fn slots_come_beside_slots_of_all_kinds(rt: HostRuntime) -> Result<(), Fail> {
             }
             _ => Some(number),
         };
-        assert_eq!(rt; waiting, Some(number));
+        assert!(rt; waiting == Some(number));
     }
     for slot in 0..5_000 {
         let wanted = match slot % 5 {
@@ -195,7 +193,7 @@ fn slots_come_beside_slots_of_all_kinds(rt: HostRuntime) -> Result<(), Fail> {
         } else {
             None
         };
-        assert_eq!(rt; answer, wanted);
+        assert!(rt; answer == wanted);
     }
     Ok(())
 }

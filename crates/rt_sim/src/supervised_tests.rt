@@ -16,7 +16,7 @@ fn expect_report(
     let mut source = source_of(alloc, input)?;
     let mut sink = sink_of(alloc);
     let outcome = simulated(alloc, "run", &mut source, &mut sink)?;
-    assert_eq!(rt; outcome.status, status, "at {input}");
+    assert!(rt; outcome.status == status, "at {input}");
     assert!(rt; sink.as_slice() == report.as_bytes(), "at {input}");
     Ok(())
 }

@@ -62,7 +62,7 @@ pub(crate) fn expect_end(
     let mut source = source_of(alloc, input)?;
     let mut sink = sink_of(alloc);
     let outcome = simulated(alloc, words, &mut source, &mut sink)?;
-    assert_eq!(rt; outcome.status, status, "at {input}");
+    assert!(rt; outcome.status == status, "at {input}");
     assert!(rt; sink.as_slice().ends_with(end.as_bytes()), "at {input}");
     Ok(())
 }
@@ -210,7 +210,7 @@ fn refused_words(rt: HostRuntime) -> Result<(), Fail> {
         let mut source = source_of(alloc, SEVEN)?;
         let mut sink = sink_of(alloc);
         let outcome = simulated(alloc, words, &mut source, &mut sink)?;
-        assert_eq!(rt; outcome.status, 2, "at {words}");
+        assert!(rt; outcome.status == 2, "at {words}");
         assert!(rt; sink.as_slice() == USAGE.as_bytes(), "at {words}");
     }
     Ok(())
@@ -229,7 +229,7 @@ fn expect_behind(
     let mut source = ListSource::new(input, Vec::new(alloc), 100_000);
     let mut sink = sink_of(alloc);
     let outcome = simulated(alloc, "run", &mut source, &mut sink)?;
-    assert_eq!(rt; outcome.status, status, "at {lines}");
+    assert!(rt; outcome.status == status, "at {lines}");
     assert!(rt; sink.as_slice().ends_with(end.as_bytes()), "at {lines}");
     Ok(())
 }
@@ -260,7 +260,7 @@ fn long_report(rt: HostRuntime) -> Result<(), Fail> {
     let mut source = source_of(alloc, sleeps(alloc, 10_000)?.as_str())?;
     let mut sink = sink_of(alloc);
     let outcome = simulated(alloc, "run", &mut source, &mut sink)?;
-    assert_eq!(rt; outcome.status, 0);
+    assert!(rt; outcome.status == 0);
     assert!(rt; sink.as_slice().len() > 1_048_576);
     let end = "finish ok\nresult ok 7\ntime 10000000000\nrounds 10001\ndigest 00000000\n";
     assert!(rt; sink.as_slice().ends_with(end.as_bytes()));
@@ -273,7 +273,7 @@ fn expect_unread(rt: &impl Abort, alloc: Global, read: u64) -> Result<(), Fail> 
     let mut source = ListSource::new(bytes, only(alloc, read)?, 10);
     let mut sink = sink_of(alloc);
     let outcome = simulated(alloc, "run", &mut source, &mut sink)?;
-    assert_eq!(rt; outcome.status, 4, "at {read}");
+    assert!(rt; outcome.status == 4, "at {read}");
     assert!(rt; outcome.journal.is_empty(), "at {read}");
     assert!(rt; sink.as_slice().is_empty(), "at {read}");
     Ok(())
@@ -303,8 +303,8 @@ fn expect_unwritten(
 ) -> Result<(), Fail> {
     let mut source = source_of(alloc, SEVEN)?;
     let outcome = simulated(alloc, words, &mut source, sink)?;
-    assert_eq!(rt; outcome.status, 5, "at {written}");
-    assert_eq!(rt; outcome.journal.len(), entries, "at {written}");
+    assert!(rt; outcome.status == 5, "at {written}");
+    assert!(rt; outcome.journal.len() == entries, "at {written}");
     assert!(rt; sink.as_slice() == written.as_bytes(), "at {written}");
     Ok(())
 }

@@ -10,21 +10,21 @@ fn surface(rt: HostRuntime) -> Result<(), Fail> {
     let text =
         b"# two scripts\n\ntimeout 9223372036854775807999999999\nscript a\nsleep 0\nyield\npend\nend 7\ndone\nscript b_2\nsleep 340282366920938463463374607431768211455\nend -9223372036854775808\nend last\ndone\nscript c\ndone\nrun b_2\n";
     let scenario = read_scenario(rt.alloc(), text)?;
-    assert_eq!(rt; scenario.timeout, Some(rt_base::MAX_TIME));
-    assert_eq!(rt; scenario.root, 1);
+    assert!(rt; scenario.timeout == Some(rt_base::MAX_TIME));
+    assert!(rt; scenario.root == 1);
     let scripts = scenario.scripts.as_slice();
-    assert_eq!(rt; scripts.len(), 3);
-    assert_eq!(rt; scripts[0].name.as_str(), "a");
-    assert_eq!(rt;
-        scripts[0].lines.as_slice(),
-        [Line::Sleep(0), Line::Yield, Line::Pend, Line::End(7)].as_slice()
+    assert!(rt; scripts.len() == 3);
+    assert!(rt; scripts[0].name.as_str() == "a");
+    assert!(rt;
+        scripts[0].lines.as_slice()
+            == [Line::Sleep(0), Line::Yield, Line::Pend, Line::End(7)].as_slice()
     );
-    assert_eq!(rt; scripts[1].name.as_str(), "b_2");
-    assert_eq!(rt;
-        scripts[1].lines.as_slice(),
-        [Line::Sleep(u128::MAX), Line::End(i64::MIN), Line::EndLast].as_slice()
+    assert!(rt; scripts[1].name.as_str() == "b_2");
+    assert!(rt;
+        scripts[1].lines.as_slice()
+            == [Line::Sleep(u128::MAX), Line::End(i64::MIN), Line::EndLast].as_slice()
     );
-    assert_eq!(rt; scripts[2].lines.as_slice().len(), 0);
+    assert!(rt; scripts[2].lines.as_slice().len() == 0);
     Ok(())
 }
 
@@ -40,8 +40,8 @@ fn expect_broken(
         panic!(rt; "at {text}");
     };
     let kind = broken.kind;
-    assert_eq!(rt; broken.line, line, "at {text}");
-    assert_eq!(rt; format!(in alloc; "{kind}")?.as_str(), word, "at {text}");
+    assert!(rt; broken.line == line, "at {text}");
+    assert!(rt; format!(in alloc; "{kind}")?.as_str() == word, "at {text}");
     Ok(())
 }
 
@@ -122,43 +122,43 @@ fn surface_of_supervision(rt: HostRuntime) -> Result<(), Fail> {
     let scenario = read_scenario(rt.alloc(), text)?;
     assert!(rt; scenario.catch);
     assert!(rt; scenario.timeout.is_none());
-    assert_eq!(rt; scenario.root, 2);
-    assert_eq!(rt; scenario.with.as_slice(), [1usize, 0, 1].as_slice());
+    assert!(rt; scenario.root == 2);
+    assert!(rt; scenario.with.as_slice() == [1usize, 0, 1].as_slice());
     let scripts = scenario.scripts.as_slice();
-    assert_eq!(rt; scripts.len(), 3);
-    assert_eq!(rt; scripts[1].lines.as_slice(), [Line::Panic(0)].as_slice());
-    assert_eq!(rt; scripts[1].handles.as_slice().len(), 0);
-    assert_eq!(rt; scripts[1].words.as_slice().len(), 1);
-    assert_eq!(rt; scripts[1].words.as_slice()[0].as_str(), "a~");
+    assert!(rt; scripts.len() == 3);
+    assert!(rt; scripts[1].lines.as_slice() == [Line::Panic(0)].as_slice());
+    assert!(rt; scripts[1].handles.as_slice().len() == 0);
+    assert!(rt; scripts[1].words.as_slice().len() == 1);
+    assert!(rt; scripts[1].words.as_slice()[0].as_str() == "a~");
     let main = &scripts[2];
-    assert_eq!(rt;
-        main.lines.as_slice(),
-        [
-            Line::Spawn(3, 0),
-            Line::Spawn(1, 1),
-            Line::Until(u128::MAX),
-            Line::Panic(0),
-            Line::Abort(1),
-            Line::AbortSelf,
-            Line::Drop(2),
-            Line::Abort(3),
-            Line::Join(3),
-            Line::Join(0),
-            Line::Within(1, 7),
-            Line::Panic(1),
-            Line::Spawn(3, 0)
-        ]
-        .as_slice()
+    assert!(rt;
+        main.lines.as_slice()
+            == [
+                Line::Spawn(3, 0),
+                Line::Spawn(1, 1),
+                Line::Until(u128::MAX),
+                Line::Panic(0),
+                Line::Abort(1),
+                Line::AbortSelf,
+                Line::Drop(2),
+                Line::Abort(3),
+                Line::Join(3),
+                Line::Join(0),
+                Line::Within(1, 7),
+                Line::Panic(1),
+                Line::Spawn(3, 0)
+            ]
+            .as_slice()
     );
     let handles = main.handles.as_slice();
-    assert_eq!(rt; handles.len(), 4);
+    assert!(rt; handles.len() == 4);
     for (handle, name) in handles.iter().zip(["B", "b_1", "self", "z"]) {
-        assert_eq!(rt; handle.as_str(), name);
+        assert!(rt; handle.as_str() == name);
     }
     let words = main.words.as_slice();
-    assert_eq!(rt; words.len(), 2);
-    assert_eq!(rt; words[0].as_str(), "boom");
-    assert_eq!(rt; words[1].as_str(), "boom");
+    assert!(rt; words.len() == 2);
+    assert!(rt; words[0].as_str() == "boom");
+    assert!(rt; words[1].as_str() == "boom");
     Ok(())
 }
 
@@ -268,8 +268,8 @@ fn kind_at(alloc: Global, length: usize) -> Result<Option<Kind>, AllocError> {
 
 #[test]
 fn line_limit(rt: HostRuntime) -> Result<(), Fail> {
-    assert_eq!(rt; kind_at(rt.alloc(), 4096)?, Some(Kind::NoRun));
-    assert_eq!(rt; kind_at(rt.alloc(), 4097)?, Some(Kind::Long));
+    assert!(rt; kind_at(rt.alloc(), 4096)? == Some(Kind::NoRun));
+    assert!(rt; kind_at(rt.alloc(), 4097)? == Some(Kind::Long));
     Ok(())
 }
 
@@ -295,8 +295,8 @@ fn lines_read(alloc: Global, text: &[u8]) -> Result<usize, Refusal> {
 #[test]
 fn a_mebibyte(rt: HostRuntime) -> Result<(), Fail> {
     let text = sleeps(rt.alloc(), 131_069)?;
-    assert_eq!(rt; text.len(), 1_048_572);
-    assert_eq!(rt; lines_read(rt.alloc(), text.as_slice())?, 131_069);
+    assert!(rt; text.len() == 1_048_572);
+    assert!(rt; lines_read(rt.alloc(), text.as_slice())? == 131_069);
     Ok(())
 }
 
@@ -377,11 +377,11 @@ fn ten_thousand_handles(rt: HostRuntime) -> Result<(), Fail> {
         panic!(rt; "other scripts");
     };
     let handles = main.handles.as_slice();
-    assert_eq!(rt; handles.len(), 10_007);
+    assert!(rt; handles.len() == 10_007);
     assert!(rt; handles.is_sorted());
     let lines = main.lines.as_slice();
-    assert_eq!(rt; lines.len(), 20_014);
-    assert_eq!(rt; lines[0], Line::Spawn(0, 0));
+    assert!(rt; lines.len() == 20_014);
+    assert!(rt; lines[0] == Line::Spawn(0, 0));
     for number in 0..10_007usize {
         let Line::Join(place) = lines[10_007 + number] else {
             panic!(rt; "at {number}");
@@ -390,7 +390,7 @@ fn ten_thousand_handles(rt: HostRuntime) -> Result<(), Fail> {
             panic!(rt; "at {number}");
         };
         let name = format!(in rt.alloc(); "h{number}")?;
-        assert_eq!(rt; handle.as_str(), name.as_str());
+        assert!(rt; handle.as_str() == name.as_str());
     }
     Ok(())
 }
@@ -399,7 +399,7 @@ fn ten_thousand_handles(rt: HostRuntime) -> Result<(), Fail> {
 fn ten_thousand_scripts(rt: HostRuntime) -> Result<(), Fail> {
     let text = spawns(rt.alloc(), 10_000, 1, 0)?;
     let scenario = read_scenario(rt.alloc(), text.as_bytes())?;
-    assert_eq!(rt; scenario.scripts.as_slice().len(), 10_000);
-    assert_eq!(rt; scenario.root, 9_999);
+    assert!(rt; scenario.scripts.as_slice().len() == 10_000);
+    assert!(rt; scenario.root == 9_999);
     Ok(())
 }

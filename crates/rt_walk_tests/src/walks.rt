@@ -101,7 +101,7 @@ fn unlawful_front(alloc: Global, begin: Begin, text: &str) -> Result<Option<usiz
 fn whole_journals_and_their_fronts(rt: HostRuntime) -> Result<(), Fail> {
     for (name, begin, text) in JOURNALS {
         let front = unlawful_front(rt.alloc(), *begin, text)?;
-        assert_eq!(rt; front, None, "in {name}");
+        assert!(rt; front == None, "in {name}");
     }
     Ok(())
 }
@@ -167,25 +167,25 @@ fn first_kept(alloc: Global, table: &[Copies]) -> Result<Option<&'static str>, U
 
 #[test]
 fn damaged_copies_of_a_root(rt: HostRuntime) -> Result<(), Fail> {
-    assert_eq!(rt; first_kept(rt.alloc(), OF_A_ROOT)?, None);
+    assert!(rt; first_kept(rt.alloc(), OF_A_ROOT)?.is_none());
     Ok(())
 }
 
 #[test]
 fn damaged_copies_of_tasks(rt: HostRuntime) -> Result<(), Fail> {
-    assert_eq!(rt; first_kept(rt.alloc(), OF_TASKS)?, None);
+    assert!(rt; first_kept(rt.alloc(), OF_TASKS)?.is_none());
     Ok(())
 }
 
 #[test]
 fn damaged_copies_of_panics_and_refusals(rt: HostRuntime) -> Result<(), Fail> {
-    assert_eq!(rt; first_kept(rt.alloc(), OF_PANICS_AND_REFUSALS)?, None);
+    assert!(rt; first_kept(rt.alloc(), OF_PANICS_AND_REFUSALS)?.is_none());
     Ok(())
 }
 
 #[test]
 fn damaged_copies_of_slots(rt: HostRuntime) -> Result<(), Fail> {
-    assert_eq!(rt; first_kept(rt.alloc(), OF_SLOTS)?, None);
+    assert!(rt; first_kept(rt.alloc(), OF_SLOTS)?.is_none());
     Ok(())
 }
 
@@ -335,7 +335,7 @@ const RUNS: &[Walk] = &[
 fn several_runs(rt: HostRuntime) -> Result<(), Fail> {
     for walks in [ELSEWHERE, RUNS] {
         for walk in walks {
-            assert_eq!(rt; walked(rt.alloc(), walk)?, walk.first, "at {}", walk.name);
+            assert!(rt; walked(rt.alloc(), walk)? == walk.first, "at {}", walk.name);
         }
     }
     Ok(())
@@ -350,8 +350,8 @@ fn thousands(rt: HostRuntime) -> Result<(), Fail> {
     ] {
         let text = joined(alloc, pieces, first, end)?;
         let lines = lines_of(alloc, &[text.as_str()])?;
-        assert_eq!(rt; lines.len(), entries);
-        assert_eq!(rt; first_of(alloc, BEGIN, &[], lines.as_slice())?, None);
+        assert!(rt; lines.len() == entries);
+        assert!(rt; first_of(alloc, BEGIN, &[], lines.as_slice())?.is_none());
     }
     Ok(())
 }
@@ -371,7 +371,7 @@ fn surface(rt: HostRuntime) -> Result<(), Fail> {
     for start in &entries {
         assert!(rt; starts_once(alloc, start)?);
     }
-    assert_eq!(rt; entries.len(), 1);
-    assert_eq!(rt; first_unlawful(alloc, BEGIN, &[], &[])?, None);
+    assert!(rt; entries.len() == 1);
+    assert!(rt; first_unlawful(alloc, BEGIN, &[], &[])?.is_none());
     Ok(())
 }
