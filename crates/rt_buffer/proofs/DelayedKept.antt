@@ -26,13 +26,13 @@ use Rattle.rt_store.specs.declared.ticket.Done.TheVariants.{Now, Gated}
 use Rattle.rt_store.specs.declared.ticket.Ticket.{Ticket}
 use Rattle.rt_store.specs.declared.ticket.Ticket.TheVariants.{Ready, Numbered}
 
-at_end : {A : Type 0} (xs : List A) (x : A) → slice_get (xs ++ x ∷ []) (length xs) ≡ Some x
+pub at_end : {A : Type 0} (xs : List A) (x : A) → slice_get (xs ++ x ∷ []) (length xs) ≡ Some x
 at_end [] x = refl
 at_end (y ∷ ys) x = at_end ys x
 
 -- What holds a blob.
 
-holds_more : {B : Type 0} (blobs : List (Option (SharedBlob B))) (n : ℕ) (o : Option (Option (SharedBlob B))) → slice_get blobs n ≡ o → blob_at (held_more blobs n o) n ≡ blob_at blobs n
+pub holds_more : {B : Type 0} (blobs : List (Option (SharedBlob B))) (n : ℕ) (o : Option (Option (SharedBlob B))) → slice_get blobs n ≡ o → blob_at (held_more blobs n o) n ≡ blob_at blobs n
 holds_more blobs n None is = refl
 holds_more blobs n (Some None) is = refl
 holds_more blobs n (Some (Some b)) is = rw (set_here blobs n (Some b) (Some (record b { others = b.others + 1 })) is, is) refl
@@ -54,7 +54,7 @@ let_go_open blobs n (Some (Some b)) is other =
     rw (last, set_here blobs n (Some b) (Some (record b { others = b.others - 1 })) is, is) (refl, refl)
 
 -- one that lets go of a blob that another one holds too leaves it open
-lets_go_open : {S B : Type 0} (c : StoreCalls S B) (n : ℕ) (blob : Option ℕ) (s t : Delayed S B) → stays_open s.blobs n blob ≡ true → LetsGo c blob s t → (t.inner ≡ s.inner) × (blob_at t.blobs n ≡ blob_at s.blobs n)
+pub lets_go_open : {S B : Type 0} (c : StoreCalls S B) (n : ℕ) (blob : Option ℕ) (s t : Delayed S B) → stays_open s.blobs n blob ≡ true → LetsGo c blob s t → (t.inner ≡ s.inner) × (blob_at t.blobs n ≡ blob_at s.blobs n)
 lets_go_open c n None s t opened go = rw go (refl, refl)
 lets_go_open {S = S} {B = B} c n (Some m) s t opened go =
     let both = and_parts (m == n) (has_other (slice_get s.blobs n)) opened in
@@ -65,11 +65,11 @@ lets_go_open {S = S} {B = B} c n (Some m) s t opened go =
     let blobs : t.blobs ≡ without_holder s.blobs n = ap (λ (u : Delayed S B). u.blobs) here.1 in
     (inner, ap (λ (bs : List (Option (SharedBlob B))). blob_at bs n) blobs ∙ stays.1)
 
-promised_some : {S B : Type 0} (promised : S → Ticket → B → Option (List ℕ)) (s : S) (t : Ticket) (o : Option B) (l : List ℕ) → promised_in promised s t o ≡ Some l → (b : B) × (o ≡ Some b)
+pub promised_some : {S B : Type 0} (promised : S → Ticket → B → Option (List ℕ)) (s : S) (t : Ticket) (o : Option B) (l : List ℕ) → promised_in promised s t o ≡ Some l → (b : B) × (o ≡ Some b)
 promised_some promised s t None l is = absurd (cc)
 promised_some promised s t (Some b) l is = (b, refl)
 
-if_some : (b : Bool) (o : Option (List ℕ)) (l : List ℕ) → cond b o None ≡ Some l → (b ≡ true) × (o ≡ Some l)
+pub if_some : (b : Bool) (o : Option (List ℕ)) (l : List ℕ) → cond b o None ≡ Some l → (b ≡ true) × (o ≡ Some l)
 if_some true o l is = (refl, is)
 if_some false o l is = absurd (cc)
 
@@ -193,7 +193,7 @@ and_off : (b : Bool) → (b && false) ≡ false
 and_off true = refl
 and_off false = refl
 
-plain_off : (options : WriteOptions) → (plain options).sync ≡ false
+pub plain_off : (options : WriteOptions) → (plain options).sync ≡ false
 plain_off options = and_off options.sync
 
 writes_bytes : {S B : Type 0} (c : StoreCalls S B) (bytes : S → B → List ℕ) (left : S → B → Option (List ℕ)) (promised : S → Ticket → B → Option (List ℕ)) (keeps : KeepsBytes c bytes left promised) (n : ℕ) (o : Option B) (is_held : Bool) (at : ℕ) (w : Chunked) (options : WriteOptions) (s : Delayed S B) (d : Done) (t : Delayed S B) (x : List Noted)
@@ -349,7 +349,7 @@ after_hold {B = B} c bytes left promised keeps n b k task h (poll.Ready (Ok u)) 
     let on : SyncsReleased c k task h (Some b) s q t x = subst (λ (o : Option B). SyncsReleased c k task h o s q t x) there did in
     after_sync c bytes left promised keeps n b k task h on.0 on.1 on.2 s q t on.3 opened stays found on.4 on.5
 
-other_open : {B : Type 0} (o : Option (Option (SharedBlob B))) → has_other o ≡ true → (b : B) × (inner_blob o ≡ Some b)
+pub other_open : {B : Type 0} (o : Option (Option (SharedBlob B))) → has_other o ≡ true → (b : B) × (inner_blob o ≡ Some b)
 other_open None other = absurd (cc)
 other_open (Some None) other = absurd (cc)
 other_open (Some (Some b)) other = (b.inner, refl)
@@ -430,7 +430,7 @@ resizes_bytes {S = S} {B = B} c bytes left promised keeps n (Some b) s len u t x
     let same : t.blobs ≡ s.blobs = ap (λ (v : Delayed S B). v.blobs) did.1 in
     rw (same, opened) (keeps.resized_by s.inner b len u t.inner x did.0)
 
-free : (options : WriteOptions) (armed : Bool) → options.sync ≡ false → (options.sync && armed) ≡ false
+pub free : (options : WriteOptions) (armed : Bool) → options.sync ≡ false → (options.sync && armed) ≡ false
 free options armed plainly = rw plainly refl
 
 pub delayed_keeps : {S B : Type 0} (c : StoreCalls S B) (bytes : S → B → List ℕ) (left : S → B → Option (List ℕ)) (promised : S → Ticket → B → Option (List ℕ)) → KeepsBytes c bytes left promised → KeepsBytes (delayed_calls c) (delayed_bytes bytes) (delayed_left left) (delayed_promised bytes promised)

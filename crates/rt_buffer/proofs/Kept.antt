@@ -38,7 +38,7 @@ open_here : (n : ℕ) (b c : FileState) (yes : Bool) → is_token n b.token ≡ 
 open_here n b c true is e = (cc, is)
 open_here n b c false is e = let none : if_open n (Some b) ≡ None = rw is refl in absurd (cc)
 
-is_open_at : (n : ℕ) (o : Option FileState) (b : FileState) → if_open n o ≡ Some b → (o ≡ Some b) × (is_token n b.token ≡ true)
+pub is_open_at : (n : ℕ) (o : Option FileState) (b : FileState) → if_open n o ≡ Some b → (o ≡ Some b) × (is_token n b.token ≡ true)
 is_open_at n None b e = absurd (cc)
 is_open_at n (Some a) b e = let h = open_here n a b (is_token n a.token) refl e in (ap (λ (f : FileState). Some f) h.0, rw (sym h.0) h.1)
 
@@ -55,7 +55,7 @@ unrefused : (o : Option FileState) (f : FileState → Option Error) → refusal_
 unrefused None f e = absurd (cc)
 unrefused (Some b) f e = (b, refl)
 
-mutated_parts : (m : Mutation) (b : FileState) (yes : Bool) → is_settled m b ≡ yes → ((mutated m b).content ≡ applied m b.content) × ((mutated m b).token ≡ b.token)
+pub mutated_parts : (m : Mutation) (b : FileState) (yes : Bool) → is_settled m b ≡ yes → ((mutated m b).content ≡ applied m b.content) × ((mutated m b).token ≡ b.token)
 mutated_parts m b true is = rw is (refl, refl)
 mutated_parts m b false is = rw is (refl, refl)
 

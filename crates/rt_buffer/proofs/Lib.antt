@@ -1,15 +1,16 @@
 pub mod Changes
 pub mod Cut
 pub mod DelayedKept
+pub mod DelayedOthers
 pub mod Durable
 pub mod Flat
 pub mod Holding
 pub mod Kept
 pub mod Laid
-pub mod Memory
 pub mod Merging
 pub mod Mocks
 pub mod Noting
+pub mod Others
 pub mod Overlaid
 pub mod Shown
 pub mod Steps

@@ -1,5 +1,5 @@
 -- What a store that holds syncs back keeps of its blobs by a crash, by what its inner store keeps of them.
-use Rattle.std.specs.Prelude.{ℕ, ◌+◌, ◌==◌, Bool, true, false, ◌&&◌, if◌then◌else◌, List, [], Option, Some, None, slice_get, nat_lt}
+use Rattle.std.specs.Prelude.{ℕ, ◌+◌, ◌==◌, Bool, true, false, not, ◌&&◌, if◌then◌else◌, List, [], Option, Some, None, slice_get, nat_lt}
 use Rattle.rt_buffer.specs.Calls.{StoreCalls}
 use Rattle.rt_buffer.specs.declared.shared_blob.SharedBlob.{SharedBlob}
 use Rattle.rt_buffer.specs.declared.stage.Stage.{Stage}
@@ -60,3 +60,12 @@ promised_by bytes promised s n (stage.Passed k) = if stays_open s.blobs n k.blob
 abbrev pub delayed_promised : {S B : Type 0} → (S → B → List ℕ) → (S → Ticket → B → Option (List ℕ)) → Delayed S B → Ticket → ℕ → Option (List ℕ)
 delayed_promised bytes promised s (Ready r) n = promised_in promised s.inner (Ready r) (blob_at s.blobs n)
 delayed_promised bytes promised s (Numbered k) n = promised_by bytes promised s n (stage_of (slice_get s.tickets k))
+
+-- two numbers, whose inner blobs are apart where both are open
+abbrev pub apart_in : {S B : Type 0} → (S → B → B → Bool) → S → Option B → Option B → Bool
+apart_in apart s None p = true
+apart_in apart s (Some a) None = true
+apart_in apart s (Some a) (Some b) = apart s a b
+
+abbrev pub delayed_apart : {S B : Type 0} → (S → B → B → Bool) → Delayed S B → ℕ → ℕ → Bool
+delayed_apart apart s n m = not (n == m) && apart_in apart s.inner (blob_at s.blobs n) (blob_at s.blobs m)

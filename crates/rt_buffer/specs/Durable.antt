@@ -53,6 +53,28 @@ pub record KeepsBytes {S B : Type 0} (c : StoreCalls S B) (bytes : S → B → L
   pub polled : (s : S) (t : Ticket) (b : B) (task : ℕ) (u : Unit) (new : S) (held : Ticket) (x : List Noted) → Promises bytes promised s t b → c.polls s t task (poll.Ready (Ok u)) new held x → IsDurable bytes left new b
   pub ready_done : (s : S) (u : Unit) (b : B) → Promises bytes promised s (ticket.Ready (Ok u)) b → IsDurable bytes left s b
 
+-- a blob is as it was: its bytes, what each crash leaves of them, and what is promised of it
+abbrev pub Stays : {S B : Type 0} → (S → B → List ℕ) → (S → B → Option (List ℕ)) → (S → Ticket → B → Option (List ℕ)) → B → S → S → Type 0
+Stays bytes left promised b s new =
+    (bytes new b ≡ bytes s b) × (left new b ≡ left s b) × ((t : Ticket) (l : List ℕ) → promised s t b ≡ Some l → promised new t b ≡ Some l)
+
+-- a call on `a` left `b` as it was, and the two are still apart
+abbrev pub Leaves : {S B : Type 0} → (S → B → List ℕ) → (S → B → Option (List ℕ)) → (S → Ticket → B → Option (List ℕ)) → (S → B → B → Bool) → B → B → S → S → Type 0
+Leaves bytes left promised apart a b s new = Stays bytes left promised b s new × (apart new a b ≡ true)
+
+-- the calls on a blob leave each other one as it was, whatever they answer, and so do the polls and the end of a ticket that promises
+-- something of it. Which blobs are apart is the store's to say. A numbered ticket is one blob's
+pub record LeavesOthers {S B : Type 0} (c : StoreCalls S B) (bytes : S → B → List ℕ) (left : S → B → Option (List ℕ)) (promised : S → Ticket → B → Option (List ℕ)) (apart : S → B → B → Bool) : Type 0 where
+  pub write_leaves : (s : S) (a b : B) (at : ℕ) (w : Chunked) (options : WriteOptions) (r : Result Done Error) (new : S) (x : List Noted) → apart s a b ≡ true → c.writes s a at w options r new x → Leaves bytes left promised apart a b s new
+  pub given_up_leaves : (s : S) (a b : B) (at : ℕ) (w : Chunked) (options : WriteOptions) (t : Ticket) (mid : S) (x : List Noted) (new : S) → options.sync ≡ false → apart s a b ≡ true → c.writes s a at w options (Ok (Gated t)) mid x → c.gives_up mid t new → Leaves bytes left promised apart a b s new
+  pub resize_leaves : (s : S) (a b : B) (len : ℕ) (r : Result Unit Error) (new : S) (x : List Noted) → apart s a b ≡ true → c.resizes s a len r new x → Leaves bytes left promised apart a b s new
+  pub sync_leaves : (s : S) (a b : B) (r : Result Done Error) (new : S) (x : List Noted) → apart s a b ≡ true → c.syncs s a r new x → Leaves bytes left promised apart a b s new
+  pub start_leaves : (s : S) (a b : B) (r : Result Ticket Error) (new : S) (x : List Noted) → apart s a b ≡ true → c.starts s a r new x → Leaves bytes left promised apart a b s new
+  pub poll_leaves : (s : S) (t : Ticket) (a b : B) (l : List ℕ) (task : ℕ) (p : Poll (Result Unit Error)) (new : S) (held : Ticket) (x : List Noted) → apart s a b ≡ true → promised s t a ≡ Some l → c.polls s t task p new held x → Leaves bytes left promised apart a b s new
+  pub give_up_leaves : (s : S) (t : Ticket) (a b : B) (l : List ℕ) (new : S) → apart s a b ≡ true → promised s t a ≡ Some l → c.gives_up s t new → Leaves bytes left promised apart a b s new
+  pub close_leaves : (s : S) (a b : B) (new : S) → apart s a b ≡ true → c.closes s a new → Leaves bytes left promised apart a b s new
+  pub one_blob : (s : S) (n : ℕ) (a b : B) (l k : List ℕ) → apart s a b ≡ true → promised s (ticket.Numbered n) a ≡ Some l → promised s (ticket.Numbered n) b ≡ Some k → ⊥
+
 -- what a writer knows of the durability of its blob is so
 abbrev pub KnowsState : {S B : Type 0} → (S → B → List ℕ) → (S → B → Option (List ℕ)) → (S → Ticket → B → Option (List ℕ)) → SyncState → S → B → Type 0
 KnowsState bytes left promised Clean s b = IsDurable bytes left s b

@@ -9,3 +9,7 @@ use Rattle.rt_buffer.specs.Pending.{Pending}
 module _ (S B : RattleType) (s : MutBor (DelayedSyncContext S.Denot B.Denot)) where
   abbrev pub lends_pending : MutBor Pending → Fml
   lends_pending r = Lends (store.the_row S B) pending.the_row s r (λ p. record s.now { pending = p })
+
+  -- the same of the inner store
+  abbrev pub lends_inner : MutBor S.Denot → Fml
+  lends_inner r = Lends (store.the_row S B) S s r (λ i. record s.now { inner = i })

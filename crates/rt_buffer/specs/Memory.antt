@@ -1,5 +1,5 @@
 -- What each crash leaves of the blobs of a store in memory.
-use Rattle.std.specs.Prelude.{◌≡◌, ℕ, if◌then◌else◌, List, [], Option, Some, None, Result, Ok, Err}
+use Rattle.std.specs.Prelude.{◌≡◌, ◌==◌, ℕ, Bool, not, if◌then◌else◌, List, [], Option, Some, None, Result, Ok, Err}
 use Rattle.rt_base.specs.declared.error.Error.{Error}
 use Rattle.rt_base.specs.declared.options.WriteOptions.{WriteOptions}
 use Rattle.rt_base.specs.declared.poll.Poll.{Poll}
@@ -26,12 +26,16 @@ left_of (Some b) = if has_none b.later then Some b.base else None
 abbrev pub memory_left : Kept → Blob → Option (List ℕ)
 memory_left v k = left_of (blob_of v k)
 
--- a sync that was started is done at once. A poll never answers success for one that failed or for a number, so what these promise
--- never comes due
+-- a sync that was started is done at once, and no ticket has a number. A poll never answers success for one that failed, so what that
+-- promises never comes due
 abbrev pub memory_promised : Kept → Ticket → Blob → Option (List ℕ)
 memory_promised v (Ready (Ok u)) k = memory_left v k
 memory_promised v (Ready (Err e)) k = Some (memory_bytes v k)
-memory_promised v (Numbered n) k = Some (memory_bytes v k)
+memory_promised v (Numbered n) k = None
+
+-- two tokens, each with a number of its own
+abbrev pub memory_apart : Kept → Blob → Blob → Bool
+memory_apart v k j = not (k.number == j.number)
 
 -- the calls of a store in memory that a writer makes
 abbrev pub MemoryWrites : Kept → Blob → ℕ → Chunked → WriteOptions → Result Done Error → Kept → List Noted → Type 0

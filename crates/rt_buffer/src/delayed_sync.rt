@@ -1,12 +1,12 @@
 // A store whose started syncs a test holds back.
-ghost use Rattle.std.specs.Prelude.{◌≡◌, ◌+◌, ◌<◌, ◌≤◌, ◌^◌, ℕ, List, Option, [], None, Some, IfSome, true, is_some, slice_get, vec_len, vec_capacity};
+ghost use Rattle.std.specs.Prelude.{◌≡◌, ◌+◌, ◌<◌, ◌≤◌, ◌^◌, ℕ, Bool, List, Option, [], None, Some, IfSome, true, is_some, slice_get, vec_len, vec_capacity};
 ghost use Rattle.rt_base.specs.Counted.{Notes};
 ghost use Rattle.rt_base.specs.declared.error.Error.{Error};
 ghost use Rattle.rt_base.specs.declared.poll.Poll.{Poll};
 ghost use Rattle.rt_buffer.specs.Calls.{calls};
 ghost use Rattle.rt_buffer.specs.Delayed.{AnswersInner, ClosesAll, CountsAnswer, Finishes, GivesUpAll, GivesUpStage, LetsGo, PollsInner, PollsStage, Settles, SyncsAt, SyncsReleased, Writes, blob_at, delayed, gate_has_place, refused, without_ticket};
-ghost use Rattle.rt_buffer.specs.DelayedBytes.{delayed_bytes, delayed_calls, delayed_left, delayed_promised};
-ghost use Rattle.rt_buffer.specs.Durable.{KeepsBytes};
+ghost use Rattle.rt_buffer.specs.DelayedBytes.{delayed_apart, delayed_bytes, delayed_calls, delayed_left, delayed_promised};
+ghost use Rattle.rt_buffer.specs.Durable.{KeepsBytes, LeavesOthers};
 ghost use Rattle.rt_buffer.specs.Mocks.{one_more};
 ghost use Rattle.rt_buffer.specs.Pending.{gate_of, none_pending};
 ghost use Rattle.rt_store.specs.Answered.{CountsDone, PollsTicket, is_numbered};
@@ -25,11 +25,11 @@ use std::alloc::Global;
 ///
 /// It must be spent by [`into_inner`](Self::into_inner), since a ticket keeps its blob open.
 pub struct DelayedSyncContext<S: Storage> {
-    pub(crate) inner: S,
+    inner: S,
     pending: PendingSyncs,
     blobs: Vec<Option<SharedBlob<BlobOf<S>>>>,
     tickets: Vec<Stage>,
-    pub(crate) refusals: u64,
+    refusals: u64,
 }
 
 /// A blob of such a store. It must be spent by `Storage::close`.
@@ -58,11 +58,11 @@ fn unknown(refusals: &mut u64) -> Error
 
 impl<S: Storage> DelayedSyncContext<S> {
     ghost use Rattle.std.specs.Borrow.{sem};
-    ghost use Rattle.rt_buffer.specs.Lent.{lends_pending};
+    ghost use Rattle.rt_buffer.specs.Lent.{lends_inner, lends_pending};
 
     /// Nothing is held back yet. Where the inner store's calls keep the bytes of its blobs, so do the calls over the parts of this one
-    /// and the numbers of its blobs.
-    #[tactic(auto, using(crate::proofs::DelayedKept::delayed_keeps))]
+    /// and the numbers of its blobs; and where those leave the other blobs as they were, so do these.
+    #[tactic(auto, using(crate::proofs::DelayedKept::delayed_keeps, crate::proofs::DelayedOthers::delayed_others))]
     pub fn new(alloc: Global, inner: S) -> DelayedSyncContext<S>
         ensures inner { result.inner ≡ inner }
         ensures pending { result.pending ≡ none_pending }
@@ -72,6 +72,9 @@ impl<S: Storage> DelayedSyncContext<S> {
         ensures keeps { (bytes : S → S.Blob → List ℕ) → (left : S → S.Blob → Option (List ℕ)) → (promised : S → Ticket → S.Blob → Option (List ℕ)) →
             KeepsBytes (calls S.refusals S.polls_sync S.gives_sync_up S.writes S.resizes S.syncs S.starts_sync S.closes) bytes left promised →
             KeepsBytes (delayed_calls (calls S.refusals S.polls_sync S.gives_sync_up S.writes S.resizes S.syncs S.starts_sync S.closes)) (delayed_bytes bytes) (delayed_left left) (delayed_promised bytes promised) }
+        ensures others { (bytes : S → S.Blob → List ℕ) → (left : S → S.Blob → Option (List ℕ)) → (promised : S → Ticket → S.Blob → Option (List ℕ)) → (apart : S → S.Blob → S.Blob → Bool) →
+            KeepsBytes (calls S.refusals S.polls_sync S.gives_sync_up S.writes S.resizes S.syncs S.starts_sync S.closes) bytes left promised → LeavesOthers (calls S.refusals S.polls_sync S.gives_sync_up S.writes S.resizes S.syncs S.starts_sync S.closes) bytes left promised apart →
+            LeavesOthers (delayed_calls (calls S.refusals S.polls_sync S.gives_sync_up S.writes S.resizes S.syncs S.starts_sync S.closes)) (delayed_bytes bytes) (delayed_left left) (delayed_promised bytes promised) (delayed_apart apart) }
     {
         DelayedSyncContext {
             inner,
@@ -102,6 +105,21 @@ impl<S: Storage> DelayedSyncContext<S> {
         ensures { result.now ≡ self.now.inner }
     {
         &self.inner
+    }
+
+    /// The inner store, to change its settings.
+    pub fn inner_mut(&mut self) -> &mut S
+        ensures* writes_back { sem 𝓛 (lends_inner S.row S.Blob.row self.entry result) }
+        ensures value { result.now ≡ self.old.inner }
+    {
+        &mut self.inner
+    }
+
+    /// How many calls it refused itself.
+    pub fn refusals(&self) -> u64
+        ensures { result ≡ self.now.refusals }
+    {
+        self.refusals
     }
 
     /// The inner store alone: what is still held is given up, and what is still open closed.

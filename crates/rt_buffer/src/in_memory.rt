@@ -1,8 +1,8 @@
 // A writer of a store in memory, by what each crash leaves.
 ghost use Rattle.std.specs.Prelude.{◌≡◌, List, Some};
 ghost use Rattle.rt_base.specs.declared.choice.Choice.{Choice};
-ghost use Rattle.rt_buffer.specs.Durable.{IfStepped, Keeping, Keeps, KeepsBytes, KnowsState};
-ghost use Rattle.rt_buffer.specs.Memory.{memory_bytes, memory_calls, memory_left, memory_promised};
+ghost use Rattle.rt_buffer.specs.Durable.{IfStepped, Keeping, Keeps, KeepsBytes, KnowsState, LeavesOthers};
+ghost use Rattle.rt_buffer.specs.Memory.{memory_apart, memory_bytes, memory_calls, memory_left, memory_promised};
 ghost use Rattle.rt_buffer.specs.Tip.{laid_over};
 ghost use Rattle.rt_buffer.specs.Writing.{LiesOver};
 ghost use Rattle.rt_store.specs.Calls.{blob_of};
@@ -15,7 +15,8 @@ use rt_store::MemStore;
 
 impl Write<MemStore> {
     /// [`sync`](Self::sync), by what each crash of a store in memory leaves: once it is done, exactly the bytes that the writer stands
-    /// for. Such a store keeps bytes, so that what other calls of the writer say of that is so.
+    /// for. Such a store keeps bytes, so that what other calls of the writer say of that is so, and its calls on a blob leave the others
+    /// as they were.
     pub fn sync_in_memory<E: Env>(
         self,
         store: &mut MemStore,
@@ -23,6 +24,7 @@ impl Write<MemStore> {
         task: u64,
     ) -> Step<MemStore>
         ensures keeps { KeepsBytes memory_calls memory_bytes memory_left memory_promised }
+        ensures others { LeavesOthers memory_calls memory_bytes memory_left memory_promised memory_apart }
         ensures durable { LiesOver self.held.tip (memory_bytes store.old self.blob) → KnowsState memory_bytes memory_left memory_promised self.held.state store.old self.blob →
             IfStepped result (λ w. Keeps memory_bytes memory_left memory_promised (laid_over self.held.tip (memory_bytes store.old self.blob)) Rest.Sync w.held store.new self.blob
             × ((blob : FileState) (choices : List Choice) → blob_of store.new self.blob ≡ Some blob → (crashed choices blob).content ≡ laid_over self.held.tip (memory_bytes store.old self.blob)))

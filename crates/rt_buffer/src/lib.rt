@@ -3,18 +3,10 @@
 #![tactic(auto)]
 
 mod ahead;
-#[cfg(test)]
-mod counting_tests;
 mod deferred_sync;
 mod delayed_sync;
-#[cfg(test)]
-mod delayed_tests;
 mod held;
 mod in_memory;
-#[cfg(test)]
-mod mock_tests;
-#[cfg(test)]
-mod nested_tests;
 mod parked;
 mod pending_syncs;
 mod pieces;
@@ -24,8 +16,6 @@ mod stage;
 mod sync_fault;
 mod sync_handle;
 mod sync_state;
-#[cfg(test)]
-mod tests;
 mod tip;
 mod write;
 mod write_fault;

@@ -216,7 +216,8 @@ pub trait Storage {
         ensures refused { StartsOrLacks result }
         ensures counts { CountsStart (refusals self.old) (refusals self.new) result };
 
-    /// Polls a started sync. A `Ready` ticket answers a copy of what it holds, and a `Numbered` one that is answered becomes ready.
+    /// Polls a started sync. A `Ready` ticket answers a copy of what it holds, and the store stays as it was; a `Numbered` one that is
+    /// answered becomes ready.
     fn poll_sync<E: Env>(
         &mut self,
         env: &mut E,
@@ -226,6 +227,7 @@ pub trait Storage {
         ensures gives { Notes (E.noted env.old) (λ x. polls_sync self.old ticket.old task result self.new ticket.new x) (E.noted env.new) }
         ensures spent { E.spare env.old ≤ E.spare env.new + most }
         ensures ticket { PollsTicket ticket.old result ticket.new }
+        ensures ready { is_numbered ticket.old ≡ false → self.new ≡ self.old }
         ensures counts { CountsPoll (refusals self.old) (refusals self.new) ticket.old ticket.new };
 
     /// Gives a started sync up. It takes no memory. A ticket that is ready is none of the store's any more, which stays as it was.

@@ -8,8 +8,8 @@ ghost use Rattle.rt_store.specs.declared.ticket.Ticket.{Ticket};
 use rt_base::Error;
 use std::mem;
 
-/// A sync that was started: its answer, or the number by which a store holds it. Until it is ready it must be spent by
-/// `Storage::give_up_sync`.
+/// A sync that was started: its answer, or the number by which a store holds it. One with a number must be polled until it is ready,
+/// or be spent by `Storage::give_up_sync`; a ready one is no store's any more, and may be taken apart.
 #[derive(Debug)]
 pub enum Ticket {
     Ready(Result<(), Error>),

@@ -8,8 +8,8 @@ ghost use Rattle.rt_buffer.specs.Flat.{StandsFor};
 ghost use Rattle.rt_store.specs.Calls.{blob_of};
 ghost use Rattle.rt_store.specs.Store.{content_at};
 
-use crate::{Begun, Buffer, Read, Started, Step, Stepped, SyncHandle, Write};
 use rt_base::{Env, Error, NoEnv, NoMemory, Poll, WriteOptions};
+use rt_buffer::{Begun, Buffer, Read, Started, Step, Stepped, SyncHandle, Write};
 use rt_bufs::{IoBuf, IoBufs};
 use rt_store::{Done, FaultConfig, MemStore, Storage};
 use std::alloc::Global;
@@ -292,6 +292,24 @@ fn blob_is_read_by_buffers(rt: HostRuntime) -> Result<(), Fail> {
     Ok(())
 }
 
+/// Cuts the text of a reader's blob.
+fn cut_text<S: Storage>(alloc: Global, store: &mut S) -> Result<bool, Error> {
+    let (blob, _) = store.open(&mut NoEnv, "p", b"a")?;
+    let written = writes(alloc, store, &blob, b"hello world!");
+    let answer = Read::new(alloc, blob, 12, 8).resize(store, &mut NoEnv, 5);
+    Ok(is_now(store, answer) & written)
+}
+
+#[test]
+fn reader_is_resized(rt: HostRuntime) -> Result<(), Fail> {
+    let mut store = MemStore::new(rt.alloc(), FaultConfig::default())?;
+    let cut = came(cut_text(rt.alloc(), &mut store), true);
+    let kept = came(begins(rt.alloc(), &mut store, b"hello"), true);
+    let synced = store.crash_draws() == 0;
+    assert!(rt; cut & kept & came(is_long(&mut store, 5), true) & synced);
+    Ok(())
+}
+
 /// A read through a writer: where, how many bytes, and which.
 type Look = (u64, usize, &'static [u8]);
 
@@ -398,7 +416,7 @@ pub fn opened<S: Storage>(alloc: Global, store: &mut S, name: &[u8]) -> Result<W
 }
 
 /// The writer, where it has exactly these bytes.
-fn showing<S: Storage>(
+pub fn showing<S: Storage>(
     store: &mut S,
     writer: Write<S>,
     expected: &[u8],

@@ -1,11 +1,11 @@
 // Stores whose syncs a test holds back: the worked examples, and each call once.
 
-use crate::tests::{bufs, came, opened, polls, put, same, start, went};
-use crate::{
+use crate::buffers::{bufs, came, opened, polls, put, same, start, went};
+use rt_base::{Error, IoKind, NoEnv, NoMemory, Poll, WriteOptions};
+use rt_buffer::{
     DelayedSyncContext, PendingSyncs, SyncHandle, Write, drive_pending_syncs, fail_pending_syncs,
     next_pending_sync, release_next_pending_syncs, release_pending_syncs,
 };
-use rt_base::{Error, IoKind, NoEnv, NoMemory, Poll, WriteOptions};
 use rt_store::{Done, FaultConfig, MemStore, Storage, Ticket};
 use std::alloc::Global;
 use std::test::Fail;
@@ -88,7 +88,7 @@ fn releases_gate(store: &mut Delayed, ticket: Ticket) -> bool {
 }
 
 /// The ticket of a durable write of `c`, where a gate holds it.
-fn write_gated<S: Storage>(alloc: Global, store: &mut S, blob: &S::Blob) -> Option<Ticket> {
+pub fn write_gated<S: Storage>(alloc: Global, store: &mut S, blob: &S::Blob) -> Option<Ticket> {
     let bytes = bufs(alloc, b"c").ok()?;
     match store.write_at(&mut NoEnv, blob, 0, bytes, WriteOptions::SYNC) {
         Ok(Done::Gated(ticket)) => Some(ticket),

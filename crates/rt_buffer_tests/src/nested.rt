@@ -1,10 +1,10 @@
 // A store that holds syncs back over another one: the tickets of the inner one.
 
-use crate::delayed_tests::{arms, poll, started};
-use crate::tests::{came, same, went};
-use crate::{DelayedSyncContext, PendingSyncs, fail_pending_syncs, release_pending_syncs};
+use crate::buffers::{came, same, went};
+use crate::delayed::{arms, poll, started, write_gated};
 use rt_base::{Error, IoKind, NoEnv, NoMemory, Poll};
-use rt_store::{FaultConfig, MemStore, Storage, Ticket};
+use rt_buffer::{DelayedSyncContext, PendingSyncs, fail_pending_syncs, release_pending_syncs};
+use rt_store::{Done, FaultConfig, MemStore, Storage, Ticket};
 use std::alloc::Global;
 use std::test::Fail;
 
@@ -112,7 +112,7 @@ fn polls_twice<S: Storage>(
 ) -> bool {
     release_outer(store.pending_mut(), end);
     let held = polls(store, ticket, Poll::Pending);
-    release_inner(store.inner.pending_mut(), end);
+    release_inner(store.inner_mut().pending_mut(), end);
     held & polls(store, ticket, answer(end))
 }
 
@@ -143,10 +143,10 @@ fn ends<S: Storage>(
 /// Whether so many syncs are done, and so many calls were refused.
 fn counts(store: &Nested, expected: &Expected) -> bool {
     let (_, completions, outer, inner, memory) = *expected;
-    let refused = (store.refusals == outer) & (store.inner.refusals == inner);
+    let refused = (store.refusals() == outer) & (store.inner().refusals() == inner);
     (store.pending().completions() == completions)
         & refused
-        & (store.inner.inner.injected() == memory)
+        & (store.inner().inner().injected() == memory)
 }
 
 /// Whether an end comes to what is written.
@@ -174,5 +174,70 @@ fn ends_each(alloc: Global, each: &[Expected]) -> usize {
 #[test]
 fn inner_ticket_ends_once(rt: HostRuntime) -> Result<(), Fail> {
     assert!(rt; ends_each(rt.alloc(), ENDS) == 5);
+    Ok(())
+}
+
+/// The ticket of a sync, or of a durable write, that is gated.
+fn gated<S: Storage>(
+    alloc: Global,
+    store: &mut S,
+    blob: &S::Blob,
+    is_write: bool,
+) -> Option<Ticket> {
+    if is_write {
+        return write_gated(alloc, store, blob);
+    }
+    match store.sync(&mut NoEnv, blob) {
+        Ok(Done::Gated(ticket)) => Some(ticket),
+        Ok(Done::Now) => None,
+        Err(_) => None,
+    }
+}
+
+/// Whether a ticket is pending until the inner store releases its gate, and done then.
+fn passes<S: Storage>(
+    store: &mut DelayedSyncContext<DelayedSyncContext<S>>,
+    mut ticket: Ticket,
+) -> bool {
+    let held = polls(store, &mut ticket, Poll::Pending);
+    let released = went(release_pending_syncs(store.inner_mut().pending_mut()));
+    let done = polls(store, &mut ticket, Poll::Ready(Ok(())));
+    store.give_up_sync(ticket);
+    held & released & done
+}
+
+/// Whether a change of a blob is synced so.
+fn syncs<S: Storage>(
+    alloc: Global,
+    store: &mut DelayedSyncContext<DelayedSyncContext<S>>,
+    is_write: bool,
+) -> Result<bool, Error> {
+    let blob = open(store)?;
+    let changed = went(store.resize(&mut NoEnv, &blob, 1));
+    let seen = match gated(alloc, store, &blob, is_write) {
+        Some(ticket) => passes(store, ticket),
+        None => false,
+    };
+    store.close(blob);
+    Ok(changed & seen)
+}
+
+/// Whether it is, the inner store alone counts the call, and no change is open then.
+fn syncs_inside(alloc: Global, is_write: bool) -> Result<bool, NoMemory> {
+    let mut inner = DelayedSyncContext::new(alloc, MemStore::new(alloc, FaultConfig::default())?);
+    let armed = arms(inner.pending_mut());
+    let mut store = DelayedSyncContext::new(alloc, inner);
+    let seen = came(syncs(alloc, &mut store, is_write), true);
+    let outer = store.pending().calls();
+    let inner = store.into_inner();
+    let counted = (outer == 0) & (inner.pending().calls() == 1);
+    Ok(armed & seen & counted & (inner.into_inner().crash_draws() == 0))
+}
+
+#[test]
+fn inner_gate_is_passed_on(rt: HostRuntime) -> Result<(), Fail> {
+    let sync = came(syncs_inside(rt.alloc(), false), true);
+    let write = came(syncs_inside(rt.alloc(), true), true);
+    assert!(rt; sync & write);
     Ok(())
 }

@@ -2,10 +2,10 @@
 
 ghost use Rattle.std.specs.Prelude.{⊤};
 
-use crate::delayed_tests::{poll, poll_and_end, started};
-use crate::tests::{came, same};
-use crate::{DelayedSyncContext, release_pending_syncs};
+use crate::buffers::{came, same};
+use crate::delayed::{poll, poll_and_end, started};
 use rt_base::{BlobVersion, Env, Error, NoEnv, NoMemory, Poll, ReadOptions, WriteOptions};
+use rt_buffer::{DelayedSyncContext, release_pending_syncs};
 use rt_bufs::{IoBufs, IoBufsMut};
 use rt_store::{Done, Storage, Ticket, copy_of};
 use std::alloc::Global;

@@ -1,11 +1,11 @@
 // The stores that a test lets fail: the worked examples, and each call once.
 
-use crate::delayed_tests::{poll_and_end, started};
-use crate::tests::{bufs, came, is_now, is_refused, opened, put, same, synced, went};
-use crate::{DelayedSyncContext, SyncFaultContext, Write, WriteFaultContext, WriteFaults};
+use crate::buffers::{bufs, came, is_now, is_refused, opened, put, same, synced, went};
+use crate::delayed::{poll_and_end, started};
 use rt_base::{
     DEFAULT_BLOB_VERSION, Error, IoKind, NoEnv, NoMemory, Poll, ReadOptions, WriteOptions,
 };
+use rt_buffer::{DelayedSyncContext, SyncFaultContext, Write, WriteFaultContext, WriteFaults};
 use rt_bufs::IoBufsMut;
 use rt_store::{FaultConfig, MemStore, Storage};
 use std::alloc::Global;

@@ -1,0 +1,16 @@
+//! Tests of readers and writers: the worked examples, each call once, and stores whose syncs a test holds back, with
+//! the calls that wait for those.
+#![tactic(auto)]
+
+#[cfg(test)]
+mod buffers;
+#[cfg(test)]
+mod counting;
+#[cfg(test)]
+mod delayed;
+#[cfg(test)]
+mod mock;
+#[cfg(test)]
+mod nested;
+#[cfg(test)]
+mod waiting;

@@ -1,0 +1,149 @@
+// The calls of a writer that wait for a sync which is held back, and what they do once it is released.
+
+use crate::buffers::{bufs, came, done, opened, put, showing, start, went};
+use crate::delayed::{arms, delayed};
+use rt_base::{Error, NoEnv, NoMemory};
+use rt_buffer::{
+    Begun, DelayedSyncContext, Started, Step, Stepped, Write, WriteOp, release_pending_syncs,
+};
+use rt_store::{MemStore, Storage};
+use std::alloc::Global;
+use std::test::Fail;
+
+#[derive(Clone, Copy)]
+enum Call {
+    Sync,
+    Start,
+    Write,
+    Resize,
+}
+
+/// A call behind a writer of `ab` and, held back, `c`; whether the sync of `ab` was started; what the writer shows once the call is
+/// done, and how many numbers a crash may draw then.
+type Wait = (Call, bool, &'static [u8], usize);
+
+const WAITS: &[Wait] = &[
+    (Call::Sync, false, b"abc", 0),
+    (Call::Sync, true, b"abc", 0),
+    (Call::Start, true, b"abc", 2),
+    (Call::Write, true, b"abc0123456789abcdefg", 4),
+    (Call::Resize, true, b"a", 2),
+];
+
+/// More bytes than the tip has room for.
+const LONG: &[u8] = b"0123456789abcdefg";
+
+/// A writer of `ab`, whose sync is started or isn't, that holds `c` back.
+fn begin<S: Storage>(alloc: Global, store: &mut S, is_started: bool) -> Result<Write<S>, Error> {
+    let writer = opened(alloc, store, b"a")?;
+    let writer = put(alloc, store, writer, 0, b"ab")?;
+    if !is_started {
+        return put(alloc, store, writer, 2, b"c");
+    }
+    let (writer, _) = start(store, writer)?;
+    put(alloc, store, writer, 2, b"c")
+}
+
+/// A start without its handle.
+fn step_of<S: Storage>(started: Started<S>) -> Step<S> {
+    match started {
+        Begun::Done(writer, _) => Stepped::Done(writer),
+        Begun::Waiting(op) => Stepped::Waiting(op),
+        Begun::Failed(error) => Stepped::Failed(error),
+    }
+}
+
+fn write_long<S: Storage>(alloc: Global, store: &mut S, writer: Write<S>) -> Step<S> {
+    match bufs(alloc, LONG) {
+        Ok(bytes) => writer.write_at(store, &mut NoEnv, 3, bytes, 3),
+        Err(_) => {
+            writer.close(store);
+            Stepped::Failed(Error::NoMemory)
+        }
+    }
+}
+
+fn make<S: Storage>(alloc: Global, store: &mut S, writer: Write<S>, call: Call) -> Step<S> {
+    match call {
+        Call::Sync => writer.sync(store, &mut NoEnv, 3),
+        Call::Start => step_of(writer.start_sync(store, &mut NoEnv, 3)),
+        Call::Write => write_long(alloc, store, writer),
+        Call::Resize => writer.resize(store, &mut NoEnv, 1, 3),
+    }
+}
+
+/// The call, where it waits.
+fn waiting<S: Storage>(store: &mut S, step: Step<S>) -> Option<WriteOp<S>> {
+    match step {
+        Stepped::Done(writer) => {
+            writer.close(store);
+            None
+        }
+        Stepped::Waiting(op) => Some(op),
+        Stepped::Failed(_) => None,
+    }
+}
+
+/// Whether the call is done, and the writer shows these bytes.
+fn ends<S: Storage>(store: &mut S, step: Step<S>, expected: &[u8]) -> Result<bool, Error> {
+    let writer = done(store, step)?;
+    showing(store, writer, expected)?.close(store);
+    Ok(true)
+}
+
+/// Whether the call still waits at a poll, and is done at the next one once all that is held is released.
+fn polls_twice<S: Storage>(
+    store: &mut DelayedSyncContext<S>,
+    op: WriteOp<DelayedSyncContext<S>>,
+    expected: &[u8],
+) -> bool {
+    let step = op.poll(store, &mut NoEnv, 3);
+    match waiting(store, step) {
+        Some(op) => {
+            let released = went(release_pending_syncs(store.pending_mut()));
+            let step = op.poll(store, &mut NoEnv, 3);
+            released & came(ends(store, step, expected), true)
+        }
+        None => false,
+    }
+}
+
+fn waits<S: Storage>(
+    alloc: Global,
+    store: &mut DelayedSyncContext<S>,
+    wait: &Wait,
+) -> Result<bool, Error> {
+    let (call, is_started, expected, _) = *wait;
+    let writer = begin(alloc, store, is_started)?;
+    let step = make(alloc, store, writer, call);
+    match waiting(store, step) {
+        Some(op) => Ok(polls_twice(store, op, expected)),
+        None => Ok(false),
+    }
+}
+
+/// Whether a call comes to what is written.
+fn waits_as(alloc: Global, wait: &Wait) -> Result<bool, NoMemory> {
+    let mut store = delayed(alloc)?;
+    let armed = arms(store.pending_mut());
+    let seen = came(waits(alloc, &mut store, wait), true);
+    let inner: MemStore = store.into_inner();
+    Ok(armed & seen & (inner.crash_draws() == wait.3))
+}
+
+/// How many calls come to what is written.
+fn waits_each(alloc: Global, each: &[Wait]) -> usize {
+    let mut right = 0_usize;
+    for wait in each {
+        if came(waits_as(alloc, wait), true) {
+            right = right.wrapping_add(1);
+        }
+    }
+    right
+}
+
+#[test]
+fn waiting_call_goes_on(rt: HostRuntime) -> Result<(), Fail> {
+    assert!(rt; waits_each(rt.alloc(), WAITS) == 5);
+    Ok(())
+}
