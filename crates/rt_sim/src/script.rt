@@ -141,9 +141,13 @@ impl Script {
         ensures steps { (on : Script → Next) → Advanced (sleeps self.old on fresh) (on self.new) world.old world.new result self.new }
     {
         let waits = mem::replace(&mut self.waits, Waits::Nothing);
-        let Ok(mut sleep) = sleep_in(waits, fresh) else {
-            self.pass(-11);
-            return None;
+        let mut sleep = match sleep_in(waits, fresh) {
+            Ok(sleep) => sleep,
+            Err(error) => {
+                drop(error);
+                self.pass(-11);
+                return None;
+            }
         };
         match sleep.poll(world, cx) {
             Poll::Pending => {
@@ -154,7 +158,10 @@ impl Script {
                 self.pass(0);
                 None
             }
-            Poll::Ready(Err(_)) => Some(Answer::NoMemory),
+            Poll::Ready(Err(error)) => {
+                drop(error);
+                Some(Answer::NoMemory)
+            }
         }
     }
 
@@ -182,7 +189,10 @@ impl Script {
                 self.pass(0);
                 None
             }
-            Poll::Ready(Err(_)) => Some(Answer::NoMemory),
+            Poll::Ready(Err(error)) => {
+                drop(error);
+                Some(Answer::NoMemory)
+            }
         }
     }
 
@@ -424,7 +434,8 @@ impl Script {
                 handle.give_up(world);
                 self.refuse(Error::Timeout)
             }
-            Poll::Ready(Err(_)) => {
+            Poll::Ready(Err(error)) => {
+                drop(error);
                 self.handles.put(at as u64, handle);
                 Some(Answer::NoMemory)
             }
