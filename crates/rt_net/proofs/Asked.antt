@@ -10,7 +10,7 @@ use Rattle.rt_net.specs.declared.reply.Reply.{Reply}
 use Rattle.rt_net.specs.Asked.{HasLength, asked_of}
 use Rattle.rt_net.specs.Channel.{ChannelState, Answers, PollsReceive, pulled, after_answer, after_recv, after_poll_recv, started_length}
 use Rattle.rt_net.specs.Network.{live_stream, if_lives, has_stream, at, at_stream}
-use Rattle.rt_net.specs.Refusals.{is_not_ready, waits, still_waits}
+use Rattle.rt_net.specs.Waiting.{is_not_ready, waits, still_waits}
 
 -- a live stream's channel stands in the list
 

@@ -1,6 +1,6 @@
 -- A live object in its list, and what a call on it leaves.
-use Rattle.std.proofs.Common.{◌≡◌, ℕ, Bool, true, false, cond, List, Option, Some, None, refl, sym, ap, ◌∙◌}
-use Rattle.std.specs.Prelude.{slice_get, slice_set, slice_index_or, is_some}
+use Rattle.std.proofs.Common.{◌≡◌, ℕ, Bool, true, false, cond, List, Option, Some, None, refl, sym, ap, ◌∙◌, subst}
+use Rattle.std.specs.Prelude.{slice_get, slice_set, slice_index_or, is_some, MatchOption}
 use Rattle.std.proofs.lemmas.Option.{get_or_from_slice_get}
 use Rattle.rt_net.specs.Network.{if_lives, at}
 
@@ -20,3 +20,9 @@ live-there lives xs n d read live = found lives xs n d (slice_get xs n) refl rea
 
 pub after-at : {X : Type 0} (xs : List X) (n : ℕ) (d e : X) (f : X → X) (o : Option X) → o ≡ Some d → e ≡ f d → slice_set xs n e ≡ at xs n f o
 after-at xs n d e f o live made = ap (slice_set xs n) made ∙ sym (ap (at xs n f) live)
+
+-- a call on a live object answers by that, and leaves in its place what it makes of it
+pub called : {X : Type 0} (lives : X → Bool) (xs : List X) (n : ℕ) (d e : X) (f : X → X) (unknown : Type 0) (P : X → Type 0) → d ≡ slice_index_or xs n d → is_some (if_lives lives (slice_get xs n)) ≡ true → P d → e ≡ f d → MatchOption (if_lives lives (slice_get xs n)) unknown P × (slice_set xs n e ≡ at xs n f (if_lives lives (slice_get xs n)))
+called lives xs n d e f unknown P read live answer made =
+    let there = live-there lives xs n d read live in
+    (subst (λ o. MatchOption o unknown P) (sym there) answer, after-at xs n d e f (if_lives lives (slice_get xs n)) there made)

@@ -5,4 +5,4 @@ pub mod Forgotten
 pub mod Kept
 pub mod Network
 pub mod Pipe
-pub mod Refusals
+pub mod Waiting

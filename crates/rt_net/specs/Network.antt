@@ -149,10 +149,11 @@ abbrev pub after_accept : {A : Type 0} → ListenerState → ℕ → Poll A → 
 after_accept l task (Ready _) = record l { waiting = drop 1 l.waiting; task = None }
 after_accept l task Pending = record l { task = Some task }
 
--- the number of the listener that was bound at an address, at any time
+-- the addresses are the same
 abbrev pub addr_eq : Addr → Addr → Bool
 addr_eq = by_address.ghosts.eq
 
+-- the number of the listener that was bound at an address, at any time
 abbrev pub number_at : List Addr → Addr → Option ℕ
 number_at xs a = position_from (λ b. addr_eq b a) 0 xs
 
@@ -184,15 +185,6 @@ with_connection ls n c = at_listener ls n (λ l. record l { waiting = l.waiting 
 -- the wait for a connection is given up
 abbrev pub without_task : List ListenerState → ℕ → List ListenerState
 without_task ls n = at_listener ls n (λ l. record l { task = None })
-
--- a listener is closed
-abbrev pub without_listener : List ListenerState → ℕ → List ListenerState
-without_listener ls n = at_listener ls n closed_listener
-
--- the channels once the connections that wait at a listener were closed
-abbrev pub without_waiting : List ChannelState → Option ListenerState → List ChannelState
-without_waiting cs None = cs
-without_waiting cs (Some l) = after_closing cs l.waiting
 
 -- a wait for a connection is at a live listener, where none waits
 abbrev pub IsQuietListener : ListenerState → Type 0

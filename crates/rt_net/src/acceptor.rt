@@ -1,10 +1,10 @@
 // One listener, and the connections that wait at it.
-ghost use Rattle.std.specs.Prelude.{◌≡◌, ◌+◌, ◌*◌, ◌≤◌, [], ◌∷◌, ◌++◌, true, false, Some, None, OnErr, IfOk, OnOk, length, option_to_list, All};
-ghost use Rattle.std.specs.List.{list_any};
-ghost use Rattle.rt_net.specs.Network.{Accepts, after_accept, fresh_listener, closed_listener, IsQuietListener, after_closing, woken_by_closing, has_acceptor};
+ghost use Rattle.std.specs.Prelude.{◌≡◌, ◌+◌, ◌*◌, ◌≤◌, [], ◌∷◌, ◌++◌, true, false, Some, None, OnErr, IfOk, OnOk, length, option_to_list};
+ghost use Rattle.rt_net.specs.Network.{Accepts, after_accept, fresh_listener, closed_listener, IsQuietListener, after_closing, woken_by_closing};
 
 use crate::channels::{close_sink, close_stream};
 use crate::pipe::Pipe;
+use crate::waited::Waited;
 use rt_base::{Addr, NoMemory, Poll};
 use std::alloc::Global;
 use std::collections::VecDeque;
@@ -141,14 +141,14 @@ impl Acceptor {
     }
 }
 
-/// Whether a task waits for a connection at any of them. None waits at one where a connection is.
-pub fn anyone_accepts_at(listeners: &Vec<Acceptor>) -> bool
-    ensures answer { result ≡ list_any has_acceptor listeners.now.items }
-    ensures quiet { All IsQuietListener listeners.now.items }
-{
-    let mut found = false;
-    for index in 0..listeners.len() {
-        found |= listeners[index].waiting().is_some();
+impl Waited for Acceptor {
+    ghost use Rattle.rt_net.specs.Network.{has_acceptor, IsQuietListener};
+
+    ghost waited = { has_acceptor };
+
+    ghost quiet = { IsQuietListener };
+
+    fn anyone_waits(&self) -> bool {
+        self.waiting().is_some()
     }
-    found
 }

@@ -1,8 +1,6 @@
 // The channels of a network by their numbers.
-ghost use Rattle.std.specs.Prelude.{◌≡◌, is_some, All};
-ghost use Rattle.std.specs.List.{list_any};
-ghost use Rattle.rt_net.specs.Channel.{IsQuiet};
-ghost use Rattle.rt_net.specs.Network.{live_sink, live_stream, with_closed_sink, with_closed_stream, sink_wakes, stream_wakes, is_waited_at};
+ghost use Rattle.std.specs.Prelude.{◌≡◌, is_some};
+ghost use Rattle.rt_net.specs.Network.{live_sink, live_stream, with_closed_sink, with_closed_stream, sink_wakes, stream_wakes};
 
 use crate::pipe::Pipe;
 
@@ -24,18 +22,6 @@ pub fn has_stream(pipes: &Vec<Pipe>, number: u64) -> bool
         Some(pipe) => pipe.has_stream(),
         None => false,
     }
-}
-
-/// Whether a task waits at any of them. None waits for what is there.
-pub fn anyone_waits_at(pipes: &Vec<Pipe>) -> bool
-    ensures answer { result ≡ list_any is_waited_at pipes.now.items }
-    ensures quiet { All IsQuiet pipes.now.items }
-{
-    let mut found = false;
-    for index in 0..pipes.len() {
-        found |= pipes[index].anyone_waits();
-    }
-    found
 }
 
 /// Closes the sink of this number, and answers the receiver that this wakes.

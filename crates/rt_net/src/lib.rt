@@ -13,6 +13,7 @@ mod network;
 mod pipe;
 mod reply;
 mod tokens;
+mod waited;
 
 pub use acceptor::Connection;
 pub use channel::Channel;

@@ -8,10 +8,11 @@ ghost use Rattle.rt_net.specs.Kept.{empty_net, moved_to};
 ghost use Rattle.rt_base.specs.Counted.{counted, Counts};
 ghost use Rattle.rt_base.specs.declared.error.Error.TheVariants.{UnknownToken};
 
-use crate::acceptor::{Acceptor, anyone_accepts_at};
-use crate::channels::{anyone_waits_at, close_sink, close_stream, has_sink, has_stream};
+use crate::acceptor::Acceptor;
+use crate::channels::{close_sink, close_stream, has_sink, has_stream};
 use crate::pipe::Pipe;
 use crate::reply::{is_pending, waits};
+use crate::waited::anyone_waits_at;
 use crate::{Connection, Listener, Network, Reply, Sink, Stream};
 use indexmap::IndexSet;
 use rt_base::{Addr, Env, Error, Ip, NoMemory, Poll};
@@ -23,10 +24,10 @@ use std::marker::Model;
 /// The address that dialers have.
 const LOCALHOST: Ip = Ip::V4([127, 0, 0, 1]);
 
-/// The first port of a dialer, and the first port past those of dialers.
+/// The ports of dialers: the first, and the one behind the last.
 const FIRST_PORT: u16 = 32768;
 
-const LAST_PORT: u16 = 61000;
+const PORTS_END: u16 = 61000;
 
 /// The buffer size of a channel, in bytes.
 pub const DEFAULT_BUFFER_SIZE: usize = 65536;
@@ -111,9 +112,7 @@ impl Net {
         ensures channels { All IsQuiet self.now.state.channels }
         ensures listeners { All IsQuietListener self.now.state.listeners }
     {
-        let at_channel = anyone_waits_at(&self.channels);
-        let at_listener = anyone_accepts_at(&self.listeners);
-        at_channel || at_listener
+        anyone_waits_at(&self.channels) | anyone_waits_at(&self.listeners)
     }
 
     // Counts a refusal.
@@ -206,7 +205,7 @@ impl Net {
         ensures dials { NetDials self.old.state socket result }
         ensures after { self.new ≡ moved_to self.old (net_after_dial self.old.state socket result) }
     {
-        if self.port == LAST_PORT {
+        if self.port == PORTS_END {
             return Err(Error::PortsExhausted);
         }
         let Some(listener) = self.live_at(socket) else {
@@ -259,7 +258,7 @@ impl Net {
 fn is_dialer_address(address: Addr) -> bool
     ensures { IsTrue result ↔ IsDialerAddress address }
 {
-    address.ip == LOCALHOST && FIRST_PORT <= address.port && address.port < LAST_PORT
+    address.ip == LOCALHOST && FIRST_PORT <= address.port && address.port < PORTS_END
 }
 
 impl Network for Net {
@@ -272,7 +271,7 @@ impl Network for Net {
     ghost use Rattle.std.specs.Prelude.{◌≡◌, [], slice_get};
     ghost use Rattle.rt_net.specs.Kept.{Kept, answered, moved_to};
     ghost use Rattle.rt_net.specs.Asked.{asked_of};
-    ghost use Rattle.rt_net.specs.Refusals.{is_pending, still_waits, waits};
+    ghost use Rattle.rt_net.specs.Waiting.{is_pending, still_waits, waits};
     ghost use Rattle.rt_net.specs.Network.{sink_wakes, stream_wakes, with_given_up_send, with_given_up_recv, with_closed_sink, with_closed_stream, without_task};
     ghost use Rattle.rt_net.specs.Calls.{NetSends, NetPollsSend, NetReceives, NetPollsReceive, NetPeeks, NetBinds, NetDials, NetAccepts, net_after_send, net_after_poll_send, net_after_recv, net_after_poll_recv, net_after_bind, net_after_dial, net_after_accept, net_after_close, with_channels, with_listeners, told, next_told};
 

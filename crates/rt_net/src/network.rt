@@ -12,7 +12,7 @@ ghost use Rattle.rt_bufs.specs.Chunked.{Chunked};
 ghost use Rattle.rt_net.specs.declared.reply.Reply.{Reply};
 ghost use Rattle.rt_net.specs.Asked.{HasLength};
 ghost use Rattle.rt_base.specs.Counted.{Counts, Notes};
-ghost use Rattle.rt_net.specs.Refusals.{is_pending, still_waits, waits, AreIdle, TakesIdle};
+ghost use Rattle.rt_net.specs.Waiting.{is_pending, still_waits, waits, AreIdle, TakesIdle};
 
 use crate::{Receiving, Reply, Sending};
 use rt_base::{Addr, Env, Error, NoMemory, Poll};

@@ -1,10 +1,10 @@
 // One channel: the bytes that were not answered yet, and who waits at its two ends.
 ghost use Rattle.std.specs.Prelude.{◌≡◌, ℕ, ◌+◌, ◌-◌, ◌<◌, ◌≤◌, min, [], ◌++◌, length, take, drop, OnOk, OnErr, IfOk, Ok, Err, Some, None, true, false};
 ghost use Rattle.rt_net.specs.Channel.{fresh, is_open, receiver_task, failed_send, Sends, PollsSend, after_send, after_poll_send, closed_sink, closed_stream, given_up_send, given_up_recv, sent, appended, handed_task, is_drained, Settles, settled, answered, pulled, drained_task, moved, failed_recv, parked, Receives, PollsReceive, after_recv, after_poll_recv, started_length, Peeks, held, left, with_ended_sink, AreCounted, IsQuiet};
-ghost use Rattle.rt_net.specs.Network.{is_waited_at};
 
 use crate::byte_queue::ByteQueue;
 use crate::forgotten::Forgotten;
+use crate::waited::Waited;
 use crate::{Half, Parked, Reply};
 use rt_base::{Error, NoMemory, Poll};
 use rt_bufs::{IoBuf, IoBufs};
@@ -66,15 +66,6 @@ impl Pipe {
         ensures counted { AreCounted self.now }
     {
         (self.waiting_receiver(), self.sender)
-    }
-
-    /// Whether a task waits to receive or to send. None waits for what is there.
-    pub fn anyone_waits(&self) -> bool
-        ensures answer { result ≡ is_waited_at self.now }
-        ensures quiet { IsQuiet self.now }
-    {
-        let (receiver, sender) = self.waiting();
-        receiver.is_some() || sender.is_some()
     }
 
     /// Whether the sink wasn't closed.
@@ -407,6 +398,20 @@ impl Pipe {
             Some(parked) => Some(parked.task),
             None => None,
         }
+    }
+}
+
+impl Waited for Pipe {
+    ghost use Rattle.rt_net.specs.Channel.{IsQuiet};
+    ghost use Rattle.rt_net.specs.Network.{is_waited_at};
+
+    ghost waited = { is_waited_at };
+
+    ghost quiet = { IsQuiet };
+
+    fn anyone_waits(&self) -> bool {
+        let (receiver, sender) = self.waiting();
+        receiver.is_some() || sender.is_some()
     }
 }
 

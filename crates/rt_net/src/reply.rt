@@ -1,6 +1,6 @@
 // What a call on the network answers, and which answers leave it waiting.
 ghost use Rattle.std.specs.Prelude.{◌≡◌, None};
-ghost use Rattle.rt_net.specs.Refusals.{is_pending, waits};
+ghost use Rattle.rt_net.specs.Waiting.{is_pending, waits};
 
 use rt_base::{Error, Nanos, Poll};
 

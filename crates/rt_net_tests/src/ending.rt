@@ -14,6 +14,7 @@ pub enum Ending {
     BindFailed,
     ConnectionFailed,
     PortsExhausted,
+    UnknownToken,
     Other,
 }
 
@@ -25,6 +26,7 @@ pub fn seen_error(error: &Error) -> Ending {
         Error::BindFailed => Ending::BindFailed,
         Error::ConnectionFailed => Ending::ConnectionFailed,
         Error::PortsExhausted => Ending::PortsExhausted,
+        Error::UnknownToken => Ending::UnknownToken,
         _ => Ending::Other,
     }
 }

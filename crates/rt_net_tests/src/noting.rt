@@ -259,7 +259,7 @@ impl<N: Network> Network for Noting<N> {
 
     ghost sends = { λ s k b t r u l x.
         ((y : List Noted) × N.sends s.inner k.inner b t r u.inner l.inner y × (x ≡ around (codes "send_attempt") (codes "send_success") (codes "send_failure") (ending r.value) y) × (l.remote ≡ k.remote) × (u ≡ record s { inner = u.inner; sent = counted_bytes s.sent (count_if_ok r.value (length b.bytes)) }))
-        ⊎ ((r.value ≡ Err NoMemory) × (r.wake ≡ None) × (u ≡ s) × (l ≡ k) × (x ≡ [])) };
+        ⊎ ((r.value ≡ Err NoMemory) × (r.wake ≡ None) × (r.link ≡ None) × (u ≡ s) × (l ≡ k) × (x ≡ [])) };
 
     ghost polls_send = { λ s k t r u l x.
         ((y : List Noted) × N.polls_send s.inner k.inner t r u.inner l.inner y × (x ≡ followed (codes "send_success") (codes "send_failure") (ending r) y) × (l.remote ≡ k.remote) × (u ≡ record s { inner = u.inner }))

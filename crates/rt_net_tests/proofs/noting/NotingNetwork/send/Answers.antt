@@ -3,7 +3,7 @@ use Rattle.rt_net_tests.proofs.NotingLemmas.{adds-none, adds-around}
 use Rattle.rt_net_tests.proofs.noting.NotingNetwork.send.Goals as goal
 
 pub returns-in_default-clause-gives : goal.returns-in_default-clause-gives
-returns-in_default-clause-gives g c = ([], adds-none _ _ (search rules), inr (refl, refl, refl, refl, refl))
+returns-in_default-clause-gives g c = ([], adds-none _ _ (search rules), inr (refl, refl, refl, refl, refl, refl))
 
 pub returns-clause-gives : goal.returns-clause-gives
 returns-clause-gives g c =
