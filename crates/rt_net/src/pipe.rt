@@ -420,6 +420,7 @@ fn first_bytes(alloc: Global, bytes: &[u8], len: usize) -> Result<IoBufs, NoMemo
     requires { len ≤ length bytes.now }
     ensures { IfOk result (λ b. b.bytes ≡ take len bytes.now) }
 {
-    let first = bytes[..len].to_vec(alloc)?;
+    let mut first = Vec::with_capacity(alloc, len)?;
+    first.extend_from_slice(&bytes[..len])?;
     IoBufs::from_buf(alloc, IoBuf::from_vec(first)?)
 }
