@@ -220,6 +220,9 @@ module _ {S B : Type 0} (bytes : S → B → List ℕ) (left : S → B → Optio
         (λ k f l found is. subst (λ (ks : List Stage). slice_get ks k ≡ Some f) (sym tickets) (before_end s.tickets (stage.Held h) k f found)) far
 
     module _ (c : StoreCalls S B) (others : LeavesOthers c bytes left promised apart) where
+      both_apart_ways : (n m : ℕ) (s : Delayed S B) → Far n m s → delayed_apart apart s m n ≡ true
+      both_apart_ways n m s away = apart_for m n (m == n) s refl (λ same. away.0 (sym same), λ a b at_m at_n. others.both_ways s.inner b a (away.1 b a at_n at_m))
+
       -- Calls on a token.
 
       at_leaves : (n m : ℕ) (b : B) (gate : Option ℕ) (s : Delayed S B) (r : Result Done Error) (t : Delayed S B) (x : List Noted) → blob_at s.blobs n ≡ Some b → SyncsAt c n b gate s r t x → Far n m s → DelayedLeaves n m s t
@@ -427,4 +430,7 @@ delayed_others c bytes left promised apart keeps others = record {
   give_up_leaves = λ s t n m l new away hopes gives. as_leaves bytes left promised apart n m s new (ticket_ended bytes left promised apart c others n m t l s new hopes gives (far bytes left promised apart n m s away));
   close_leaves = λ s n m new away did. as_leaves bytes left promised apart n m s new (closes_leaves bytes left promised apart c others n m (slice_get s.blobs n) _ s new refl refl did.0 did.1 (far bytes left promised apart n m s away));
   one_blob = λ s k n m l j away one two. one_stage bytes left promised apart c others keeps n m (stage_of (slice_get s.tickets k)) l j s (far bytes left promised apart n m s away) one two;
+  both_ways = λ s n m away. both_apart_ways bytes left promised apart c others n m s (far bytes left promised apart n m s away);
+  ready_polls = λ s r task p new after x did. did.1;
+  ready_ends = λ s r new gives. gives;
 }

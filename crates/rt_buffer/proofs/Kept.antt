@@ -174,7 +174,7 @@ crash_leaves v k content h kept b cs is =
     let left : left_of (Some b) ≡ Some content = rw is at (kept.1 ∙ ap (λ (bs : List ℕ). Some bs) kept.0.0) in
     crash_keeps b.version b.token b.removed b.content b.base b.later cs content left
 
-pub done_by : {W P : Type 0} (r : Stepped W P) (done next : W → Type 0) (waits : P → Type 0) → ((w : W) → done w → next w) → IfStepped r done waits → IfStepped r next waits
-done_by (step.Done w) done next waits so h = so w h
-done_by (step.Waiting p) done next waits so h = h
-done_by (step.Failed e) done next waits so h = tt
+pub stepped_by : {W P : Type 0} (r : Stepped W P) (done next : W → Type 0) (waits later : P → Type 0) → ((w : W) → done w → next w) → ((p : P) → waits p → later p) → IfStepped r done waits → IfStepped r next later
+stepped_by (step.Done w) done next waits later so then h = so w h
+stepped_by (step.Waiting p) done next waits later so then h = then p h
+stepped_by (step.Failed e) done next waits later so then h = tt

@@ -1,4 +1,5 @@
 pub mod Changes
+pub mod Crashes
 pub mod Cut
 pub mod DelayedKept
 pub mod DelayedOthers

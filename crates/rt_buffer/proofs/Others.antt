@@ -72,6 +72,10 @@ promises v new j same (Numbered n) l is = is
 pub unlike : (n m : ℕ) → not (n == m) ≡ true → n ≢ m
 unlike n m is same = let equal : (n == m) ≡ true = eq-eqb n m same in absurd (let bad : not true ≡ true = rw equal at is in cc)
 
+both : (n m : ℕ) (same : Bool) → (m == n) ≡ same → not (n == m) ≡ true → not (m == n) ≡ true
+both n m true is other = absurd (unlike n m other (sym (eqb-true m n is)))
+both n m false is other = rw is refl
+
 leaves : (v new : Kept) (k j : Blob) → memory_apart v k j ≡ true → blob_of new j ≡ blob_of v j → Leaves memory_bytes memory_left memory_promised memory_apart k j v new
 leaves v new k j other same = ((ap content_at same, ap left_of same, promises v new j same), other)
 
@@ -99,4 +103,7 @@ memory_others = record {
   give_up_leaves = λ v t k j l new other hopes gives. leaves v new k j other (ap (λ (w : Kept). blob_of w j) gives);
   close_leaves = λ v k j new other did. leaves v new k j other (ap (λ (w : Kept). blob_of w j) did ∙ other_live k j v.state.files closed (blob_of v k) refl (unlike k.number j.number other) closed_none);
   one_blob = λ v n k j l m other one two. none_some l one;
+  both_ways = λ v k j other. both k.number j.number (j.number == k.number) refl other;
+  ready_polls = λ v r task p new after x did. did.1;
+  ready_ends = λ v r new gives. gives;
 }

@@ -1,5 +1,5 @@
 -- One step of a writer behind another.
-use Rattle.std.proofs.Common.{◌≡◌, inr, ℕ, ◌+◌, true, false, List, [], ◌∷◌, ◌++◌, length, Option, Some, None, Result, Ok, Err, refl, subst, slice_get}
+use Rattle.std.proofs.Common.{◌≡◌, inr, ℕ, ◌+◌, Bool, true, false, List, [], ◌∷◌, ◌++◌, length, Option, Some, None, Result, Ok, Err, refl, subst, slice_get}
 use Rattle.rt_base.specs.declared.error.Error.{Error}
 use Rattle.rt_base.specs.declared.error.Error.TheVariants.{NoMemory}
 use Rattle.rt_base.specs.declared.poll.Poll.TheVariants as poll
@@ -14,11 +14,13 @@ use Rattle.rt_buffer.specs.declared.sync_state.SyncState.TheVariants.{Clean, Dir
 use Rattle.rt_buffer.specs.declared.write_op.Rest.{Rest}
 use Rattle.rt_buffer.specs.declared.write_op.Rest.TheVariants as work
 use Rattle.rt_buffer.specs.declared.write_op.Stepped.{Stepped}
+use Rattle.rt_buffer.specs.declared.write_op.Stepped.TheVariants as step
 use Rattle.rt_buffer.specs.declared.sync_handle.Begun.{Begun}
+use Rattle.rt_buffer.specs.declared.sync_handle.Begun.TheVariants as begun
 use Rattle.rt_buffer.specs.Pieces.{Pieces, merged_chunks, passed, pieces}
 use Rattle.rt_buffer.specs.Tip.{Tip, bytes_to_write, bytes_before, drained, is_within, resized_tip}
 use Rattle.rt_buffer.specs.Writing.{has_bytes, is_clean, is_in_the_way}
-use Rattle.rt_buffer.specs.Steps.{Progress, Writer, writer, Act, Then, Keeps, Settles, WritesOut, with_state, with_tip, plain, AreBuffers, SyncsBlob, Saves, SavesBytes, SavesChanges, WritesDurably, WritesChunk, Raised, Puts, PutsAgain, PutsAll, PutsChunks, ResizesBlob, ResizesTip, Drains, Waits, Finishes, Ends, Runs, Begins, Starts, WritesAt, WritesLeft, with_handle, is_done}
+use Rattle.rt_buffer.specs.Steps.{Progress, Writer, writer, Act, Then, Keeps, Settles, WritesOut, with_state, with_tip, plain, AreBuffers, SyncsBlob, Saves, SavesBytes, SavesChanges, WritesDurably, WritesChunk, Raised, Puts, PutsAgain, PutsAll, PutsChunks, ResizesBlob, ResizesTip, Drains, Waits, Finishes, Ends, GivesHandle, Runs, RunsBehind, Begins, Starts, StartsFor, WritesAt, WritesLeft, seen_start, with_handle, is_done}
 use Rattle.rt_store.specs.Answered.{CountsDone, PollsTicket, is_numbered}
 use Rattle.rt_store.specs.declared.ticket.Done.{Done}
 use Rattle.rt_store.specs.declared.ticket.Done.TheVariants.{Now, Gated}
@@ -242,3 +244,39 @@ none_has (b ∷ bs) none = absurd (cc)
 pub some_has : (bytes : List ℕ) → (bytes ≡ [] → false ≡ true) → has_bytes bytes ≡ true
 some_has [] some = absurd (no (some refl))
 some_has (b ∷ bs) some = refl
+
+-- What a start gives back.
+
+abbrev Handed : {B : Type 0} → B → Begun (B × Held) ((B × Held) × Rest) → Type 0
+Handed blob g = GivesHandle blob (λ w. w) (λ p. p.0.0) g
+
+ends_handle : {S B : Type 0} (c : StoreCalls S B) (blob : B) (rest : Rest) (r : Progress) (left : Writer S) (store : S) (s : Stepped (B × Held) ((B × Held) × Rest)) → Ends c blob rest r left store s → Handed blob (with_handle s)
+ends_handle c blob rest (Ok (poll.Ready u)) left store (step.Done w) did = (did.0, refl)
+ends_handle c blob rest (Ok poll.Pending) left store (step.Done w) did = absurd did
+ends_handle c blob rest (Err e) left store (step.Done w) did = absurd did
+ends_handle c blob rest (Ok (poll.Ready u)) left store (step.Waiting p) did = absurd did
+ends_handle c blob rest (Ok poll.Pending) left store (step.Waiting p) did = did.0.0
+ends_handle c blob rest (Err e) left store (step.Waiting p) did = absurd did
+ends_handle c blob rest r left store (step.Failed f) did = tt
+
+behind_handle : {S B : Type 0} (c : StoreCalls S B) (blob : B) (rest : Rest) (task : ℕ) (a : Progress) (y : List Noted) (mid : Writer S) (store : S) (s : Stepped (B × Held) ((B × Held) × Rest)) (x : List Noted)
+    → RunsBehind c blob rest task a y mid store s x → Handed blob (with_handle s)
+behind_handle c blob rest task (Ok (poll.Ready u)) y mid store s x did = ends_handle c blob work.Nothing did.2 did.3 store s did.5
+behind_handle c blob rest task (Ok poll.Pending) y mid store s x did = ends_handle c blob rest (Ok poll.Pending) mid store s did.1
+behind_handle c blob rest task (Err e) y mid store s x did = ends_handle c blob rest (Err e) mid store s did.1
+
+for_handle : {S B : Type 0} (c : StoreCalls S B) (blob : B) (task : ℕ) (has : Bool) (old : Writer S) (store : S) (s : Stepped (B × Held) ((B × Held) × Rest)) (x : List Noted)
+    → StartsFor c blob task has old store s x → Handed blob (with_handle s)
+for_handle c blob task true old store s x did = behind_handle c blob work.Start task did.0 did.2 did.1 store s x did.4
+for_handle c blob task false old store s x did = ends_handle c blob work.Nothing did.0 did.1 store s did.3
+
+starts_handed : {S B : Type 0} (c : StoreCalls S B) (blob : B) (task : ℕ) (old : Writer S) (store : S) (b : Begun (B × Held) ((B × Held) × Rest)) (x : List Noted) → Starts c blob task old store b x → Handed blob b
+starts_handed c blob task old store b x did = rw did.2 (for_handle c blob task (has_bytes old.held.tip.bytes) old store did.0 x did.1)
+
+unseen_handle : {B W P : Type 0} (blob : B) (f : W → B × Held) (g : P → (B × Held) × Rest) (r : Begun W P) → Handed blob (seen_start f g r) → GivesHandle blob f (λ p. (g p).0.0) r
+unseen_handle blob f g (begun.Done w h) is = is
+unseen_handle blob f g (begun.Waiting p) is = is
+unseen_handle blob f g (begun.Failed e) is = is
+
+pub starts_handle : {S B W P : Type 0} (c : StoreCalls S B) (blob : B) (task : ℕ) (old : Writer S) (store : S) (f : W → B × Held) (g : P → (B × Held) × Rest) (r : Begun W P) (x : List Noted) → Starts c blob task old store (seen_start f g r) x → GivesHandle blob f (λ p. (g p).0.0) r
+starts_handle c blob task old store f g r x did = unseen_handle blob f g r (starts_handed c blob task old store (seen_start f g r) x did)

@@ -63,7 +63,8 @@ abbrev pub Leaves : {S B : Type 0} → (S → B → List ℕ) → (S → B → O
 Leaves bytes left promised apart a b s new = Stays bytes left promised b s new × (apart new a b ≡ true)
 
 -- the calls on a blob leave each other one as it was, whatever they answer, and so do the polls and the end of a ticket that promises
--- something of it. Which blobs are apart is the store's to say. A numbered ticket is one blob's
+-- something of it. Which blobs are apart is the store's to say, of both at once. A numbered ticket is one blob's, and the poll and the
+-- end of one that is ready leave the store itself as it was
 pub record LeavesOthers {S B : Type 0} (c : StoreCalls S B) (bytes : S → B → List ℕ) (left : S → B → Option (List ℕ)) (promised : S → Ticket → B → Option (List ℕ)) (apart : S → B → B → Bool) : Type 0 where
   pub write_leaves : (s : S) (a b : B) (at : ℕ) (w : Chunked) (options : WriteOptions) (r : Result Done Error) (new : S) (x : List Noted) → apart s a b ≡ true → c.writes s a at w options r new x → Leaves bytes left promised apart a b s new
   pub given_up_leaves : (s : S) (a b : B) (at : ℕ) (w : Chunked) (options : WriteOptions) (t : Ticket) (mid : S) (x : List Noted) (new : S) → options.sync ≡ false → apart s a b ≡ true → c.writes s a at w options (Ok (Gated t)) mid x → c.gives_up mid t new → Leaves bytes left promised apart a b s new
@@ -74,6 +75,9 @@ pub record LeavesOthers {S B : Type 0} (c : StoreCalls S B) (bytes : S → B →
   pub give_up_leaves : (s : S) (t : Ticket) (a b : B) (l : List ℕ) (new : S) → apart s a b ≡ true → promised s t a ≡ Some l → c.gives_up s t new → Leaves bytes left promised apart a b s new
   pub close_leaves : (s : S) (a b : B) (new : S) → apart s a b ≡ true → c.closes s a new → Leaves bytes left promised apart a b s new
   pub one_blob : (s : S) (n : ℕ) (a b : B) (l k : List ℕ) → apart s a b ≡ true → promised s (ticket.Numbered n) a ≡ Some l → promised s (ticket.Numbered n) b ≡ Some k → ⊥
+  pub both_ways : (s : S) (a b : B) → apart s a b ≡ true → apart s b a ≡ true
+  pub ready_polls : (s : S) (held : Result Unit Error) (task : ℕ) (p : Poll (Result Unit Error)) (new : S) (after : Ticket) (x : List Noted) → c.polls s (ticket.Ready held) task p new after x → new ≡ s
+  pub ready_ends : (s : S) (held : Result Unit Error) (new : S) → c.gives_up s (ticket.Ready held) new → new ≡ s
 
 -- what a writer knows of the durability of its blob is so
 abbrev pub KnowsState : {S B : Type 0} → (S → B → List ℕ) → (S → B → Option (List ℕ)) → (S → Ticket → B → Option (List ℕ)) → SyncState → S → B → Type 0

@@ -1,5 +1,6 @@
 -- What each crash leaves of the blobs of a store in memory.
-use Rattle.std.specs.Prelude.{◌≡◌, ◌==◌, ℕ, Bool, not, if◌then◌else◌, List, [], Option, Some, None, Result, Ok, Err}
+use Rattle.std.specs.Prelude.{◌≡◌, ◌==◌, ℕ, Bool, not, if◌then◌else◌, List, [], Option, Some, None, Result, Ok, Err, slice_get}
+use Rattle.rt_base.specs.declared.choice.Choice.{Choice}
 use Rattle.rt_base.specs.declared.error.Error.{Error}
 use Rattle.rt_base.specs.declared.options.WriteOptions.{WriteOptions}
 use Rattle.rt_base.specs.declared.poll.Poll.{Poll}
@@ -14,6 +15,7 @@ use Rattle.rt_store.specs.declared.ticket.Ticket.TheVariants.{Ready, Numbered}
 use Rattle.rt_store.specs.File.{FileState, closed, has_none}
 use Rattle.rt_store.specs.Kept.{Kept, answered, moved_to}
 use Rattle.rt_store.specs.Store.{content_at}
+use Rattle.rt_store.specs.Whole.{after_crash}
 
 abbrev pub memory_bytes : Kept → Blob → List ℕ
 memory_bytes v k = content_at (blob_of v k)
@@ -32,6 +34,10 @@ abbrev pub memory_promised : Kept → Ticket → Blob → Option (List ℕ)
 memory_promised v (Ready (Ok u)) k = memory_left v k
 memory_promised v (Ready (Err e)) k = Some (memory_bytes v k)
 memory_promised v (Numbered n) k = None
+
+-- the crash of such a store, whatever it chooses over all its blobs, leaves exactly these bytes at the place of this blob
+abbrev pub CrashLeaves : List ℕ → Kept → Blob → Type 0
+CrashLeaves bytes v k = (b : FileState) (choices : List Choice) → blob_of v k ≡ Some b → (left : FileState) × (slice_get (after_crash v.state choices).files k.place ≡ Some left) × (left.content ≡ bytes)
 
 -- two tokens, each with a number of its own
 abbrev pub memory_apart : Kept → Blob → Blob → Bool

@@ -1,6 +1,6 @@
 -- What a writer's calls do that wait or change its blob: each as a relation over the writer and its store before it, what it
 -- came to, the two after it, and what it noted.
-use Rattle.std.specs.Prelude.{◌≡◌, ◌⊎◌, ℕ, ◌+◌, ◌-◌, ◌^◌, ◌==◌, min, Bool, true, false, List, [], ◌∷◌, ◌++◌, length, Option, Some, None, Result, Ok, Err}
+use Rattle.std.specs.Prelude.{◌≡◌, ◌⊎◌, ℕ, ◌+◌, ◌-◌, ◌^◌, ◌==◌, min, ⊤, Bool, true, false, List, [], ◌∷◌, ◌++◌, length, Option, Some, None, Result, Ok, Err}
 use Rattle.rt_base.specs.Counted.{Counts}
 use Rattle.rt_base.specs.declared.error.Error.{Error}
 use Rattle.rt_base.specs.declared.error.Error.TheVariants.{NoMemory}
@@ -332,6 +332,12 @@ abbrev pub seen_start : {W P H : Type 0} → (W → H) → (P → H × Rest) →
 seen_start writer waiting (begun.Done w h) = begun.Done (writer w) h
 seen_start writer waiting (begun.Waiting p) = begun.Waiting (waiting p)
 seen_start writer waiting (begun.Failed e) = begun.Failed e
+
+-- a start gives the writer of this blob back, and where it is done a handle of the sync that the writer holds
+abbrev pub GivesHandle : {B W P : Type 0} → B → (W → B × Held) → (P → B) → Begun W P → Type 0
+GivesHandle blob writer waiting (begun.Done w h) = ((writer w).0 ≡ blob) × (h.number ≡ (writer w).1.syncs)
+GivesHandle blob writer waiting (begun.Waiting p) = waiting p ≡ blob
+GivesHandle blob writer waiting (begun.Failed e) = ⊤
 
 -- a start with an empty tip changes no byte, and so it waits for nothing
 abbrev pub StartsFor : {S B : Type 0} → StoreCalls S B → B → ℕ → Bool → Writer S → S → Stepped (B × Held) ((B × Held) × Rest) → List Noted → Type 0

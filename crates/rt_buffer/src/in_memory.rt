@@ -1,16 +1,18 @@
 // A writer of a store in memory, by what each crash leaves.
-ghost use Rattle.std.specs.Prelude.{◌≡◌, List, Some};
+ghost use Rattle.std.specs.Prelude.{◌≡◌, ℕ, ⊤, List, Ok, Some};
 ghost use Rattle.rt_base.specs.declared.choice.Choice.{Choice};
-ghost use Rattle.rt_buffer.specs.Durable.{IfStepped, Keeping, Keeps, KeepsBytes, KnowsState, LeavesOthers};
-ghost use Rattle.rt_buffer.specs.Memory.{memory_apart, memory_bytes, memory_calls, memory_left, memory_promised};
+ghost use Rattle.rt_buffer.specs.Durable.{Asked, HoldsBytes, HoldsSync, IfStepped, Keeping, Keeps, KeepsBytes, KnowsState, LeavesOthers};
+ghost use Rattle.rt_buffer.specs.Memory.{CrashLeaves, memory_apart, memory_bytes, memory_calls, memory_left, memory_promised};
+ghost use Rattle.rt_buffer.specs.Steps.{answer_of};
 ghost use Rattle.rt_buffer.specs.Tip.{laid_over};
 ghost use Rattle.rt_buffer.specs.Writing.{LiesOver};
 ghost use Rattle.rt_store.specs.Calls.{blob_of};
 ghost use Rattle.rt_store.specs.File.{FileState, crashed};
 
+use crate::sync_handle::SyncHandle;
 use crate::write::Write;
 use crate::write_op::{Rest, Step};
-use rt_base::Env;
+use rt_base::{Env, Error, Poll};
 use rt_store::MemStore;
 
 impl Write<MemStore> {
@@ -29,7 +31,32 @@ impl Write<MemStore> {
             IfStepped result (λ w. Keeps memory_bytes memory_left memory_promised (laid_over self.held.tip (memory_bytes store.old self.blob)) Rest.Sync w.held store.new self.blob
             × ((blob : FileState) (choices : List Choice) → blob_of store.new self.blob ≡ Some blob → (crashed choices blob).content ≡ laid_over self.held.tip (memory_bytes store.old self.blob)))
             (λ p. Keeping memory_bytes memory_left memory_promised (laid_over self.held.tip (memory_bytes store.old self.blob)) p.rest p.write.held store.new self.blob) }
+        ensures crash { LiesOver self.held.tip (memory_bytes store.old self.blob) → KnowsState memory_bytes memory_left memory_promised self.held.state store.old self.blob →
+            IfStepped result (λ w. CrashLeaves (laid_over self.held.tip (memory_bytes store.old self.blob)) store.new self.blob) (λ p. ⊤) }
     {
         self.sync(store, env, task)
+    }
+}
+
+impl SyncHandle {
+    /// [`poll`](Self::poll), by what each crash of a store in memory leaves: once the sync that the writer holds answered Ok, exactly
+    /// the bytes that the writer stood for when it began, where nothing was changed since. Such a store keeps bytes, so that what the
+    /// start of the sync says of that is so.
+    pub fn poll_in_memory<E: Env>(
+        &mut self,
+        write: &mut Write<MemStore>,
+        store: &mut MemStore,
+        env: &mut E,
+        task: u64,
+    ) -> Poll<Result<(), Error>>
+        ensures keeps { KeepsBytes memory_calls memory_bytes memory_left memory_promised }
+        ensures durable { write.old.held.syncs ≡ self.old.number → HoldsSync memory_bytes memory_left memory_promised write.old.held store.old write.old.blob →
+            (memory_bytes store.new write.old.blob ≡ memory_bytes store.old write.old.blob) × Asked memory_bytes memory_left memory_promised (answer_of result) write.new.held store.new write.old.blob }
+        ensures crash { (content : List ℕ) → write.old.held.syncs ≡ self.old.number → HoldsBytes memory_bytes memory_left memory_promised content write.old.held store.old write.old.blob →
+            result ≡ Poll.Ready (Ok tt) → CrashLeaves content store.new write.old.blob }
+        ensures blob { write.new.blob ≡ write.old.blob }
+        ensures same { self.new ≡ self.old }
+    {
+        self.poll(write, store, env, task)
     }
 }

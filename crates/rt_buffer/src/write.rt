@@ -7,7 +7,7 @@ ghost use Rattle.rt_buffer.specs.declared.sync_state.SyncState.{SyncState};
 ghost use Rattle.rt_buffer.specs.Durable.{HoldsSync, IfBegun, IfStepped, Keeping, Keeps, KeepsBytes, KnowsState, Shows};
 ghost use Rattle.rt_buffer.specs.Flat.{HasBytes};
 ghost use Rattle.rt_buffer.specs.Pieces.{with_bytes};
-ghost use Rattle.rt_buffer.specs.Steps.{AreBuffers, Begins, Drains, Ends, Finishes, IfStarted, MergesChunk, Puts, PutsAgain, PutsAll, ResizesBlob, ResizesTip, Runs, Saves, Settles, Starts, SyncsBlob, Then, Waits, WritesAt, WritesChunk, WritesDurably, WritesOut, is_started, seen_start, seen_step, with_state, with_tip, writer};
+ghost use Rattle.rt_buffer.specs.Steps.{AreBuffers, Begins, Drains, Ends, Finishes, GivesHandle, IfStarted, Puts, PutsAgain, PutsAll, ResizesBlob, ResizesTip, Runs, Saves, Settles, Starts, SyncsBlob, Then, Waits, WritesAt, WritesChunk, WritesDurably, WritesOut, is_started, seen_start, seen_step, with_state, with_tip, writer};
 ghost use Rattle.rt_buffer.specs.Tip.{empty_tip, bytes_to_write, bytes_before, drained, resized_tip, end_of, is_within, merged, laid_over};
 ghost use Rattle.rt_buffer.specs.Writing.{has_bytes, needs_sync, ReadsTip, ReadsThrough, LiesOver, ClosesWriter};
 ghost use Rattle.rt_store.specs.Answered.{is_numbered};
@@ -170,7 +170,7 @@ impl<S: Storage> Write<S> {
     }
 
     /// Makes the bytes that are held back, and all changes, durable. It waits for a started sync first. Where no change is
-    /// open, they are one durable write; and where there are none either, the store isn't called.
+    /// open, they are one durable write; and where there are none, the store isn't called.
     ///
     /// Errors: that of the started sync, the store's refusal, `NoMemory`. After one the blob is closed.
     pub fn sync<E: Env>(self, store: &mut S, env: &mut E, task: u64) -> Step<S>
@@ -182,12 +182,13 @@ impl<S: Storage> Write<S> {
         self.run(store, env, Rest::Sync, task)
     }
 
-    /// Writes the bytes that are held back, once a sync that was started before is done, and starts a sync of all changes.
-    /// Where there are none, it shares a sync that was started before, and where no change is open, its handle is done.
+    /// Writes the bytes that are held back, once an earlier sync is done, and starts a sync of all changes. Where there are
+    /// none, it shares the earlier one, and where no change is open, its handle is done.
     ///
-    /// Errors: that of the sync that was started before, the store's refusal, `NoMemory`. After one the blob is closed.
+    /// Errors: that of the earlier sync, the store's refusal, `NoMemory`. After one the blob is closed.
     pub fn start_sync<E: Env>(mut self, store: &mut S, env: &mut E, task: u64) -> Started<S>
         ensures starts { Notes (E.noted env.old) (λ x. Starts (calls S.refusals S.polls_sync S.gives_sync_up S.writes S.resizes S.syncs S.starts_sync S.closes) self.blob task (writer store.old self.held) store.new (seen_start (λ w. (w.blob, w.held)) (λ p. ((p.write.blob, p.write.held), p.rest)) result) x) (E.noted env.new) }
+        ensures handle { GivesHandle self.blob (λ w. (w.blob, w.held)) (λ p. p.write.blob) result }
         ensures durable { (bytes : S → S.Blob → List ℕ) → (left : S → S.Blob → Option (List ℕ)) → (promised : S → Ticket → S.Blob → Option (List ℕ)) →
             KeepsBytes (calls S.refusals S.polls_sync S.gives_sync_up S.writes S.resizes S.syncs S.starts_sync S.closes) bytes left promised → LiesOver self.held.tip (bytes store.old self.blob) → KnowsState bytes left promised self.held.state store.old self.blob →
             IfBegun result (λ w. Keeps bytes left promised (laid_over self.held.tip (bytes store.old self.blob)) Rest.Start w.held store.new self.blob) (λ p. Keeping bytes left promised (laid_over self.held.tip (bytes store.old self.blob)) p.rest p.write.held store.new self.blob) }
@@ -223,7 +224,7 @@ impl<S: Storage> Write<S> {
         self.run(store, env, Rest::Nothing, task)
     }
 
-    // Waits for a started sync, and then does the rest. Where it waits, the rest is kept for later.
+    // Waits for a started sync, and then does the rest. Where it waits, the rest is kept.
     pub(crate) fn run<E: Env>(
         mut self,
         store: &mut S,

@@ -3,8 +3,12 @@
 // A case is a function that makes its calls and says whether they came to what is written beside them, or how many did. The functions
 // are over any store where they can be, since those are proved in less time.
 
-ghost use Rattle.std.specs.Prelude.{◌≡◌, IfOk, take, drop};
+ghost use Rattle.std.specs.Prelude.{◌≡◌, ℕ, IfOk, OnOk, List, take, drop};
+ghost use Rattle.rt_buffer.specs.Durable.{HoldsBytes, KeepsBytes, KnowsState};
 ghost use Rattle.rt_buffer.specs.Flat.{StandsFor};
+ghost use Rattle.rt_buffer.specs.Memory.{CrashLeaves, memory_bytes, memory_calls, memory_left, memory_promised};
+ghost use Rattle.rt_buffer.specs.Tip.{laid_over};
+ghost use Rattle.rt_buffer.specs.Writing.{LiesOver};
 ghost use Rattle.rt_store.specs.Calls.{blob_of};
 ghost use Rattle.rt_store.specs.Store.{content_at};
 
@@ -292,6 +296,25 @@ fn blob_is_read_by_buffers(rt: HostRuntime) -> Result<(), Fail> {
     Ok(())
 }
 
+/// Whether a change was refused so.
+fn is_refusal<S: Storage>(store: &mut S, answer: Result<Done, Error>, why: Error) -> bool {
+    match answer {
+        Ok(Done::Now) => false,
+        Ok(Done::Gated(ticket)) => {
+            store.give_up_sync(ticket);
+            false
+        }
+        Err(error) => same(error, why),
+    }
+}
+
+/// Whether a reader's blob can't be made so long that there is no memory for it.
+fn lacks_memory<S: Storage>(alloc: Global, store: &mut S) -> Result<bool, Error> {
+    let (blob, len) = store.open(&mut NoEnv, "p", b"a")?;
+    let answer = Read::new(alloc, blob, len, 8).resize(store, &mut NoEnv, u64::MAX);
+    Ok(is_refusal(store, answer, Error::NoMemory))
+}
+
 /// Cuts the text of a reader's blob.
 fn cut_text<S: Storage>(alloc: Global, store: &mut S) -> Result<bool, Error> {
     let (blob, _) = store.open(&mut NoEnv, "p", b"a")?;
@@ -304,9 +327,10 @@ fn cut_text<S: Storage>(alloc: Global, store: &mut S) -> Result<bool, Error> {
 fn reader_is_resized(rt: HostRuntime) -> Result<(), Fail> {
     let mut store = MemStore::new(rt.alloc(), FaultConfig::default())?;
     let cut = came(cut_text(rt.alloc(), &mut store), true);
+    let lacks = came(lacks_memory(rt.alloc(), &mut store), true);
     let kept = came(begins(rt.alloc(), &mut store, b"hello"), true);
     let synced = store.crash_draws() == 0;
-    assert!(rt; cut & kept & came(is_long(&mut store, 5), true) & synced);
+    assert!(rt; cut & lacks & kept & came(is_long(&mut store, 5), true) & synced);
     Ok(())
 }
 
@@ -470,14 +494,15 @@ fn resized<S: Storage>(store: &mut S, writer: Write<S>, len: u64) -> Result<Writ
     done(store, step)
 }
 
-/// Cuts and extends a writer whose bytes are held back.
+/// Cuts and extends a writer whose bytes are held back, in the end to a length for which there is no memory.
 fn resize_text<S: Storage>(alloc: Global, store: &mut S) -> Result<bool, Error> {
     let mut writer = opened(alloc, store, b"a")?;
     let went = tries(&mut writer, 0, b"hello", true);
     let writer = resized(store, writer, 3)?;
     let writer = resized(store, writer, 5)?;
-    showing(store, writer, b"hel\0\0")?.close(store);
-    Ok(went)
+    let writer = showing(store, writer, b"hel\0\0")?;
+    let longest = resized(store, writer, u64::MAX);
+    Ok(is_refused(store, longest, Error::NoMemory) & went)
 }
 
 #[test]
@@ -629,6 +654,149 @@ fn start_syncs<S: Storage>(alloc: Global, store: &mut S) -> Result<bool, Error> 
 fn sync_is_started(rt: HostRuntime) -> Result<(), Fail> {
     let mut store = MemStore::new(rt.alloc(), FaultConfig::default())?;
     assert!(rt; came(start_syncs(rt.alloc(), &mut store), true));
+    Ok(())
+}
+
+/// Asks for the sync of a handle, and closes the writer where it isn't done.
+fn ask(
+    mut writer: Write<MemStore>,
+    mut handle: SyncHandle,
+    store: &mut MemStore,
+) -> Result<Write<MemStore>, Error>
+    ensures keeps { KeepsBytes memory_calls memory_bytes memory_left memory_promised }
+    ensures crash { (content : List ℕ) → handle.number ≡ writer.held.syncs → HoldsBytes memory_bytes memory_left memory_promised content writer.held store.old writer.blob →
+        OnOk result (CrashLeaves content store.new writer.blob) }
+{
+    match handle.poll_in_memory(&mut writer, store, &mut NoEnv, 1) {
+        Poll::Ready(Ok(())) => Ok(writer),
+        Poll::Ready(Err(error)) => {
+            writer.close(store);
+            Err(error)
+        }
+        Poll::Pending => {
+            writer.close(store);
+            Err(Error::Timeout)
+        }
+    }
+}
+
+/// Starts a sync and asks for it. Once it is done, a crash leaves exactly the bytes that the writer stood for.
+fn save(writer: Write<MemStore>, store: &mut MemStore) -> Result<Write<MemStore>, Error>
+    ensures crash { LiesOver writer.held.tip (memory_bytes store.old writer.blob) → KnowsState memory_bytes memory_left memory_promised writer.held.state store.old writer.blob →
+        OnOk result (CrashLeaves (laid_over writer.held.tip (memory_bytes store.old writer.blob)) store.new writer.blob) }
+{
+    match writer.start_sync(store, &mut NoEnv, 1) {
+        Begun::Done(writer, handle) => ask(writer, handle, store),
+        Begun::Waiting(op) => {
+            op.give_up(store);
+            Err(Error::Timeout)
+        }
+        Begun::Failed(error) => Err(error),
+    }
+}
+
+/// Writes `ab`, and saves it where a crash would leave it.
+fn save_two(alloc: Global, store: &mut MemStore) -> Result<bool, Error> {
+    let writer = opened(alloc, store, b"a")?;
+    let writer = put(alloc, store, writer, 0, b"ab")?;
+    save(writer, store)?.close(store);
+    Ok(true)
+}
+
+#[test]
+fn crash_leaves_what_a_started_sync_saved(rt: HostRuntime) -> Result<(), Fail> {
+    let mut store = MemStore::new(rt.alloc(), FaultConfig::default())?;
+    let saved = came(save_two(rt.alloc(), &mut store), true);
+    let crashed = came(crash(rt.alloc(), &mut store), 0);
+    assert!(rt; saved & crashed & came(has_bytes(rt.alloc(), &mut store, b"a", b"ab"), true));
+    Ok(())
+}
+
+/// Whether the blob of a name has exactly these bytes.
+fn has_bytes<S: Storage>(
+    alloc: Global,
+    store: &mut S,
+    name: &[u8],
+    expected: &[u8],
+) -> Result<bool, Error> {
+    let writer = opened(alloc, store, name)?;
+    showing(store, writer, expected)?.close(store);
+    Ok(true)
+}
+
+/// Two writers of one store.
+type Two<S> = (Write<S>, Write<S>);
+
+/// Writes bytes at the end of a writer, and syncs it.
+fn add_and_sync<S: Storage>(
+    alloc: Global,
+    store: &mut S,
+    writer: Write<S>,
+    bytes: &[u8],
+) -> Result<Write<S>, Error> {
+    let end = writer.size();
+    let writer = put(alloc, store, writer, end, bytes)?;
+    synced(store, writer)
+}
+
+/// Both writers, the other one first.
+fn turned<S: Storage>(
+    store: &mut S,
+    answer: Result<Write<S>, Error>,
+    other: Write<S>,
+) -> Result<Two<S>, Error> {
+    match answer {
+        Ok(writer) => Ok((other, writer)),
+        Err(error) => {
+            other.close(store);
+            Err(error)
+        }
+    }
+}
+
+/// A turn of the first one.
+fn turn<S: Storage>(
+    alloc: Global,
+    store: &mut S,
+    both: Two<S>,
+    bytes: &[u8],
+) -> Result<Two<S>, Error> {
+    let (writer, other) = both;
+    let answer = add_and_sync(alloc, store, writer, bytes);
+    turned(store, answer, other)
+}
+
+fn open_both<S: Storage>(alloc: Global, store: &mut S) -> Result<Two<S>, Error> {
+    let first = opened(alloc, store, b"a")?;
+    let second = opened(alloc, store, b"b");
+    turned(store, second, first)
+}
+
+/// Writes more than the tip has room for, so that a change is open, and closes the writer.
+fn leave_open<S: Storage>(alloc: Global, store: &mut S, writer: Write<S>) -> Result<(), Error> {
+    put(alloc, store, writer, 0, b"0123456789abcdefg")?.close(store);
+    Ok(())
+}
+
+/// Writes `abcd` by one writer and `xyz!` by another, each in two parts that are synced by turns, and then over the first ones.
+fn take_turns<S: Storage>(alloc: Global, store: &mut S) -> Result<(), Error> {
+    let both = open_both(alloc, store)?;
+    let both = turn(alloc, store, both, b"ab")?;
+    let both = turn(alloc, store, both, b"xyz")?;
+    let both = turn(alloc, store, both, b"cd")?;
+    let (first, second) = turn(alloc, store, both, b"!")?;
+    second.close(store);
+    leave_open(alloc, store, first)
+}
+
+#[test]
+fn crash_leaves_what_each_writer_synced(rt: HostRuntime) -> Result<(), Fail> {
+    let mut store = MemStore::new(rt.alloc(), FaultConfig::default())?;
+    let written = went(take_turns(rt.alloc(), &mut store));
+    let crashed = came(crash(rt.alloc(), &mut store), 2);
+    let first = came(has_bytes(rt.alloc(), &mut store, b"a", b"abcd"), true);
+    let second = came(has_bytes(rt.alloc(), &mut store, b"b", b"xyz!"), true);
+    assert!(rt; written & crashed & first & second);
     Ok(())
 }
 

@@ -21,7 +21,8 @@ pub fn delayed(alloc: Global) -> Result<Delayed, NoMemory> {
 /// Whether so many syncs were started, polled and done, and so many are held.
 fn counts(pending: &PendingSyncs, starts: u64, entered: u64, done: u64, held: usize) -> bool {
     let first = (pending.starts() == starts) & (pending.entered() == entered);
-    first & (pending.completions() == done) & (pending.len() == held)
+    let queued = (pending.len() == held) & (pending.is_empty() == (held == 0));
+    first & (pending.completions() == done) & queued
 }
 
 /// Whether a sync that was started is pending, and done once it is released.

@@ -121,13 +121,18 @@ fn fails_in_partition<S: Storage>(alloc: Global, store: &mut S) -> Result<bool, 
     Ok(!now & fails & sync_fails(store, writer, failure()))
 }
 
+/// Whether both syncs of a new blob of another partition are done.
+fn syncs_both<S: Storage>(store: &mut S) -> Result<bool, Error> {
+    let (now, polled) = syncs_in(store, "q")?;
+    Ok(same(polled, Poll::Ready(Ok(()))) & now)
+}
+
 /// Whether those of another one don't.
 fn syncs_in_other<S: Storage>(alloc: Global, store: &mut S) -> Result<bool, Error> {
-    let (now, polled) = syncs_in(store, "q")?;
-    let done = same(polled, Poll::Ready(Ok(())));
+    let both = syncs_both(store)?;
     let (blob, len) = store.open(&mut NoEnv, "q", b"b")?;
     let writer = Write::new(alloc, blob, len, 16);
-    Ok(now & done & syncs(store, writer))
+    Ok(both & syncs(store, writer))
 }
 
 /// A store whose syncs of one partition fail.
@@ -214,7 +219,7 @@ fn surface(rt: HostRuntime) -> Result<(), Fail> {
     let mut syncs = sync_faults(rt.alloc(), "")?;
     let inner = MemStore::new(rt.alloc(), FaultConfig::default())?;
     let mut delays = DelayedSyncContext::new(rt.alloc(), inner);
-    let first = came(calls_of(rt.alloc(), &mut writes), true);
+    let first = came(calls_of(rt.alloc(), &mut writes), true) & came(syncs_both(&mut writes), true);
     let second = came(calls_of(rt.alloc(), &mut syncs), true);
     let third = came(calls_of(rt.alloc(), &mut delays), true);
     let _inner = delays.into_inner();

@@ -1,10 +1,11 @@
 // The calls of a writer that wait for a sync which is held back, and what they do once it is released.
 
-use crate::buffers::{bufs, came, done, opened, put, showing, start, went};
+use crate::buffers::{bufs, came, done, is_refused, opened, put, showing, start, went};
 use crate::delayed::{arms, delayed};
-use rt_base::{Error, NoEnv, NoMemory};
+use rt_base::{Error, IoKind, NoEnv, NoMemory};
 use rt_buffer::{
-    Begun, DelayedSyncContext, Started, Step, Stepped, Write, WriteOp, release_pending_syncs,
+    Begun, DelayedSyncContext, Started, Step, Stepped, Write, WriteOp, fail_pending_syncs,
+    release_pending_syncs,
 };
 use rt_store::{MemStore, Storage};
 use std::alloc::Global;
@@ -145,5 +146,71 @@ fn waits_each(alloc: Global, each: &[Wait]) -> usize {
 #[test]
 fn waiting_call_goes_on(rt: HostRuntime) -> Result<(), Fail> {
     assert!(rt; waits_each(rt.alloc(), WAITS) == 5);
+    Ok(())
+}
+
+/// Whether a call that waits fails with the sync that it waits for, or is given up.
+fn stops<S: Storage>(
+    store: &mut DelayedSyncContext<S>,
+    op: WriteOp<DelayedSyncContext<S>>,
+    is_given_up: bool,
+) -> bool {
+    if is_given_up {
+        op.give_up(store);
+        return true;
+    }
+    let failed = went(fail_pending_syncs(store.pending_mut()));
+    let step = op.poll(store, &mut NoEnv, 3);
+    let answer = done(store, step);
+    is_refused(store, answer, Error::Io(IoKind::InjectedSyncFailure)) & failed
+}
+
+/// Whether the call stops so, and its blob can be opened anew.
+fn stops_call<S: Storage>(
+    alloc: Global,
+    store: &mut DelayedSyncContext<S>,
+    call: Call,
+    is_given_up: bool,
+) -> Result<bool, Error> {
+    let writer = begin(alloc, store, true)?;
+    let step = make(alloc, store, writer, call);
+    let stopped = match waiting(store, step) {
+        Some(op) => stops(store, op, is_given_up),
+        None => false,
+    };
+    opened(alloc, store, b"a")?.close(store);
+    Ok(stopped)
+}
+
+/// Whether it does, and only the write of `ab` reached the store.
+fn stops_as(alloc: Global, call: Call, is_given_up: bool) -> Result<bool, NoMemory> {
+    let mut store = delayed(alloc)?;
+    let seen = came(stops_call(alloc, &mut store, call, is_given_up), true);
+    let inner: MemStore = store.into_inner();
+    Ok(seen & (inner.crash_draws() == 2))
+}
+
+/// A call, and whether it is given up.
+const STOPS: &[(Call, bool)] = &[
+    (Call::Sync, false),
+    (Call::Start, true),
+    (Call::Write, false),
+    (Call::Resize, true),
+];
+
+/// How many calls stop so.
+fn stops_each(alloc: Global, each: &[(Call, bool)]) -> usize {
+    let mut right = 0_usize;
+    for (call, is_given_up) in each {
+        if came(stops_as(alloc, *call, *is_given_up), true) {
+            right = right.wrapping_add(1);
+        }
+    }
+    right
+}
+
+#[test]
+fn waiting_call_stops(rt: HostRuntime) -> Result<(), Fail> {
+    assert!(rt; stops_each(rt.alloc(), STOPS) == 4);
     Ok(())
 }

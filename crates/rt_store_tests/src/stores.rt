@@ -192,12 +192,15 @@ fn has_no_faults(store: &MemStore) -> bool {
     (*store.config() == FaultConfig::default()) & (store.injected() == 0)
 }
 
+/// The digest of one blob of a partition `p`: its name `a`, its version 0 and its bytes 0, 0, `ab`.
+const DIGEST: [u8; 4] = [0x48, 0x44, 0x42, 0x9a];
+
 #[test]
 fn surface(rt: HostRuntime) -> Result<(), Fail> {
     let mut store = MemStore::new(rt.alloc(), FaultConfig::default())?;
     let first = came(opens_first(rt.alloc(), &mut store), true);
     let again = came(opens_again(&mut store), true);
-    assert!(rt; first & again & has_no_faults(&store));
+    assert!(rt; first & again & has_no_faults(&store) & (store.audit() == DIGEST));
     Ok(())
 }
 

@@ -1,6 +1,7 @@
 use Rattle.rt_buffer.specs.Memory.{memory_bytes, memory_left, memory_promised}
 use Rattle.rt_buffer.specs.Tip.{laid_over}
-use Rattle.rt_buffer.proofs.Kept.{crash_leaves, done_by, memory_keeps}
+use Rattle.rt_buffer.proofs.Crashes.{store_leaves}
+use Rattle.rt_buffer.proofs.Kept.{crash_leaves, memory_keeps, stepped_by}
 use Rattle.rt_buffer.proofs.Others.{memory_others}
 use Rattle.rt_buffer.proofs.in_memory.Write+MemStore.sync_in_memory.Goals as goal
 
@@ -12,5 +13,10 @@ returns-clause-others g c = memory_others
 
 pub returns-clause-durable : goal.returns-clause-durable
 returns-clause-durable g c = λ lies knows.
-    done_by c.sync.result _ _ _ (λ w kept. (kept, crash_leaves c.sync.new.store c.args.self.blob (laid_over c.args.self.held.tip (memory_bytes c.args.store.now c.args.self.blob)) w.held kept))
+    stepped_by c.sync.result _ _ _ _ (λ w kept. (kept, crash_leaves c.sync.new.store c.args.self.blob (laid_over c.args.self.held.tip (memory_bytes c.args.store.now c.args.self.blob)) w.held kept)) (λ p waits. waits)
+    (c.sync.ensures.durable memory_bytes memory_left memory_promised memory_keeps lies knows)
+
+pub returns-clause-crash : goal.returns-clause-crash
+returns-clause-crash g c = λ lies knows.
+    stepped_by c.sync.result _ _ _ _ (λ w kept. store_leaves (laid_over c.args.self.held.tip (memory_bytes c.args.store.now c.args.self.blob)) c.sync.new.store c.args.self.blob kept.0.0 kept.1) (λ p waits. tt)
     (c.sync.ensures.durable memory_bytes memory_left memory_promised memory_keeps lies knows)
