@@ -184,7 +184,7 @@ const GIVEN_UP_SEND: [(Step, Ending, Option<u64>); 4] = [
     (Step::GiveUpSend, Ending::Done, None),
 ];
 
-// Another network's token, whose halves wait there, is refused where no channel has its number, and its halves go on
+// Another network's token, whose halves wait there, is refused where no channel has its number, and its channel goes on
 // waiting. Where one has, its `send` waits in the place of one that waits here, and for nothing where that was given up.
 #[test]
 fn calls_by_the_tokens_of_another_network(rt: HostRuntime) -> Result<(), Fail> {
@@ -194,6 +194,7 @@ fn calls_by_the_tokens_of_another_network(rt: HostRuntime) -> Result<(), Fail> {
     let mut other = line_of(&rt, alloc, &mut there, 10);
     takes(&rt, &mut there, &mut NoEnv, &mut other, &BLOCK);
     takes(&rt, &mut net, &mut NoEnv, &mut other, &REFUSED);
+    assert!(rt; there.waiting_halves(0) == (Some(2), Some(1)));
     let mut line = line_of(&rt, alloc, &mut net, 10);
     takes(&rt, &mut net, &mut NoEnv, &mut line, &WAITING_SEND);
     let started = poll_put(&mut net, &mut NoEnv, &mut other.sink, 3);
@@ -248,7 +249,10 @@ fn outlives<N: Network, E: Env>(
     let _ = net.close_stream(stream);
 }
 
-// All bytes, then too few, then nothing more.
+// What an empty stream gives once its sink has closed.
+const NOTHING_LEFT: [(usize, Ending); 2] = [(1, Ending::RecvFailed), (1, Ending::Closed)];
+
+// All bytes, then too few, then nothing more. With no byte the first `recv` fails.
 #[test]
 fn receives_after_the_sink_closed(rt: HostRuntime) -> Result<(), Fail> {
     let mut net = Net::new(rt.alloc())?;
@@ -261,6 +265,8 @@ fn receives_after_the_sink_closed(rt: HostRuntime) -> Result<(), Fail> {
     ];
     takes(&rt, &mut net, &mut NoEnv, &mut line, &steps);
     outlives(&rt, &mut net, &mut NoEnv, line, None, &receives);
+    let empty = line_of(&rt, rt.alloc(), &mut net, 10);
+    outlives(&rt, &mut net, &mut NoEnv, empty, None, &NOTHING_LEFT);
     Ok(())
 }
 
