@@ -141,13 +141,9 @@ impl Script {
         ensures steps { (on : Script → Next) → Advanced (sleeps self.old on fresh) (on self.new) world.old world.new result self.new }
     {
         let waits = mem::replace(&mut self.waits, Waits::Nothing);
-        let mut sleep = match sleep_in(waits, fresh) {
-            Ok(sleep) => sleep,
-            Err(error) => {
-                drop(error);
-                self.pass(-11);
-                return None;
-            }
+        let Ok(mut sleep) = sleep_in(waits, fresh) else {
+            self.pass(-11);
+            return None;
         };
         match sleep.poll(world, cx) {
             Poll::Pending => {
@@ -158,10 +154,7 @@ impl Script {
                 self.pass(0);
                 None
             }
-            Poll::Ready(Err(error)) => {
-                drop(error);
-                Some(Answer::NoMemory)
-            }
+            Poll::Ready(Err(_)) => Some(Answer::NoMemory),
         }
     }
 
@@ -189,10 +182,7 @@ impl Script {
                 self.pass(0);
                 None
             }
-            Poll::Ready(Err(error)) => {
-                drop(error);
-                Some(Answer::NoMemory)
-            }
+            Poll::Ready(Err(_)) => Some(Answer::NoMemory),
         }
     }
 
@@ -434,8 +424,7 @@ impl Script {
                 handle.give_up(world);
                 self.refuse(Error::Timeout)
             }
-            Poll::Ready(Err(error)) => {
-                drop(error);
+            Poll::Ready(Err(_)) => {
                 self.handles.put(at as u64, handle);
                 Some(Answer::NoMemory)
             }
