@@ -1,5 +1,6 @@
 pub mod Address
 pub mod Attributes
+pub mod Cells
 pub mod Counted
 pub mod InMemory
 pub mod Label

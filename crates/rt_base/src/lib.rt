@@ -2,6 +2,7 @@
 #![tactic(auto)]
 
 mod addr;
+mod cell;
 mod choice;
 mod env;
 mod error;
@@ -34,6 +35,7 @@ mod version;
 mod whole;
 
 pub use addr::{Addr, Ip};
+pub use cell::Cell;
 pub use choice::Choice;
 pub use env::{Env, NoEnv};
 pub use error::Error;
