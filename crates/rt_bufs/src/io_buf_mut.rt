@@ -1,5 +1,5 @@
 // Bytes that one owner writes.
-ghost use Rattle.std.specs.Prelude.{◌≡◌, ◌+◌, ◌^◌, ◌<◌, ◌≤◌, [], ◌++◌, length, take, drop, replicate, IsOk, IfOk};
+ghost use Rattle.std.specs.Prelude.{◌≡◌, ◌+◌, ◌<◌, ◌≤◌, [], ◌++◌, length, take, drop, replicate, IsOk, IfOk};
 
 use crate::IoBuf;
 use bytes::BytesMut;

@@ -54,6 +54,10 @@ abbrev pub waits_in : ℕ → List (ℕ × SignalToken) → List ℕ
 waits_in group [] = []
 waits_in group (t ∷ ts) = if t.1.group == group then those t.1.waits ++ waits_in group ts else waits_in group ts
 
+-- somebody waits by this one
+abbrev pub is_waited : ℕ → List (ℕ × SignalToken) → Bool
+is_waited number ts = option_map_or (λ t. is_some t.waits) (find number ts) false
+
 -- nobody waits by those of the group any more
 abbrev pub unwaited : ℕ → List (ℕ × SignalToken) → List (ℕ × SignalToken)
 unwaited group ts = map (λ t. if t.1.group == group then (t.0, new_token group) else t) ts

@@ -1,10 +1,10 @@
 // Values that are shown once to all who hold a signal.
-ghost use Rattle.std.specs.Prelude.{◌≡◌, ◌≤◌, ◌+◌, ◌*◌, ◌++◌, ◌⊎◌, ◌↔◌, [], length, drop, slice_get, Err, IfOk, IfErr, OnOk, OnErr, IsNone, IsSome, Some, Ok, ℕ};
+ghost use Rattle.std.specs.Prelude.{◌≡◌, ◌≤◌, ◌+◌, ◌*◌, ◌++◌, ◌⊎◌, ◌↔◌, [], length, drop, slice_get, Err, IfOk, IfErr, OnOk, OnErr, IsNone, IsSome, is_some, Some, Ok, ℕ};
 ghost use Rattle.std.specs.VecDeque.{deque_capacity};
 ghost use Rattle.rt_super.specs.Wakers.{waker_of};
 ghost use Rattle.rt_super.specs.Rows.{find};
 ghost use Rattle.rt_super.specs.declared.signal_token.SignalToken.{SignalToken};
-ghost use Rattle.rt_super.specs.Signals.{no_signals, new_group, group_of, with_group, with_signal, with_clone, with_completion, is_alive, has_value, completes, signaled, woken_by_value, signaler_closed, woken_by_closing, signal_closed, woken_by_last, completion_closed, signal_answer, signal_polled, completion_answer, completion_polled, StopRecord, IsShutdown, KeepShutdowns, KeepOthers, AreFresh, signal_group, stop_shown};
+ghost use Rattle.rt_super.specs.Signals.{no_signals, new_group, group_of, is_waited, with_group, with_signal, with_clone, with_completion, is_alive, has_value, completes, signaled, woken_by_value, signaler_closed, woken_by_closing, signal_closed, woken_by_last, completion_closed, signal_answer, signal_polled, completion_answer, completion_polled, StopRecord, IsShutdown, KeepShutdowns, KeepOthers, AreFresh, signal_group, stop_shown};
 
 use crate::signal_group::SignalGroup;
 use crate::table::Table;
@@ -169,6 +169,77 @@ impl Signals {
         Ok(Poll::Pending)
     }
 
+    /// What a signal shows: the value of its group once it came. The signal of a group that was never made stays without one.
+    ///
+    /// Errors: `UnknownToken` where no open signal has the number, `Closed` where the signaler was given up without a value.
+    pub fn shown(&self, signal: u64) -> Result<Poll<i32>, Error>
+        ensures answer { result ≡ signal_answer self.now.told signal }
+        ensures causes { IfErr result (λ e. (e ≡ Error.UnknownToken) ⊎ (e ≡ Error.Closed)) }
+    {
+        let Some(token) = self.signals.get(signal) else {
+            return Err(Error::UnknownToken);
+        };
+        let Some(group) = self.groups.get(token.group) else {
+            return Ok(Poll::Pending);
+        };
+        match group.value {
+            Some(value) => Ok(Poll::Ready(value)),
+            None if group.alive => Ok(Poll::Pending),
+            None => Err(Error::Closed),
+        }
+    }
+
+    /// Whether a completion is met: the value of its group came, and each of its signals was given up. `UnknownToken` where no
+    /// live completion has the number.
+    pub fn met(&self, completion: u64) -> Result<Poll<()>, Error>
+        ensures answer { result ≡ completion_answer self.now.told completion }
+        ensures causes { IfErr result (λ e. e ≡ Error.UnknownToken) }
+    {
+        let Some(token) = self.completions.get(completion) else {
+            return Err(Error::UnknownToken);
+        };
+        if self.completes(token.group) {
+            Ok(Poll::Ready(()))
+        } else {
+            Ok(Poll::Pending)
+        }
+    }
+
+    /// Whether an open signal has this number.
+    pub fn has_signal(&self, signal: u64) -> bool
+        ensures { result ≡ is_some (find signal self.now.told.signals) }
+    {
+        self.signals.get(signal).is_some()
+    }
+
+    /// Whether a live completion has this number.
+    pub fn has_completion(&self, completion: u64) -> bool
+        ensures { result ≡ is_some (find completion self.now.told.completions) }
+    {
+        self.completions.get(completion).is_some()
+    }
+
+    /// Whether somebody waits by an open signal.
+    pub fn is_signal_waited(&self, signal: u64) -> bool
+        ensures { result ≡ is_waited signal self.now.told.signals }
+    {
+        self.signals.is_waited(signal)
+    }
+
+    /// Whether somebody waits by a live completion.
+    pub fn is_completion_waited(&self, completion: u64) -> bool
+        ensures { result ≡ is_waited completion self.now.told.completions }
+    {
+        self.completions.is_waited(completion)
+    }
+
+    /// The number that the next signaler, signal or completion gets.
+    pub fn count(&self) -> u64
+        ensures { result ≡ self.now.told.count }
+    {
+        self.signals.count()
+    }
+
     /// Gives an open signal up. Nothing for any other number.
     #[tactic(auto, using(crate::proofs::Shutdowns::close_keeps))]
     pub fn close_signal(&mut self, signal: u64)
@@ -323,7 +394,7 @@ impl Signals {
     }
 
     /// Whether a signaler is there.
-    fn is_alive(&self, signaler: u64) -> bool
+    pub fn is_alive(&self, signaler: u64) -> bool
         ensures { result ≡ is_alive self.now.told signaler }
     {
         match self.groups.get(signaler) {

@@ -1,5 +1,5 @@
 // What became of one slot.
-ghost use Rattle.std.specs.Prelude.{◌≡◌, Option, Some, None, ℕ, IsTrue};
+ghost use Rattle.std.specs.Prelude.{◌≡◌, Option, Some, None, IsTrue};
 ghost use Rattle.rt_super.specs.Slots.{waiting_of, is_held, with_value, without_value, with_abort, poll_answer, after_poll, value_in};
 
 use rt_base::Poll;

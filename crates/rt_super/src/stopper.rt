@@ -89,4 +89,21 @@ impl Stopper {
             }
         }
     }
+
+    /// The number of its group.
+    pub fn group(&self) -> u64
+        ensures { result ≡ self.now.group }
+    {
+        self.group
+    }
+
+    /// What [`stopped`](Self::stopped) answers where there is memory.
+    pub fn answer(&self, signals: &Signals) -> Stopped
+        ensures { result ≡ stopped_answer signals.now.told self.now }
+    {
+        match self.value {
+            Some(value) => Stopped::Resolved(value),
+            None => Stopped::Waiting(signals.count()),
+        }
+    }
 }

@@ -1,8 +1,8 @@
 // The signals, or the completions, of all groups.
-ghost use Rattle.std.specs.Prelude.{◌≡◌, ◌≤◌, ◌<◌, ◌+◌, ◌∷◌, ◌++◌, [], ℕ, None, length, OnOk, OnErr, IfSome, set, get_or, vec_capacity};
+ghost use Rattle.std.specs.Prelude.{◌≡◌, ◌≤◌, ◌<◌, ◌+◌, ◌∷◌, ◌++◌, [], ℕ, None, length, OnOk, OnErr, set, get_or, vec_capacity};
 ghost use Rattle.std.specs.VecDeque.{deque_capacity};
 ghost use Rattle.rt_super.specs.Rows.{find, without, replaced};
-ghost use Rattle.rt_super.specs.Signals.{new_token, group_for, is_open, waits_in, unwaited, waiting_as};
+ghost use Rattle.rt_super.specs.Signals.{new_token, group_for, is_open, is_waited, waits_in, unwaited, waiting_as};
 ghost use Rattle.rt_super.specs.Tokens.{lists_of, wait_of, with_met, IsLeft};
 
 use crate::signal_token::SignalToken;
@@ -58,6 +58,16 @@ impl Tokens {
         ensures { result ≡ find number self.now.items }
     {
         self.table.get(number)
+    }
+
+    /// Whether somebody waits by this one.
+    pub fn is_waited(&self, number: u64) -> bool
+        ensures { result ≡ is_waited number self.now.items }
+    {
+        match self.table.get(number) {
+            Some(token) => token.waits.is_some(),
+            None => false,
+        }
     }
 
     /// Whether one of the group is there.

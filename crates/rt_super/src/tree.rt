@@ -94,6 +94,14 @@ impl Tree {
         }
     }
 
+    // Whether a live node was ended.
+    fn was_ended(&self, node: u64) -> bool
+        requires { is_live self.now node ≡ true }
+        ensures { result ≡ is_ended self.now node }
+    {
+        self.ended[node as usize]
+    }
+
     /// Whether the first node was ended, and so every node.
     pub fn is_over(&self) -> bool
         ensures first { result ≡ is_ended self.now 0 }
@@ -122,7 +130,7 @@ impl Tree {
         if !self.lives(parent) {
             return Err(Error::UnknownToken);
         }
-        let ended = self.has_ended(parent);
+        let ended = self.was_ended(parent);
         let number = self.add((!ended).then_some(parent), ended)?;
         Ok((number, ended))
     }
@@ -141,7 +149,7 @@ impl Tree {
         if !self.lives(node) {
             return Err(Error::UnknownToken);
         }
-        let ended = self.has_ended(node);
+        let ended = self.was_ended(node);
         self.history = History::after(&self.history, &Change::Registered(node, task));
         self.nodes[node as usize].task = Some(task);
         Ok(ended)
