@@ -1,17 +1,17 @@
 -- The line of each entry.
-use Rattle.std.specs.Prelude.{ℕ, List, [], ◌∷◌, ◌++◌, Option, Some, None, Bool, true, false, codes}
-use Rattle.std.specs.Fmt.{decimal}
+use Rattle.std.specs.Prelude.{ℕ, ℤ, List, [], ◌∷◌, ◌++◌, Option, Some, None, Bool, true, false, codes}
+use Rattle.std.specs.Fmt.{decimal, signed_decimal}
 use Rattle.hex.specs.Hex.{encode_lower}
 use Rattle.rt_base.specs.declared.choice.Choice.{Choice}
 use Rattle.rt_base.specs.declared.choice.Choice.TheVariants.{Kept, Dropped, Prefix}
 use Rattle.rt_audit.specs.declared.answer.AnswerKind.{AnswerKind}
-use Rattle.rt_audit.specs.declared.answer.AnswerKind.TheVariants.{Pending as IsPending, Ready as IsReady, Panicked, Stopped, NoMemory as LacksMemory, Ended}
+use Rattle.rt_audit.specs.declared.answer.AnswerKind.TheVariants.{Pending as IsPending, Ready as IsReady, Panicked, Stopped as IsStopped, NoMemory as LacksMemory, Ended}
 use Rattle.rt_audit.specs.declared.finish.FinishCause.{FinishCause}
 use Rattle.rt_audit.specs.declared.finish.FinishCause.TheVariants.{Completed, Timeout, Stalled, TaskPanicked, TimeOverflow, TooManyTasks, NoMemory}
 use Rattle.rt_audit.specs.declared.call.Call.{Call}
-use Rattle.rt_audit.specs.declared.call.Call.TheVariants.{Child, CloseNode, Spawn, Abort, AbortTask, Wake as WakeCall, Join, GiveUp, SleepPoll, Slot, SlotSend, SlotClose, SlotPoll, SlotGiveUp, AbortWait}
+use Rattle.rt_audit.specs.declared.call.Call.TheVariants.{Child, CloseNode, Spawn, Abort, AbortTask, Wake as WakeCall, Join, GiveUp, SleepPoll, Slot, SlotSend, SlotClose, SlotPoll, SlotGiveUp, AbortWait, Signaler, CloneSignal, Signal, SignalPoll, SignalClose, SignalerClose, CompletionPoll, CompletionClose, Stop, Stopped}
 use Rattle.rt_audit.specs.declared.reply.CallReply.{CallReply}
-use Rattle.rt_audit.specs.declared.reply.CallReply.TheVariants.{Done, NodeAt, TaskAt, Closed, SlotAt, Pending, PendingAt, Ready, Refused}
+use Rattle.rt_audit.specs.declared.reply.CallReply.TheVariants.{Done, NodeAt, TaskAt, Closed, SlotAt, SignalAt, CompletionAt, Value, ClosedWith, Pending, PendingAt, Ready, Refused}
 use Rattle.rt_audit.specs.declared.entry.Entry.{Entry}
 use Rattle.rt_audit.specs.declared.entry.Entry.TheVariants.{Start, Call as CallEntry, Event, Wake, Draw, Root, Round, Visit, Answer, NodeEnd, Advance, Skip, Fire, Cleanup, Crash, Finish}
 use Rattle.rt_audit.specs.Codes.{code_of}
@@ -19,6 +19,10 @@ use Rattle.rt_audit.specs.Codes.{code_of}
 -- a word, a space and a number
 abbrev pub numbered_text : List ℕ → ℕ → List ℕ
 numbered_text word number = word ++ (codes " " ++ decimal number)
+
+-- the same of a number that may be below zero
+abbrev pub valued_text : List ℕ → ℤ → List ℕ
+valued_text word number = word ++ (codes " " ++ signed_decimal number)
 
 abbrev pub optional_number : Option ℕ → List ℕ
 optional_number None = codes "-"
@@ -53,7 +57,7 @@ abbrev pub kind_word : AnswerKind → List ℕ
 kind_word IsPending = codes "pending"
 kind_word IsReady = codes "ready"
 kind_word Panicked = codes "panicked"
-kind_word Stopped = codes "stopped"
+kind_word IsStopped = codes "stopped"
 kind_word LacksMemory = codes "nomemory"
 kind_word Ended = codes "ended"
 
@@ -82,6 +86,16 @@ call_text (SlotClose slot) = numbered_text (codes "slot-close") slot
 call_text (SlotPoll slot) = numbered_text (codes "slot-poll") slot
 call_text (SlotGiveUp slot) = numbered_text (codes "slot-give-up") slot
 call_text (AbortWait slot) = numbered_text (codes "abort-wait") slot
+call_text Signaler = codes "signaler"
+call_text (CloneSignal signal) = numbered_text (codes "clone-signal") signal
+call_text (Signal signaler value) = valued_text (numbered_text (codes "signal") signaler) value
+call_text (SignalPoll signal) = numbered_text (codes "signal-poll") signal
+call_text (SignalClose signal) = numbered_text (codes "signal-close") signal
+call_text (SignalerClose signaler) = numbered_text (codes "signaler-close") signaler
+call_text (CompletionPoll completion) = numbered_text (codes "completion-poll") completion
+call_text (CompletionClose completion) = numbered_text (codes "completion-close") completion
+call_text (Stop value) = valued_text (codes "stop") value
+call_text Stopped = codes "stopped"
 
 abbrev pub ended_word : Bool → List ℕ
 ended_word true = codes " ended"
@@ -93,6 +107,10 @@ reply_text (NodeAt node ended) = numbered_text (codes "node") node ++ ended_word
 reply_text (TaskAt task node) = numbered_text (codes "task") task ++ numbered_text (codes " node") node
 reply_text Closed = codes "closed"
 reply_text (SlotAt slot) = numbered_text (codes "slot") slot
+reply_text (SignalAt signal) = numbered_text (codes "signal") signal
+reply_text (CompletionAt completion) = numbered_text (codes "completion") completion
+reply_text (Value value) = valued_text (codes "ok") value
+reply_text (ClosedWith value) = valued_text (codes "closed") value
 reply_text Pending = codes "pending"
 reply_text (PendingAt alarm) = numbered_text (codes "pending") alarm
 reply_text Ready = codes "ready"

@@ -3,7 +3,7 @@
 ghost use Rattle.std.specs.Prelude.{◌≡◌, ◌++◌, OnOk, string_bytes};
 ghost use Rattle.rt_audit.specs.Lines.{call_text};
 
-use crate::line::{add_numbered, add_space, add_word};
+use crate::line::{add_numbered, add_signed, add_space, add_word};
 use crate::{Label, Moment};
 use rt_base::NoMemory;
 
@@ -40,6 +40,26 @@ pub enum Call {
     SlotGiveUp { slot: u64 },
     /// Aborts the wait for what comes by a slot.
     AbortWait { slot: u64 },
+    /// Makes a group of signals.
+    Signaler,
+    /// Makes a further signal of the group of this one.
+    CloneSignal { signal: u64 },
+    /// Gives a group its value.
+    Signal { signaler: u64, value: i32 },
+    /// Polls a signal.
+    SignalPoll { signal: u64 },
+    /// Gives a signal up.
+    SignalClose { signal: u64 },
+    /// Gives a signaler up that gave no value.
+    SignalerClose { signaler: u64 },
+    /// Polls a completion.
+    CompletionPoll { completion: u64 },
+    /// Gives a completion up.
+    CompletionClose { completion: u64 },
+    /// Begins the shutdown with this value, unless it began before.
+    Stop { value: i32 },
+    /// Makes a signal of the shutdown, unless it began before.
+    Stopped,
 }
 
 impl Call {
@@ -67,6 +87,25 @@ impl Call {
             Call::SlotPoll { slot } => add_numbered(text, "slot-poll ", *slot as u128),
             Call::SlotGiveUp { slot } => add_numbered(text, "slot-give-up ", *slot as u128),
             Call::AbortWait { slot } => add_numbered(text, "abort-wait ", *slot as u128),
+            Call::Signaler => add_word(text, "signaler"),
+            Call::CloneSignal { signal } => add_numbered(text, "clone-signal ", *signal as u128),
+            Call::Signal { signaler, value } => {
+                add_numbered(text, "signal ", *signaler as u128)?;
+                add_signed(text, " ", *value)
+            }
+            Call::SignalPoll { signal } => add_numbered(text, "signal-poll ", *signal as u128),
+            Call::SignalClose { signal } => add_numbered(text, "signal-close ", *signal as u128),
+            Call::SignalerClose { signaler } => {
+                add_numbered(text, "signaler-close ", *signaler as u128)
+            }
+            Call::CompletionPoll { completion } => {
+                add_numbered(text, "completion-poll ", *completion as u128)
+            }
+            Call::CompletionClose { completion } => {
+                add_numbered(text, "completion-close ", *completion as u128)
+            }
+            Call::Stop { value } => add_signed(text, "stop ", *value),
+            Call::Stopped => add_word(text, "stopped"),
         }
     }
 }

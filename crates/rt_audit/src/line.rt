@@ -1,7 +1,7 @@
 //! The shapes of a journal's lines, each added to a text.
 
 ghost use Rattle.std.specs.Prelude.{◌≡◌, ◌++◌, ◌<◌, ◌≤◌, length, OnOk, IsAscii, codes, string_bytes};
-ghost use Rattle.std.specs.Fmt.{decimal};
+ghost use Rattle.std.specs.Fmt.{decimal, signed_decimal};
 ghost use Rattle.hex.specs.Hex.{encode_lower};
 ghost use Rattle.rt_audit.specs.TaskEvent.{small_number};
 ghost use Rattle.rt_audit.specs.Lines.{optional_number, numbers_text, hex_text, fields_text, choice_text, choices_text};
@@ -95,6 +95,15 @@ pub fn add_numbered(text: &mut String, word: &str, number: u128) -> Result<(), N
 {
     add_word(text, word)?;
     add_number(text, number)
+}
+
+/// A word with its space, and a number that may be below zero.
+pub fn add_signed(text: &mut String, word: &str, number: i32) -> Result<(), NoMemory>
+    ensures { OnOk result (string_bytes text.new ≡ string_bytes text.old ++ (word.now ++ signed_decimal number)) }
+{
+    add_word(text, word)?;
+    text.push_str(Buffer::new().format(number))?;
+    Ok(())
 }
 
 /// A number, or `-` where there is none.

@@ -5,7 +5,7 @@ ghost use Rattle.rt_audit.specs.Lines.{reply_text};
 
 use crate::Refusal;
 use crate::code::error_code;
-use crate::line::{add_numbered, add_word};
+use crate::line::{add_numbered, add_signed, add_word};
 use rt_base::NoMemory;
 
 /// A reply, as its line shows it. A refusal keeps the error itself, of which the line shows the number.
@@ -21,6 +21,14 @@ pub enum CallReply {
     Closed,
     /// This slot was made.
     SlotAt { slot: u64 },
+    /// This signal was made.
+    SignalAt { signal: u64 },
+    /// This completion was made.
+    CompletionAt { completion: u64 },
+    /// The signal shows this value.
+    Value { value: i32 },
+    /// The shutdown began with this value, and so no signal of it was made.
+    ClosedWith { value: i32 },
     /// What was waited for isn't there.
     Pending,
     /// The sleep isn't over, and this alarm will wake its task.
@@ -49,6 +57,12 @@ impl CallReply {
             }
             CallReply::Closed => add_word(text, "closed"),
             CallReply::SlotAt { slot } => add_numbered(text, "slot ", *slot as u128),
+            CallReply::SignalAt { signal } => add_numbered(text, "signal ", *signal as u128),
+            CallReply::CompletionAt { completion } => {
+                add_numbered(text, "completion ", *completion as u128)
+            }
+            CallReply::Value { value } => add_signed(text, "ok ", *value),
+            CallReply::ClosedWith { value } => add_signed(text, "closed ", *value),
             CallReply::Pending => add_word(text, "pending"),
             CallReply::PendingAt { alarm } => add_numbered(text, "pending ", *alarm as u128),
             CallReply::Ready => add_word(text, "ready"),
