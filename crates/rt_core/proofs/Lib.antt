@@ -4,3 +4,4 @@ pub mod Timeouts
 pub mod Joining
 pub mod Choosing
 pub mod Completing
+pub mod Signaled

@@ -9,7 +9,6 @@ use Rattle.rt_model.specs.Effects.{after_all}
 use Rattle.rt_model.specs.Rules.{IsLawful}
 use Rattle.rt_model.specs.Walk.{Walks, Fronts, Breaks}
 use Rattle.rt_model.specs.Causes.{reached}
-use Rattle.rt_model.specs.Turns.{Frees}
 use Rattle.rt_model.specs.Tied.{Steps, Value}
 use Rattle.rt_model.specs.Run.{IsRun, IsCutOff, IsValidInput}
 use Rattle.rt_machine.specs.Told.{own}
@@ -46,12 +45,11 @@ module _ {A O G : Type 0} (p : Steps A O) (w : World A O G) where
   ended-lacking before (Err cause) final a ends = ended-cut final None None true (ends true None a)
 
 -- a maker that lacked memory
-pub unmade : {A O G : Type 0} (p : Steps A O) (old new : World A O G) (root : Option A) → Kept old new → Follows p new.told (unmade_of old.held) → (Breaks (p.first old.told.state.clock.time) old.held new.told.state.turns (stood_in new.told.state) ⊎ (Fronts (p.first old.told.state.clock.time) old.held new.told.state.turns × (root ≡ None))) → Frees old.held new.told.state.turns new.held → IsUnmade p new root
-unmade p old new root kept follows breaks frees = record {
+pub unmade : {A O G : Type 0} (p : Steps A O) (old new : World A O G) (root : Option A) → Kept old new → Follows p new.told (unmade_of old.held) → (Breaks (p.first old.told.state.clock.time) old.held new.told.state.turns (stood_in new.told.state) new.held ⊎ (Fronts (p.first old.told.state.clock.time) old.held new.told.state.turns new.held × (root ≡ None))) → IsUnmade p new root
+unmade p old new root kept follows breaks = record {
   before = old.held;
   follows = follows;
   breaks = rw (ap (λ (c : Clock). c.time) kept.clock) breaks;
-  frees = frees;
 }
 
 -- one that made no root

@@ -9,3 +9,4 @@ pub mod Starting
 pub mod Outcome
 pub mod Given
 pub mod Select
+pub mod Signals

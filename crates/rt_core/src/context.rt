@@ -15,13 +15,16 @@ ghost use Rattle.rt_world.specs.Walked.{Closes, Goes, Polled, Rooted};
 ghost use Rattle.rt_core.specs.Contexts.{IsMakerOf, IsRefusedKey, IsSpawned, IsSpawnedBy, child_name, childs, context_on, root_context, spawn_told, spawning, spawns};
 ghost use Rattle.rt_core.specs.Handles.{TaskHandle};
 ghost use Rattle.rt_core.specs.Pollers.{sleep_for, sleep_until};
+ghost use Rattle.rt_core.specs.Signals.{asks_stopped};
 
 use crate::handle::HandleOf;
-use crate::{NoPoller, Sleep, Timeout};
+use crate::signals::SignalKind;
+use crate::{NoPoller, Signal, Sleep, Timeout};
 use rt_base::{
     Error, Execution, Items, MAX_TIME, MetricError, Name, Nanos, NoMemory, Refused, Text,
     add_attribute, clone_attributes, prefixed_name, validate_label,
 };
+use rt_super::Stopped;
 use rt_world::World;
 use std::alloc::Global;
 use std::marker::Model;
@@ -256,6 +259,22 @@ impl Context {
             state,
             duration,
             sleep: None,
+        }
+    }
+
+    /// A signal of the run's shutdown, which shows its value from when it begins. Where it began before, the signal holds that
+    /// value already. It takes memory, and its only error is `NoMemory`.
+    #[tactic(auto, using(rt_world::proofs::Signaled::signal_tell_laws), unfolding(crate::specs::Signals::asks_stopped))]
+    pub fn stopped<T, O, G>(&self, world: &mut World<T, O, G>) -> Result<Signal, Error>
+        requires { MayCall world.old.told.state world.old.out }
+        ensures kept { Kept world.old world.new }
+        ensures steps { Goes asks_stopped world.old world.new result tt }
+    {
+        let _ = &self.node;
+        match world.stopped() {
+            Ok(Stopped::Waiting(signal)) => Ok(Signal::open(signal)),
+            Ok(Stopped::Resolved(value)) => Ok(Signal::of(SignalKind::Resolved(value))),
+            Err(NoMemory) => Err(Error::NoMemory),
         }
     }
 

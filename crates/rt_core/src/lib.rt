@@ -12,6 +12,7 @@ mod run_error;
 mod runner;
 mod running;
 mod select;
+mod signals;
 mod sleep;
 #[cfg(test)]
 mod tests;
@@ -31,6 +32,7 @@ pub use rt_world::{Answer, Cx, Outcome, Poller, ResultReceiver, ResultSender, Ta
 pub use run_error::RunError;
 pub use runner::Runner;
 pub use select::{Select, SelectOf};
+pub use signals::{CompletionWait, Signal, Signaler};
 pub use sleep::Sleep;
 pub use timeout::Timeout;
 pub use yields::Reschedule;

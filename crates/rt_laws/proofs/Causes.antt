@@ -97,7 +97,7 @@ sound-after s (Event label fields) m k = sound-entered s s.phase s.clock k
 sound-after s (Root task) m k = tt
 sound-after s (Round order) m k = sound-round s.phase s m.1.0
 sound-after s (Visit task) m k = rw m.1.0 at k
-sound-after s (Answer task kind) m k = sound-answered s task kind m.1 k
+sound-after s (Answer task kind) m k = sound-answered s task kind m.1.0 k
 sound-after s (NodeEnd node) m k = sound-node s.phase s.clock k
 sound-after s (Advance now) m k = tt
 sound-after s (Skip now) m k = rw m.1.0 tt
@@ -215,7 +215,7 @@ needs-at _ cause s k m h = absurd (cc)
 needs : (b : Begin) (x y : List Entry) (cause : FinishCause) → IsLawful (begun b) (x ++ Cleanup ∷ y) → (after_all (begun b) (x ++ Cleanup ∷ y)).phase ≡ Finished cause → cause ≢ OutOfMemory → Needs cause (after_all (begun b) x).phase (after_all (begun b) x)
 needs b x y cause l h n =
     let s = after_all (begun b) x in
-    needs-at s.phase cause s (run_sound b x (lawful-front (begun b) x (Cleanup ∷ y) l)) (lawful-tail (begun b) x (Cleanup ∷ y) l).0.1 (run_cause b x y cause l h n)
+    needs-at s.phase cause s (run_sound b x (lawful-front (begun b) x (Cleanup ∷ y) l)) (lawful-tail (begun b) x (Cleanup ∷ y) l).0.1.0 (run_cause b x y cause l h n)
 
 module _ (b : Begin) (x y : List Entry) (l : IsLawful (begun b) (x ++ Cleanup ∷ y)) where
   pub run_stalled : (after_all (begun b) (x ++ Cleanup ∷ y)).phase ≡ Finished Stalled → ((after_all (begun b) x).ready ≡ []) × ((after_all (begun b) x).alarms.alarms ≡ [])

@@ -13,23 +13,24 @@ use Rattle.rt_audit.specs.declared.entry.Entry.TheVariants.{Start, Call as CallE
 use Rattle.rt_model.specs.declared.answer.Answer.{Answer}
 use Rattle.rt_model.specs.declared.answer.Answer.TheVariants.{Pending, Ready, Panicked}
 use Rattle.rt_model.specs.declared.begin.Begin.{Begin}
-use Rattle.rt_model.specs.State.{State, Phase, Making, Between, Visiting, Entered, Polling, Halted, Turning, Over, Finished, Turn, stood_in, begun}
-use Rattle.rt_model.specs.Events.{process_task, task_fields}
+use Rattle.rt_model.specs.declared.result.Outcome.{Outcome}
+use Rattle.rt_model.specs.State.{State, Phase, Making, Between, Visiting, Entered, Polling, Halted, Ending, Turning, Over, Finished, Announced, Clock, Stood, Turn, stood_in, begun}
+use Rattle.rt_model.specs.Events.{process_task, task_fields, announced_by}
 use Rattle.rt_model.specs.Alarms.{alarm_of, skip_to, fires}
 use Rattle.rt_model.specs.Causes.{cause_at, reached, from_running}
-use Rattle.rt_model.specs.Effects.{after, after_all, task_label}
-use Rattle.rt_model.specs.Rules.{Answers, May, MayRound, IsLawful}
+use Rattle.rt_model.specs.Effects.{after, after_all, entered as entering, announces, task_label}
+use Rattle.rt_model.specs.Rules.{Answers, May, MayEvent, MayRound, IsLawful}
 use Rattle.rt_model.specs.Lists.{find}
 use Rattle.rt_super.specs.Ancestry.{is_ended}
 use Rattle.rt_model.specs.Turns.{Held, Ask, Sleeping, Heard, Asks, Fits, call_of, put}
-use Rattle.rt_model.specs.Walk.{Step, Does, Gives, Gave, Walks, Fronts}
+use Rattle.rt_model.specs.Walk.{Step, Does, Gives, Gave, Walks}
 use Rattle.rt_model.specs.Tied.{Steps, Value, nothing, MovesCleanup, Moves, Polls, IsTied, taken, given}
 use Rattle.rt_model.specs.Run.{IsValidInput}
 use Rattle.rt_laws.proofs.Endings.{EndsFor, ends-all, cleans-for}
 use Rattle.rt_laws.proofs.Starts.{run_starts}
 use Rattle.rt_laws.proofs.Stands.{stands, may_stand}
 use Rattle.rt_laws.proofs.Values.{all-whole, not-whole}
-use Rattle.rt_laws.proofs.Fronts.{LeadsTo, walks-front, front-front, leads-fronts, leads-gave}
+use Rattle.rt_laws.proofs.Fronts.{LeadsTo, IsFront, walks-front, front-front, leads-fronts, leads-gave}
 
 -- the rest of a run that finishes for this cause, and isn't cut off
 pub record Rest {A O : Type 0} (p : Steps A O) (s : State) (v : Value A O) (x : List Entry) (cause : FinishCause) : Type 0 where
@@ -43,6 +44,10 @@ pub record Rest {A O : Type 0} (p : Steps A O) (s : State) (v : Value A O) (x : 
 -- each such rest completes
 abbrev pub Completes : {A O : Type 0} → Steps A O → State → Value A O → Type 0
 Completes p s v = (x : List Entry) (cause : FinishCause) → Rest p s v x cause → cause ≡ Completed
+
+-- a call that announces nothing
+abbrev pub IsQuiet : {A O : Type 0} → Ask A O → Type 0
+IsQuiet ask = (reply : CallReply) → announced_by (call_of ask) reply ≡ []
 
 -- no cause is reached, or this one
 abbrev pub IsFine : Option FinishCause → Type 0
@@ -92,18 +97,18 @@ module _ {A O : Type 0} (p : Steps A O) where
 
   -- the calls of a part under way are a front of its walk
 
-  cleanup-front : (s : State) (v u : Value A O) (q : Phase) → q ≡ Making → MovesCleanup p s v q u → u.whole ≡ true → Fronts (p.first s.clock.time) v.held s.turns
+  cleanup-front : (s : State) (v u : Value A O) (q : Phase) → q ≡ Making → MovesCleanup p s v q u → u.whole ≡ true → IsFront (p.first s.clock.time) v.held s.turns
   cleanup-front s v u q h m w =
       let k : MovesCleanup p s v Making u = rw h at m in
       elim k [
         | inl k ↦ walks-front (stood_in s) tt k.0 u.held s.turns v.held (p.first s.clock.time) k.1
-        | inr k ↦ absurd (elim k.0 [
+        | inr k ↦ absurd (elim k [
           | inl b ↦ not-whole u (record v { held = u.held; unmade = u.unmade; whole = false }) w refl b.1
           | inr b ↦ not-whole u (record v { held = u.held; unmade = None; whole = false }) w refl b.1
         ])
       ]
 
-  making-front : (s : State) (v : Value A O) (x : List Entry) (cause : FinishCause) → s.phase ≡ Making → Rest p s v x cause → Fronts (p.first s.clock.time) v.held s.turns
+  making-front : (s : State) (v : Value A O) (x : List Entry) (cause : FinishCause) → s.phase ≡ Making → Rest p s v x cause → IsFront (p.first s.clock.time) v.held s.turns
   unfolding after
   making-front s v [] cause h r = let e = r.ends in absurd (cc)
   making-front s v (CallEntry by call reply ∷ x) cause h r =
@@ -111,6 +116,10 @@ module _ {A O : Type 0} (p : Steps A O) where
       let t : Turn = record { call = call; reply = reply; stood = stood_in s } in
       let k = making-front (after s (CallEntry by call reply)) m.0 x cause h m.3 in
       front-front s.turns (t ∷ []) v.held (p.first s.clock.time) (rw m.1 at k)
+  making-front s v (Event label fields ∷ x) cause h r =
+      let m = further s v (Event label fields) x cause r in
+      let k = making-front (after s (Event label fields)) m.0 x cause (rw h refl) m.3 in
+      rw m.1 at k
   making-front s v (Wake task ∷ x) cause h r =
       let m = further s v (Wake task) x cause r in
       let k = making-front (after s (Wake task)) m.0 x cause h m.3 in
@@ -132,7 +141,7 @@ module _ {A O : Type 0} (p : Steps A O) where
       let walks = k.walks in
       rw (e, same) at walks
 
-  polling-front : (s : State) (v : Value A O) (task : ℕ) (left : List ℕ) (a : A) (x : List Entry) (cause : FinishCause) → s.phase ≡ Polling task left → find task v.held.tasks ≡ Some a → Rest p s v x cause → Fronts (p.task.next a s.clock.time task) (taken task v.held) s.turns
+  polling-front : (s : State) (v : Value A O) (task : ℕ) (left : List ℕ) (a : A) (x : List Entry) (cause : FinishCause) → s.phase ≡ Polling task left → find task v.held.tasks ≡ Some a → Rest p s v x cause → IsFront (p.task.next a s.clock.time task) (taken task v.held) s.turns
   unfolding after
   polling-front s v task left a [] cause h f r = let e = r.ends in absurd (cc)
   polling-front s v task left a (CallEntry by call reply ∷ x) cause h f r =
@@ -140,26 +149,30 @@ module _ {A O : Type 0} (p : Steps A O) where
       let t : Turn = record { call = call; reply = reply; stood = stood_in s } in
       let k = polling-front (after s (CallEntry by call reply)) m.0 task left a x cause h (rw m.1 f) m.3 in
       front-front s.turns (t ∷ []) (taken task v.held) (p.task.next a s.clock.time task) (rw m.1 at k)
+  polling-front s v task left a (Event label fields ∷ x) cause h f r =
+      let m = further s v (Event label fields) x cause r in
+      let k = polling-front (after s (Event label fields)) m.0 task left a x cause (rw h refl) (rw m.1 f) m.3 in
+      rw m.1 at k
   polling-front s v task left a (Wake other ∷ x) cause h f r =
       let m = further s v (Wake other) x cause r in
       let k = polling-front (after s (Wake other)) m.0 task left a x cause h (rw m.1 f) m.3 in
       rw m.1 at k
   polling-front s v task left a (AnswerEntry other IsPending ∷ x) cause h f r =
       let m = further s v (AnswerEntry other IsPending) x cause r in
-      let n = r.lawful.0.1 in
+      let n = r.lawful.0.1.0 in
       let end : Held A O = m.1.0 in
       let k : Polls p s other v.held Pending end = m.1.1 in
       walks-front (stood_in s) Pending k.left k.moved s.turns (taken task v.held) (p.task.next a s.clock.time task) (polls-walk s v task other a Pending end (cc) f k)
   polling-front s v task left a (AnswerEntry other IsReady ∷ x) cause h f r =
       let m = further s v (AnswerEntry other IsReady) x cause r in
-      let n = r.lawful.0.1 in
+      let n = r.lawful.0.1.0 in
       let o : O = m.1.0 in
       let end : Held A O = m.1.1 in
       let k : Polls p s other v.held (Ready o) end = m.1.2 in
       walks-front (stood_in s) (Ready o) k.left k.moved s.turns (taken task v.held) (p.task.next a s.clock.time task) (polls-walk s v task other a (Ready o) end (cc) f k)
   polling-front s v task left a (AnswerEntry other IsPanicked ∷ x) cause h f r =
       let m = further s v (AnswerEntry other IsPanicked) x cause r in
-      let n = r.lawful.0.1 in
+      let n = r.lawful.0.1.0 in
       let text : List ℕ = m.1.0 in
       let end : Held A O = m.1.1 in
       let k : Polls p s other v.held (Panicked text) end = m.1.2 in
@@ -168,9 +181,76 @@ module _ {A O : Type 0} (p : Steps A O) where
       let m = further s v (AnswerEntry other LacksMemory) x cause r in
       let k = m.1 in
       not-whole m.0 (record v { held = put other k.left k.moved; whole = false }) m.2 refl k.is
-  polling-front s v task left a (AnswerEntry other IsEnded ∷ x) cause h f r = absurd (rw h at r.lawful.0.1)
-  polling-front s v task left a (AnswerEntry other IsStopped ∷ x) cause h f r = let n : Polling task left ≡ Halted other = rw h at r.lawful.0.1 in absurd (cc)
+  polling-front s v task left a (AnswerEntry other IsEnded ∷ x) cause h f r = absurd (rw h at r.lawful.0.1.0)
+  polling-front s v task left a (AnswerEntry other IsStopped ∷ x) cause h f r = let n : Polling task left ≡ Halted other = rw h at r.lawful.0.1.0 in absurd (cc)
   polling-front s v task left a (e ∷ x) cause h f r = let z : stands (Polling task left) e ≡ true = rw h at (may_stand s e r.lawful.0) in absurd (cc)
+
+  -- an event that no call of a part announces leads nowhere
+
+  -- calls of tasks or of the maker are made here
+  abbrev pub AreMade : Phase → Type 0
+  AreMade q = (q ≡ Making) ⊎ ((task : ℕ) × (left : List ℕ) × (q ≡ Polling task left)) ⊎ ((task : ℕ) × (result : Option Outcome) × (left : List ℕ) × (q ≡ Ending task result left))
+
+  made-none : (q : Phase) (e : Entry) → AreMade q → stands Making e ≡ false → ((task : ℕ) (left : List ℕ) → stands (Polling task left) e ≡ false) → ((task : ℕ) (result : Option Outcome) (left : List ℕ) → stands (Ending task result left) e ≡ false) → stands q e ≡ true → ⊥
+  made-none q e made n1 n2 n3 h = elim made [
+    | inl z ↦ (let a : stands Making e ≡ true = rw z at h in cc)
+    | inr m ↦ elim m [
+      | inl z ↦ (let a : stands (Polling z.0 z.1) e ≡ true = rw z.2 at h in let n = n2 z.0 z.1 in cc)
+      | inr z ↦ (let a : stands (Ending z.0 z.1 z.2) e ≡ true = rw z.3 at h in let n = n3 z.0 z.1 z.2 in cc)
+    ]
+  ]
+
+  goes-on-making : (s : State) (q : Phase) → AreMade q → entering s q ≡ q
+  goes-on-making s q made = elim made [
+    | inl z ↦ rw z refl
+    | inr m ↦ elim m [ inl z ↦ rw z.2 refl | inr z ↦ rw z.3 refl ]
+  ]
+
+  some-behind : (events : List Announced) (event : Announced) → events ++ event ∷ [] ≡ [] → ⊥
+  some-behind [] event e = cc
+  some-behind (other ∷ events) event e = cc
+
+  announces-some : (q : Phase) (events : List Announced) (label : List ℕ) (fields : List (List ℕ)) → AreMade q → announces q events label fields ≢ []
+  announces-some q events label fields made n =
+      let e : events ++ record { label = label; fields = fields } ∷ [] ≡ [] = elim made [
+        | inl z ↦ rw z at n
+        | inr m ↦ elim m [ inl z ↦ rw z.2 at n | inr z ↦ rw z.3 at n ]
+      ] in
+      some-behind events (record { label = label; fields = fields }) e
+
+  -- the steps of a part, whose turns so far lead to those whose next call announces nothing
+  module _ {L R : Type 0} (step at : Step A L O R) (held now : Held A O) (turns : List Turn) (leads : LeadsTo step held turns at now) (q : Phase) (made : AreMade q) (clock : Clock) (stood : Stood) (v : Value A O) (quiet : (call : Call) (reply : CallReply) → IsFront at now (record { call = call; reply = reply; stood = stood } ∷ []) → announced_by call reply ≡ []) (front : (s : State) (x : List Entry) (cause : FinishCause) → s.phase ≡ q → s.clock ≡ clock → Rest p s v x cause → IsFront step held s.turns) where
+    stray : (s : State) (x : List Entry) (cause : FinishCause) → s.phase ≡ q → s.clock ≡ clock → stood_in s ≡ stood → s.turns ≡ turns → s.owed ≡ [] → s.announced ≢ [] → Rest p s v x cause → ⊥
+    unfolding after
+    stray s [] cause h c is t o n r =
+        let e : q ≡ Finished cause = sym h ∙ r.ends in
+        elim made [ inl z ↦ cc | inr m ↦ elim m [ inl z ↦ (let k = z.2 in cc) | inr z ↦ (let k = z.3 in cc) ] ]
+    stray s (CallEntry by call reply ∷ x) cause h c is t o n r =
+        let m = further s v (CallEntry by call reply) x cause r in
+        let rest : Rest p (after s (CallEntry by call reply)) v x cause = rw m.1 at m.3 in
+        let turn : Turn = record { call = call; reply = reply; stood = stood_in s } in
+        let f : IsFront step held (s.turns ++ turn ∷ []) = front (after s (CallEntry by call reply)) x cause h c rest in
+        let one : IsFront at now (turn ∷ []) = leads-fronts at now (turn ∷ []) turns held step leads (rw t at f) in
+        n (r.lawful.0.1.2 ∙ quiet call reply (rw is at one))
+    stray s (Event label fields ∷ x) cause h c is t o n r =
+        let m = further s v (Event label fields) x cause r in
+        let rest : Rest p (after s (Event label fields)) v x cause = rw m.1 at m.3 in
+        let phase : entering s s.phase ≡ q = rw h (goes-on-making s q made) in
+        let some : announces s.phase s.announced label fields ≢ [] = rw h (announces-some q s.announced label fields made) in
+        stray (after s (Event label fields)) x cause phase c is t refl some rest
+    stray s (Wake other ∷ x) cause h c is t o n r = let w = r.lawful.0 in absurd (cc)
+    stray s (AnswerEntry task kind ∷ x) cause h c is t o n r = n r.lawful.0.1.1
+    stray s (Root task ∷ x) cause h c is t o n r = n r.lawful.0.1.3
+    stray s (Cleanup ∷ x) cause h c is t o n r = n r.lawful.0.1.1
+    stray s (e ∷ x) cause h c is t o n r = made-none q e made refl (λ task left. refl) (λ task result left. refl) (rw h at (may_stand s e r.lawful.0))
+
+    pub strays : (s : State) → s.phase ≡ q → s.clock ≡ clock → stood_in s ≡ stood → s.turns ≡ turns → (label : List ℕ) (fields : List (List ℕ)) (u : Value A O) → u ≡ v → Completes p (after s (Event label fields)) u
+    unfolding after
+    strays s h c is t label fields u e x cause r =
+        let rest : Rest p (after s (Event label fields)) v x cause = rw e at r in
+        let phase : entering s s.phase ≡ q = rw h (goes-on-making s q made) in
+        let some : announces s.phase s.announced label fields ≢ [] = rw h (announces-some q s.announced label fields made) in
+        absurd (stray (after s (Event label fields)) x cause phase c is t refl some rest)
 
   -- visits
 
@@ -180,8 +260,8 @@ module _ {A O : Type 0} (p : Steps A O) where
       where
         c : Continues s v
         c (Event label fields) u m k w =
-            let same : fields ≡ task_fields task (task_label s task) = rw h at m.1.2 in
-            rw (m.1.1, same, k) more
+            let e : MayEvent (Entered task left) s label fields = rw h at m.1 in
+            rw (e.0, e.1, k) more
         c (Wake other) u m k w = absurd (cc)
         c e u m k w = let z : stands (Entered task left) e ≡ true = rw h at (may_stand s e m) in absurd (cc)
 
@@ -221,8 +301,15 @@ module _ {A O : Type 0} (p : Steps A O) where
       abbrev turned : Call → CallReply → Turn
       turned call reply = record { call = call; reply = reply; stood = stood_in s }
 
+      -- no event comes before a call that announces none
+      pub silent : (at : Step A A O (Answer O)) → Leads at → ((call : Call) (reply : CallReply) → IsFront at now (turned call reply ∷ []) → announced_by call reply ≡ []) → (label : List ℕ) (fields : List (List ℕ)) (u : Value A O) → u ≡ v → Completes p (after s (Event label fields)) u
+      silent at l quiet =
+          strays (p.task.next a s.clock.time task) at (taken task v.held) now s.turns l (Polling task left) (inr (inl (task, left, refl))) s.clock (stood_in s) v quiet
+          (λ t x cause h c r. let f = polling-front t v task left a x cause h there r in rw c at f)
+          s is refl refl refl
+
       -- a call that may come is the next one
-      pub called : (at : Step A A O (Answer O)) (call : Call) (reply : CallReply) (u : Value A O) (x : List Entry) (cause : FinishCause) → Leads at → u ≡ v → Rest p (after s (CallEntry (Some task) call reply)) u x cause → Fronts at now (turned call reply ∷ [])
+      pub called : (at : Step A A O (Answer O)) (call : Call) (reply : CallReply) (u : Value A O) (x : List Entry) (cause : FinishCause) → Leads at → u ≡ v → Rest p (after s (CallEntry (Some task) call reply)) u x cause → IsFront at now (turned call reply ∷ [])
       unfolding after
       called at call reply u x cause l k r =
           let f = polling-front (after s (CallEntry (Some task) call reply)) u task left a x cause is (rw k there) r in
@@ -231,31 +318,32 @@ module _ {A O : Type 0} (p : Steps A O) where
       pub gave : (at : Step A A O (Answer O)) (answer : Answer O) (end : Held A O) (other : ℕ) → Leads at → other ≡ task → (k : Polls p s other v.held answer end) → Gave (stood_in s) now at answer k.left k.moved
       gave at answer end other l e k = leads-gave at now (stood_in s) answer k.left k.moved s.turns (taken task v.held) (p.task.next a s.clock.time task) l (polls-walk s v task other a answer end e there k)
 
-      pub polling_does : (ask : Ask A O) (on : Heard O → Step A A O (Answer O)) → Leads (Does ask on) → ((reply : CallReply) → Answers s (call_of ask) reply → (held : Held A O) → Fits held ask (turned (call_of ask) reply) → Completes p (after s (CallEntry (Some task) (call_of ask) reply)) v) → Completes p s v
-      polling_does ask on l more = continues s v (λ cause e. cc) c
+      pub polling_does : (ask : Ask A O) (on : Heard O → Step A A O (Answer O)) → Leads (Does ask on) → IsQuiet ask → ((reply : CallReply) → Answers s (call_of ask) reply → (held : Held A O) → Fits held ask (turned (call_of ask) reply) → Completes p (after s (CallEntry (Some task) (call_of ask) reply)) v) → Completes p s v
+      polling_does ask on l quiet more = continues s v (λ cause e. cc) c
         where
           calls : (by : Option ℕ) (call : Call) (reply : CallReply) (u : Value A O) → by ≡ Some task → u ≡ v → Answers s call reply → Completes p (after s (CallEntry by call reply)) u
           calls by call reply u e k m x cause r =
               let rest : Rest p (after s (CallEntry (Some task) call reply)) u x cause = rw e at r in
-              let asks : Asks now ask (turned call reply) = (called (Does ask on) call reply u x cause l k rest).0 in
+              let asks : Asks now ask (turned call reply) = (called (Does ask on) call reply u x cause l k rest).1.0 in
               let fits : Fits now ask (turned call reply) = asks.1 in
               let same : call ≡ call_of ask = asks.0 in
               more reply (rw same at m) now (rw same at fits) x cause (rw (same, k) at rest)
 
           c : Continues s v
           c (CallEntry by call reply) u m k w = calls by call reply u (rw is at m.1.0) k m.1.1
-          c (AnswerEntry other IsPending) u m k w = let n = m.1 in absurd (gave (Does ask on) Pending k.0 other l (cc) k.1)
-          c (AnswerEntry other IsReady) u m k w = let n = m.1 in let o : O = k.0 in absurd (gave (Does ask on) (Ready o) k.1 other l (cc) k.2)
-          c (AnswerEntry other IsPanicked) u m k w = let n = m.1 in let text : List ℕ = k.0 in absurd (gave (Does ask on) (Panicked text) k.1 other l (cc) k.2)
-          c (AnswerEntry other IsStopped) u m k w = let n : Polling task left ≡ Halted other = rw is at m.1 in absurd (cc)
+          c (Event label fields) u m k w = silent (Does ask on) l (λ call reply f. rw f.1.0.0 (quiet reply)) label fields u k
+          c (AnswerEntry other IsPending) u m k w = let n = m.1.0 in absurd (gave (Does ask on) Pending k.0 other l (cc) k.1)
+          c (AnswerEntry other IsReady) u m k w = let n = m.1.0 in let o : O = k.0 in absurd (gave (Does ask on) (Ready o) k.1 other l (cc) k.2)
+          c (AnswerEntry other IsPanicked) u m k w = let n = m.1.0 in let text : List ℕ = k.0 in absurd (gave (Does ask on) (Panicked text) k.1 other l (cc) k.2)
+          c (AnswerEntry other IsStopped) u m k w = let n : Polling task left ≡ Halted other = rw is at m.1.0 in absurd (cc)
           c (AnswerEntry other LacksMemory) u m k w = not-whole u (record v { held = put other k.left k.moved; whole = false }) w refl k.is
-          c (AnswerEntry other IsEnded) u m k w = absurd (rw is at m.1)
+          c (AnswerEntry other IsEnded) u m k w = absurd (rw is at m.1.0)
           c (Wake other) u m k w = absurd (cc)
           c e u m k w = let z : stands (Polling task left) e ≡ true = rw is at (may_stand s e m) in absurd (cc)
 
       -- a sleep, by whether it is due
       pub polling_sleeps : (due : ℕ) (alarm : Option ℕ) (on : Heard O → Step A A O (Answer O)) → Leads (Does (Sleeping due alarm) on) → s.clock.time < due → Completes p (after s (CallEntry (Some task) (SleepPoll due) (PendingAt (alarm_of s.alarms due alarm)))) v → Completes p s v
-      polling_sleeps due alarm on l later more = polling_does (Sleeping due alarm) on l told
+      polling_sleeps due alarm on l later more = polling_does (Sleeping due alarm) on l (λ reply. refl) told
         where
           told : (reply : CallReply) → Answers s (SleepPoll due) reply → (held : Held A O) → Fits held (Sleeping due alarm) (turned (SleepPoll due) reply) → Completes p (after s (CallEntry (Some task) (SleepPoll due) reply)) v
           told IsOver m held f = absurd (omega arith)
@@ -263,7 +351,7 @@ module _ {A O : Type 0} (p : Steps A O) where
           told _ m held f = absurd m
 
       pub polling_wakes : (due : ℕ) (alarm : Option ℕ) (on : Heard O → Step A A O (Answer O)) → Leads (Does (Sleeping due alarm) on) → due ≤ s.clock.time → Completes p (after s (CallEntry (Some task) (SleepPoll due) IsOver)) v → Completes p s v
-      polling_wakes due alarm on l late more = polling_does (Sleeping due alarm) on l told
+      polling_wakes due alarm on l late more = polling_does (Sleeping due alarm) on l (λ reply. refl) told
         where
           told : (reply : CallReply) → Answers s (SleepPoll due) reply → (held : Held A O) → Fits held (Sleeping due alarm) (turned (SleepPoll due) reply) → Completes p (after s (CallEntry (Some task) (SleepPoll due) reply)) v
           told IsOver m held f = more
@@ -277,7 +365,7 @@ module _ {A O : Type 0} (p : Steps A O) where
           calls : (by : Option ℕ) (call : Call) (reply : CallReply) (u : Value A O) → by ≡ Some task → u ≡ v → Completes p (after s (CallEntry by call reply)) u
           calls by call reply u e k x cause r =
               let rest : Rest p (after s (CallEntry (Some task) call reply)) u x cause = rw e at r in
-              absurd (called (Gives answer next) call reply u x cause l k rest)
+              absurd (called (Gives answer next) call reply u x cause l k rest).1
 
           pends : (other : ℕ) (u : Value A O) (end : Held A O) → other ≡ task → Polls p s other v.held Pending end → u ≡ record v { held = end } → Completes p (after s (AnswerEntry other IsPending)) u
           pends other u end e k is =
@@ -295,12 +383,13 @@ module _ {A O : Type 0} (p : Steps A O) where
 
           c : Continues s v
           c (CallEntry by call reply) u m k w = calls by call reply u (rw is at m.1.0) k
-          c (AnswerEntry other IsPending) u m k w = let n = m.1 in pends other u k.0 (cc) k.1 k.2
-          c (AnswerEntry other IsReady) u m k w = let n = m.1 in gives other u k.0 k.1 (cc) k.2 k.3
-          c (AnswerEntry other IsPanicked) u m k w = let n = m.1 in let text : List ℕ = k.0 in absurd (calm text (gave (Gives answer next) (Panicked text) k.1 other l (cc) k.2).0)
-          c (AnswerEntry other IsStopped) u m k w = let n : Polling task left ≡ Halted other = rw is at m.1 in absurd (cc)
+          c (Event label fields) u m k w = silent (Gives answer next) l (λ call reply f. absurd f.1) label fields u k
+          c (AnswerEntry other IsPending) u m k w = let n = m.1.0 in pends other u k.0 (cc) k.1 k.2
+          c (AnswerEntry other IsReady) u m k w = let n = m.1.0 in gives other u k.0 k.1 (cc) k.2 k.3
+          c (AnswerEntry other IsPanicked) u m k w = let n = m.1.0 in let text : List ℕ = k.0 in absurd (calm text (gave (Gives answer next) (Panicked text) k.1 other l (cc) k.2).0)
+          c (AnswerEntry other IsStopped) u m k w = let n : Polling task left ≡ Halted other = rw is at m.1.0 in absurd (cc)
           c (AnswerEntry other LacksMemory) u m k w = not-whole u (record v { held = put other k.left k.moved; whole = false }) w refl k.is
-          c (AnswerEntry other IsEnded) u m k w = absurd (rw is at m.1)
+          c (AnswerEntry other IsEnded) u m k w = absurd (rw is at m.1.0)
           c (Wake other) u m k w = absurd (cc)
           c e u m k w = let z : stands (Polling task left) e ≡ true = rw is at (may_stand s e m) in absurd (cc)
 
@@ -310,11 +399,17 @@ module _ {A O : Type 0} (p : Steps A O) where
 
     -- the maker
 
-    pub made : (at : Step A A O (Unit {0})) (now : Held A O) (by : Option ℕ) (call : Call) (reply : CallReply) (u : Value A O) (x : List Entry) (cause : FinishCause) → s.phase ≡ Making → LeadsTo (p.first s.clock.time) v.held s.turns at now → u ≡ v → Rest p (after s (CallEntry by call reply)) u x cause → Fronts at now (record { call = call; reply = reply; stood = stood_in s } ∷ [])
+    pub made : (at : Step A A O (Unit {0})) (now : Held A O) (by : Option ℕ) (call : Call) (reply : CallReply) (u : Value A O) (x : List Entry) (cause : FinishCause) → s.phase ≡ Making → LeadsTo (p.first s.clock.time) v.held s.turns at now → u ≡ v → Rest p (after s (CallEntry by call reply)) u x cause → IsFront at now (record { call = call; reply = reply; stood = stood_in s } ∷ [])
     unfolding after
     made at now by call reply u x cause h l k r =
         let f = making-front (after s (CallEntry by call reply)) u x cause h r in
         leads-fronts at now (record { call = call; reply = reply; stood = stood_in s } ∷ []) s.turns v.held (p.first s.clock.time) l (rw k at f)
+
+    pub making_silent : (at : Step A A O (Unit {0})) (now : Held A O) → s.phase ≡ Making → LeadsTo (p.first s.clock.time) v.held s.turns at now → ((call : Call) (reply : CallReply) → IsFront at now (record { call = call; reply = reply; stood = stood_in s } ∷ []) → announced_by call reply ≡ []) → (label : List ℕ) (fields : List (List ℕ)) (u : Value A O) → u ≡ v → Completes p (after s (Event label fields)) u
+    making_silent at now h l quiet =
+        strays (p.first s.clock.time) at v.held now s.turns l Making (inl refl) s.clock (stood_in s) v quiet
+        (λ t x cause h c r. let f = making-front t v x cause h r in rw c at f)
+        s h refl refl refl
 
     pub making_gives : (next : A) (now : Held A O) → s.phase ≡ Making → LeadsTo (p.first s.clock.time) v.held s.turns (Gives tt next) now → IsFine (reached s) → Completes p (after s (Root s.numbers.next)) (record v { held = put s.numbers.next next now }) → Completes p s v
     making_gives next now h l f more = continues s v (λ cause e. cc) c
@@ -326,7 +421,8 @@ module _ {A O : Type 0} (p : Steps A O) where
             rw (e, same) more
 
         c : Continues s v
-        c (CallEntry by call reply) u m k w = λ x cause r. absurd (made (Gives tt next) now by call reply u x cause h l k r)
+        c (CallEntry by call reply) u m k w = λ x cause r. absurd (made (Gives tt next) now by call reply u x cause h l k r).1
+        c (Event label fields) u m k w = making_silent (Gives tt next) now h l (λ call reply f. absurd f.1) label fields u k
         c (Root task) u m k w = takes task u m.1.1 k
         c Cleanup u m k w = cleanup s u f
         c (Wake other) u m k w = absurd (cc)
@@ -382,7 +478,7 @@ module _ {A O : Type 0} (p : Steps A O) where
 
   -- with these draws
   abbrev drawn : State → List ℕ → State
-  drawn s draws = record s { draws = draws; owed = [] }
+  drawn s draws = record s { draws = draws; owed = []; announced = [] }
 
   reached-drawn : (s : State) (draws : List ℕ) (q : Phase) → cause_at q (drawn s draws) ≡ cause_at q s
   reached-drawn s draws Making = refl
@@ -414,10 +510,11 @@ module _ {A O : Type 0} (p : Steps A O) where
     round-drawn draws (Wake task ∷ x) cause r = let m = r.lawful.0 in absurd (cc)
     round-drawn draws (e ∷ x) cause r = absurd (must-stand e refl refl (may_stand (drawn s draws) e r.lawful.0))
 
-    pub rounds : s.owed ≡ [] → Completes p s v
-    rounds owes =
-        let e : s ≡ drawn s s.draws = ap (λ owed. record s { owed = owed }) owes in
-        rw e (round-drawn s.draws)
+    pub rounds : s.owed ≡ [] → s.announced ≡ [] → Completes p s v
+    rounds owes silent =
+        let e : s ≡ record s { announced = [] } = ap (λ announced. record s { announced = announced }) silent in
+        let same : s ≡ drawn s s.draws = ap (λ owed. record s { owed = owed }) owes ∙ ap (λ (t : State). record t { owed = [] }) e in
+        rw same (round-drawn s.draws)
 
   -- from the beginning
 

@@ -21,14 +21,14 @@ use Rattle.rt_laws.specs.Examples.{small_begin, ready_root, busy_root, closes_no
 use Rattle.rt_laws.proofs.Misses.{tied-tail}
 
 -- an end that only spends lacks no memory before it has made its call
-no-lack : {A : Type 0} (held : Held A ℕ) (front rest : List Turn) (stood : Stood) → [] ≡ front ++ rest → Stops (closes_node {A = A}) held front (stood_before rest stood) → ⊥
-no-lack held [] rest stood e w = w.1
-no-lack held (t ∷ front) rest stood e w = cc
+no-lack : {A : Type 0} (held : Held A ℕ) (front rest : List Turn) (stood : Stood) (end : Held A ℕ) → [] ≡ front ++ rest → Stops (closes_node {A = A}) held front (stood_before rest stood) end → ⊥
+no-lack held [] rest stood end e w = w.0.1
+no-lack held (t ∷ front) rest stood end e w = cc
 
 -- what makes no call lacks no memory
-no-gives : {A L O R : Type 0} (answer : R) (left : L) (held : Held A O) (front : List Turn) (stood : Stood) → Stops (Gives answer left) held front stood → ⊥
-no-gives answer left held [] stood w = w
-no-gives answer left held (t ∷ front) stood w = w
+no-gives : {A L O R : Type 0} (answer : R) (left : L) (held : Held A O) (front : List Turn) (stood : Stood) (end : Held A O) → Stops (Gives answer left) held front stood end → ⊥
+no-gives answer left held [] stood end w = w.0
+no-gives answer left held (t ∷ front) stood end w = w
 
 pub not_silent : (number : ℕ) → IsCutOff (ready_root number) small_begin silent_end → ⊥
 unfolding begun after
@@ -38,13 +38,13 @@ not_silent number r =
     let t = tied-tail p (begun small_begin) nothing r.value front (Answered 0 Ended ∷ finishing NoMemory) r.tied in
     elim t.1.1.2 [
       | inl k ↦ (let closed = k.0.0 in absurd (cc))
-      | inr k ↦ no-lack _ k.0.front k.0.rest _ k.0.are k.0.walks
+      | inr k ↦ no-lack _ k.0.front k.0.rest _ k.0.mid k.0.are k.0.walks
     ]
 
 -- and lacks none where another call was made
-no-other-lack : {A : Type 0} (held : Held A ℕ) (t : Turn) (front rest : List Turn) (stood : Stood) → t ∷ [] ≡ front ++ rest → t.call ≡ WakeCall 0 → has_place t.stood (CloseNode 0) ≡ true → Stops (closes_node {A = A}) held front (stood_before rest stood) → ⊥
-no-other-lack held t [] rest stood e other there w = w.1
-no-other-lack held t (u ∷ front) rest stood e other there w =
+no-other-lack : {A : Type 0} (held : Held A ℕ) (t : Turn) (front rest : List Turn) (stood : Stood) (end : Held A ℕ) → t ∷ [] ≡ front ++ rest → t.call ≡ WakeCall 0 → has_place t.stood (CloseNode 0) ≡ true → Stops (closes_node {A = A}) held front (stood_before rest stood) end → ⊥
+no-other-lack held t [] rest stood end e other there w = w.0.1
+no-other-lack held t (u ∷ front) rest stood end e other there w =
     let same : t ≡ u = cc in
     let called = (w.0 (rw (← same) there)).0 in
     absurd (cc)
@@ -57,7 +57,7 @@ none_in_a_poll number call reply r =
     let rest = Answered 0 LacksMemory ∷ root_ends ++ finishing NoMemory in
     let t = tied-tail p (begun small_begin) nothing r.value front rest r.tied in
     elim t.1.1.breaks [
-      | inl k ↦ no-gives _ _ _ k.front _ k.walks
+      | inl k ↦ no-gives _ _ _ k.front _ k.mid k.walks
       | inr k ↦ k
     ]
 
@@ -69,7 +69,7 @@ none_in_an_end number r =
     let t = tied-tail p (begun small_begin) nothing r.value front (Answered 0 Ended ∷ finishing NoMemory) r.tied in
     elim t.1.1.2 [
       | inl k ↦ (let called = (k.0.0 refl).0 in absurd (cc))
-      | inr k ↦ no-other-lack _ _ k.0.front k.0.rest _ k.0.are refl refl k.0.walks
+      | inr k ↦ no-other-lack _ _ k.0.front k.0.rest _ k.0.mid k.0.are refl refl k.0.walks
     ]
 
 -- what a call moves whose ask isn't known
@@ -119,8 +119,8 @@ lacks_within call reply lawful =
                     refl,
                     (
                       w,
-                      record { before = tt; left = tt; there = refl; breaks = inl (record { front = take 1 asked.turns; rest = drop 1 asked.turns; are = refl; walks = ((refl, refl), tt) }); moved = m.0; frees = (nothing.held, refl, (m.0, m.1, refl)); is = refl },
-                      (w, refl, (w, refl, (end, (tt, puts 0 m.0.tasks, inr (record { front = []; rest = []; are = refl; walks = tt }, refl, refl)), (end, (refl, refl), (end, refl, refl))))),
+                      record { before = tt; left = tt; there = refl; moved = m.0; breaks = inl (record { front = take 1 asked.turns; rest = drop 1 asked.turns; mid = nothing.held; are = refl; walks = ((refl, refl), (tt, refl)); frees = (m.0, m.1, refl) }); is = refl },
+                      (w, refl, (w, refl, (end, (tt, puts 0 m.0.tasks, inr (record { front = []; rest = []; mid = end.held; are = refl; walks = (tt, refl); frees = refl }, refl)), (end, (refl, refl), (end, refl, refl))))),
                     ),
                   ),
                 ),

@@ -1,5 +1,5 @@
 -- That the entries of a run may come where they stand, found out by computing: a proof for an example, or none, which says nothing.
-use Rattle.std.proofs.Common.{◌≡◌, ◌≢◌, ◌⊎◌, inl, inr, ℕ, ◌≤◌, ◌<◌, ◌+◌, ◌-◌, ◌^◌, List, [], ◌∷◌, drop, Option, Some, None, is_some, option_map, Bool, true, false, not, eqb, ltb, leb, refl, arith}
+use Rattle.std.proofs.Common.{◌≡◌, ◌≢◌, ◌⊎◌, inl, inr, ℕ, ℤ, pos, negsuc, ◌≤◌, ◌<◌, ◌+◌, ◌-◌, ◌^◌, List, [], ◌∷◌, drop, Option, Some, None, Result, Ok, Err, is_some, option_map, Bool, true, false, not, eqb, ltb, leb, refl, arith}
 use Rattle.std.specs.List.Sorted.{IsPermutation}
 use Rattle.std.specs.Option.{option_zip}
 use Rattle.std.proofs.lemmas.Bool.{eqb-true, ltb-true, leb-true}
@@ -7,11 +7,12 @@ use Rattle.std.proofs.lemmas.List.Sorted.{IsPermutation-refl}
 use Rattle.rt_base.specs.declared.error.Error.{Error}
 use Rattle.rt_base.specs.declared.error.Error.TheVariants.{UnknownToken, TooManyTasks, Exited as HasExited, Closed as ErrClosed, Aborted, Timeout, Metric}
 use Rattle.rt_base.specs.declared.metric_error.MetricError.TheVariants.{BadLabel, Reserved}
+use Rattle.rt_base.specs.declared.poll.Poll.{Poll}
 use Rattle.rt_base.specs.declared.time.TheConstants.{MAX_TIME}
 use Rattle.rt_audit.specs.declared.call.Call.{Call}
-use Rattle.rt_audit.specs.declared.call.Call.TheVariants.{Child, CloseNode, Spawn, Abort, AbortTask, Wake as WakeCall, Join, GiveUp, SleepPoll, Slot, SlotSend, SlotClose, SlotPoll, SlotGiveUp, AbortWait}
+use Rattle.rt_audit.specs.declared.call.Call.TheVariants.{Child, CloseNode, Spawn, Abort, AbortTask, Wake as WakeCall, Join, GiveUp, SleepPoll, Slot, SlotSend, SlotClose, SlotPoll, SlotGiveUp, AbortWait, Signaler, CloneSignal, Signal, SignalPoll, SignalClose, SignalerClose, CompletionPoll, CompletionClose, Stop, Stopped as StoppedCall}
 use Rattle.rt_audit.specs.declared.reply.CallReply.{CallReply}
-use Rattle.rt_audit.specs.declared.reply.CallReply.TheVariants.{Done, NodeAt, TaskAt, Closed, SlotAt, Pending as StillPending, PendingAt, Ready as IsReady, Refused}
+use Rattle.rt_audit.specs.declared.reply.CallReply.TheVariants.{Done, NodeAt, TaskAt, Closed, SlotAt, SignalAt, CompletionAt, Value, ClosedWith, Pending as StillPending, PendingAt, Ready as IsReady, Refused}
 use Rattle.rt_audit.specs.declared.answer.AnswerKind.{AnswerKind}
 use Rattle.rt_audit.specs.declared.answer.AnswerKind.TheVariants.{Pending, Ready, Panicked, Stopped, NoMemory, Ended}
 use Rattle.rt_audit.specs.declared.finish.FinishCause.{FinishCause}
@@ -19,6 +20,7 @@ use Rattle.rt_audit.specs.declared.finish.FinishCause.TheVariants as cause
 use Rattle.rt_audit.specs.declared.entry.Entry.{Entry}
 use Rattle.rt_audit.specs.declared.entry.Entry.TheVariants.{Start, Call as CallEntry, Event, Wake, Draw, Root, Round, Visit, Answer, NodeEnd, Advance, Skip, Fire, Cleanup, Crash, Finish}
 use Rattle.rt_super.specs.Ancestry.{is_live, is_known, is_ended}
+use Rattle.rt_super.specs.Signals.{signal_answer, completion_answer, stopped_answer}
 use Rattle.rt_model.specs.declared.begin.Begin.{Begin}
 use Rattle.rt_model.specs.declared.mark.Mark.{Mark}
 use Rattle.rt_model.specs.declared.result.Outcome.{Outcome}
@@ -26,12 +28,13 @@ use Rattle.rt_model.specs.declared.result.Outcome.TheVariants.{Open, There, Exit
 use Rattle.rt_model.specs.declared.result.TaskResult.{TaskResult}
 use Rattle.rt_model.specs.Lists.{find}
 use Rattle.rt_model.specs.Results.{may_abort}
-use Rattle.rt_model.specs.State.{Phase, Blank, Making, Between, Visiting, Entered, Polling, Halted, Ending, Leaving, Turning, Over, Cleaning, Closing, Crashed, Numbers, State, begun}
+use Rattle.rt_model.specs.Signals.{has_signaler, shown_reply, met_reply, stopped_reply}
+use Rattle.rt_model.specs.State.{Phase, Blank, Making, Between, Visiting, Entered, Polling, Halted, Ending, Leaving, Turning, Over, Cleaning, Closing, Crashed, Numbers, Announced, State, begun}
 use Rattle.rt_model.specs.Alarms.{is_set, skip_to, fires}
 use Rattle.rt_model.specs.Causes.{is_late, from_running, ends_next}
-use Rattle.rt_model.specs.Effects.{left_of, visited, label_at, task_label, after}
-use Rattle.rt_model.specs.Events.{process_task, task_fields}
-use Rattle.rt_model.specs.Rules.{WasGiven, IsRefusal, OutcomeAnswers, is_free, label_refusal, ChildAnswers, SpawnAnswers, Unless, JoinAnswers, IsSent, SlotAnswers, ReceiveAnswers, Answers, IsEndedNext, CallsAt, MayEnd, MayAnswer, MayRound, MayClose, MayCrash, MayFinish, MayEndNode, MayFree, May, IsLawful}
+use Rattle.rt_model.specs.Effects.{left_of, label_at, task_label, after}
+use Rattle.rt_model.specs.Events.{process_task, task_fields, announced_by}
+use Rattle.rt_model.specs.Rules.{WasGiven, IsRefusal, OutcomeAnswers, is_free, label_refusal, ChildAnswers, SpawnAnswers, Unless, JoinAnswers, IsSent, SlotAnswers, ReceiveAnswers, ShownAs, Answers, IsEndedNext, CallsAt, MayEvent, MayEnd, MayAnswer, MayRound, MayClose, MayCrash, MayFinish, MayEndNode, MayFree, May, IsLawful}
 
 unwrapped : {P : Type 0} (o : Option P) → is_some o ≡ true → P
 unwrapped None e = absurd (cc)
@@ -190,6 +193,56 @@ given n task = option_zip (at_most n.first task) (below task n.next)
 abbrev not_given : (n : Numbers) (task : ℕ) → Option (WasGiven n task → ⊥)
 not_given n task = if_true (leb n.next task) (λ e. let past = leb-true n.next task e in λ given. let low = given.1 in omega (arith, past, low))
 
+pub same_at : (f : ℕ → CallReply) (x y : ℕ) → x ≡ y → f x ≡ f y
+same_at f x y e = rw e refl
+
+abbrev so_at : (f : ℕ → CallReply) (x y : ℕ) → Option (x ≡ y) → Option (f x ≡ f y)
+so_at f x y None = None
+so_at f x y (Some e) = Some (same_at f x y e)
+
+abbrev is_signal : (count : ℕ) (reply : CallReply) → Option (reply ≡ SignalAt count)
+is_signal count (SignalAt number) = so_at (λ n. SignalAt n) number count (same number count)
+is_signal count _ = None
+
+pub same_pos : (n m : ℕ) → n ≡ m → pos n ≡ pos m
+same_pos n m e = rw e refl
+
+pub same_neg : (n m : ℕ) → n ≡ m → negsuc n ≡ negsuc m
+same_neg n m e = rw e refl
+
+abbrev so_pos : (n m : ℕ) → Option (n ≡ m) → Option (pos n ≡ pos m)
+so_pos n m None = None
+so_pos n m (Some e) = Some (same_pos n m e)
+
+abbrev so_neg : (n m : ℕ) → Option (n ≡ m) → Option (negsuc n ≡ negsuc m)
+so_neg n m None = None
+so_neg n m (Some e) = Some (same_neg n m e)
+
+abbrev pub same_value_of : (v w : ℤ) → Option (v ≡ w)
+same_value_of (pos n) (pos m) = so_pos n m (same n m)
+same_value_of (negsuc n) (negsuc m) = so_neg n m (same n m)
+same_value_of _ _ = None
+
+pub valued_so : (f : ℤ → CallReply) (v w : ℤ) → v ≡ w → f v ≡ f w
+valued_so f v w e = rw e refl
+
+abbrev so_valued : (f : ℤ → CallReply) (v w : ℤ) → Option (v ≡ w) → Option (f v ≡ f w)
+so_valued f v w None = None
+so_valued f v w (Some e) = Some (valued_so f v w e)
+
+-- the replies of polls
+abbrev same_reply : (x y : CallReply) → Option (x ≡ y)
+same_reply (SignalAt n) (SignalAt m) = so_at (λ n. SignalAt n) n m (same n m)
+same_reply (Value v) (Value w) = so_valued (λ v. Value v) v w (same_value_of v w)
+same_reply (ClosedWith v) (ClosedWith w) = so_valued (λ v. ClosedWith v) v w (same_value_of v w)
+same_reply StillPending StillPending = Some refl
+same_reply IsReady IsReady = Some refl
+same_reply _ _ = None
+
+abbrev shown : {V : Type 0} (reply_of : Poll V → CallReply) → ((x y : CallReply) → Option (x ≡ y)) → (answer : Result (Poll V) Error) (reply : CallReply) → Option (ShownAs reply_of answer reply)
+shown reply_of eq (Ok value) reply = eq reply (reply_of value)
+shown reply_of eq (Err error) reply = refusal error reply
+
 abbrev answers : (s : State) (call : Call) (reply : CallReply) → Option (Answers s call reply)
 answers s (Child node label) reply = unless (not (is_live s.nodes node)) UnknownToken (ChildAnswers s node label) (child s node label) reply
 answers s (CloseNode node) Done = is_true (is_live s.nodes node)
@@ -214,6 +267,17 @@ answers s (SlotClose number) Done = is_true (is_some (find number s.slots.sender
 answers s (SlotPoll number) reply = receive (find number s.slots.results) reply
 answers s (SlotGiveUp number) Done = is_true (is_some (find number s.slots.results))
 answers s (AbortWait number) Done = is_true (may_abort (find number s.slots.results))
+answers s Signaler (SignalAt number) = same number s.signals.count
+answers s (CloneSignal signal) reply =
+    unless (not (is_some (find signal s.signals.signals))) UnknownToken (λ reply. reply ≡ SignalAt s.signals.count) (is_signal s.signals.count) reply
+answers s (Signal signaler value) Done = is_true (has_signaler s.signals s.stop signaler)
+answers s (SignalPoll signal) reply = shown shown_reply same_reply (signal_answer s.signals signal) reply
+answers s (SignalClose signal) Done = is_true (is_some (find signal s.signals.signals))
+answers s (SignalerClose signaler) Done = is_true (has_signaler s.signals s.stop signaler)
+answers s (CompletionPoll completion) reply = shown met_reply same_reply (completion_answer s.signals completion) reply
+answers s (CompletionClose completion) Done = is_true (is_some (find completion s.signals.completions))
+answers s (Stop value) (CompletionAt number) = same number s.signals.count
+answers s StoppedCall reply = same_reply reply (stopped_reply (stopped_answer s.signals s.stop))
 answers s _ _ = None
 
 -- phases
@@ -236,10 +300,6 @@ is_blank _ = None
 abbrev is_making : (p : Phase) → Option (p ≡ Making)
 is_making Making = Some refl
 is_making _ = None
-
-abbrev is_entered : (p : Phase) → Option (p ≡ Entered (visited p) (left_of p))
-is_entered (Entered task left) = Some refl
-is_entered _ = None
 
 abbrev is_visiting : (p : Phase) → Option (p ≡ Visiting (left_of p))
 is_visiting (Visiting left) = Some refl
@@ -308,29 +368,53 @@ abbrev in_place : (ready order : List ℕ) → Option (ready ≡ order) → Opti
 in_place ready order None = None
 in_place ready order (Some e) = Some (rw e (IsPermutation-refl order))
 
+abbrev ends_by : (root next : Option ℕ) → Option ((by : Option ℕ) × IsEndedNext root next by)
+ends_by None None = Some (None, (refl, refl))
+ends_by (Some task) None = None
+ends_by root (Some task) = Some (Some task, refl)
+
+-- an event of a visit, or one of a call that comes here
+abbrev event : (p : Phase) (s : State) (label : List ℕ) (fields : List (List ℕ)) → Option (MayEvent p s label fields)
+event (Entered task left) s label fields =
+    option_zip (same_list same label process_task) (same_list (same_list same) fields (task_fields task (task_label s task)))
+event Making s label fields = Some (None, refl)
+event (Polling task left) s label fields = Some (Some task, refl)
+event (Ending task result left) s label fields = Some (Some task, refl)
+event (Closing of) s label fields = ends_by s.root (ends_next s.running s.root)
+event _ s label fields = None
+
+pub announced_so : (x y : Announced) → x.label ≡ y.label → x.fields ≡ y.fields → x ≡ y
+announced_so x y e f = rw (e, f) refl
+
+abbrev so_announced : (x y : Announced) → Option (x.label ≡ y.label) → Option (x.fields ≡ y.fields) → Option (x ≡ y)
+so_announced x y (Some e) (Some f) = Some (announced_so x y e f)
+so_announced x y _ _ = None
+
+abbrev same_event : (x y : Announced) → Option (x ≡ y)
+same_event x y = so_announced x y (same_list same x.label y.label) (same_list (same_list same) x.fields y.fields)
+
 -- entries
 
 abbrev free : (s : State) (e : Entry) → Option (MayFree s e)
 free s (Start next now deadline cycle) =
     five (is_blank s.phase) (same next s.clock.fixed.first) (same now s.clock.fixed.start) (same_option same deadline s.clock.fixed.deadline) (same cycle s.clock.fixed.cycle)
-free s (CallEntry by call reply) = option_zip (calls s.phase s.root (ends_next s.running s.root) by) (answers s call reply)
-free s (Event label fields) =
-    three (is_entered s.phase) (same_list same label process_task) (same_list (same_list same) fields (task_fields (visited s.phase) (task_label s (visited s.phase))))
+free s (CallEntry by call reply) = three (calls s.phase s.root (ends_next s.running s.root) by) (answers s call reply) (same_list same_event s.announced (announced_by call reply))
+free s (Event label fields) = event s.phase s label fields
 free s (Wake task) = None
 free s (Draw value) = rounds s.phase s
-free s (Root task) = three (is_making s.phase) (same task s.numbers.next) (below task (2 ^ 64 - 1))
+free s (Root task) = four (is_making s.phase) (same task s.numbers.next) (below task (2 ^ 64 - 1)) (none_left s.announced)
 free s (Round order) = option_zip (rounds s.phase s) (in_place s.ready order (same_list same s.ready order))
 free s (Visit task) =
     option_zip (is_visiting s.phase) (same_list same (from_running s.running (left_of s.phase)) (task ∷ drop 1 (from_running s.running (left_of s.phase))))
-free s (Answer task kind) = answered s task kind
+free s (Answer task kind) = option_zip (answered s task kind) (none_left s.announced)
 free s (NodeEnd node) = node_ends s.phase s.marks node
 free s (Advance now) =
     four (is_visiting s.phase) (none_left (from_running s.running (left_of s.phase))) (same now (s.clock.time + s.clock.fixed.cycle)) (at_most now MAX_TIME)
 free s (Skip now) = option_zip (is_turning s.phase) (same_option same (skip_to s.ready s.alarms.alarms s.clock.time) (Some now))
 free s (Fire alarm) =
     three (is_turning s.phase) (is_false (is_late s.clock)) (same_option same (fires s.alarms.alarms s.clock.time) (Some alarm))
-free s Cleanup = closes s.phase
-free s (Crash choices) = option_zip (crashes s.phase s.running) (none_left choices)
+free s Cleanup = option_zip (closes s.phase) (none_left s.announced)
+free s (Crash choices) = three (crashes s.phase s.running) (none_left choices) (none_left s.announced)
 free s (Finish end) = finishes s.phase end
 
 abbrev may : (s : State) (e : Entry) → Option (May s e)

@@ -16,10 +16,9 @@ use Rattle.rt_model.specs.declared.mark.Mark.{Mark}
 use Rattle.rt_model.specs.declared.result.TaskResult.{TaskResult}
 use Rattle.rt_super.specs.Ancestry.{is_ended}
 use Rattle.rt_model.specs.Lists.{find, those}
-use Rattle.rt_model.specs.Slots.{Slotted}
-use Rattle.rt_model.specs.State.{State, Phase, Between, Turning, Ending, Leaving, Cleaning, Closing, Crashed, Finished, begun}
+use Rattle.rt_model.specs.State.{State, Phase, Between, Turning, Entered, Ending, Leaving, Cleaning, Closing, Crashed, Finished, Stood, stood_in, begun}
 use Rattle.rt_model.specs.Causes.{reached, ends_next}
-use Rattle.rt_model.specs.Effects.{after, after_all, is_closing, is_settled, due_called, due_answered, due_node, due_panic, due_ended, ends_in_panic, cause_of, answered, node_ended, cleans, ended}
+use Rattle.rt_model.specs.Effects.{after, after_all, is_closing, is_settled, due_called, due_answered, due_node, due_panic, due_ended, ends_in_panic, cause_of, answered, node_ended, cleans, entered, ended}
 use Rattle.rt_model.specs.Rules.{May, CallsAt, MayAnswer, MayEndNode, MayRound, MayClose, MayCrash, MayFinish, IsLawful}
 use Rattle.rt_model.proofs.Append.{after_all-append}
 use Rattle.rt_laws.specs.Cleanup.{IsOfCleanup}
@@ -83,7 +82,7 @@ module _ (cause : Option FinishCause) where
   answer-ends s task NoMemory k m = absurd (rw m at k)
   answer-ends s task Ended k m = (tt, ended-ends (is_settled s task) s.phase k)
 
-  owes-none : (ms : List (ℕ × Mark)) (ss : Slotted) (call : Call) (reply : CallReply) → due_called true ms ss call reply ≡ []
+  owes-none : (ms : List (ℕ × Mark)) (ss : Stood) (call : Call) (reply : CallReply) → due_called true ms ss call reply ≡ []
   owes-none ms ss (WakeCall task) reply = refl
   owes-none ms ss (Abort task) reply = refl
   owes-none ms ss (AbortTask task) reply = refl
@@ -92,7 +91,7 @@ module _ (cause : Option FinishCause) where
   owes-none ms ss (AbortWait slot) reply = refl
   owes-none ms ss _ reply = refl
 
-  owes-called : (closing : Bool) (ms : List (ℕ × Mark)) (ss : Slotted) (call : Call) (reply : CallReply) → closing ≡ true → due_called closing ms ss call reply ≡ []
+  owes-called : (closing : Bool) (ms : List (ℕ × Mark)) (ss : Stood) (call : Call) (reply : CallReply) → closing ≡ true → due_called closing ms ss call reply ≡ []
   owes-called true ms ss call reply h = owes-none ms ss call reply
   owes-called false ms ss call reply h = absurd (cc)
 
@@ -116,22 +115,26 @@ module _ (cause : Option FinishCause) where
   owes-node true s node h = refl
   owes-node false s node h = absurd (cc)
 
-  ends-entry : (s : State) (e : Entry) → s.owed ≡ [] → EndsFor cause s.phase → May s e → IsOfCleanup e × ((after s e).owed ≡ []) × EndsFor cause (after s e).phase
+  event-ends : (s : State) (p : Phase) → EndsFor cause p → EndsFor cause (entered s p)
+  event-ends s (Entered task left) k = absurd k
+  event-ends s _ k = k
+
+  pub ends-entry : (s : State) (e : Entry) → s.owed ≡ [] → EndsFor cause s.phase → May s e → IsOfCleanup e × ((after s e).owed ≡ []) × EndsFor cause (after s e).phase
   unfolding after
   ends-entry s (Start next now deadline cycle) o k m = absurd (rw m.1.0 at k)
-  ends-entry s (CallEntry by call reply) o k m = (tt, owes-called (is_closing s.phase) s.marks s.slots call reply (call-closing s.phase s.root (ends_next s.running s.root) by k m.1.0), k)
-  ends-entry s (Event label fields) o k m = absurd (rw m.1.0 at k)
+  ends-entry s (CallEntry by call reply) o k m = (tt, owes-called (is_closing s.phase) s.marks (stood_in s) call reply (call-closing s.phase s.root (ends_next s.running s.root) by k m.1.0), k)
+  ends-entry s (Event label fields) o k m = (tt, refl, event-ends s s.phase k)
   ends-entry s (Wake task) o k m = absurd (cc)
   ends-entry s (Draw value) o k m = absurd (no-round s.phase s k m.1)
   ends-entry s (Root task) o k m = absurd (rw m.1.0 at k)
   ends-entry s (Round order) o k m = absurd (no-round s.phase s k m.1.0)
   ends-entry s (Visit task) o k m = absurd (rw m.1.0 at k)
-  ends-entry s (Answer task kind) o k m = let a = answer-ends s task kind k m.1 in (a.0, owes-answered s task kind k, a.1)
+  ends-entry s (Answer task kind) o k m = let a = answer-ends s task kind k m.1.0 in (a.0, owes-answered s task kind k, a.1)
   ends-entry s (NodeEnd node) o k m = (tt, owes-node (is_closing s.phase) s node (node-closing s.phase s.marks node k m.1), cleaned-ends s.phase k)
   ends-entry s (Advance now) o k m = absurd (rw m.1.0 at k)
   ends-entry s (Skip now) o k m = absurd (rw m.1.0 at k)
   ends-entry s (Fire alarm) o k m = absurd (rw m.1.0 at k)
-  ends-entry s Cleanup o k m = absurd (no-cleanup s.phase k m.1)
+  ends-entry s Cleanup o k m = absurd (no-cleanup s.phase k m.1.0)
   ends-entry s (Crash choices) o k m = (tt, refl, crash-ends s.phase s.running k m.1.0)
   ends-entry s (Finish end) o k m = (tt, refl, finish-ends s.phase end k m.1)
 

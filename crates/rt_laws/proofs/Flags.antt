@@ -14,7 +14,7 @@ use Rattle.rt_model.specs.declared.mark.Mark.{Mark}
 use Rattle.rt_model.specs.Lists.{find, has_number, with_number, without_number, without, is_some_number}
 use Rattle.rt_model.specs.Marks.{new_mark, is_flagged, flagged, flag, flag_all, leave}
 use Rattle.rt_model.specs.State.{State, Phase, Entered, Polling, Leaving, Numbers, begun}
-use Rattle.rt_model.specs.Effects.{after, after_all, is_settled, numbers_called, running_called, running_answered, marks_called, marks_answered, marks_ended, flagged_by, leaving, unmarked, left_of, visited, entered, entered_by}
+use Rattle.rt_model.specs.Effects.{after, after_all, is_settled, numbers_called, running_called, running_answered, marks_called, marks_answered, marks_ended, flagged_by, leaving, unmarked, entered, entered_by}
 use Rattle.rt_model.specs.Rules.{May, Answers, IsLawful}
 use Rattle.rt_laws.specs.Polls.{BeginsPoll, PollsNone}
 use Rattle.rt_laws.proofs.Clock.{lawful-front, lawful-tail}
@@ -132,15 +132,16 @@ module _ (task : ℕ) where
   is-flagged s left h (inl f) = f
   is-flagged s left h (inr g) = let z = g.0 in absurd (cc)
 
-  none-entered : (s : State) (p : Phase) (rest : List ℕ) → p ≡ Entered (visited p) (left_of p) → IsTaskAt p s.running → IsOutAt s → entered s p ≡ Polling task rest → ⊥
-  none-entered s (Entered other left) rest e t o h =
-      none-by (is_some_number other s.root && s.panicked) (is_flagged (find other s.marks)) other left rest
-      (λ same. rw same (is-flagged s left (rw same at t) o)) h
-  none-entered s _ rest e t o h = cc
+  none-entered : (s : State) (left : List ℕ) → IsTaskAt (Entered task left) s.running → IsOutAt s → entered s (Entered task left) ≡ Polling task left → ⊥
+  none-entered s left t o h =
+      none-by (is_some_number task s.root && s.panicked) (is_flagged (find task s.marks)) task left left (λ same. is-flagged s left t o) h
 
   none-begins : (s : State) (e : Entry) → May s e → AreTasks s → IsOutAt s → BeginsPoll s e task → ⊥
   unfolding after
-  none-begins s (Event label fields) m t o p = none-entered s s.phase p.0 m.1.0 t.at o p.1
+  none-begins s (Event label fields) m t o p =
+      let at : IsTaskAt (Entered task p.0) s.running = rw p.1 at t.at in
+      let polls : entered s (Entered task p.0) ≡ Polling task p.0 = rw p.1 at p.2 in
+      none-entered s p.0 at o polls
   none-begins s _ m t o p = p
 
   pub out-all : (s : State) (y : List Entry) → IsLawful s y → AreTasks s → IsOutAt s → PollsNone s y task

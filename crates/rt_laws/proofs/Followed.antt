@@ -1,10 +1,10 @@
 -- That entries follow the steps of a task type, and which values they leave, found out by computing: a tie for an example, or none, which
 -- says nothing.
-use Rattle.std.proofs.Common.{◌≡◌, inl, inr, ℕ, List, [], ◌∷◌, Option, Some, None, Result, Ok, Err, option_map, Bool, true, false, refl, subst}
+use Rattle.std.proofs.Common.{◌≡◌, inl, inr, ℕ, ℤ, List, [], ◌∷◌, Option, Some, None, Result, Ok, Err, option_map, Bool, true, false, refl, subst}
 use Rattle.std.specs.Option.{option_zip}
 use Rattle.rt_base.specs.declared.error.Error.{Error}
 use Rattle.rt_audit.specs.declared.call.Call.{Call}
-use Rattle.rt_audit.specs.declared.call.Call.TheVariants.{Child, CloseNode, Spawn, Abort, AbortTask, Wake as WakeCall, Join, GiveUp, SleepPoll, Slot, SlotSend, SlotClose, SlotPoll, SlotGiveUp, AbortWait}
+use Rattle.rt_audit.specs.declared.call.Call.TheVariants.{Child, CloseNode, Spawn, Abort, AbortTask, Wake as WakeCall, Join, GiveUp, SleepPoll, Slot, SlotSend, SlotClose, SlotPoll, SlotGiveUp, AbortWait, Signaler, CloneSignal, Signal, SignalPoll, SignalClose, SignalerClose, CompletionPoll, CompletionClose, Stop, Stopped as StoppedCall}
 use Rattle.rt_audit.specs.declared.reply.CallReply.{CallReply}
 use Rattle.rt_audit.specs.declared.reply.CallReply.TheVariants.{Done, PendingAt, Ready as IsOver, Refused}
 use Rattle.rt_audit.specs.declared.answer.AnswerKind.{AnswerKind}
@@ -20,7 +20,7 @@ use Rattle.rt_model.specs.Effects.{after}
 use Rattle.rt_model.specs.Turns.{Held, Ask, Plainly, Sleeping, Sending, Spawning, IsOwn, IsAnswerOf, IsPlainly, Fits, Asks, call_of, heard_of, moved, has_place, put}
 use Rattle.rt_model.specs.Walk.{Step, Does, Spends, Gives, Gave, Goes, Walks}
 use Rattle.rt_model.specs.Tied.{Steps, Value, Polls, PollBreaks, given, kept_text, taken, MovesCleanup, MovesCrash, Moves, IsTied}
-use Rattle.rt_laws.proofs.Decided.{is_true, is_false, same, same_list, same_error, none_left}
+use Rattle.rt_laws.proofs.Decided.{is_true, is_false, same, same_list, same_error, same_value_of, none_left}
 
 -- what follows from what was found
 abbrev found : {P Q : Type 0} → Option P → (P → Option Q) → Option Q
@@ -38,6 +38,12 @@ same_number f x y = found (same x y) (λ e. Some (numbered f x y e))
 pub same_child : (n m : ℕ) (k l : List ℕ) → n ≡ m → k ≡ l → Child n k ≡ Child m l
 same_child n m k l e f = rw (e, f) refl
 
+pub same_signal : (n m : ℕ) (v w : ℤ) → n ≡ m → v ≡ w → Signal n v ≡ Signal m w
+same_signal n m v w e f = rw (e, f) refl
+
+pub same_stop : (v w : ℤ) → v ≡ w → Stop v ≡ Stop w
+same_stop v w e = rw e refl
+
 abbrev same_call : (x y : Call) → Option (x ≡ y)
 same_call (Child n k) (Child m l) = found (same n m) (λ e. found (same_list same k l) (λ f. Some (same_child n m k l e f)))
 same_call (CloseNode n) (CloseNode m) = same_number (λ n. CloseNode n) n m
@@ -54,6 +60,16 @@ same_call (SlotClose n) (SlotClose m) = same_number (λ n. SlotClose n) n m
 same_call (SlotPoll n) (SlotPoll m) = same_number (λ n. SlotPoll n) n m
 same_call (SlotGiveUp n) (SlotGiveUp m) = same_number (λ n. SlotGiveUp n) n m
 same_call (AbortWait n) (AbortWait m) = same_number (λ n. AbortWait n) n m
+same_call Signaler Signaler = Some refl
+same_call (CloneSignal n) (CloneSignal m) = same_number (λ n. CloneSignal n) n m
+same_call (Signal n v) (Signal m w) = found (same n m) (λ e. found (same_value_of v w) (λ f. Some (same_signal n m v w e f)))
+same_call (SignalPoll n) (SignalPoll m) = same_number (λ n. SignalPoll n) n m
+same_call (SignalClose n) (SignalClose m) = same_number (λ n. SignalClose n) n m
+same_call (SignalerClose n) (SignalerClose m) = same_number (λ n. SignalerClose n) n m
+same_call (CompletionPoll n) (CompletionPoll m) = same_number (λ n. CompletionPoll n) n m
+same_call (CompletionClose n) (CompletionClose m) = same_number (λ n. CompletionClose n) n m
+same_call (Stop v) (Stop w) = found (same_value_of v w) (λ e. Some (same_stop v w e))
+same_call StoppedCall StoppedCall = Some refl
 same_call _ _ = None
 
 abbrev is_done : (reply : CallReply) → Option (reply ≡ Done)
@@ -88,6 +104,16 @@ module _ {A O : Type 0} where
   plainly held (SlotPoll slot) reply = answer (find slot held.sent) reply
   plainly held (SlotGiveUp slot) reply = Some tt
   plainly held (AbortWait slot) reply = Some tt
+  plainly held Signaler reply = Some tt
+  plainly held (CloneSignal signal) reply = Some tt
+  plainly held (Signal signaler value) reply = Some tt
+  plainly held (SignalPoll signal) reply = Some tt
+  plainly held (SignalClose signal) reply = Some tt
+  plainly held (SignalerClose signaler) reply = Some tt
+  plainly held (CompletionPoll completion) reply = Some tt
+  plainly held (CompletionClose completion) reply = Some tt
+  plainly held (Stop value) reply = Some tt
+  plainly held StoppedCall reply = Some tt
   plainly held call reply = None
 
   abbrev fits : (held : Held A O) (ask : Ask A O) (t : Turn) → Option (Fits held ask t)
@@ -160,7 +186,7 @@ module _ {A O : Type 0} (p : Steps A O) (s : State) (v : Value A O) where
   -- a poll that lacked memory before its first call
   pub broken_at_once : (task : ℕ) (a : A) → find task v.held.tasks ≡ Some a → s.turns ≡ [] → PollBreaks p s task v (record v { held = put task a (taken task v.held); whole = false })
   broken_at_once task a e f =
-      record { before = a; left = a; there = e; breaks = inr (rw f tt); moved = taken task v.held; frees = rw f refl; is = refl }
+      record { before = a; left = a; there = e; moved = taken task v.held; breaks = inr (rw f refl); is = refl }
 
   abbrev answers : (task : ℕ) (kind : AnswerKind) → Option (Moved (AnswerEntry task kind))
   answers task IsPending = found (polled task) (pended task)

@@ -55,7 +55,7 @@ up_to_sibling =
 
 pub no_end_of_a_sibling : IsLawful (begun small_begin) (sibling_goes_on (Answered 2 Ended)) → ⊥
 unfolding begun after
-no_end_of_a_sibling l = (tail up_to_sibling (Answered 2 Ended ∷ []) l).0.1
+no_end_of_a_sibling l = (tail up_to_sibling (Answered 2 Ended ∷ []) l).0.1.0
 
 pub no_poll_of_aborted : IsLawful (begun small_begin) (aborted_goes_on (Answered 1 Ready ∷ [])) → ⊥
 unfolding begun after

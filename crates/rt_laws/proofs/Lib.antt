@@ -12,6 +12,7 @@ pub mod Handed
 pub mod Endings
 pub mod Ends
 pub mod Kindred
+pub mod Lacked
 pub mod Misses
 pub mod Nearby
 pub mod Nodes
@@ -26,6 +27,7 @@ pub mod Results
 pub mod Rounds
 pub mod Runs
 pub mod Same
+pub mod Signals
 pub mod Small
 pub mod Spawned
 pub mod Stands

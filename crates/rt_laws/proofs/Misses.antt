@@ -34,7 +34,7 @@ no_stray_call = behind (ready ++ root_ends) (Call None (SleepPoll 5) (PendingAt 
 
 pub no_unanswered_poll : IsLawful (begun small_begin) unanswered_poll → ⊥
 unfolding begun after
-no_unanswered_poll = behind (opening ++ visiting_root) (root_ends ++ finishing Completed) (λ l. l.0.1)
+no_unanswered_poll = behind (opening ++ visiting_root) (root_ends ++ finishing Completed) (λ l. l.0.1.0)
 
 pub no_second_task : IsLawful (begun small_begin) second_task → ⊥
 unfolding begun after
@@ -96,7 +96,7 @@ module _ (number : ℕ) (cause : FinishCause) (end : State) (value : Value (Unit
       let whole : w.whole ≡ true = all-whole p (after_all (begun small_begin) (front ++ (Answered 0 Ended ∷ []))) w value (finishing Completed) t.1.2 r.whole in
       elim t.1.1.2 [
         | inl k ↦ (let closed = k.0.0 in absurd (cc))
-        | inr k ↦ not-whole w (record u { held = w.held; whole = false }) whole refl k.2
+        | inr k ↦ not-whole w (record u { held = w.held; whole = false }) whole refl k.1
       ]
 
   pub no_unasked_call : (call : CallOf) (reply : CallReply) → IsRun (ready_root number) small_begin (called call reply) cause end value → ⊥

@@ -1,5 +1,5 @@
 -- A part that lacked memory leaves the states of the other tasks as they were, but for those that it spawned, and so does each end.
-use Rattle.std.proofs.Common.{◌≡◌, ◌≢◌, inl, inr, ℕ, List, [], ◌∷◌, refl, ap, ◌∙◌, arith, All, Result, Bool, true, false, if◌then◌else◌}
+use Rattle.std.proofs.Common.{◌≡◌, ◌≢◌, inl, inr, ℕ, List, [], ◌∷◌, ◌++◌, refl, ap, ◌∙◌, arith, All, Result, Bool, true, false, if◌then◌else◌}
 use Rattle.std.specs.List.{AllByRecursion}
 use Rattle.std.proofs.lemmas.List.Elements.{recursion_from_All}
 use Rattle.std.proofs.lemmas.Bool.{cases_Bool}
@@ -14,7 +14,8 @@ use Rattle.rt_model.specs.State.{State, Stood, Turn, stood_in}
 use Rattle.rt_base.specs.declared.error.Error.{Error}
 use Rattle.rt_model.specs.Slots.{Slotted, is_open}
 use Rattle.rt_model.specs.Turns.{Ask, Spawning, Sending, with_sent, Held, with_task, call_of, heard_of, moved, moved_by, freed_by, FreesOne, Frees, has_place}
-use Rattle.rt_model.specs.Walk.{Step, Does, Spends, Gives, Gave, Goes, Walks}
+use Rattle.rt_model.specs.Walk.{Step, Does, Spends, Gives, Gave, Goes, Walks, Fronts, Stops, Breaks, stood_before}
+use Rattle.rt_model.proofs.Walks.{gave-end}
 use Rattle.rt_model.specs.Tied.{Steps, Value, Moves, taken}
 use Rattle.rt_laws.specs.Spawns.{Spawns}
 
@@ -66,12 +67,10 @@ module _ {A O : Type 0} (other : ℕ) where
   frees-same held [] end n f = ap (λ (x : Held A O). find other x.tasks) f
   frees-same held (t ∷ turns) end n f = frees-same f.0 turns end n.1 f.2 ∙ frees-one t.stood held t.call t.reply f.0 n.0 f.1
 
--- and so of a walk
-module _ {A L O R : Type 0} (other : ℕ) (stood : Stood) (answer : R) (left : L) (end : Held A O) where
-  gave-keeps : (held : Held A O) (step : Step A L O R) → Gave stood held step answer left end → Same other held end
-  gave-keeps held (Does ask on) h = absurd h
-  gave-keeps held (Spends ask next) h = gave-keeps held next h.1
-  gave-keeps held (Gives given state) h = ap (λ (x : Held A O). find other x.tasks) h.2
+-- and so of a walk, and of a front of one
+module _ {A L O R : Type 0} (other : ℕ) (end : Held A O) where
+  gave-keeps : (stood : Stood) (answer : R) (left : L) (held : Held A O) (step : Step A L O R) → Gave stood held step answer left end → Same other held end
+  gave-keeps stood answer left held step g = ap (λ (x : Held A O). find other x.tasks) (gave-end stood answer left end held step g)
 
   goes-keeps : (more : Held A O → Step A L O R → Type 0) → ((held : Held A O) (step : Step A L O R) → more held step → Same other held end) → (held : Held A O) (step : Step A L O R) (t : Turn) → SpawnsOthers other t → Goes more held step t → Same other held end
   goes-keeps more on held (Does ask step) t n h = on (moved held ask t) (step (heard_of held t)) h.1 ∙ moved-same other t.stood held ask t.call t.reply n
@@ -81,9 +80,27 @@ module _ {A L O R : Type 0} (other : ℕ) (stood : Stood) (answer : R) (left : L
   ]
   goes-keeps more on held (Gives given state) t n h = absurd h
 
-  walks-keep : (turns : List Turn) (held : Held A O) (step : Step A L O R) → AllByRecursion (SpawnsOthers other) turns → Walks step held turns stood answer left end → Same other held end
-  walks-keep [] held step n h = gave-keeps held step h
-  walks-keep (t ∷ turns) held step n h = goes-keeps (λ held step. Walks step held turns stood answer left end) (λ held step h. walks-keep turns held step n.1 h) held step t n.0 h
+  walks-keep : (stood : Stood) (answer : R) (left : L) (turns : List Turn) (held : Held A O) (step : Step A L O R) → AllByRecursion (SpawnsOthers other) turns → Walks step held turns stood answer left end → Same other held end
+  walks-keep stood answer left [] held step n h = gave-keeps stood answer left held step h
+  walks-keep stood answer left (t ∷ turns) held step n h = goes-keeps (λ held step. Walks step held turns stood answer left end) (λ held step h. walks-keep stood answer left turns held step n.1 h) held step t n.0 h
+
+  fronts-keep : (turns : List Turn) (held : Held A O) (step : Step A L O R) → AllByRecursion (SpawnsOthers other) turns → Fronts step held turns end → Same other held end
+  fronts-keep [] held step n h = ap (λ (x : Held A O). find other x.tasks) h
+  fronts-keep (t ∷ turns) held step n h = goes-keeps (λ held step. Fronts step held turns end) (λ held step h. fronts-keep turns held step n.1 h) held step t n.0 h
+
+  stops-keep : (stood : Stood) (turns : List Turn) (held : Held A O) (step : Step A L O R) → AllByRecursion (SpawnsOthers other) turns → Stops step held turns stood end → Same other held end
+  stops-keep stood [] held step n h = ap (λ (x : Held A O). find other x.tasks) h.1
+  stops-keep stood (t ∷ turns) held step n h = goes-keeps (λ held step. Stops step held turns stood end) (λ held step h. stops-keep stood turns held step n.1 h) held step t n.0 h
+
+all-append : {X : Type 0} (P : X → Type 0) (xs ys : List X) → AllByRecursion P (xs ++ ys) → AllByRecursion P xs × AllByRecursion P ys
+all-append P [] ys h = (tt, h)
+all-append P (x ∷ xs) ys h = let k = all-append P xs ys h.1 in ((h.0, k.0), k.1)
+
+-- and of a part that lacked memory
+breaks-keep : {A L O R : Type 0} (other : ℕ) (step : Step A L O R) (held : Held A O) (turns : List Turn) (stood : Stood) (end : Held A O) → AllByRecursion (SpawnsOthers other) turns → Breaks step held turns stood end → Same other held end
+breaks-keep other step held turns stood end n k =
+    let all = all-append (SpawnsOthers other) k.front k.rest (rw k.are at n) in
+    frees-same other k.mid k.rest end all.1 k.frees ∙ stops-keep other k.mid (stood_before k.rest stood) k.front held step all.0 k.walks
 
 module _ (A O : Type 0) (p : Steps A O) (s : State) (v w : Value A O) (task : ℕ) where
   abbrev SpawnsNone : ℕ → Type 0
@@ -91,15 +108,20 @@ module _ (A O : Type 0) (p : Steps A O) (s : State) (v w : Value A O) (task : �
 
   pub poll_keeps : (other : ℕ) → Moves p s v (Answer task NoMemory) w → other ≢ task → SpawnsNone other → find other w.held.tasks ≡ find other v.held.tasks
   poll_keeps other h n spawns =
-      ap (λ (x : Value A O). find other x.held.tasks) h.is
-      ∙ find-with task other h.left h.moved.tasks n
-      ∙ frees-same other (taken task v.held) s.turns h.moved (recursion_from_All (λ (t : Turn). Spawns other t → ⊥) s.turns spawns) h.frees
-      ∙ find-without task other v.held.tasks n
+      let all = recursion_from_All (λ (t : Turn). Spawns other t → ⊥) s.turns spawns in
+      let step = p.task.next h.before s.clock.time task in
+      let kept : find other h.moved.tasks ≡ find other (taken task v.held).tasks = elim h.breaks [
+        | inl k ↦ breaks-keep other step (taken task v.held) s.turns (stood_in s) h.moved all k
+        | inr k ↦ fronts-keep other h.moved s.turns (taken task v.held) step all k
+      ] in
+      ap (λ (x : Value A O). find other x.held.tasks) h.is ∙ find-with task other h.left h.moved.tasks n ∙ kept ∙ find-without task other v.held.tasks n
 
   pub end_keeps : (other : ℕ) → Moves p s v (Answer task Ended) w → other ≢ task → SpawnsNone other → find other w.held.tasks ≡ find other v.held.tasks
   end_keeps other h n spawns =
       let all = recursion_from_All (λ (t : Turn). Spawns other t → ⊥) s.turns spawns in
-      elim h.2 [
-        | inl k ↦ walks-keep other (stood_in s) tt tt w.held s.turns (taken task v.held) (p.task.last h.0 s.clock.time task) all k.0 ∙ find-without task other v.held.tasks n
-        | inr k ↦ frees-same other (taken task v.held) s.turns w.held all k.1 ∙ find-without task other v.held.tasks n
-      ]
+      let step = p.task.last h.0 s.clock.time task in
+      let kept : find other w.held.tasks ≡ find other (taken task v.held).tasks = elim h.2 [
+        | inl k ↦ walks-keep other w.held (stood_in s) tt tt s.turns (taken task v.held) step all k.0
+        | inr k ↦ breaks-keep other step (taken task v.held) s.turns (stood_in s) w.held all k.0
+      ] in
+      kept ∙ find-without task other v.held.tasks n

@@ -74,7 +74,7 @@ outside-close (Leaving task result left) m v = m
 outside-close _ m v = v
 
 pub run_outside : (b : Begin) (x y : List Entry) → IsLawful (begun b) (x ++ Cleanup ∷ y) → IsInVisit (after_all (begun b) x).phase → ⊥
-run_outside b x y l = outside-close (after_all (begun b) x).phase (lawful-tail (begun b) x (Cleanup ∷ y) l).0.1
+run_outside b x y l = outside-close (after_all (begun b) x).phase (lawful-tail (begun b) x (Cleanup ∷ y) l).0.1.0
 
 -- before the root is taken in there is none
 abbrev IsBefore : Phase → Option ℕ → Type 0

@@ -143,7 +143,7 @@ ended-called s by call reply m t d k h =
     there-some None h = absurd (cc)
 
 ended-answered : (s : State) (task : ℕ) (kind : AnswerKind) → May s (Answer task kind) → AreTasks s → AreEnded s → (k : ℕ) → is_there (find k (results_answered s task kind)) ≡ true → has_number k (running_answered s.running task kind) ≡ false
-ended-answered s task Ended m t d k h = elim (there-ended s.phase (ends_next s.running s.root) (is_settled s task) task s.results s.running k m.1 h) [
+ended-answered s task Ended m t d k h = elim (there-ended s.phase (ends_next s.running s.root) (is_settled s task) task s.results s.running k m.1.0 h) [
   | inl e ↦ (let same : task ≡ k = grind arith in rw same (gone-without k s.running t.once))
   | inr was ↦ without-lacks k task s.running (d k was)
 ]
@@ -188,10 +188,10 @@ module _ (task : ℕ) where
   gone-after s _ m g = g
 
   taken-answered : (s : State) (other : ℕ) (kind : AnswerKind) → May s (Answer other kind) → AreTasks s → IsTaken s → is_there (find task (results_answered s other kind)) ≡ true → ⊥
-  taken-answered s other Ended m t k h = elim (there-ended s.phase (ends_next s.running s.root) (is_settled s other) other s.results s.running task m.1 h) [
+  taken-answered s other Ended m t k h = elim (there-ended s.phase (ends_next s.running s.root) (is_settled s other) other s.results s.running task m.1.0 h) [
     | inl e ↦ (
         let same : other ≡ task = grind arith in
-        let runs : has_number task s.running ≡ true = rw same at (end-runs s.phase s.running s.root other t.at m.1) in
+        let runs : has_number task s.running ≡ true = rw same at (end-runs s.phase s.running s.root other t.at m.1.0) in
         let gone = k.1.0 in
         cc)
     | inr was ↦ k.0 was
@@ -233,7 +233,7 @@ module _ (task : ℕ) where
   gone-ends : (s : State) (e : Entry) → May s e → AreTasks s → IsGone task s.running s.numbers → e ≢ Answer task Ended
   gone-ends s (Answer other Ended) m t g e =
       let same : other ≡ task = cc in
-      let runs : has_number task s.running ≡ true = rw same at (end-runs s.phase s.running s.root other t.at m.1) in
+      let runs : has_number task s.running ≡ true = rw same at (end-runs s.phase s.running s.root other t.at m.1.0) in
       let gone = g.0 in
       cc
   gone-ends s _ m t g e = cc
@@ -262,14 +262,14 @@ ends_once b x y task l =
     let e = Answer task Ended in
     let r = lawful-tail (begun b) x (e ∷ y) l in
     let t = run-tasks b x (lawful-front (begun b) x (e ∷ y) l) in
-    let runs = end-runs s.phase s.running s.root task t.at r.0.1 in
+    let runs = end-runs s.phase s.running s.root task t.at r.0.1.0 in
     All-from_recursion (λ (e : Entry). e ≢ Answer task Ended) y (gone-all task (after s e) y r.1 (tasks-after s e r.0 t) (gone-without task s.running t.once, t.runs task runs))
 
 -- a result comes to be there with the end of its task
 stores : (s : State) (e : Entry) (task : ℕ) → May s e → AreTasks s → (IsStored s task → ⊥) → is_there (find task (after s e).results) ≡ true → e ≡ Answer task Ended
 unfolding after
 stores s (CallEntry by call reply) task m t n h = absurd (n (there-stored s task (find task s.results) refl (there-called s by call reply task t h)))
-stores s (Answer other Ended) task m t n h = elim (there-ended s.phase (ends_next s.running s.root) (is_settled s other) other s.results s.running task m.1 h) [
+stores s (Answer other Ended) task m t n h = elim (there-ended s.phase (ends_next s.running s.root) (is_settled s other) other s.results s.running task m.1.0 h) [
   | inl e ↦ (let same : other ≡ task = grind arith in ap (λ (k : ℕ). Answer k Ended) same)
   | inr was ↦ absurd (n (there-stored s task (find task s.results) refl was))
 ]

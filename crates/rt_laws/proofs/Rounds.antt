@@ -115,7 +115,7 @@ past-after s (Event label fields) k m = past-entered s s.phase k
 past-after s (Root task) k m = absurd (rw m.1.0 at k)
 past-after s (Round order) k m = absurd (past-round s.phase s k m.1.0)
 past-after s (Visit task) k m = absurd (rw m.1.0 at k)
-past-after s (Answer task kind) k m = past-answered s task kind k m.1
+past-after s (Answer task kind) k m = past-answered s task kind k m.1.0
 past-after s (NodeEnd node) k m = past-node s.phase k
 past-after s (Advance now) k m = absurd (rw m.1.0 at k)
 past-after s Cleanup k m = past-cleans (is_ended s.nodes 0) (reached s)
@@ -198,12 +198,12 @@ module _ (task : ℕ) where
 
   next-answer : (s : State) (other : ℕ) (kind : AnswerKind) → Waits s.phase s.running → May s (Answer other kind) → Next (Answer other kind) (after s (Answer other kind))
   unfolding after
-  next-answer s other Pending w m = inr (inr (waits-pending (is_flagged (find other s.marks)) other (left_of s.phase) s.running (let k = w.0 in rw m.1 at k) w.1 w.2))
-  next-answer s other Ready w m = inr (waits-finished (is_some_number other s.root) Completed There other (left_of s.phase) s.running (let k = w.0 in rw m.1 at k) w.1 w.2)
-  next-answer s other Panicked w m = inr (waits-finished (is_some_number other s.root) TaskPanicked Exited other (left_of s.phase) s.running (let k = w.0 in rw m.1 at k) w.1 w.2)
+  next-answer s other Pending w m = inr (inr (waits-pending (is_flagged (find other s.marks)) other (left_of s.phase) s.running (let k = w.0 in rw m.1.0 at k) w.1 w.2))
+  next-answer s other Ready w m = inr (waits-finished (is_some_number other s.root) Completed There other (left_of s.phase) s.running (let k = w.0 in rw m.1.0 at k) w.1 w.2)
+  next-answer s other Panicked w m = inr (waits-finished (is_some_number other s.root) TaskPanicked Exited other (left_of s.phase) s.running (let k = w.0 in rw m.1.0 at k) w.1 w.2)
   next-answer s other Stopped w m = inr (inl tt)
   next-answer s other NoMemory w m = inr (inl tt)
-  next-answer s other Ended w m = inr (inr (waits-ended (is_settled s other) s.phase (ends_next s.running s.root) other s.running w m.1))
+  next-answer s other Ended w m = inr (inr (waits-ended (is_settled s other) s.phase (ends_next s.running s.root) other s.running w m.1.0))
 
   not-over : (s : State) → Waits s.phase s.running → EndsRound s → ⊥
   not-over s w ends =

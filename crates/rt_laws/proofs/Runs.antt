@@ -159,7 +159,7 @@ cut_off due =
                 refl,
                 (
                   w,
-                  record { before = root; left = root; there = refl; breaks = inl (record { front = []; rest = []; are = refl; walks = tt }); moved = no_values; frees = refl; is = refl },
+                  record { before = root; left = root; there = refl; moved = no_values; breaks = inl (record { front = []; rest = []; mid = no_values; are = refl; walks = (tt, refl); frees = refl }); is = refl },
                   ends-tied (sleeping_root due) (after_all (begun small_begin) (opening ++ visiting_root ++ (Answered 0 LacksMemory ∷ []))) w root NoMemory refl refl refl refl refl,
                 ),
               ),

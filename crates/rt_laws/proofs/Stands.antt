@@ -10,7 +10,7 @@ use Rattle.rt_audit.specs.declared.entry.Entry.TheVariants.{Start, Call as CallE
 use Rattle.rt_model.specs.declared.mark.Mark.{Mark}
 use Rattle.rt_model.specs.State.{State, Phase, Blank, Making, Between, Visiting, Entered, Polling, Halted, Ending, Leaving, Turning, Over, Cleaning, Closing, Crashed}
 use Rattle.rt_model.specs.Causes.{ends_next}
-use Rattle.rt_model.specs.Rules.{CallsAt, May, MayAnswer, MayRound, MayClose, MayCrash, MayFinish, MayEnd, MayEndNode}
+use Rattle.rt_model.specs.Rules.{CallsAt, May, MayEvent, MayAnswer, MayRound, MayClose, MayCrash, MayFinish, MayEnd, MayEndNode}
 
 -- the entry may come in this phase, if it may come at all
 abbrev pub stands : Phase → Entry → Bool
@@ -25,7 +25,11 @@ stands Between Cleanup = true
 stands (Visiting left) (Visit task) = true
 stands (Visiting left) (Advance now) = true
 stands (Visiting left) Cleanup = true
+stands Making (Event label fields) = true
 stands (Entered task left) (Event label fields) = true
+stands (Polling task left) (Event label fields) = true
+stands (Ending task result left) (Event label fields) = true
+stands (Closing cause) (Event label fields) = true
 stands (Polling task left) (CallEntry by call reply) = true
 stands (Polling task left) (Answer other kind) = true
 stands (Halted task) (Answer other kind) = true
@@ -52,6 +56,14 @@ module _ (by : Option ℕ) (call : Call) (reply : CallReply) where
   call-stands (Ending task result left) root next m = refl
   call-stands (Closing cause) root next m = refl
   call-stands _ root next m = absurd m
+
+event-stands : (label : List ℕ) (fields : List (List ℕ)) (p : Phase) (s : State) → MayEvent p s label fields → stands p (Event label fields) ≡ true
+event-stands label fields Making s m = refl
+event-stands label fields (Entered task left) s m = refl
+event-stands label fields (Polling task left) s m = refl
+event-stands label fields (Ending task result left) s m = refl
+event-stands label fields (Closing cause) s m = refl
+event-stands label fields _ s m = absurd m.1
 
 draw-stands : (p : Phase) (s : State) (value : ℕ) → MayRound p s → stands p (Draw value) ≡ true
 draw-stands Between s value m = refl
@@ -100,17 +112,17 @@ finish-stands _ cause m = absurd m
 pub may_stand : (s : State) (e : Entry) → May s e → stands s.phase e ≡ true
 may_stand s (Start next now deadline cycle) m = rw m.1.0 refl
 may_stand s (CallEntry by call reply) m = call-stands by call reply s.phase s.root (ends_next s.running s.root) m.1.0
-may_stand s (Event label fields) m = rw m.1.0 refl
+may_stand s (Event label fields) m = event-stands label fields s.phase s m.1
 may_stand s (Wake task) m = refl
 may_stand s (Draw value) m = draw-stands s.phase s value m.1
 may_stand s (Root task) m = rw m.1.0 refl
 may_stand s (Round order) m = round-stands s.phase s order m.1.0
 may_stand s (Visit task) m = rw m.1.0 refl
-may_stand s (Answer task kind) m = answer-stands s task kind m.1
+may_stand s (Answer task kind) m = answer-stands s task kind m.1.0
 may_stand s (NodeEnd node) m = node-stands s.phase s.marks node m.1
 may_stand s (Advance now) m = rw m.1.0 refl
 may_stand s (Skip now) m = rw m.1.0 refl
 may_stand s (Fire alarm) m = rw m.1.0 refl
-may_stand s Cleanup m = cleanup-stands s.phase m.1
+may_stand s Cleanup m = cleanup-stands s.phase m.1.0
 may_stand s (Crash choices) m = rw m.1.1 (crash-stands s.phase s.running m.1.0)
 may_stand s (Finish cause) m = finish-stands s.phase cause m.1

@@ -123,7 +123,7 @@ module _ (b : Begin) (x : List Entry) where
   pub run_stops : (task : ℕ) (y : List Entry) → IsLawful (begun b) (x ++ Answer task Stopped ∷ y) → ((after_all (begun b) x).root ≡ Some task) × ((after_all (begun b) x).panicked ≡ true)
   run_stops task y l =
       let s = after_all (begun b) x in
-      let m = (lawful-tail (begun b) x (Answer task Stopped ∷ y) l).0.1 in
+      let m = (lawful-tail (begun b) x (Answer task Stopped ∷ y) l).0.1.0 in
       let k : IsStopped (Halted task) s.root s.panicked = rw m at (run_told b x).0 in
       k
 

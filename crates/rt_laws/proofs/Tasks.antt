@@ -431,7 +431,7 @@ tasks-after s (Answer task kind) m t = record {
   told = λ k h. t.told k (told-answered s task kind k h);
   marks = apart-answered s task kind t.marks;
   results = results-answered s task kind t.results;
-  at = at-answered s task kind m.1 t;
+  at = at-answered s task kind m.1.0 t;
 }
 tasks-after s (NodeEnd node) m t = record {
   once = t.once;

@@ -1,6 +1,5 @@
 -- Below an ended node: nobody is polled there, and who is born there is ended.
 use Rattle.std.proofs.Common.{◌≡◌, ◌⊎◌, inl, inr, ℕ, zero, suc, List, [], ◌∷◌, ◌++◌, Option, Some, None, is_some, option_map, Bool, true, false, ◌&&◌, eqb, if◌then◌else◌, refl, sym, ap, ◌∙◌, arith, Contains}
-use Rattle.std.specs.List.{AllByRecursion}
 use Rattle.std.proofs.lemmas.List.Elements.{Contains-append_right}
 use Rattle.rt_audit.specs.declared.call.Call.{Call}
 use Rattle.rt_audit.specs.declared.call.Call.TheVariants.{Child, CloseNode, Spawn}
@@ -8,6 +7,7 @@ use Rattle.rt_audit.specs.declared.reply.CallReply.{CallReply}
 use Rattle.rt_audit.specs.declared.reply.CallReply.TheVariants.{Done, NodeAt, TaskAt, Closed}
 use Rattle.rt_audit.specs.declared.answer.AnswerKind.{AnswerKind}
 use Rattle.rt_audit.specs.declared.answer.AnswerKind.TheVariants.{Ended}
+use Rattle.rt_audit.specs.declared.finish.FinishCause.{FinishCause}
 use Rattle.rt_audit.specs.declared.entry.Entry.{Entry}
 use Rattle.rt_audit.specs.declared.entry.Entry.TheVariants.{Call as CallEntry, Event, Wake, Answer, NodeEnd}
 use Rattle.rt_super.specs.Ancestry.{NodeState, TreeRecord, is_known, is_ended, links, nodes_below, stands_in, with_child, with_task, with_release, with_end}
@@ -18,14 +18,13 @@ use Rattle.rt_model.specs.Lists.{find, is_some_number}
 use Rattle.rt_model.specs.Marks.{is_flagged, flagged, flag, flag_all}
 use Rattle.rt_model.specs.State.{State, Phase, Entered, Ending, Leaving, Closing, begun}
 use Rattle.rt_model.specs.Causes.{ends_next}
-use Rattle.rt_model.specs.Effects.{after, after_all, is_settled, nodes_called, nodes_answered, released, unflagged, flagged_by, left_of, visited, entered, entered_by}
+use Rattle.rt_model.specs.Effects.{after, after_all, is_settled, nodes_called, nodes_answered, released, unflagged, flagged_by, entered, entered_by}
 use Rattle.rt_model.specs.Rules.{May, MayEnd, MayEndNode, Answers, IsLawful}
 use Rattle.rt_model.proofs.Append.{after_all-append}
 use Rattle.rt_laws.specs.Aborts.{IsAbortOf}
-use Rattle.rt_laws.specs.Cleanup.{IsOfCleanup}
 use Rattle.rt_laws.specs.Polls.{BeginsPoll, PollsNone}
 use Rattle.rt_laws.proofs.Clock.{lawful-front, lawful-tail}
-use Rattle.rt_laws.proofs.Endings.{ends-all}
+use Rattle.rt_laws.proofs.Endings.{EndsFor, ends-entry}
 use Rattle.rt_laws.proofs.Stands.{stands, may_stand}
 use Rattle.rt_laws.proofs.Tasks.{AreTasks, spawn-answers, tasks-after, tasks-all, run-tasks}
 use Rattle.rt_laws.proofs.Flags.{out-unmarked, out-all, some-flagged}
@@ -180,17 +179,19 @@ module _ (task : ℕ) (m : Mark) (result : Option Outcome) (left : List ℕ) (ch
 
 -- behind a cleanup nobody is polled
 
-cleaned-polls : (s : State) (z : List Entry) (task : ℕ) → AllByRecursion IsOfCleanup z → PollsNone s z task
-cleaned-polls s [] task h = tt
-cleaned-polls s (e ∷ z) task h = (none-cleaned s e task h.0, cleaned-polls (after s e) z task h.1)
+cleaned-polls : (cause : Option FinishCause) (s : State) (z : List Entry) (task : ℕ) → s.owed ≡ [] → EndsFor cause s.phase → IsLawful s z → PollsNone s z task
+cleaned-polls cause s [] task o h l = tt
+cleaned-polls cause s (e ∷ z) task o h l =
+    let k = ends-entry cause s e o h l.0 in
+    (none-cleaned s e task h, cleaned-polls cause (after s e) z task k.1 k.2 l.1)
   where
-    none-cleaned : (s : State) (e : Entry) (task : ℕ) → IsOfCleanup e → BeginsPoll s e task → ⊥
-    none-cleaned s (Event label fields) task h p = h
+    none-cleaned : (s : State) (e : Entry) (task : ℕ) → EndsFor cause s.phase → BeginsPoll s e task → ⊥
+    none-cleaned s (Event label fields) task h p = rw p.1 at h
     none-cleaned s _ task h p = p
 
-all-append : (x y : List Entry) → AllByRecursion IsOfCleanup (x ++ y) → AllByRecursion IsOfCleanup y
-all-append [] y h = h
-all-append (e ∷ x) y h = all-append x y h.1
+polls-append : (s : State) (y z : List Entry) (task : ℕ) → PollsNone s (y ++ z) task → PollsNone (after_all s y) z task
+polls-append s [] z task h = h
+polls-append s (e ∷ y) z task h = polls-append (after s e) y z task h.1
 
 -- from the visit that ends a task
 module _ (task : ℕ) (m : Mark) (child : ℕ) (k : Mark) where
@@ -210,8 +211,9 @@ module _ (task : ℕ) (m : Mark) (child : ℕ) (k : Mark) where
   from-end : (s : State) (y z : List Entry) (p : Phase) → s.phase ≡ p → MayEnd p (ends_next s.running s.root) task → find task s.marks ≡ Some m → IsLawful s (Answer task Ended ∷ (y ++ z)) → AreTasks s → AreNodesOf Any s → find child (after_all (after s (Answer task Ended)) y).marks ≡ Some k → stands_in (nodes_below m.node (links (after_all (after s (Answer task Ended)) y).nodes)) k.node ≡ true → PollsNone (after_all (after s (Answer task Ended)) y) z child
   from-end s y z (Ending other result left) e n f l t a g h = from-ending s y z result left (is_ended s.nodes m.node) refl (e ∙ ap (λ i. Ending i result left) (sym n)) f l t a g h
   from-end s y z (Closing cause) e n f l t a g h =
-      let all = ends-all cause s (Answer task Ended ∷ (y ++ z)) l.0.0 (rw e refl) l in
-      cleaned-polls (after_all (after s (Answer task Ended)) y) z child (all-append y z all.0.1)
+      let ends : EndsFor cause s.phase = rw e refl in
+      let all = ends-entry cause s (Answer task Ended) l.0.0 ends l.0 in
+      polls-append (after s (Answer task Ended)) y z child (cleaned-polls cause (after s (Answer task Ended)) (y ++ z) child all.1 all.2 l.1)
   from-end s y z _ e n f l t a g h = absurd n
 
 pub ended_visit : (b : Begin) (x y z : List Entry) (task child : ℕ) (m k : Mark) → IsLawful (begun b) (x ++ Answer task Ended ∷ (y ++ z)) → find task (after_all (begun b) x).marks ≡ Some m → find child (after_all (begun b) (x ++ Answer task Ended ∷ y)).marks ≡ Some k → Contains (nodes_below m.node (links (after_all (begun b) (x ++ Answer task Ended ∷ y)).nodes)) k.node → PollsNone (after_all (begun b) (x ++ Answer task Ended ∷ y)) z child
@@ -222,7 +224,7 @@ ended_visit b x y z task child m k l f g c =
     let r = lawful-tail (begun b) x (Answer task Ended ∷ (y ++ z)) l in
     let mark : find child (after_all s (Answer task Ended ∷ y)).marks ≡ Some k = rw e at g in
     let below : Contains (nodes_below m.node (links (after_all s (Answer task Ended ∷ y)).nodes)) k.node = rw e at c in
-    let polls = from-end task m child k s y z s.phase refl r.0.1 f r (run-tasks b x front) (run-any b x front) mark (contains-stands (nodes_below m.node (links (after_all s (Answer task Ended ∷ y)).nodes)) k.node below) in
+    let polls = from-end task m child k s y z s.phase refl r.0.1.0 f r (run-tasks b x front) (run-any b x front) mark (contains-stands (nodes_below m.node (links (after_all s (Answer task Ended ∷ y)).nodes)) k.node below) in
     rw e polls
 
 -- an end goes down the tree, and stays
@@ -250,11 +252,8 @@ ends-by true flagged other task left rest h = absurd (cc)
 ends-by false true other task left rest h = (cc, refl)
 ends-by false false other task left rest h = absurd (cc)
 
-ends-entered : (s : State) (p : Phase) (task : ℕ) (rest : List ℕ) → p ≡ Entered (visited p) (left_of p) → entered s p ≡ Ending task None rest → is_flagged (find task s.marks) ≡ true
-ends-entered s (Entered other left) task rest e h =
-    let k = ends-by (is_some_number other s.root && s.panicked) (is_flagged (find other s.marks)) other task left rest h in
-    rw k.0 at k.1
-ends-entered s _ task rest e h = absurd (cc)
+ends-entered : (s : State) (task : ℕ) (left rest : List ℕ) → entered s (Entered task left) ≡ Ending task None rest → is_flagged (find task s.marks) ≡ true
+ends-entered s task left rest h = (ends-by (is_some_number task s.root && s.panicked) (is_flagged (find task s.marks)) task task left rest h).1
 
 abbrev IsNamed : List Entry → ℕ → Type 0
 IsNamed x task = (e : Entry) × Contains x e × IsAbortOf task e
@@ -264,13 +263,13 @@ names-all whole [] h = tt
 names-all whole (e ∷ x) h =
     ((λ k a. (e, h e (0, omega arith, refl), a)), names-all whole x (λ f c. h f (Contains-append_right (e ∷ []) x f c)))
 
-pub unpolled : (b : Begin) (x y : List Entry) (label : List ℕ) (fields : List (List ℕ)) (task : ℕ) (left : List ℕ) → IsLawful (begun b) (x ++ Event label fields ∷ y) → (after (after_all (begun b) x) (Event label fields)).phase ≡ Ending task None left → IsNamed x task ⊎ ((m : Mark) × (find task (after_all (begun b) x).marks ≡ Some m) × (is_ended (after_all (begun b) x).nodes m.node ≡ true))
+pub unpolled : (b : Begin) (x y : List Entry) (label : List ℕ) (fields : List (List ℕ)) (task : ℕ) (left : List ℕ) → IsLawful (begun b) (x ++ Event label fields ∷ y) → (after_all (begun b) x).phase ≡ Entered task left → (after (after_all (begun b) x) (Event label fields)).phase ≡ Ending task None left → IsNamed x task ⊎ ((m : Mark) × (find task (after_all (begun b) x).marks ≡ Some m) × (is_ended (after_all (begun b) x).nodes m.node ≡ true))
 unfolding after
-unpolled b x y label fields task left l h =
+unpolled b x y label fields task left l e h =
     let s = after_all (begun b) x in
     let front = lawful-front (begun b) x (Event label fields ∷ y) l in
-    let may = (lawful-tail (begun b) x (Event label fields ∷ y) l).0.1 in
-    let flags = ends-entered s s.phase task left may.0 h in
+    let ends : entered s (Entered task left) ≡ Ending task None left = rw e at h in
+    let flags = ends-entered s task left left ends in
     let m = some-mark (find task s.marks) (some-flagged (find task s.marks) flags) in
     let set : m.0.flagged ≡ true = rw m.1 at flags in
     let a = run-nodes (IsNamed x) b x front (names-all x x (λ e c. c)) in

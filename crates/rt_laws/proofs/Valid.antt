@@ -42,7 +42,7 @@ ready_valid number =
     let visits : Completes p s3 v = visiting p s3 v refl 0 (0 ∷ []) [] refl refl tt (entered p s4 v refl 0 [] refl polls) in
     begins p small_begin
     (making_gives p s1 nothing refl tt held refl (refl, refl) tt
-    (rounds p s2 v (inl refl) tt (λ order perm. rw (only 0 order perm) visits) refl))
+    (rounds p s2 v (inl refl) tt (λ order perm. rw (only 0 order perm) visits) refl refl))
 
 -- a root that sleeps
 
@@ -73,7 +73,7 @@ first-poll due more =
     let none : 0 + due ≡ due = omega arith in
     begins p small_begin
     (making_gives p s1 nothing refl root no_values refl (rw none refl, refl) tt
-    (rounds p s2 v (inl refl) tt (λ order perm. rw (only 0 order perm) visits) refl))
+    (rounds p s2 v (inl refl) tt (λ order perm. rw (only 0 order perm) visits) refl refl))
 
 falls-asleep : (due : ℕ) → 0 < due → Completes (sleeping_root due) (asleep due 1000000) (with_root due (Some 0)) → Completes (sleeping_root due) (polled due) (with_root due None)
 unfolding begun after
@@ -116,7 +116,7 @@ wakes-up due time late =
     let answers : Completes p s7 v = polling_gives p s7 v refl 0 [] root refl refl no_values (Ready 0) root refl (λ text e. cc) ((refl, tt), (refl, refl)) (λ e. absurd (cc)) in
     let polls : Completes p s6 v = polling_wakes p s6 v refl 0 [] root refl refl no_values due (Some 0) (sleeper_heard root) (refl, refl) late answers in
     let visits : Completes p s4 v = visiting p s4 v refl 0 (0 ∷ []) [] refl refl tt (entered p s5 v refl 0 [] refl polls) in
-    let round : Completes p s3 v = rounds p s3 v (inr (refl, refl, refl)) tt (λ order perm. rw (only 0 order perm) visits) refl in
+    let round : Completes p s3 v = rounds p s3 v (inr (refl, refl, refl)) tt (λ order perm. rw (only 0 order perm) visits) refl refl in
     fired p s1 v refl 0 refl (rw over refl) (rw now refl) (rw (over, now) tt) (woken p s2 v 0 [] refl (λ cause e. cc) round)
 
 -- where the clock skips to it

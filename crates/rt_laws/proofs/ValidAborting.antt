@@ -78,9 +78,9 @@ module _ (answer : Answer ℕ) where
         let s2 = after s1 (Visit 1) in
         let s3 = after s2 (Event process_task (task_fields 1 handle)) in
         let at = Aborter own in
-        let polls : Completes p s3 w = polling_does p s3 w refl 1 [] at refl refl (taken 1 w.held) (Plainly (AbortTask 1)) (λ heard. Gives answer at) (refl, refl) (abort_told p s3 w (Some 1) 1 refl (follows child fresh own other)) in
+        let polls : Completes p s3 w = polling_does p s3 w refl 1 [] at refl refl (taken 1 w.held) (Plainly (AbortTask 1)) (λ heard. Gives answer at) (refl, refl) (λ reply. refl) (abort_told p s3 w (Some 1) 1 refl (follows child fresh own other)) in
         let visits : Completes p s1 w = visiting p s1 w refl 1 (1 ∷ []) [] refl refl tt (entered p s2 w refl 1 [] refl polls) in
-        rounds p (waits child own) w (inr (refl, refl, refl)) tt (λ order perm. rw (only 1 order perm) visits) refl
+        rounds p (waits child own) w (inr (refl, refl, refl)) tt (λ order perm. rw (only 1 order perm) visits) refl refl
 
     root_waits : (child : ℕ) (fresh : is_known first_record child ≡ false) (own : ℕ) (other : is_known (one_child child) own ≡ false) → Completes p (spawned_in child own) v
     unfolding begun after
@@ -91,7 +91,7 @@ module _ (answer : Answer ℕ) where
         let s2 = after s1 (Answered 0 AnswersPending) in
         let left : Completes p s2 w = visited p s2 w refl [] refl refl tt (task_aborts child fresh own other) in
         let answers : Completes p s1 v = polling_gives p s1 v refl 0 [] Parent refl refl (task_alone child own) Pending (Joining 1) refl (λ text e. cc) ((refl, tt), ((refl, tt), ((refl, tt), (refl, refl)))) (λ e. left) in
-        polling_does p s v refl 0 [] Parent refl refl (task_alone child own) (Plainly (Join 1)) (join_heard 1) ((refl, tt), ((refl, tt), (refl, refl))) (join_told p s v (Some 0) 1 new_result refl (λ reply e. rw e answers))
+        polling_does p s v refl 0 [] Parent refl refl (task_alone child own) (Plainly (Join 1)) (join_heard 1) ((refl, tt), ((refl, tt), (refl, refl))) (λ reply. refl) (join_told p s v (Some 0) 1 new_result refl (λ reply e. rw e answers))
 
     child_made : (child : ℕ) → is_known first_record child ≡ false → Completes p (with_node child) v
     unfolding begun after
@@ -99,7 +99,7 @@ module _ (answer : Answer ℕ) where
         let s = with_node child in
         let asks : Ask Aborting ℕ = Spawning child (Shared false) (λ number. Aborter number) in
         let spawns : (own : ℕ) → is_known (one_child child) own ≡ false → Completes p (after s (Call (Some 0) (Spawn child) (TaskAt 1 own))) v = λ own other. in_form p (after s (Call (Some 0) (Spawn child) (TaskAt 1 own))) (spawned_in child own) v (rw (spawned child fresh own other 1) refl) (root_waits child fresh own other) in
-        polling_does p s v refl 0 [] Parent refl refl (taken 0 v.held) asks aborter_heard ((refl, tt), (refl, refl)) (spawn_told p s v (Some 0) child (Shared false) (λ number. Aborter number) (free child fresh) (not_ended child fresh) refl spawns)
+        polling_does p s v refl 0 [] Parent refl refl (taken 0 v.held) asks aborter_heard ((refl, tt), (refl, refl)) (λ reply. refl) (spawn_told p s v (Some 0) child (Shared false) (λ number. Aborter number) (free child fresh) (not_ended child fresh) refl spawns)
 
     valid-from : IsValidInput p small_begin
     unfolding begun after
@@ -108,9 +108,9 @@ module _ (answer : Answer ℕ) where
         let s2 = after s1 (Root 0) in
         let s3 = after s2 (Round (0 ∷ [])) in
         let s4 = after s3 (Visit 0) in
-        let polls : Completes p in_poll v = polling_does p in_poll v refl 0 [] Parent refl refl (taken 0 v.held) (Plainly (Child 0 handle)) parent_heard (refl, refl) (child_told p in_poll v (Some 0) 0 handle refl refl child_made) in
+        let polls : Completes p in_poll v = polling_does p in_poll v refl 0 [] Parent refl refl (taken 0 v.held) (Plainly (Child 0 handle)) parent_heard (refl, refl) (λ reply. refl) (child_told p in_poll v (Some 0) 0 handle refl refl child_made) in
         let visits : Completes p s3 v = visiting p s3 v refl 0 (0 ∷ []) [] refl refl tt (entered p s4 v refl 0 [] refl polls) in
-        begins p small_begin (making_gives p s1 nothing refl Parent nothing.held refl (refl, refl) tt (rounds p s2 v (inl refl) tt (λ order perm. rw (only 0 order perm) visits) refl))
+        begins p small_begin (making_gives p s1 nothing refl Parent nothing.held refl (refl, refl) tt (rounds p s2 v (inl refl) tt (λ order perm. rw (only 0 order perm) visits) refl refl))
 
 -- it is ready, and its result is handed out
 module _ (number : ℕ) where
@@ -162,10 +162,10 @@ module _ (number : ℕ) where
         let at = Joining 1 in
         let rest = taken 0 w.held in
         let gives : Completes q s6 w = polling_gives q s6 w refl 0 [] at refl refl (freed 1 (freed 1 rest)) (Ready number) Parent refl (λ text e. cc) ((refl, tt), (λ there. (refl, refl, (refl, refl)), λ gone. absurd (cc))) (λ e. absurd (cc)) in
-        let frees : Completes q s5 w = polling_spends q s5 w refl 0 [] at refl refl (freed 1 rest) (Plainly (GiveUp 1)) (Gives (Ready number) Parent) ((refl, tt), (refl, refl)) refl gives in
-        let polls : Completes q s4 w = polling_does q s4 w refl 0 [] at refl refl rest (Plainly (Join 1)) (join_heard 1) (refl, refl) (join_told q s4 w (Some 0) 1 result refl (λ reply e. rw e frees)) in
+        let frees : Completes q s5 w = polling_spends q s5 w refl 0 [] at refl refl (freed 1 rest) (Plainly (GiveUp 1)) (Gives (Ready number) Parent) ((refl, tt), (refl, refl)) (λ reply. refl) refl gives in
+        let polls : Completes q s4 w = polling_does q s4 w refl 0 [] at refl refl rest (Plainly (Join 1)) (join_heard 1) (refl, refl) (λ reply. refl) (join_told q s4 w (Some 0) 1 result refl (λ reply e. rw e frees)) in
         let visits : Completes q s2 w = visiting q s2 w refl 0 (0 ∷ []) [] refl refl tt (entered q s3 w refl 0 [] refl polls) in
-        let round : Completes q s1 w = rounds q s1 w (inr (refl, refl, refl)) tt (λ order perm. rw (only 0 order perm) visits) refl in
+        let round : Completes q s1 w = rounds q s1 w (inr (refl, refl, refl)) tt (λ order perm. rw (only 0 order perm) visits) refl refl in
         visited q node_ended w refl [] refl refl tt round
 
     task_gives : Completes q (aborted child own) (waiting child own)
@@ -184,7 +184,7 @@ module _ (number : ℕ) where
         let leaves : Completes q s7 w = leaving q s7 w refl 1 (Some There) [] child refl refl (in_form q (after s7 (NodeEnd child)) node_ended w leave root_joins) in
         let wakes : Completes q task_ended w = woken q task_ended w 0 [] refl (λ cause e. cc) leaves in
         let ends : Completes q s6 ready = ending_gives q s6 ready refl 1 (Some There) [] at refl refl (taken 1 ready.held) (λ there. (refl, refl, (refl, refl)), λ gone. never (is_live (grown child own 1 true true) own) (live child fresh own other 1) gone) (in_form q (after s6 (Answered 1 Ended)) task_ended w end wakes) in
-        let closes : Completes q s5 ready = ending_spends q s5 ready refl 1 (Some There) [] at refl refl (taken 1 ready.held) (Plainly (CloseNode own)) (Gives tt tt) (refl, refl) (live child fresh own other 1) (in_form q (after s5 (Call (Some 1) (CloseNode own) Done)) s6 ready (rw close refl) ends) in
+        let closes : Completes q s5 ready = ending_spends q s5 ready refl 1 (Some There) [] at refl refl (taken 1 ready.held) (Plainly (CloseNode own)) (Gives tt tt) (refl, refl) (λ reply. refl) (live child fresh own other 1) (in_form q (after s5 (Call (Some 1) (CloseNode own) Done)) s6 ready (rw close refl) ends) in
         polling_answers q s4 (waiting child own) refl 1 [] at refl refl rest (Ready number) at (λ text e. cc) ((refl, tt), (refl, refl)) (λ e. absurd (cc)) (λ o e. let same : o ≡ number = cc in rw same closes)
 
   pub aborting_valid : IsValidInput (aborting_root (Ready number)) small_begin
@@ -242,8 +242,8 @@ module _ (child : ℕ) (fresh : is_known first_record child ≡ false) (own : �
       let at = Joining 1 in
       let held = taken 0 w.held in
       let gives : Completes r s6 w = polling_gives r s6 w refl 0 rest at refl refl (freed 1 held) (Ready without_value) Parent refl (λ text e. cc) ((refl, tt), (λ there. (refl, refl, (refl, refl)), λ gone. absurd (cc))) (λ e. absurd (cc)) in
-      let frees : Completes r s5 w = polling_spends r s5 w refl 0 rest at refl refl held (Plainly (GiveUp 1)) (Gives (Ready without_value) Parent) ((refl, tt), (refl, refl)) refl gives in
-      let polls : Completes r s4 w = polling_does r s4 w refl 0 rest at refl refl held (Plainly (Join 1)) (join_heard 1) (refl, refl) (join_told r s4 w (Some 0) 1 no_result refl (refused_told s4 w frees)) in
+      let frees : Completes r s5 w = polling_spends r s5 w refl 0 rest at refl refl held (Plainly (GiveUp 1)) (Gives (Ready without_value) Parent) ((refl, tt), (refl, refl)) (λ reply. refl) refl gives in
+      let polls : Completes r s4 w = polling_does r s4 w refl 0 rest at refl refl held (Plainly (Join 1)) (join_heard 1) (refl, refl) (λ reply. refl) (join_told r s4 w (Some 0) 1 no_result refl (refused_told s4 w frees)) in
       let enters : Completes r (after s2 (Visit 0)) w = in_form r (after s2 (Visit 0)) s3 w (rw next refl) (entered r s3 w refl 0 rest refl polls) in
       visiting r s2 w refl 0 order rest refl next (rw next tt) enters
     where
@@ -269,12 +269,12 @@ module _ (child : ℕ) (fresh : is_known first_record child ≡ false) (own : �
       let close = closed child fresh own other 1 in
       let end : after s6 (Answered 1 Ended) ≡ task_stopped = rw (still child fresh own other 1, left child fresh own other 1) (refl {a = task_stopped}) in
       let leave : after task_stopped (NodeEnd child) ≡ node_stopped = rw (known child fresh own other 1, flags child fresh own other 1) refl in
-      let round : Completes r both_ready w = rounds r both_ready w (inr (refl, refl, refl)) tt in_order refl in
+      let round : Completes r both_ready w = rounds r both_ready w (inr (refl, refl, refl)) tt in_order refl refl in
       let visits : Completes r s8 w = visited r s8 w refl [] refl refl tt round in
       let wakes : Completes r node_stopped w = woken r node_stopped w 1 (0 ∷ []) refl (λ cause e. cc) (woken r s7 w 0 [] refl (λ cause e. cc) visits) in
       let leaves : Completes r task_stopped w = leaving r task_stopped w refl 1 None [] child refl refl (in_form r (after task_stopped (NodeEnd child)) node_stopped w leave wakes) in
       let ends : Completes r s6 u = ending_gives r s6 u refl 1 None [] at refl refl rest (λ there. (refl, refl, (refl, refl)), λ gone. never (is_live (grown child own 1 true true) own) (live child fresh own other 1) gone) (in_form r (after s6 (Answered 1 Ended)) task_stopped w end leaves) in
-      let closes : Completes r s5 u = ending_spends r s5 u refl 1 None [] at refl refl rest (Plainly (CloseNode own)) (Gives tt tt) (refl, refl) (live child fresh own other 1) (in_form r (after s5 (Call (Some 1) (CloseNode own) Done)) s6 u (rw close refl) ends) in
+      let closes : Completes r s5 u = ending_spends r s5 u refl 1 None [] at refl refl rest (Plainly (CloseNode own)) (Gives tt tt) (refl, refl) (λ reply. refl) (live child fresh own other 1) (in_form r (after s5 (Call (Some 1) (CloseNode own) Done)) s6 u (rw close refl) ends) in
       polling_answers r s4 u refl 1 [] at refl refl rest Pending at (λ text e. cc) ((refl, tt), (refl, refl)) (λ e. closes) (λ o e. absurd (cc))
 
 pub stopping_valid : IsValidInput (aborting_root Pending) small_begin

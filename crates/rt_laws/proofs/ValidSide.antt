@@ -91,7 +91,7 @@ module _ (child : ℕ) (fresh : is_known first_record child ≡ false) (own : �
       let leave : after ended (NodeEnd child) ≡ node_ended = rw (known child fresh own other 0, flags child fresh own other 0) refl in
       let leaves : Completes p ended w = leaving p ended w refl 0 (Some There) (1 ∷ []) child refl refl (in_form p (after ended (NodeEnd child)) node_ended w leave root_second) in
       let ends : Completes p s5 v = ending_gives p s5 v refl 0 (Some There) (1 ∷ []) task refl refl rest (λ there. (refl, refl, (refl, refl)), λ gone. never (is_live (grown child own 0 true true) own) (live child fresh own other 0) gone) (in_form p (after s5 (Answered 0 Ended)) ended w end leaves) in
-      let closes : Completes p s4 v = ending_spends p s4 v refl 0 (Some There) (1 ∷ []) task refl refl rest (Plainly (CloseNode own)) (Gives tt tt) (refl, refl) (live child fresh own other 0) (in_form p (after s4 (Call (Some 0) (CloseNode own) Done)) s5 v (rw close refl) ends) in
+      let closes : Completes p s4 v = ending_spends p s4 v refl 0 (Some There) (1 ∷ []) task refl refl rest (Plainly (CloseNode own)) (Gives tt tt) (refl, refl) (λ reply. refl) (live child fresh own other 0) (in_form p (after s4 (Call (Some 0) (CloseNode own) Done)) s5 v (rw close refl) ends) in
       let polls : Completes p s3 v = polling_answers p s3 v refl 0 (1 ∷ []) task refl refl rest (Ready 5) task (λ text e. cc) (refl, refl) (λ e. absurd (cc)) (λ o e. closes) in
       visiting p s1 v refl 0 (0 ∷ 1 ∷ []) (1 ∷ []) refl refl tt (entered p s2 v refl 0 (1 ∷ []) refl polls)
 
@@ -104,9 +104,9 @@ module _ (child : ℕ) (fresh : is_known first_record child ≡ false) (own : �
       let s1 = after beside (Call None (GiveUp 0) Done) in
       let s2 = after s1 (Root 1) in
       let now : Held Prompt ℕ = with_spawned 0 (Shared false) task nothing.held in
-      let round : Completes p s2 v = rounds p s2 v (inl refl) tt in_order refl in
+      let round : Completes p s2 v = rounds p s2 v (inl refl) tt in_order refl refl in
       let makes : Completes p s1 nothing = making_gives p s1 nothing refl prompt_root now refl ((refl, tt), ((refl, tt), (λ there. (refl, refl, (refl, refl)), λ gone. absurd (cc)))) tt round in
-      making_spends p beside nothing refl refl tt now (Plainly (GiveUp 0)) (Gives tt prompt_root) ((refl, tt), ((refl, tt), (refl, refl))) refl makes
+      making_spends p beside nothing refl refl tt now (Plainly (GiveUp 0)) (Gives tt prompt_root) ((refl, tt), ((refl, tt), (refl, refl))) (λ reply. refl) refl makes
 
 -- the maker spawns its task
 
@@ -125,10 +125,10 @@ child_made child fresh =
     let s = with_node child in
     let spawns : (own : ℕ) → is_known (one_child child) own ≡ false → Completes p (after s (Call None (Spawn child) (TaskAt 0 own))) nothing = λ own other. in_form p (after s (Call None (Spawn child) (TaskAt 0 own))) (beside child fresh own other) nothing (rw (spawned child fresh own other 0) refl) (spawned_beside child fresh own other) in
     let told : Replied p s nothing None (spawning child) = spawn_told p s nothing None child (Shared false) (λ number. record { node = number; value = 5 }) (free child fresh) (not_ended child fresh) refl spawns in
-    making_does p s nothing refl refl tt nothing.held (spawning child) (spawn_heard child) ((refl, tt), (refl, refl)) told
+    making_does p s nothing refl refl tt nothing.held (spawning child) (spawn_heard child) ((refl, tt), (refl, refl)) (λ reply. refl) told
 
 pub side_valid : IsValidInput with_side small_begin
 unfolding begun after
 side_valid =
     let told : Replied p starting nothing None (Plainly (Child 0 side)) = child_told p starting nothing None 0 side refl refl child_made in
-    begins p small_begin (making_does p starting nothing refl refl tt nothing.held (Plainly (Child 0 side)) child_heard (refl, refl) told)
+    begins p small_begin (making_does p starting nothing refl refl tt nothing.held (Plainly (Child 0 side)) child_heard (refl, refl) (λ reply. refl) told)

@@ -61,9 +61,9 @@ module _ {A O : Type 0} (p : Steps A O) (s : State) (v u w : Value A O) where
         | inl k ↦ (
             let e = (walks-same (stood_in s) tt tt tt tt u.held w.held s.turns held (p.task.last before s.clock.time number) h.0 k.0).2 in
             h.1 ∙ ap (λ (x : Held A O). record v { held = x }) e ∙ sym k.1)
-        | inr k ↦ not-whole w (record v { held = w.held; whole = false }) second refl k.2
+        | inr k ↦ not-whole w (record v { held = w.held; whole = false }) second refl k.1
       ]
-      | inr h ↦ not-whole u (record v { held = u.held; whole = false }) first refl h.2
+      | inr h ↦ not-whole u (record v { held = u.held; whole = false }) first refl h.1
     ]
 
     answer-same : (task : ℕ) (kind : AnswerKind) → MovesAnswer p s v task kind u → MovesAnswer p s v task kind w → u ≡ w
@@ -98,9 +98,9 @@ module _ {A O : Type 0} (p : Steps A O) (s : State) (v u w : Value A O) where
         | inl k ↦ (
             let q = makes-same h.0 k.0 u.held w.held h.1 k.1 in
             h.2 ∙ rw (q.0, q.1) refl ∙ sym k.2)
-        | inr k ↦ absurd (broken w second k.0)
+        | inr k ↦ absurd (broken w second k)
       ]
-      | inr h ↦ absurd (broken u first h.0)
+      | inr h ↦ absurd (broken u first h)
     ]
     cleanup-same _ h k = h ∙ sym k
 
@@ -130,7 +130,7 @@ module _ {A O : Type 0} (p : Steps A O) (s : State) (v w : Value A O) (whole : w
   was-ended : (number : ℕ) (before : A) (held : Held A O) (v : Value A O) → EndsState p s number before held v w → v.whole ≡ true
   was-ended number before held v k = elim k [
     | inl k ↦ was-same (record v { held = w.held }) k.1
-    | inr k ↦ not-whole w (record v { held = w.held; whole = false }) whole refl k.2
+    | inr k ↦ not-whole w (record v { held = w.held; whole = false }) whole refl k.1
   ]
 
   -- an output leaves it as it is, wherever it goes
@@ -149,7 +149,7 @@ module _ {A O : Type 0} (p : Steps A O) (s : State) (v w : Value A O) (whole : w
   was-cleaned : (phase : Phase) → MovesCleanup p s v phase w → v.whole ≡ true
   was-cleaned Making k = elim k [
     | inl k ↦ was-same (record v { held = w.held; unmade = Some k.0 }) k.2
-    | inr k ↦ absurd (elim k.0 [
+    | inr k ↦ absurd (elim k [
       | inl h ↦ not-whole w (record v { held = w.held; unmade = w.unmade; whole = false }) whole refl h.1
       | inr h ↦ not-whole w (record v { held = w.held; unmade = None; whole = false }) whole refl h.1
     ])

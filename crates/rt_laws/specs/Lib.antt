@@ -8,6 +8,7 @@ pub mod Polls
 pub mod Refusals
 pub mod Sends
 pub mod Several
+pub mod Signaling
 pub mod Slotting
 pub mod Spawns
 pub mod Stored

@@ -2,12 +2,12 @@
 use Rattle.std.specs.Prelude.{◌≡◌, ℕ, List, [], ◌∷◌}
 use Rattle.rt_audit.specs.declared.entry.Entry.{Entry}
 use Rattle.rt_audit.specs.declared.entry.Entry.TheVariants.{Event}
-use Rattle.rt_model.specs.State.{State, Polling}
+use Rattle.rt_model.specs.State.{State, Entered, Polling}
 use Rattle.rt_model.specs.Effects.{after}
 
 -- the entry is the event of a visit that polls this task
 abbrev pub BeginsPoll : State → Entry → ℕ → Type 0
-BeginsPoll s (Event label fields) task = (left : List ℕ) × ((after s (Event label fields)).phase ≡ Polling task left)
+BeginsPoll s (Event label fields) task = (left : List ℕ) × (s.phase ≡ Entered task left) × ((after s (Event label fields)).phase ≡ Polling task left)
 BeginsPoll s _ task = ⊥
 
 -- none of these entries, from this state on, begins a poll of this task

@@ -1,13 +1,13 @@
 -- A root that sends itself a number or an error by a slot, and what comes near to its run.
-use Rattle.std.specs.Prelude.{ℕ, List, [], ◌∷◌, ◌++◌, Some, Result}
+use Rattle.std.specs.Prelude.{ℕ, List, [], ◌∷◌, ◌++◌, Some, None, Result}
 use Rattle.rt_base.specs.declared.error.Error.{Error}
-use Rattle.rt_audit.specs.declared.call.Call.TheVariants.{Slot, SlotSend, SlotPoll, SlotGiveUp, AbortWait}
+use Rattle.rt_audit.specs.declared.call.Call.TheVariants.{CloseNode, Slot, SlotSend, SlotPoll, SlotGiveUp, AbortWait}
 use Rattle.rt_audit.specs.declared.reply.CallReply.{CallReply}
 use Rattle.rt_audit.specs.declared.reply.CallReply.TheVariants.{Done, SlotAt, Pending as StillPending, Refused}
-use Rattle.rt_audit.specs.declared.answer.AnswerKind.TheVariants.{Pending as AnswersPending, Ready as AnswersReady}
-use Rattle.rt_audit.specs.declared.finish.FinishCause.TheVariants.{Completed}
+use Rattle.rt_audit.specs.declared.answer.AnswerKind.TheVariants.{Pending as AnswersPending, Ready as AnswersReady, NoMemory as LacksMemory, Ended}
+use Rattle.rt_audit.specs.declared.finish.FinishCause.TheVariants.{Completed, NoMemory}
 use Rattle.rt_audit.specs.declared.entry.Entry.{Entry}
-use Rattle.rt_audit.specs.declared.entry.Entry.TheVariants.{Call, Wake, Round, Answer as Answered, Advance}
+use Rattle.rt_audit.specs.declared.entry.Entry.TheVariants.{Start, Call, Wake, Root, Round, Answer as Answered, NodeEnd, Advance, Cleanup}
 use Rattle.rt_model.specs.declared.answer.Answer.{Answer}
 use Rattle.rt_model.specs.declared.answer.Answer.TheVariants.{Pending, Ready}
 use Rattle.rt_model.specs.Turns.{Plainly, Sending, Heard, Plain, Handed}
@@ -44,6 +44,29 @@ mail_ends (Waiting slot) = Spends (Plainly (SlotGiveUp slot)) (closes 0)
 -- a root that sends itself this, and gives the number that it receives
 abbrev pub mailing_root : Result ℕ Error → Steps Mailer ℕ
 mailing_root sent = with_first (record { next = λ mailer now task. mails sent mailer; last = λ mailer now task. mail_ends mailer }) (λ now. Gives tt Idle)
+
+-- a root that sends this into the slot of its maker, polls the slot, and waits
+abbrev pub sending_root : Result ℕ Error → Steps (Unit {0}) ℕ
+sending_root sent =
+    with_first
+    (record {
+      next = λ state now task. Spends (Sending 0 sent) (Does (Plainly (SlotPoll 0)) (λ heard. Gives Pending state));
+      last = λ state now task. Spends (Plainly (SlotGiveUp 0)) (closes 0);
+    })
+    (λ now. Does (Plainly Slot) (λ heard. Gives tt tt))
+
+-- its maker has made the slot
+abbrev pub slot_ready : List Entry
+slot_ready = Start 0 0 None 1000000 ∷ Call None Slot (SlotAt 0) ∷ Root 0 ∷ Round (0 ∷ []) ∷ []
+
+-- it sends, and lacks memory behind that
+abbrev pub send_lacks : List Entry
+send_lacks = slot_ready ++ visiting_root ++ (Call (Some 0) (SlotSend 0) Done ∷ Answered 0 LacksMemory ∷ [])
+
+-- its end gives the slot up
+abbrev pub sending_journal : List Entry
+sending_journal =
+    send_lacks ++ (Cleanup ∷ NodeEnd 0 ∷ Call (Some 0) (SlotGiveUp 0) Done ∷ Call (Some 0) (CloseNode 0) Done ∷ Answered 0 Ended ∷ []) ++ finishing NoMemory
 
 -- it has made a slot, and polled it so
 abbrev pub slot_polled : CallReply → List Entry

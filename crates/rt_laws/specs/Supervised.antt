@@ -177,13 +177,27 @@ refused = Call (Some 0) (Join 1) (Refused Closed) ∷ []
 abbrev pub stopping_journal : List Entry
 stopping_journal = aborter_joined ++ aborts_itself ++ aborter_stops ++ both_woken ++ visiting_root ++ refused ++ parent_ends
 
+-- the root ends while it waits for its task
+abbrev pub joiner_ends : List Entry
+joiner_ends = Call (Some 0) (GiveUp 1) Done ∷ Call (Some 0) (CloseNode 0) Done ∷ Answered 0 Ended ∷ []
+
 -- the task's poll lacks memory while the root waits for it, and the ends of both make their own calls
 abbrev pub beside_journal : List Entry
 beside_journal =
     aborter_joined
     ++ (Visit 1 ∷ Event process_task (task_fields 1 handle) ∷ Answered 1 LacksMemory ∷ Cleanup ∷ NodeEnd 0 ∷ [])
     ++ aborter_closes
-    ++ (Call (Some 0) (GiveUp 1) Done ∷ Call (Some 0) (CloseNode 0) Done ∷ Answered 0 Ended ∷ [])
+    ++ joiner_ends
+    ++ finishing NoMemory
+
+-- the root lacks memory in the poll that spawns its task, and the end of the task closes this node
+abbrev pub lacking_join : ℕ → List Entry
+lacking_join node =
+    opening
+    ++ visiting_root
+    ++ aborter_spawned
+    ++ (Answered 0 LacksMemory ∷ Cleanup ∷ NodeEnd 0 ∷ Call (Some 1) (CloseNode node) Done ∷ Answered 1 Ended ∷ [])
+    ++ joiner_ends
     ++ finishing NoMemory
 
 -- near misses, each beside a journal that differs in this one place and is lawful

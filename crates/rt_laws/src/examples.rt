@@ -1,7 +1,9 @@
 //! The definitions tried on small roots: what they write is a run, what comes near it is none, and their inputs are
 //! valid.
 
-ghost use Rattle.std.specs.Prelude.{◌≡◌, ◌≢◌, ◌≤◌, ◌<◌, ◌+◌, ◌-◌, ◌^◌, [], ◌∷◌, ℕ, List, Some, None};
+ghost use Rattle.std.specs.Prelude.{◌≡◌, ◌≢◌, ◌≤◌, ◌<◌, ◌+◌, ◌-◌, ◌^◌, ◌++◌, [], ◌∷◌, ℕ, List, Some, None, Result, false};
+ghost use Rattle.rt_base.specs.declared.error.Error.{Error};
+ghost use Rattle.rt_base.specs.declared.execution.Execution.TheVariants.{Shared};
 ghost use Rattle.rt_base.specs.declared.time.TheConstants.{MAX_TIME};
 ghost use Rattle.rt_audit.specs.declared.call.Call.{Call};
 ghost use Rattle.rt_audit.specs.declared.call.Call.TheVariants.{CloseNode};
@@ -10,13 +12,16 @@ ghost use Rattle.rt_audit.specs.declared.reply.CallReply.TheVariants.{Done};
 ghost use Rattle.rt_audit.specs.declared.finish.FinishCause.{FinishCause};
 ghost use Rattle.rt_audit.specs.declared.finish.FinishCause.TheVariants.{Completed, Timeout, Stalled, TimeOverflow, TooManyTasks, NoMemory};
 ghost use Rattle.rt_model.specs.declared.answer.Answer.TheVariants.{Pending};
-ghost use Rattle.rt_model.specs.State.{State, begun};
+ghost use Rattle.rt_model.specs.State.{State, begun, stood_in};
 ghost use Rattle.rt_model.specs.Effects.{after_all};
 ghost use Rattle.rt_model.specs.Rules.{IsLawful, AreDrawn};
-ghost use Rattle.rt_model.specs.Tied.{Value, nothing};
+ghost use Rattle.rt_model.specs.Turns.{Held, with_spawned};
+ghost use Rattle.rt_model.specs.Walk.{Stops};
+ghost use Rattle.rt_model.specs.Tied.{Value, nothing, IsTied};
 ghost use Rattle.rt_model.specs.Run.{IsRun, IsCutOff, IsValidInput};
-ghost use Rattle.rt_laws.specs.Supervised.{aborting_root, beside_journal};
-ghost use Rattle.rt_laws.specs.Examples.{small_begin, begin_by, ready_root, pending_root, sleeping_root, gave, ready_journal, skipped_journal, short_journal, cut_journal, stalled_journal, late_journal, at_once_late_journal, overflow_journal, no_number_journal, drawn, stray_call, open_node, unanswered_poll, second_task, ordered, finished_for, called, missing_wake, early_fire, early_sleep, silent_end, busy_root, lacking_journal, invented_in_poll, invented_in_end};
+ghost use Rattle.rt_laws.specs.Supervised.{Aborting, Parent, Aborter, aborting_root, aborting_next, aborter_spawned, beside_journal, lacking_join};
+ghost use Rattle.rt_laws.specs.Slotting.{sending_root, send_lacks, sending_journal};
+ghost use Rattle.rt_laws.specs.Examples.{small_begin, opening, visiting_root, begin_by, ready_root, pending_root, sleeping_root, gave, ready_journal, skipped_journal, short_journal, cut_journal, stalled_journal, late_journal, at_once_late_journal, overflow_journal, no_number_journal, drawn, stray_call, open_node, unanswered_poll, second_task, ordered, finished_for, called, missing_wake, early_fire, early_sleep, silent_end, busy_root, lacking_journal, invented_in_poll, invented_in_end};
 
 /// A root that is ready with a number at its first poll gives it, at time 0.
 #[tactic(auto, using(crate::proofs::Runs::ready_time))]
@@ -37,12 +42,16 @@ pub fn a_sleeping_root_has_its_run()
 
 /// A run whose root lacked memory in its first poll is cut off, whether a call was made before or not. What is called
 /// behind the lack is free while it may come where it stands, and an end may lack memory as well. Where a spawned task lacked
-/// it, the end of the root makes the calls of its own steps.
+/// it, the end of the root makes the calls of its own steps. A task that was spawned before the lack ends as it was made. No entry
+/// tells where memory lacked: where its spawn may have come behind the lack, it ends as any task may.
 pub fn a_run_that_lacked_memory_is_cut_off()
     ensures at_once { (due : ℕ) → IsCutOff (sleeping_root due) small_begin cut_journal }
     ensures within { (call : Call) (reply : CallReply) → IsLawful (begun small_begin) (lacking_journal call reply) → IsCutOff busy_root small_begin (lacking_journal call reply) }
     ensures lawful { IsLawful (begun small_begin) (lacking_journal (CloseNode 0) Done) }
     ensures beside { IsCutOff (aborting_root Pending) small_begin beside_journal }
+    ensures spawned { IsCutOff (aborting_root Pending) small_begin (lacking_join 2) }
+    ensures free { IsCutOff (aborting_root Pending) small_begin (lacking_join 1) }
+    ensures sent { (sent : Result ℕ Error) → IsCutOff (sending_root sent) small_begin sending_journal }
 {}
 
 /// A root that is never ready stalls. With a deadline its run is late behind the first cycle, or at once. Where a cycle
@@ -98,4 +107,11 @@ pub fn near_misses_are_not_cut_off()
     ensures silent_end { (number : ℕ) → IsCutOff (ready_root number) small_begin silent_end → ⊥ }
     ensures in_a_poll { (number : ℕ) (call : Call) (reply : CallReply) → IsCutOff (ready_root number) small_begin (invented_in_poll call reply) → ⊥ }
     ensures in_an_end { (number : ℕ) → IsCutOff (ready_root number) small_begin invented_in_end → ⊥ }
+{}
+
+/// What a part made before it lacked memory is held. A task that it spawned is in the state that its spawn made, and in no other,
+/// where the lack came behind that. What it sent before any call that may lack memory is held wherever it lacked it.
+pub fn what_was_made_before_a_lack_is_held()
+    ensures spawned { (mid : Held Aborting ℕ) → let s = after_all (begun small_begin) (opening ++ visiting_root ++ aborter_spawned) in Stops (aborting_next Pending Parent 0 0) nothing.held s.turns (stood_in s) mid → mid ≡ with_spawned 1 (Shared false) (Aborter 2) nothing.held }
+    ensures sent { (sent : Result ℕ Error) (w : Value (Unit {0}) ℕ) → IsTied (sending_root sent) (begun small_begin) nothing send_lacks w → w.held.sent ≡ (0, sent) ∷ [] }
 {}

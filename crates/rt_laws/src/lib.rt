@@ -5,6 +5,7 @@ mod examples;
 mod kin;
 mod panics;
 mod refusals;
+mod signaling;
 mod slotting;
 mod supervised;
 mod twice;
@@ -24,7 +25,7 @@ ghost use Rattle.rt_super.specs.Alarms.{Alarm};
 ghost use Rattle.rt_super.specs.Ancestry.{is_known, is_ended, links, nodes_below};
 ghost use Rattle.rt_model.specs.declared.begin.Begin.{Begin};
 ghost use Rattle.rt_model.specs.declared.mark.Mark.{Mark};
-ghost use Rattle.rt_model.specs.State.{State, Turn, Making, Ending, Turning, Over, Finished, begun};
+ghost use Rattle.rt_model.specs.State.{State, Turn, Making, Entered, Ending, Turning, Over, Finished, begun};
 ghost use Rattle.rt_model.specs.Causes.{is_late, overflows, reached};
 ghost use Rattle.rt_model.specs.Effects.{after, after_all};
 ghost use Rattle.rt_model.specs.Rules.{IsLawful};
@@ -57,6 +58,10 @@ pub use panics::{
     near_misses_of_panics_are_not_lawful,
 };
 pub use refusals::{calls_are_refused_for_their_cause, near_misses_of_refusals_are_not_lawful};
+pub use signaling::{
+    a_signal_shows_its_value, near_misses_of_signals_are_lawful_but_for_one_place,
+    near_misses_of_signals_are_not_lawful, the_first_stop_decides,
+};
 pub use slotting::{
     near_misses_of_slots_are_lawful_but_for_one_place, near_misses_of_slots_are_not_lawful,
     what_was_sent_into_a_slot_is_received,
@@ -258,7 +263,7 @@ pub fn nobody_is_polled_below_an_end()
 
 /// A task is ended unpolled only where an abort named it before, or its node has ended.
 pub fn whoever_ends_unpolled_was_aborted_or_ended()
-    ensures { (b : Begin) (x y : List Entry) (label : List ℕ) (fields : List (List ℕ)) (task : ℕ) (left : List ℕ) → IsLawful (begun b) (x ++ Event label fields ∷ y) → let s = after_all (begun b) x in (after s (Event label fields)).phase ≡ Ending task None left → ((e : Entry) × Contains x e × IsAbortOf task e) ⊎ ((m : Mark) × (find task s.marks ≡ Some m) × (is_ended s.nodes m.node ≡ true)) }
+    ensures { (b : Begin) (x y : List Entry) (label : List ℕ) (fields : List (List ℕ)) (task : ℕ) (left : List ℕ) → IsLawful (begun b) (x ++ Event label fields ∷ y) → let s = after_all (begun b) x in s.phase ≡ Entered task left → (after s (Event label fields)).phase ≡ Ending task None left → ((e : Entry) × Contains x e × IsAbortOf task e) ⊎ ((m : Mark) × (find task s.marks ≡ Some m) × (is_ended s.nodes m.node ≡ true)) }
 {}
 
 /// Who is born under an ended node is ended. What stands below an ended node is ended, and whoever has ended stays so.

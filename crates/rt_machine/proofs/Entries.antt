@@ -2,7 +2,7 @@
 use Rattle.std.proofs.Common.{◌≡◌, ◌≤◌, ℕ, List, [], ◌∷◌, ◌++◌, refl, ap, sym, ◌∙◌, true, length, take, drop, arith, length-append, Option, Some, None}
 use Rattle.std.proofs.lemmas.List.{take-append-le, drop-append-le, take-append-drop, length-take-le, drop_all, take_all}
 use Rattle.rt_audit.specs.declared.entry.Entry.{Entry}
-use Rattle.rt_audit.specs.declared.entry.Entry.TheVariants.{Call, Wake}
+use Rattle.rt_audit.specs.declared.entry.Entry.TheVariants.{Call, Event, Wake}
 use Rattle.rt_model.specs.declared.begin.Begin.{Begin}
 use Rattle.rt_model.specs.State.{State, begun}
 use Rattle.rt_model.specs.Effects.{after, after_all}
@@ -23,6 +23,7 @@ AreCalls-append (x ∷ es) e h k = (h.0, AreCalls-append es e h.1 k)
 -- nothing is drawn for a call
 call-drawn : (s : State) (e : Entry) → is_call e ≡ true → IsDrawn s e
 call-drawn s (Call by call reply) h = tt
+call-drawn s (Event label fields) h = tt
 call-drawn s (Wake task) h = tt
 call-drawn s _ h = cc
 

@@ -1,65 +1,70 @@
 -- Calls that wake nobody.
-use Rattle.std.proofs.Common.{◌≡◌, ℕ, List, [], refl, true, false, Bool, not, ◌&&◌, if◌then◌else◌}
-use Rattle.rt_audit.specs.declared.call.Call.TheVariants.{Child, CloseNode, Spawn, Abort, AbortTask, Join, GiveUp, Slot, SlotSend, SlotClose, SlotPoll, SlotGiveUp, AbortWait}
+use Rattle.std.proofs.Common.{◌≡◌, ℕ, ℤ, List, [], refl, true, false, Bool, not, ◌&&◌, if◌then◌else◌}
+use Rattle.rt_audit.specs.declared.call.Call.TheVariants.{Child, CloseNode, Spawn, Abort, AbortTask, Join, GiveUp, Slot, SlotSend, SlotClose, SlotPoll, SlotGiveUp, AbortWait, Stop}
 use Rattle.rt_audit.specs.declared.reply.CallReply.{CallReply}
-use Rattle.rt_audit.specs.declared.reply.CallReply.TheVariants.{Done, NodeAt, SlotAt}
+use Rattle.rt_audit.specs.declared.reply.CallReply.TheVariants.{Done, NodeAt, SlotAt, CompletionAt}
 use Rattle.rt_model.specs.declared.mark.Mark.{Mark}
 use Rattle.rt_model.specs.Lists.{find}
-use Rattle.rt_model.specs.Slots.{Slotted}
+use Rattle.rt_model.specs.State.{Stood}
 use Rattle.rt_model.specs.Marks.{due_if, is_left}
 use Rattle.rt_model.specs.Results.{waiting}
+use Rattle.rt_super.specs.Signals.{woken_by_stop}
 use Rattle.rt_model.specs.Effects.{due_called}
 
-pub due-close : (closing : Bool) (ms : List (ℕ × Mark)) (ss : Slotted) (node : ℕ) → due_called closing ms ss (CloseNode node) Done ≡ []
-due-close true ms ss node = refl
-due-close false ms ss node = refl
+pub due-close : (closing : Bool) (ms : List (ℕ × Mark)) (st : Stood) (node : ℕ) → due_called closing ms st (CloseNode node) Done ≡ []
+due-close true ms st node = refl
+due-close false ms st node = refl
 
-pub due-child : (closing : Bool) (ms : List (ℕ × Mark)) (ss : Slotted) (node : ℕ) (label : List ℕ) (number : ℕ) (ended : Bool) → due_called closing ms ss (Child node label) (NodeAt number ended) ≡ []
-due-child true ms ss node label number ended = refl
-due-child false ms ss node label number ended = refl
+pub due-child : (closing : Bool) (ms : List (ℕ × Mark)) (st : Stood) (node : ℕ) (label : List ℕ) (number : ℕ) (ended : Bool) → due_called closing ms st (Child node label) (NodeAt number ended) ≡ []
+due-child true ms st node label number ended = refl
+due-child false ms st node label number ended = refl
 
-pub due-spawn : (closing : Bool) (ms : List (ℕ × Mark)) (ss : Slotted) (node : ℕ) (reply : CallReply) → due_called closing ms ss (Spawn node) reply ≡ []
-due-spawn true ms ss node reply = refl
-due-spawn false ms ss node reply = refl
+pub due-spawn : (closing : Bool) (ms : List (ℕ × Mark)) (st : Stood) (node : ℕ) (reply : CallReply) → due_called closing ms st (Spawn node) reply ≡ []
+due-spawn true ms st node reply = refl
+due-spawn false ms st node reply = refl
 
-pub due-join : (closing : Bool) (ms : List (ℕ × Mark)) (ss : Slotted) (task : ℕ) (reply : CallReply) → due_called closing ms ss (Join task) reply ≡ []
-due-join true ms ss task reply = refl
-due-join false ms ss task reply = refl
+pub due-join : (closing : Bool) (ms : List (ℕ × Mark)) (st : Stood) (task : ℕ) (reply : CallReply) → due_called closing ms st (Join task) reply ≡ []
+due-join true ms st task reply = refl
+due-join false ms st task reply = refl
 
-pub due-give-up : (closing : Bool) (ms : List (ℕ × Mark)) (ss : Slotted) (task : ℕ) → due_called closing ms ss (GiveUp task) Done ≡ []
-due-give-up true ms ss task = refl
-due-give-up false ms ss task = refl
+pub due-give-up : (closing : Bool) (ms : List (ℕ × Mark)) (st : Stood) (task : ℕ) → due_called closing ms st (GiveUp task) Done ≡ []
+due-give-up true ms st task = refl
+due-give-up false ms st task = refl
 
-pub due-abort : (closing : Bool) (ms : List (ℕ × Mark)) (ss : Slotted) (task : ℕ) → due_called closing ms ss (Abort task) Done ≡ due_if (not closing && is_left (find task ms)) task
-due-abort true ms ss task = refl
-due-abort false ms ss task = refl
+pub due-abort : (closing : Bool) (ms : List (ℕ × Mark)) (st : Stood) (task : ℕ) → due_called closing ms st (Abort task) Done ≡ due_if (not closing && is_left (find task ms)) task
+due-abort true ms st task = refl
+due-abort false ms st task = refl
 
-pub due-abort-task : (closing : Bool) (ms : List (ℕ × Mark)) (ss : Slotted) (task : ℕ) → due_called closing ms ss (AbortTask task) Done ≡ due_if (not closing && is_left (find task ms)) task
-due-abort-task true ms ss task = refl
-due-abort-task false ms ss task = refl
+pub due-abort-task : (closing : Bool) (ms : List (ℕ × Mark)) (st : Stood) (task : ℕ) → due_called closing ms st (AbortTask task) Done ≡ due_if (not closing && is_left (find task ms)) task
+due-abort-task true ms st task = refl
+due-abort-task false ms st task = refl
 
-pub due-slot : (closing : Bool) (ms : List (ℕ × Mark)) (ss : Slotted) (slot : ℕ) → due_called closing ms ss Slot (SlotAt slot) ≡ []
-due-slot true ms ss slot = refl
-due-slot false ms ss slot = refl
+pub due-slot : (closing : Bool) (ms : List (ℕ × Mark)) (st : Stood) (slot : ℕ) → due_called closing ms st Slot (SlotAt slot) ≡ []
+due-slot true ms st slot = refl
+due-slot false ms st slot = refl
 
-pub due-poll : (closing : Bool) (ms : List (ℕ × Mark)) (ss : Slotted) (slot : ℕ) (reply : CallReply) → due_called closing ms ss (SlotPoll slot) reply ≡ []
-due-poll true ms ss slot reply = refl
-due-poll false ms ss slot reply = refl
+pub due-poll : (closing : Bool) (ms : List (ℕ × Mark)) (st : Stood) (slot : ℕ) (reply : CallReply) → due_called closing ms st (SlotPoll slot) reply ≡ []
+due-poll true ms st slot reply = refl
+due-poll false ms st slot reply = refl
 
-pub due-let-go : (closing : Bool) (ms : List (ℕ × Mark)) (ss : Slotted) (slot : ℕ) → due_called closing ms ss (SlotGiveUp slot) Done ≡ []
-due-let-go true ms ss slot = refl
-due-let-go false ms ss slot = refl
+pub due-let-go : (closing : Bool) (ms : List (ℕ × Mark)) (st : Stood) (slot : ℕ) → due_called closing ms st (SlotGiveUp slot) Done ≡ []
+due-let-go true ms st slot = refl
+due-let-go false ms st slot = refl
 
-pub due-send : (closing : Bool) (ms : List (ℕ × Mark)) (ss : Slotted) (slot : ℕ) → due_called closing ms ss (SlotSend slot) Done ≡ (if closing then [] else waiting (find slot ss.results))
-due-send true ms ss slot = refl
-due-send false ms ss slot = refl
+pub due-send : (closing : Bool) (ms : List (ℕ × Mark)) (st : Stood) (slot : ℕ) → due_called closing ms st (SlotSend slot) Done ≡ (if closing then [] else waiting (find slot st.slots.results))
+due-send true ms st slot = refl
+due-send false ms st slot = refl
 
-pub due-close-slot : (closing : Bool) (ms : List (ℕ × Mark)) (ss : Slotted) (slot : ℕ) → due_called closing ms ss (SlotClose slot) Done ≡ (if closing then [] else waiting (find slot ss.results))
-due-close-slot true ms ss slot = refl
-due-close-slot false ms ss slot = refl
+pub due-close-slot : (closing : Bool) (ms : List (ℕ × Mark)) (st : Stood) (slot : ℕ) → due_called closing ms st (SlotClose slot) Done ≡ (if closing then [] else waiting (find slot st.slots.results))
+due-close-slot true ms st slot = refl
+due-close-slot false ms st slot = refl
 
-pub due-abort-wait : (closing : Bool) (ms : List (ℕ × Mark)) (ss : Slotted) (slot : ℕ) → due_called closing ms ss (AbortWait slot) Done ≡ (if closing then [] else waiting (find slot ss.results))
-due-abort-wait true ms ss slot = refl
-due-abort-wait false ms ss slot = refl
+pub due-abort-wait : (closing : Bool) (ms : List (ℕ × Mark)) (st : Stood) (slot : ℕ) → due_called closing ms st (AbortWait slot) Done ≡ (if closing then [] else waiting (find slot st.slots.results))
+due-abort-wait true ms st slot = refl
+due-abort-wait false ms st slot = refl
+
+pub due-stop : (closing : Bool) (ms : List (ℕ × Mark)) (st : Stood) (value : ℤ) (number : ℕ) → due_called closing ms st (Stop value) (CompletionAt number) ≡ (if closing then [] else woken_by_stop st.signals st.stop value)
+due-stop true ms st value number = refl
+due-stop false ms st value number = refl
 
 pub ruleset owed_laws = (due-slot, due-poll, due-let-go, due-send, due-close-slot, due-abort-wait, due-abort, due-abort-task, due-close, due-child, due-spawn, due-join, due-give-up)

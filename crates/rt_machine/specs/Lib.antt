@@ -1,5 +1,6 @@
 pub mod Told
 pub mod Labels
+pub mod Groups
 pub mod Places
 pub mod News
 pub mod Causes

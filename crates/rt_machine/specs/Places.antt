@@ -1,8 +1,13 @@
 -- The room that a run takes in advance, as a sum by kind of what it owes.
-use Rattle.std.specs.Prelude.{◌≡◌, ◌≤◌, ◌<◌, ◌+◌, ◌-◌, ◌*◌, ◌^◌, ℕ, List, [], ◌∷◌, length, Bool, true, false, not, Option, Some, None}
+use Rattle.std.specs.Prelude.{◌≡◌, ◌≤◌, ◌<◌, ◌+◌, ◌-◌, ◌*◌, ◌^◌, ℕ, List, [], ◌∷◌, length, Bool, true, false, not, Option, Some, None, is_some}
 use Rattle.rt_base.specs.declared.time.TheConstants.{MAX_TIME}
 use Rattle.rt_super.specs.Alarms.{AlarmList}
 use Rattle.rt_super.specs.Ancestry.{NodeState, TreeRecord, AreEnded}
+use Rattle.rt_super.specs.Signals.{SignalRecord}
+use Rattle.rt_super.specs.declared.stopper.Stopped.{Stopped}
+use Rattle.rt_super.specs.declared.stopper.Stopped.TheVariants.{Waiting, Resolved}
+use Rattle.rt_super.specs.declared.signal_group.SignalGroup.{SignalGroup}
+use Rattle.rt_super.specs.declared.signal_token.SignalToken.{SignalToken}
 use Rattle.rt_model.specs.declared.mark.Mark.{Mark}
 use Rattle.rt_model.specs.declared.result.Outcome.{Outcome}
 use Rattle.rt_model.specs.declared.result.Outcome.TheVariants.{Open}
@@ -12,6 +17,7 @@ use Rattle.rt_model.specs.State.{Phase, Blank, Entered, Polling, Halted, Cleanin
 use Rattle.rt_model.specs.Effects.{is_closing}
 use Rattle.rt_machine.specs.Told.{Told, Journaled}
 use Rattle.rt_machine.specs.Labels.{Labelled}
+use Rattle.rt_machine.specs.Groups.{Grouped}
 
 -- what a journal tells, and the turns that were made before a call of the part under way lacked memory, if one did
 pub record Seen : Type 0 where
@@ -57,6 +63,22 @@ result_places r = 1 + ones (not r.aborted) + open_places r.outcome
 abbrev pub sender_places : Unit {0} → ℕ
 sender_places sender = 1
 
+-- the value of a group, or the giving up of its signaler
+abbrev pub group_places : SignalGroup → ℕ
+group_places g = ones g.alive
+
+-- the giving up of a signal or a completion, and the wake of who waits by it
+abbrev pub token_places : SignalToken → ℕ
+token_places t = 1 + ones (is_some t.waits)
+
+abbrev pub signal_places : SignalRecord → ℕ
+signal_places r = total group_places r.groups + total token_places r.signals + total token_places r.completions
+
+-- a signal of the shutdown, where there is one
+abbrev pub stopped_places : Stopped → ℕ
+stopped_places (Waiting signal) = 1
+stopped_places (Resolved value) = 0
+
 -- the task that is visited may be left pending
 abbrev pub visit_places : Phase → ℕ
 visit_places (Entered task left) = 1
@@ -74,6 +96,7 @@ promised_by s =
     + total result_places s.results
     + total result_places s.slots.results
     + total sender_places s.slots.senders
+    + signal_places s.signals
     + ones (not s.panicked)
     + visit_places s.phase
 
@@ -83,7 +106,7 @@ AreBelow bound [] = Unit {0}
 AreBelow bound (k ∷ ks) = (k < bound) × AreBelow bound ks
 
 -- how the fields of a machine stand for the state that its journal tells
-pub record Stands (journal : Journaled) (time next : ℕ) (root : Option ℕ) (root_left panicked closing : Bool) (tree : TreeRecord) (labels : Labelled) (ready : List ℕ) (ready_spare : ℕ) (alarms : AlarmList) (marks : Rows Mark) (results : Rows TaskResult) (slots : Rows TaskResult) (senders : Rows (Unit {0})) (promised : ℕ) : Type 0 where
+pub record Stands (journal : Journaled) (time next : ℕ) (root : Option ℕ) (root_left panicked closing : Bool) (tree : TreeRecord) (labels : Labelled) (ready : List ℕ) (ready_spare : ℕ) (alarms : AlarmList) (marks : Rows Mark) (results : Rows TaskResult) (slots : Rows TaskResult) (senders : Rows (Unit {0})) (groups : Grouped) (promised : ℕ) : Type 0 where
   pub clock_is : journal.told.state.clock ≡ record { time = time; fixed = journal.told.begin }
   pub numbers_are : journal.told.state.numbers ≡ record { first = journal.told.begin.first; next = next }
   pub root_is : journal.told.state.root ≡ root
@@ -97,6 +120,10 @@ pub record Stands (journal : Journaled) (time next : ℕ) (root : Option ℕ) (r
   pub marks_are : journal.told.state.marks ≡ marks.items
   pub results_are : journal.told.state.results ≡ results.items
   pub slots_are : journal.told.state.slots ≡ record { results = slots.items; senders = senders.items; count = slots.next }
+  pub signals_are : journal.told.state.signals ≡ groups.told
+  pub stop_is : journal.told.state.stop ≡ groups.stop
+  pub nobody_met : groups.woken ≡ []
+  pub none_announced : journal.told.state.announced ≡ []
   pub none_drawn : journal.told.state.draws ≡ []
   pub none_owed : journal.told.state.owed ≡ []
   -- after the cleanup has begun every node is ended

@@ -1,7 +1,7 @@
 -- What the journal of a run tells.
 use Rattle.std.specs.Prelude.{◌≡◌, ◌≤◌, ℕ, List, [], ◌∷◌, ◌++◌, take, drop, length, Bool, true, false, Option, Some, None, option_map}
 use Rattle.rt_audit.specs.declared.entry.Entry.{Entry}
-use Rattle.rt_audit.specs.declared.entry.Entry.TheVariants.{Call, Wake, Root, Answer, Cleanup, Crash}
+use Rattle.rt_audit.specs.declared.entry.Entry.TheVariants.{Call, Event, Wake, Root, Answer, Cleanup, Crash}
 use Rattle.rt_model.specs.declared.begin.Begin.{Begin}
 use Rattle.rt_model.specs.State.{State, Turn, begun}
 use Rattle.rt_model.specs.Effects.{after, after_all}
@@ -39,10 +39,11 @@ noted t e = record { begin = t.begin; given = t.given; past = t.past; calls = t.
 
 abbrev pub is_call : Entry → Bool
 is_call (Call by call reply) = true
+is_call (Event label fields) = true
 is_call (Wake task) = true
 is_call _ = false
 
--- these are calls and wakes alone
+-- these are calls, their events and wakes alone
 abbrev pub AreCalls : List Entry → Type 0
 AreCalls [] = Unit {0}
 AreCalls (e ∷ es) = (is_call e ≡ true) × AreCalls es

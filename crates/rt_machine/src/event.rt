@@ -1,10 +1,11 @@
 //! The events that a run notes itself.
 
-ghost use Rattle.std.specs.Prelude.{◌≡◌, IfOk, codes};
+ghost use Rattle.std.specs.Prelude.{◌≡◌, ◌∷◌, [], IfOk, codes};
+ghost use Rattle.std.specs.Int.{w32, cast_unsigned, to_be_bytes};
 ghost use Rattle.rt_model.specs.Events.{process_task, task_fields};
 
 use rt_audit::{Entry, EventFields, EventLabel};
-use rt_base::{NoMemory, Text};
+use rt_base::{Items, NoMemory, Text};
 use std::alloc::Global;
 
 /// The event of a visit.
@@ -16,4 +17,28 @@ pub fn task_event(alloc: Global, task: u64, label: &str) -> Result<Entry, NoMemo
         label: EventLabel::process_task(),
         fields: EventFields::of_task(task, label),
     })
+}
+
+/// The event of a `stop`: its value in four bytes, the highest first.
+pub fn stop_event(alloc: Global, value: i32) -> Result<Entry, NoMemory>
+    ensures { IfOk result (λ entry. entry ≡ Entry.Event (codes "stop") (to_be_bytes w32 (cast_unsigned w32 value) ∷ [])) }
+{
+    let mut field = Vec::new(alloc);
+    field.extend_from_slice(&value.to_be_bytes())?;
+    let mut fields = Vec::new(alloc);
+    fields.push(Items::of(field))?;
+    let label = EventLabel::named(alloc, Text::of("stop".to_owned(alloc)?))?;
+    Ok(Entry::Event {
+        label,
+        fields: EventFields::listed(Items::of(fields)),
+    })
+}
+
+/// The event of a `stopped`.
+pub fn stopped_event(alloc: Global) -> Result<Entry, NoMemory>
+    ensures { IfOk result (λ entry. entry ≡ Entry.Event (codes "stopped") []) }
+{
+    let label = EventLabel::named(alloc, Text::of("stopped".to_owned(alloc)?))?;
+    let fields = EventFields::listed(Items::of(Vec::new(alloc)));
+    Ok(Entry::Event { label, fields })
 }

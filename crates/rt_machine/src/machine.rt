@@ -14,6 +14,7 @@ ghost use Rattle.rt_machine.specs.Told.{AreCalls, fresh, pushed, own};
 
 use crate::RunJournal;
 use crate::event::task_event;
+use crate::groups::Groups;
 use crate::labels::Labels;
 use crate::marks::{is_flagged, leave};
 use crate::room::take_places;
@@ -48,6 +49,7 @@ pub struct Machine {
     pub(crate) slots: Table<TaskResult>,
     /// The slots whose senders weren't spent.
     pub(crate) senders: Table<()>,
+    pub(crate) groups: Groups,
     /// How many entries may still have to be written without memory, beside those of the phase.
     pub(crate) promised: usize,
 }
@@ -60,7 +62,7 @@ impl Model for Machine {
 
     ghost view = { λ m. record { told = m.journal.told; lacked = m.journal.lacked } };
 
-    ghost invariant = { λ m. Stands m.journal m.time m.next m.root m.root_left m.panicked m.closing m.tree m.labels m.ready.items (vec_capacity m.ready - vec_len m.ready) m.alarms m.marks m.results m.slots m.senders m.promised };
+    ghost invariant = { λ m. Stands m.journal m.time m.next m.root m.root_left m.panicked m.closing m.tree m.labels m.ready.items (vec_capacity m.ready - vec_len m.ready) m.alarms m.marks m.results m.slots m.senders m.groups m.promised };
 }
 
 /// A tree with its first node's label, and room for the first round.
@@ -84,10 +86,13 @@ impl Machine {
     {
         let mut journal = RunJournal::after(journal, begin);
         let mut ready = Vec::new(alloc);
-        if take_places(&mut journal, &mut ready, 2, 1).is_err() {
+        let Ok(()) = take_places(&mut journal, &mut ready, 3, 1) else {
             return Err(journal.into_inner());
-        }
+        };
         let Ok((tree, labels)) = first_node(alloc) else {
+            return Err(journal.into_inner());
+        };
+        let Ok(groups) = Groups::new(alloc) else {
             return Err(journal.into_inner());
         };
         journal.push(Entry::Start {
@@ -112,7 +117,8 @@ impl Machine {
             results: Table::new(alloc, begin.first),
             slots: Table::new(alloc, 0),
             senders: Table::new(alloc, 0),
-            promised: 2,
+            groups,
+            promised: 3,
         })
     }
 

@@ -82,7 +82,7 @@ impl RunJournal {
         self.mark = self.journal.len();
     }
 
-    /// Adds a call or a wake.
+    /// Adds a call, an event of one, or a wake.
     pub fn note(&mut self, entry: Entry)
         requires room { 0 < self.old.spare }
         requires may { May self.old.told.state entry }

@@ -1,14 +1,16 @@
 //! The wakes of an event.
 
-ghost use Rattle.std.specs.Prelude.{◌≡◌, ◌≤◌, ◌+◌, ◌-◌, ◌<◌, ◌∷◌, ◌++◌, ◌&&◌, not, [], ℕ, List, drop, length, vec_len, vec_capacity, if◌then◌else◌};
+ghost use Rattle.std.specs.Prelude.{◌^◌, ◌≡◌, ◌≤◌, ◌+◌, ◌-◌, ◌<◌, ◌∷◌, ◌++◌, ◌&&◌, not, [], ℕ, List, drop, length, vec_len, vec_capacity, if◌then◌else◌};
 ghost use Rattle.rt_model.specs.Lists.{those, find};
 ghost use Rattle.rt_model.specs.Marks.{due_all, due_if, due_of, flag, flag_all, is_left};
 ghost use Rattle.rt_model.specs.Rows.{total};
 ghost use Rattle.rt_model.specs.Effects.{unflagged};
 ghost use Rattle.rt_machine.specs.Ends.{Calmly};
+ghost use Rattle.rt_machine.specs.Groups.{grouped};
 ghost use Rattle.rt_machine.specs.Places.{mark_places, ones};
 
 use crate::RunJournal;
+use crate::groups::Groups;
 use crate::marks::flag;
 use rt_audit::Entry;
 use rt_model::{Mark, Table};
@@ -131,6 +133,69 @@ pub fn wake_waiter(
         journal.note(Entry::Wake { task });
         ready.push_reserved(task);
     }
+}
+
+/// Wakes those whom a call on signals has met, in their order, where no cleanup has begun. Answers how many they are.
+pub fn wake_met(
+    journal: &mut RunJournal,
+    ready: &mut Vec<u64>,
+    groups: &mut Groups,
+    closing: bool,
+) -> usize
+    requires owed { journal.old.told.state.owed ≡ (if closing then [] else groups.old.woken) }
+    requires room { length groups.old.woken ≤ journal.old.spare }
+    requires seats { length groups.old.woken ≤ vec_capacity ready.old - vec_len ready.old }
+    ensures count { result ≡ length groups.old.woken }
+    ensures state { journal.new.told.state ≡ record journal.old.told.state { ready = journal.old.told.state.ready ++ journal.old.told.state.owed; owed = [] } }
+    ensures begin { journal.new.told.begin ≡ journal.old.told.begin }
+    ensures given { journal.new.told.given ≡ journal.old.told.given }
+    ensures past { journal.new.told.past ≡ journal.old.told.past }
+    ensures lacked { journal.new.lacked ≡ journal.old.lacked }
+    ensures spare { journal.old.spare ≤ journal.new.spare + result }
+    ensures ready { ready.new.items ≡ ready.old.items ++ journal.old.told.state.owed }
+    ensures capacity { vec_capacity ready.new ≡ vec_capacity ready.old }
+    ensures groups { groups.new ≡ grouped groups.old.told groups.old.stop [] }
+{
+    if closing {
+        return forget_met(groups);
+    }
+    let before = ready.len();
+    while let Some(task) = groups.next_woken() {
+        note_wake(journal, ready, task);
+    }
+    ready.len() - before
+}
+
+/// Lets those go whom a call on signals has met. Answers how many they are.
+fn forget_met(groups: &mut Groups) -> usize
+    requires { length groups.old.woken < 2 ^ 64 }
+    ensures count { result ≡ length groups.old.woken }
+    ensures groups { groups.new ≡ grouped groups.old.told groups.old.stop [] }
+{
+    let mut count = 0;
+    while let Some(_task) = groups.next_woken() {
+        count += 1;
+    }
+    count
+}
+
+/// Wakes a task behind a call that must wake it next.
+#[tactic(auto, using(crate::proofs::Calm::wake_laws), unfolding(rt_model::specs::Effects::after))]
+fn note_wake(journal: &mut RunJournal, ready: &mut Vec<u64>, task: u64)
+    requires owed { journal.old.told.state.owed ≡ task ∷ drop 1 journal.old.told.state.owed }
+    requires room { 0 < journal.old.spare }
+    requires seat { vec_len ready.old < vec_capacity ready.old }
+    ensures state { journal.new.told.state ≡ record journal.old.told.state { ready = journal.old.told.state.ready ++ task ∷ []; owed = drop 1 journal.old.told.state.owed } }
+    ensures begin { journal.new.told.begin ≡ journal.old.told.begin }
+    ensures given { journal.new.told.given ≡ journal.old.told.given }
+    ensures past { journal.new.told.past ≡ journal.old.told.past }
+    ensures lacked { journal.new.lacked ≡ journal.old.lacked }
+    ensures spare { journal.new.spare + 1 ≡ journal.old.spare }
+    ensures ready { ready.new.items ≡ ready.old.items ++ task ∷ [] }
+    ensures capacity { vec_capacity ready.new ≡ vec_capacity ready.old }
+{
+    journal.note(Entry::Wake { task });
+    ready.push_reserved(task);
 }
 
 /// Flags a task behind the call that aborts it, and wakes it where it was left pending and no cleanup has begun. Answers

@@ -1,11 +1,11 @@
 -- Walks, one after another.
-use Rattle.std.proofs.Common.{◌≡◌, ℕ, List, [], ◌∷◌, ◌++◌, refl, Result}
+use Rattle.std.proofs.Common.{◌≡◌, ℕ, List, [], ◌∷◌, ◌++◌, refl, ◌∙◌, Result}
 use Rattle.rt_base.specs.declared.error.Error.{Error}
 use Rattle.rt_base.specs.declared.execution.Execution.{Execution}
 use Rattle.rt_audit.specs.declared.call.Call.{Call}
-use Rattle.rt_audit.specs.declared.call.Call.TheVariants.{Child, CloseNode, Spawn, Abort, AbortTask, Wake, Join, GiveUp, SleepPoll, Slot, SlotSend, SlotClose, SlotPoll, SlotGiveUp, AbortWait}
+use Rattle.rt_audit.specs.declared.call.Call.TheVariants.{Child, CloseNode, Spawn, Abort, AbortTask, Wake, Join, GiveUp, SleepPoll, Slot, SlotSend, SlotClose, SlotPoll, SlotGiveUp, AbortWait, Signaler, CloneSignal, Signal, SignalPoll, SignalClose, SignalerClose, CompletionPoll, CompletionClose, Stop, Stopped}
 use Rattle.rt_audit.specs.declared.reply.CallReply.{CallReply}
-use Rattle.rt_audit.specs.declared.reply.CallReply.TheVariants.{Done, NodeAt, TaskAt, Closed, SlotAt, Pending, PendingAt, Ready, Refused}
+use Rattle.rt_audit.specs.declared.reply.CallReply.TheVariants.{Done, NodeAt, TaskAt, Closed, SlotAt, SignalAt, CompletionAt, Value, ClosedWith, Pending, PendingAt, Ready, Refused}
 use Rattle.rt_model.specs.State.{Stood, Turn}
 use Rattle.rt_model.specs.Turns.{Ask, Plainly, Sleeping, Sending, Spawning, Held, Asks, IsPlain, IsPlainly, IsSpending, call_of, Frees, FreesOne, freed_by, heard_of, moved, moved_by}
 use Rattle.rt_model.specs.Walk.{Step, Does, Spends, Gives, Gave, Goes, Walks, Fronts, Lacks, Stops, then, stood_before}
@@ -19,6 +19,12 @@ goes-then more on end lift held (Spends ask next) t w = (
   λ gone. goes-then more on end lift held next t (w.1 gone),
 )
 goes-then more on end lift held (Gives given state) t w = absurd w
+
+-- an answer moves nothing
+pub gave-end : {A L O R : Type 0} (stood : Stood) (answer : R) (left : L) (end held : Held A O) (step : Step A L O R) → Gave stood held step answer left end → end ≡ held
+gave-end stood answer left end held (Does ask on) g = absurd g
+gave-end stood answer left end held (Spends ask next) g = gave-end stood answer left end held next g.1
+gave-end stood answer left end held (Gives given state) g = g.2
 
 module _ {A L O R M Q : Type 0} (more : R → L → Step A M O Q) (s1 : Stood) (r : R) (a : L) (mid : Held A O) where
   -- the first has made all its calls
@@ -42,17 +48,17 @@ module _ {A L O R M Q : Type 0} (more : R → L → Step A M O Q) (s1 : Stood) (
       goes-then more (λ held step. Walks step held ts s1 r a mid) (λ held step. Walks step held (ts ++ us) s2 q b end) (λ held step w. walks-then s2 q b end ts us held step e w k) held step t w
 
   -- a front of the second is one of both
-  pub fronts-then : (s2 : Stood) (ts us : List Turn) (held : Held A O) (step : Step A L O R) → stood_before us s2 ≡ s1 → Walks step held ts s1 r a mid → Fronts (more r a) mid us → Fronts (then step more) held (ts ++ us)
-  fronts-then s2 [] [] held step e w k = tt
-  fronts-then s2 [] (u ∷ us) held step e w k = gave-goes (λ held step. Fronts step held us) u held step e w k
-  fronts-then s2 (t ∷ ts) us held step e w k =
-      goes-then more (λ held step. Walks step held ts s1 r a mid) (λ held step. Fronts step held (ts ++ us)) (λ held step w. fronts-then s2 ts us held step e w k) held step t w
+  pub fronts-then : (s2 : Stood) (end : Held A O) (ts us : List Turn) (held : Held A O) (step : Step A L O R) → stood_before us s2 ≡ s1 → Walks step held ts s1 r a mid → Fronts (more r a) mid us end → Fronts (then step more) held (ts ++ us) end
+  fronts-then s2 end [] [] held step e w k = k ∙ gave-end s1 r a mid held step w
+  fronts-then s2 end [] (u ∷ us) held step e w k = gave-goes (λ held step. Fronts step held us end) u held step e w k
+  fronts-then s2 end (t ∷ ts) us held step e w k =
+      goes-then more (λ held step. Walks step held ts s1 r a mid) (λ held step. Fronts step held (ts ++ us) end) (λ held step w. fronts-then s2 end ts us held step e w k) held step t w
 
 -- and so is a front of the first
-pub fronts-first : {A L O R M Q : Type 0} (more : R → L → Step A M O Q) (ts : List Turn) (held : Held A O) (step : Step A L O R) → Fronts step held ts → Fronts (then step more) held ts
-fronts-first more [] held step w = tt
-fronts-first more (t ∷ ts) held step w =
-    goes-then more (λ held step. Fronts step held ts) (λ held step. Fronts step held ts) (λ held step w. fronts-first more ts held step w) held step t w
+pub fronts-first : {A L O R M Q : Type 0} (more : R → L → Step A M O Q) (end : Held A O) (ts : List Turn) (held : Held A O) (step : Step A L O R) → Fronts step held ts end → Fronts (then step more) held ts end
+fronts-first more end [] held step w = w
+fronts-first more end (t ∷ ts) held step w =
+    goes-then more (λ held step. Fronts step held ts end) (λ held step. Fronts step held ts end) (λ held step w. fronts-first more end ts held step w) held step t w
 
 -- what follows from a step that lacks memory isn't reached
 lacks-then : {A L O R M Q : Type 0} (more : R → L → Step A M O Q) (stood : Stood) (step : Step A L O R) → Lacks stood step → Lacks stood (then step more)
@@ -61,10 +67,10 @@ lacks-then more stood (Does ask on) w = tt
 lacks-then more stood (Spends ask next) w = (w.0, lacks-then more stood next w.1)
 lacks-then more stood (Gives answer left) w = absurd w
 
-pub stops-first : {A L O R M Q : Type 0} (more : R → L → Step A M O Q) (stood : Stood) (ts : List Turn) (held : Held A O) (step : Step A L O R) → Stops step held ts stood → Stops (then step more) held ts stood
-stops-first more stood [] held step w = lacks-then more stood step w
-stops-first more stood (t ∷ ts) held step w =
-    goes-then more (λ held step. Stops step held ts stood) (λ held step. Stops step held ts stood) (λ held step w. stops-first more stood ts held step w) held step t w
+pub stops-first : {A L O R M Q : Type 0} (more : R → L → Step A M O Q) (stood : Stood) (end : Held A O) (ts : List Turn) (held : Held A O) (step : Step A L O R) → Stops step held ts stood end → Stops (then step more) held ts stood end
+stops-first more stood end [] held step w = (lacks-then more stood step w.0, w.1)
+stops-first more stood end (t ∷ ts) held step w =
+    goes-then more (λ held step. Stops step held ts stood end) (λ held step. Stops step held ts stood end) (λ held step w. stops-first more stood end ts held step w) held step t w
 
 module _ {A L O R M Q : Type 0} (more : R → L → Step A M O Q) (s1 : Stood) (r : R) (a : L) (mid : Held A O) where
   gave-lacks : (held : Held A O) (step : Step A L O R) → Gave s1 held step r a mid → Lacks s1 (more r a) → Lacks s1 (then step more)
@@ -73,11 +79,11 @@ module _ {A L O R M Q : Type 0} (more : R → L → Step A M O Q) (s1 : Stood) (
   gave-lacks held (Spends ask next) g w = (g.0, gave-lacks held next g.1 w)
   gave-lacks held (Gives given state) g w = rw (g.0, g.1) w
 
-  pub stops-then : (s2 : Stood) (ts us : List Turn) (held : Held A O) (step : Step A L O R) → stood_before us s2 ≡ s1 → Walks step held ts s1 r a mid → Stops (more r a) mid us s2 → Stops (then step more) held (ts ++ us) s2
-  stops-then s2 [] [] held step e w k = rw e (gave-lacks held step w (rw e at k))
-  stops-then s2 [] (u ∷ us) held step e w k = gave-goes more s1 r a mid (λ held step. Stops step held us s2) u held step e w k
-  stops-then s2 (t ∷ ts) us held step e w k =
-      goes-then more (λ held step. Walks step held ts s1 r a mid) (λ held step. Stops step held (ts ++ us) s2) (λ held step w. stops-then s2 ts us held step e w k) held step t w
+  pub stops-then : (s2 : Stood) (end : Held A O) (ts us : List Turn) (held : Held A O) (step : Step A L O R) → stood_before us s2 ≡ s1 → Walks step held ts s1 r a mid → Stops (more r a) mid us s2 end → Stops (then step more) held (ts ++ us) s2 end
+  stops-then s2 end [] [] held step e w k = (rw e (gave-lacks held step w (rw e at k.0)), k.1 ∙ gave-end s1 r a mid held step w)
+  stops-then s2 end [] (u ∷ us) held step e w k = gave-goes more s1 r a mid (λ held step. Stops step held us s2 end) u held step e w k
+  stops-then s2 end (t ∷ ts) us held step e w k =
+      goes-then more (λ held step. Walks step held ts s1 r a mid) (λ held step. Stops step held (ts ++ us) s2 end) (λ held step w. stops-then s2 end ts us held step e w k) held step t w
 
 -- what is freed by calls, one after another
 pub frees-append : {A O : Type 0} (ts us : List Turn) (held mid end : Held A O) → Frees held ts mid → Frees mid us end → Frees held (ts ++ us) end
@@ -100,6 +106,16 @@ frees-plain stood held (SlotClose slot) reply h = refl
 frees-plain stood held (SlotPoll slot) reply h = refl
 frees-plain stood held (SlotGiveUp slot) reply h = refl
 frees-plain stood held (AbortWait slot) reply h = refl
+frees-plain stood held Signaler reply h = refl
+frees-plain stood held (CloneSignal signal) reply h = refl
+frees-plain stood held (Signal signaler value) reply h = refl
+frees-plain stood held (SignalPoll signal) reply h = refl
+frees-plain stood held (SignalClose signal) reply h = refl
+frees-plain stood held (SignalerClose signaler) reply h = refl
+frees-plain stood held (CompletionPoll completion) reply h = refl
+frees-plain stood held (CompletionClose completion) reply h = refl
+frees-plain stood held (Stop value) reply h = refl
+frees-plain stood held Stopped reply h = refl
 
 frees-spawn : {A O : Type 0} (stood : Stood) (held : Held A O) (node : ℕ) (execution : Execution) (made : ℕ → A) (reply : CallReply) → FreesOne stood held (Spawn node) reply (moved_by stood held (Spawning node execution made) (Spawn node) reply)
 frees-spawn stood held node execution made (TaskAt task number) = (execution, made number, refl)
@@ -107,6 +123,10 @@ frees-spawn stood held node execution made Done = refl
 frees-spawn stood held node execution made (NodeAt number ended) = refl
 frees-spawn stood held node execution made Closed = refl
 frees-spawn stood held node execution made (SlotAt slot) = refl
+frees-spawn stood held node execution made (SignalAt signal) = refl
+frees-spawn stood held node execution made (CompletionAt completion) = refl
+frees-spawn stood held node execution made (Value value) = refl
+frees-spawn stood held node execution made (ClosedWith value) = refl
 frees-spawn stood held node execution made Pending = refl
 frees-spawn stood held node execution made (PendingAt alarm) = refl
 frees-spawn stood held node execution made Ready = refl
@@ -118,6 +138,10 @@ frees-sending stood held slot sent (NodeAt number ended) = refl
 frees-sending stood held slot sent (TaskAt task number) = refl
 frees-sending stood held slot sent Closed = refl
 frees-sending stood held slot sent (SlotAt other) = refl
+frees-sending stood held slot sent (SignalAt signal) = refl
+frees-sending stood held slot sent (CompletionAt completion) = refl
+frees-sending stood held slot sent (Value value) = refl
+frees-sending stood held slot sent (ClosedWith value) = refl
 frees-sending stood held slot sent Pending = refl
 frees-sending stood held slot sent (PendingAt alarm) = refl
 frees-sending stood held slot sent Ready = refl

@@ -1,7 +1,7 @@
 -- Alarms, as a run sets them, skips to them and lets them go off.
-use Rattle.std.specs.Prelude.{ℕ, List, [], ◌∷◌, Option, Some, None, Bool, false, ltb, leb, eqb, ◌==◌, if◌then◌else◌}
-use Rattle.std.specs.Option.{option_map_or}
-use Rattle.rt_super.specs.Alarms.{Alarm, AlarmList, alarm_set, alarm_rewoken, alarm_at}
+use Rattle.std.specs.Prelude.{ℕ, List, [], ◌∷◌, Option, Some, None, option_map, Bool, false, ltb, eqb, ◌==◌, if◌then◌else◌}
+use Rattle.std.specs.Option.{option_and_then, option_map_or}
+use Rattle.rt_super.specs.Alarms.{Alarm, AlarmList, alarm_set, alarm_rewoken, alarm_at, first_due, due_first, woken_of}
 use Rattle.rt_model.specs.Lists.{those}
 
 -- the alarm of this number is set for this time
@@ -19,8 +19,7 @@ slept a by due number = if eqb number a.count then alarm_set a due by else alarm
 
 -- the due time of the earliest alarm, where it lies ahead
 abbrev pub ahead : List Alarm → ℕ → Option ℕ
-ahead [] time = None
-ahead (a ∷ rest) time = if ltb time a.due then Some a.due else None
+ahead alarms time = option_and_then (λ due. if ltb time due then Some due else None) (first_due alarms)
 
 -- the moment that time skips to: the earliest alarm's, with nobody ready
 abbrev pub skip_to : List ℕ → List Alarm → ℕ → Option ℕ
@@ -29,10 +28,9 @@ skip_to (k ∷ ready) alarms time = None
 
 -- the number of the alarm that goes off now
 abbrev pub fires : List Alarm → ℕ → Option ℕ
-fires [] time = None
-fires (a ∷ rest) time = if leb a.due time then Some a.number else None
+fires alarms time = option_map (λ a. a.number) (due_first alarms time)
 
 -- whom the earliest alarm wakes
 abbrev pub woken_by : List Alarm → List ℕ
 woken_by [] = []
-woken_by (a ∷ rest) = those a.task
+woken_by (a ∷ rest) = those (woken_of a).1

@@ -3,9 +3,9 @@ use Rattle.std.specs.Prelude.{ℕ, List, [], ◌∷◌, ◌++◌, Option, Some, 
 use Rattle.std.specs.Option.{option_map_or}
 use Rattle.rt_base.specs.Label.{prefixed}
 use Rattle.rt_audit.specs.declared.call.Call.{Call}
-use Rattle.rt_audit.specs.declared.call.Call.TheVariants.{Child, CloseNode, Spawn, Abort, AbortTask, Wake as WakeCall, Join, GiveUp, SleepPoll, Slot, SlotSend, SlotClose, SlotPoll, SlotGiveUp, AbortWait}
+use Rattle.rt_audit.specs.declared.call.Call.TheVariants.{Child, CloseNode, Spawn, Abort, AbortTask, Wake as WakeCall, Join, GiveUp, SleepPoll, Slot, SlotSend, SlotClose, SlotPoll, SlotGiveUp, AbortWait, Signaler, CloneSignal, Signal, SignalPoll, SignalClose, SignalerClose, CompletionPoll, CompletionClose, Stop, Stopped as StoppedCall}
 use Rattle.rt_audit.specs.declared.reply.CallReply.{CallReply}
-use Rattle.rt_audit.specs.declared.reply.CallReply.TheVariants.{Done, NodeAt, TaskAt, Closed, SlotAt, Pending as StillPending, PendingAt, Ready as IsReady}
+use Rattle.rt_audit.specs.declared.reply.CallReply.TheVariants.{Done, NodeAt, TaskAt, Closed, SlotAt, SignalAt, CompletionAt, Pending as StillPending, PendingAt, Ready as IsReady}
 use Rattle.rt_audit.specs.declared.answer.AnswerKind.{AnswerKind}
 use Rattle.rt_audit.specs.declared.answer.AnswerKind.TheVariants.{Pending, Ready, Panicked, Stopped, NoMemory, Ended}
 use Rattle.rt_audit.specs.declared.finish.FinishCause.{FinishCause}
@@ -14,6 +14,7 @@ use Rattle.rt_audit.specs.declared.entry.Entry.{Entry}
 use Rattle.rt_audit.specs.declared.entry.Entry.TheVariants.{Start, Call as CallEntry, Event, Wake, Draw, Root, Round, Visit, Answer, NodeEnd, Advance, Skip, Fire, Cleanup, Crash, Finish}
 use Rattle.rt_super.specs.Alarms.{AlarmList, alarms_cleared}
 use Rattle.rt_super.specs.Ancestry.{TreeRecord, is_ended, with_child, with_task, with_release, with_end}
+use Rattle.rt_super.specs.Signals.{SignalRecord, StopRecord, with_group, with_clone, signaled, signal_polled, signal_closed, signaler_closed, completion_polled, completion_closed, stop_after, stopped_after, with_stop, woken_by_value, woken_by_last, woken_by_closing, woken_by_stop}
 use Rattle.rt_model.specs.declared.mark.Mark.{Mark}
 use Rattle.rt_model.specs.declared.result.Outcome.{Outcome}
 use Rattle.rt_model.specs.declared.result.Outcome.TheVariants.{Open, There, Exited, Closed as IsClosed}
@@ -22,7 +23,7 @@ use Rattle.rt_model.specs.Lists.{find, without, those, without_number, with_numb
 use Rattle.rt_model.specs.Marks.{new_mark, is_flagged, is_ended_at, flag, flag_all, due_of, due_all, leave}
 use Rattle.rt_model.specs.Results.{new_result, waiting, with_outcome, with_abort}
 use Rattle.rt_model.specs.Slots.{Slotted, with_slot, with_sent, with_polled, without_slot, with_wait_aborted}
-use Rattle.rt_model.specs.State.{Phase, Making, Between, Visiting, Entered, Polling, Halted, Ending, Leaving, Turning, Over, Cleaning, Closing, Crashed, Finished, Clock, Numbers, Turn, Stood, State, stood_in}
+use Rattle.rt_model.specs.State.{Phase, Making, Between, Visiting, Entered, Polling, Halted, Ending, Leaving, Turning, Over, Cleaning, Closing, Crashed, Finished, Clock, Numbers, Announced, Turn, Stood, State, stood_in}
 use Rattle.rt_model.specs.Alarms.{slept, woken_by}
 use Rattle.rt_model.specs.Causes.{reached, from_running}
 
@@ -264,6 +265,33 @@ abbrev pub slots_after : Slotted → Entry → Slotted
 slots_after ss (CallEntry by call reply) = slots_called ss by call reply
 slots_after ss _ = ss
 
+-- signals
+
+abbrev pub signals_called : SignalRecord → StopRecord → Option ℕ → Call → CallReply → SignalRecord
+signals_called r s by Signaler (SignalAt number) = with_group r
+signals_called r s by (CloneSignal signal) (SignalAt number) = with_clone r signal
+signals_called r s by (Signal signaler value) Done = signaled r signaler value
+signals_called r s by (SignalPoll signal) StillPending = signal_polled r signal by
+signals_called r s by (SignalClose signal) Done = signal_closed r signal
+signals_called r s by (SignalerClose signaler) Done = signaler_closed r signaler
+signals_called r s by (CompletionPoll completion) StillPending = completion_polled r completion by
+signals_called r s by (CompletionClose completion) Done = completion_closed r completion
+signals_called r s by (Stop value) (CompletionAt number) = stop_after r s value
+signals_called r s by StoppedCall (SignalAt number) = stopped_after r s
+signals_called r s by _ _ = r
+
+abbrev pub signals_after : SignalRecord → StopRecord → Entry → SignalRecord
+signals_after r s (CallEntry by call reply) = signals_called r s by call reply
+signals_after r s _ = r
+
+abbrev pub stop_called : StopRecord → Call → CallReply → StopRecord
+stop_called s (Stop value) (CompletionAt number) = with_stop s value
+stop_called s _ _ = s
+
+abbrev pub stop_after_entry : StopRecord → Entry → StopRecord
+stop_after_entry s (CallEntry by call reply) = stop_called s call reply
+stop_after_entry s _ = s
+
 -- what stands after a call
 abbrev pub stood_called : Stood → Option ℕ → Call → CallReply → Stood
 stood_called s by call reply = record {
@@ -271,18 +299,24 @@ stood_called s by call reply = record {
   nodes = nodes_called s.nodes call reply;
   results = results_called s.results by call reply;
   slots = slots_called s.slots by call reply;
+  signals = signals_called s.signals s.stop by call reply;
+  stop = stop_called s.stop call reply;
 }
 
 -- whom an event must wake
 
-abbrev pub due_called : Bool → List (ℕ × Mark) → Slotted → Call → CallReply → List ℕ
-due_called false ms ss (WakeCall task) Done = task ∷ []
-due_called false ms ss (Abort task) Done = due_of task ms
-due_called false ms ss (AbortTask task) Done = due_of task ms
-due_called false ms ss (SlotSend slot) Done = waiting (find slot ss.results)
-due_called false ms ss (SlotClose slot) Done = waiting (find slot ss.results)
-due_called false ms ss (AbortWait slot) Done = waiting (find slot ss.results)
-due_called _ ms ss _ _ = []
+abbrev pub due_called : Bool → List (ℕ × Mark) → Stood → Call → CallReply → List ℕ
+due_called false ms s (WakeCall task) Done = task ∷ []
+due_called false ms s (Abort task) Done = due_of task ms
+due_called false ms s (AbortTask task) Done = due_of task ms
+due_called false ms s (SlotSend slot) Done = waiting (find slot s.slots.results)
+due_called false ms s (SlotClose slot) Done = waiting (find slot s.slots.results)
+due_called false ms s (AbortWait slot) Done = waiting (find slot s.slots.results)
+due_called false ms s (Signal signaler value) Done = woken_by_value s.signals signaler
+due_called false ms s (SignalClose signal) Done = woken_by_last s.signals signal
+due_called false ms s (SignalerClose signaler) Done = woken_by_closing s.signals signaler
+due_called false ms s (Stop value) (CompletionAt number) = woken_by_stop s.signals s.stop value
+due_called _ ms s _ _ = []
 
 -- a panic that is kept now wakes the root, where it was left pending once
 abbrev pub due_panic : State → List ℕ
@@ -311,11 +345,22 @@ due_node false s node = due_all (flagged_by s.nodes node) s.marks ++ due_left s.
 
 abbrev pub owed_after : State → Entry → List ℕ
 owed_after s (Wake task) = drop 1 s.owed
-owed_after s (CallEntry by call reply) = due_called (is_closing s.phase) s.marks s.slots call reply
+owed_after s (CallEntry by call reply) = due_called (is_closing s.phase) s.marks (stood_in s) call reply
 owed_after s (Answer task kind) = due_answered s task kind
 owed_after s (NodeEnd node) = due_node (is_closing s.phase) s node
 owed_after s (Fire number) = woken_by s.alarms.alarms
 owed_after s _ = []
+
+-- the events of the call that comes next
+
+abbrev pub announces : Phase → List Announced → List ℕ → List (List ℕ) → List Announced
+announces (Entered task left) events label fields = events
+announces p events label fields = events ++ record { label = label; fields = fields } ∷ []
+
+abbrev pub announced_after : State → Entry → List Announced
+announced_after s (Event label fields) = announces s.phase s.announced label fields
+announced_after s (Wake task) = s.announced
+announced_after s _ = []
 
 -- the calls of the part under way
 
@@ -431,6 +476,9 @@ after s e = record {
   marks = marks_after s e;
   results = results_after s e;
   slots = slots_after s.slots e;
+  signals = signals_after s.signals s.stop e;
+  stop = stop_after_entry s.stop e;
+  announced = announced_after s e;
   owed = owed_after s e;
   turns = turns_after s e;
 }

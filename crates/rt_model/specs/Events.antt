@@ -1,6 +1,10 @@
 -- The events that an auditor digests.
 use Rattle.std.specs.Prelude.{ℕ, List, [], ◌∷◌, codes}
-use Rattle.std.specs.Int.{w128, to_be_bytes}
+use Rattle.std.specs.Int.{w32, w128, cast_unsigned, to_be_bytes}
+use Rattle.rt_audit.specs.declared.call.Call.{Call}
+use Rattle.rt_audit.specs.declared.call.Call.TheVariants.{Stop, Stopped}
+use Rattle.rt_audit.specs.declared.reply.CallReply.{CallReply}
+use Rattle.rt_model.specs.State.{Announced}
 
 abbrev pub process_task : List ℕ
 process_task = codes "process_task"
@@ -8,3 +12,9 @@ process_task = codes "process_task"
 -- the fields of a visit's event: the task's number in 16 bytes, the highest first, and its label. The root's label is empty
 abbrev pub task_fields : ℕ → List ℕ → List (List ℕ)
 task_fields task label = to_be_bytes w128 task ∷ label ∷ []
+
+-- the events of a call with its reply, which stand directly before it
+abbrev pub announced_by : Call → CallReply → List Announced
+announced_by (Stop value) reply = record { label = codes "stop"; fields = to_be_bytes w32 (cast_unsigned w32 value) ∷ [] } ∷ []
+announced_by Stopped reply = record { label = codes "stopped"; fields = [] } ∷ []
+announced_by _ reply = []

@@ -3,6 +3,7 @@ pub mod Rows
 pub mod Marks
 pub mod Results
 pub mod Slots
+pub mod Signals
 pub mod State
 pub mod Alarms
 pub mod Draws

@@ -1,15 +1,16 @@
 -- What may come next in a journal.
-use Rattle.std.specs.Prelude.{◌≡◌, ◌≢◌, ◌⊎◌, ◌<◌, ◌≤◌, ◌+◌, ◌-◌, ◌^◌, ℕ, List, [], ◌∷◌, Option, Some, None, is_some, option_map, Bool, true, false, not, ◌&&◌, leb, if◌then◌else◌, drop}
+use Rattle.std.specs.Prelude.{◌≡◌, ◌≢◌, ◌⊎◌, ◌<◌, ◌≤◌, ◌+◌, ◌-◌, ◌^◌, ℕ, List, [], ◌∷◌, Option, Some, None, is_some, option_map, Bool, true, false, not, ◌&&◌, leb, if◌then◌else◌, drop, Result, Ok, Err}
 use Rattle.std.specs.List.Sorted.{IsPermutation}
 use Rattle.rt_base.specs.declared.error.Error.{Error}
 use Rattle.rt_base.specs.declared.error.Error.TheVariants.{UnknownToken, TooManyTasks, Exited as HasExited, Closed as ErrClosed, Aborted, Metric}
 use Rattle.rt_base.specs.declared.metric_error.MetricError.TheVariants.{BadLabel, Reserved}
+use Rattle.rt_base.specs.declared.poll.Poll.{Poll}
 use Rattle.rt_base.specs.Label.{is_label, is_reserved, prefixed}
 use Rattle.rt_base.specs.declared.time.TheConstants.{MAX_TIME}
 use Rattle.rt_audit.specs.declared.call.Call.{Call}
-use Rattle.rt_audit.specs.declared.call.Call.TheVariants.{Child, CloseNode, Spawn, Abort, AbortTask, Wake as WakeCall, Join, GiveUp, SleepPoll, Slot, SlotSend, SlotClose, SlotPoll, SlotGiveUp, AbortWait}
+use Rattle.rt_audit.specs.declared.call.Call.TheVariants.{Child, CloseNode, Spawn, Abort, AbortTask, Wake as WakeCall, Join, GiveUp, SleepPoll, Slot, SlotSend, SlotClose, SlotPoll, SlotGiveUp, AbortWait, Signaler, CloneSignal, Signal, SignalPoll, SignalClose, SignalerClose, CompletionPoll, CompletionClose, Stop, Stopped as StoppedCall}
 use Rattle.rt_audit.specs.declared.reply.CallReply.{CallReply}
-use Rattle.rt_audit.specs.declared.reply.CallReply.TheVariants.{Done, NodeAt, TaskAt, Closed, SlotAt, Pending as StillPending, PendingAt, Ready as IsReady, Refused}
+use Rattle.rt_audit.specs.declared.reply.CallReply.TheVariants.{Done, NodeAt, TaskAt, Closed, SlotAt, SignalAt, CompletionAt, Pending as StillPending, PendingAt, Ready as IsReady, Refused}
 use Rattle.rt_audit.specs.declared.answer.AnswerKind.{AnswerKind}
 use Rattle.rt_audit.specs.declared.answer.AnswerKind.TheVariants.{Pending, Ready, Panicked, Stopped, NoMemory, Ended}
 use Rattle.rt_audit.specs.declared.finish.FinishCause.{FinishCause}
@@ -17,18 +18,20 @@ use Rattle.rt_audit.specs.declared.finish.FinishCause.TheVariants.{NoMemory as O
 use Rattle.rt_audit.specs.declared.entry.Entry.{Entry}
 use Rattle.rt_audit.specs.declared.entry.Entry.TheVariants.{Start, Call as CallEntry, Event, Wake, Draw, Root, Round, Visit, Answer, NodeEnd, Advance, Skip, Fire, Cleanup, Crash, Finish}
 use Rattle.rt_super.specs.Ancestry.{TreeRecord, is_live, is_known, is_ended, task_on}
+use Rattle.rt_super.specs.Signals.{signal_answer, completion_answer, stopped_answer}
 use Rattle.rt_model.specs.declared.mark.Mark.{Mark}
 use Rattle.rt_model.specs.declared.result.Outcome.{Outcome}
 use Rattle.rt_model.specs.declared.result.Outcome.TheVariants.{Open, There, Exited, Closed as IsClosed}
 use Rattle.rt_model.specs.declared.result.TaskResult.{TaskResult}
 use Rattle.rt_model.specs.Lists.{find}
 use Rattle.rt_model.specs.Results.{may_abort}
-use Rattle.rt_model.specs.State.{Phase, Blank, Making, Between, Visiting, Entered, Polling, Halted, Ending, Leaving, Turning, Cleaning, Closing, Crashed, Finished, Numbers, State}
+use Rattle.rt_model.specs.Signals.{has_signaler, shown_reply, met_reply, stopped_reply}
+use Rattle.rt_model.specs.State.{Phase, Blank, Making, Between, Visiting, Entered, Polling, Halted, Ending, Leaving, Turning, Cleaning, Closing, Crashed, Finished, Numbers, Announced, State}
 use Rattle.rt_model.specs.Alarms.{is_set, skip_to, fires}
 use Rattle.rt_model.specs.Causes.{is_late, from_running, ends_next}
 use Rattle.rt_model.specs.Draws.{shuffled}
 use Rattle.rt_model.specs.Effects.{left_of, visited, label_at, task_label, after}
-use Rattle.rt_model.specs.Events.{process_task, task_fields}
+use Rattle.rt_model.specs.Events.{process_task, task_fields, announced_by}
 
 -- this number was given to a task of this run
 abbrev pub WasGiven : Numbers → ℕ → Type 0
@@ -95,6 +98,11 @@ abbrev pub ReceiveAnswers : Option TaskResult → CallReply → Type 0
 ReceiveAnswers None reply = IsRefusal UnknownToken reply
 ReceiveAnswers (Some r) reply = Unless r.aborted Aborted (SlotAnswers r.outcome) reply
 
+-- a poll of a signal or of a completion, by what it shows
+abbrev pub ShownAs : {V : Type 0} → (Poll V → CallReply) → Result (Poll V) Error → CallReply → Type 0
+ShownAs reply_of (Ok shown) reply = reply ≡ reply_of shown
+ShownAs reply_of (Err error) reply = IsRefusal error reply
+
 -- the reply is one that the call may have
 abbrev pub Answers : State → Call → CallReply → Type 0
 Answers s (Child node label) reply = Unless (not (is_live s.nodes node)) UnknownToken (ChildAnswers s node label) reply
@@ -119,6 +127,17 @@ Answers s (SlotClose slot) Done = is_some (find slot s.slots.senders) ≡ true
 Answers s (SlotPoll slot) reply = ReceiveAnswers (find slot s.slots.results) reply
 Answers s (SlotGiveUp slot) Done = is_some (find slot s.slots.results) ≡ true
 Answers s (AbortWait slot) Done = may_abort (find slot s.slots.results) ≡ true
+Answers s Signaler (SignalAt signal) = signal ≡ s.signals.count
+Answers s (CloneSignal signal) reply =
+    Unless (not (is_some (find signal s.signals.signals))) UnknownToken (λ reply. reply ≡ SignalAt s.signals.count) reply
+Answers s (Signal signaler value) Done = has_signaler s.signals s.stop signaler ≡ true
+Answers s (SignalPoll signal) reply = ShownAs shown_reply (signal_answer s.signals signal) reply
+Answers s (SignalClose signal) Done = is_some (find signal s.signals.signals) ≡ true
+Answers s (SignalerClose signaler) Done = has_signaler s.signals s.stop signaler ≡ true
+Answers s (CompletionPoll completion) reply = ShownAs met_reply (completion_answer s.signals completion) reply
+Answers s (CompletionClose completion) Done = is_some (find completion s.signals.completions) ≡ true
+Answers s (Stop value) (CompletionAt completion) = completion ≡ s.signals.count
+Answers s StoppedCall reply = reply ≡ stopped_reply (stopped_answer s.signals s.stop)
 Answers s _ _ = ⊥
 
 -- In a cleanup the task that is ended next makes the calls. Where none is left, a root makes them that was made and not taken in
@@ -136,6 +155,11 @@ CallsAt _ root next by = ⊥
 
 abbrev pub MayCall : State → Option ℕ → Type 0
 MayCall s by = CallsAt s.phase s.root (ends_next s.running s.root) by
+
+-- an event may come here: that of a visit at its beginning, and where calls are made those of a call, which decides of them
+abbrev pub MayEvent : Phase → State → List ℕ → List (List ℕ) → Type 0
+MayEvent (Entered task left) s label fields = (label ≡ process_task) × (fields ≡ task_fields task (task_label s task))
+MayEvent p s label fields = (by : Option ℕ) × CallsAt p s.root (ends_next s.running s.root) by
 
 -- this task's end may be over
 abbrev pub MayEnd : Phase → Option ℕ → ℕ → Type 0
@@ -193,19 +217,16 @@ MayFree s (Start next now deadline cycle) =
     × (now ≡ s.clock.fixed.start)
     × (deadline ≡ s.clock.fixed.deadline)
     × (cycle ≡ s.clock.fixed.cycle)
-MayFree s (CallEntry by call reply) = MayCall s by × Answers s call reply
-MayFree s (Event label fields) =
-    (s.phase ≡ Entered (visited s.phase) (left_of s.phase))
-    × (label ≡ process_task)
-    × (fields ≡ task_fields (visited s.phase) (task_label s (visited s.phase)))
+MayFree s (CallEntry by call reply) = MayCall s by × Answers s call reply × (s.announced ≡ announced_by call reply)
+MayFree s (Event label fields) = MayEvent s.phase s label fields
 MayFree s (Wake task) = ⊥
 MayFree s (Draw value) = MayRound s.phase s
-MayFree s (Root task) = (s.phase ≡ Making) × (task ≡ s.numbers.next) × (task < 2 ^ 64 - 1)
+MayFree s (Root task) = (s.phase ≡ Making) × (task ≡ s.numbers.next) × (task < 2 ^ 64 - 1) × (s.announced ≡ [])
 MayFree s (Round order) = MayRound s.phase s × IsPermutation s.ready order
 MayFree s (Visit task) =
     (s.phase ≡ Visiting (left_of s.phase))
     × (from_running s.running (left_of s.phase) ≡ task ∷ drop 1 (from_running s.running (left_of s.phase)))
-MayFree s (Answer task kind) = MayAnswer s task kind
+MayFree s (Answer task kind) = MayAnswer s task kind × (s.announced ≡ [])
 MayFree s (NodeEnd node) = MayEndNode s.phase s.marks node
 MayFree s (Advance now) =
     (s.phase ≡ Visiting (left_of s.phase))
@@ -214,8 +235,8 @@ MayFree s (Advance now) =
     × (now ≤ MAX_TIME)
 MayFree s (Skip now) = (s.phase ≡ Turning) × (skip_to s.ready s.alarms.alarms s.clock.time ≡ Some now)
 MayFree s (Fire alarm) = (s.phase ≡ Turning) × (is_late s.clock ≡ false) × (fires s.alarms.alarms s.clock.time ≡ Some alarm)
-MayFree s Cleanup = MayClose s.phase
-MayFree s (Crash choices) = MayCrash s.phase s.running × (choices ≡ [])
+MayFree s Cleanup = MayClose s.phase × (s.announced ≡ [])
+MayFree s (Crash choices) = MayCrash s.phase s.running × (choices ≡ []) × (s.announced ≡ [])
 MayFree s (Finish cause) = MayFinish s.phase cause
 
 -- the entry may come next. The wakes of an event come first, exactly these

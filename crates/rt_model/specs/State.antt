@@ -2,6 +2,7 @@
 use Rattle.std.specs.Prelude.{ℕ, List, [], ◌∷◌, Option, None, Bool, false}
 use Rattle.rt_super.specs.Alarms.{AlarmList, no_alarms}
 use Rattle.rt_super.specs.Ancestry.{TreeRecord, first_record}
+use Rattle.rt_super.specs.Signals.{SignalRecord, StopRecord}
 use Rattle.rt_audit.specs.declared.call.Call.{Call}
 use Rattle.rt_audit.specs.declared.reply.CallReply.{CallReply}
 use Rattle.rt_audit.specs.declared.finish.FinishCause.{FinishCause}
@@ -10,6 +11,7 @@ use Rattle.rt_model.specs.declared.mark.Mark.{Mark}
 use Rattle.rt_model.specs.declared.result.Outcome.{Outcome}
 use Rattle.rt_model.specs.declared.result.TaskResult.{TaskResult}
 use Rattle.rt_model.specs.Slots.{Slotted, no_slots}
+use Rattle.rt_model.specs.Signals.{shutdown_alone, no_stop}
 
 -- where the run stands, which decides what may come next
 pub data Phase : Type 0 where
@@ -52,12 +54,19 @@ pub record Numbers : Type 0 where
   pub first : ℕ
   pub next : ℕ
 
+-- an event that stands before its call
+pub record Announced : Type 0 where
+  pub label : List ℕ
+  pub fields : List (List ℕ)
+
 -- the parts that calls read and move
 pub record Stood : Type 0 where
   pub alarms : AlarmList
   pub nodes : TreeRecord
   pub results : List (ℕ × TaskResult)
   pub slots : Slotted
+  pub signals : SignalRecord
+  pub stop : StopRecord
 
 -- a call with its reply, and what stood when it was made
 pub record Turn : Type 0 where
@@ -90,13 +99,18 @@ pub record State : Type 0 where
   -- the results that were not given up, by their tasks
   pub results : List (ℕ × TaskResult)
   pub slots : Slotted
+  -- the groups of signals, and the shutdown, whose group is one of them
+  pub signals : SignalRecord
+  pub stop : StopRecord
+  -- the events of the call that comes next
+  pub announced : List Announced
   -- the numbers that the last event must still wake
   pub owed : List ℕ
   -- the calls of the part under way
   pub turns : List Turn
 
 abbrev pub stood_in : State → Stood
-stood_in s = record { alarms = s.alarms; nodes = s.nodes; results = s.results; slots = s.slots }
+stood_in s = record { alarms = s.alarms; nodes = s.nodes; results = s.results; slots = s.slots; signals = s.signals; stop = s.stop }
 
 -- before the first entry of a run that begins so: no task, no alarm, and node 0 alone
 unfoldable pub begun : Begin → State
@@ -116,6 +130,9 @@ begun b = record {
   marks = [];
   results = [];
   slots = no_slots;
+  signals = shutdown_alone;
+  stop = no_stop;
+  announced = [];
   owed = [];
   turns = [];
 }

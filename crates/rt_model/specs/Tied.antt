@@ -9,7 +9,7 @@ use Rattle.rt_model.specs.declared.answer.Answer.TheVariants.{Pending, Ready, Pa
 use Rattle.rt_model.specs.Lists.{find, without, is_some_number}
 use Rattle.rt_model.specs.State.{State, Phase, Making, stood_in}
 use Rattle.rt_model.specs.Effects.{after}
-use Rattle.rt_model.specs.Turns.{Held, with_task, put, Frees}
+use Rattle.rt_model.specs.Turns.{Held, with_task, put}
 use Rattle.rt_model.specs.Walk.{Step, Last, Walks, Fronts, Breaks}
 
 -- what a task type does, by the state of a task, the time and its number: in a poll, and in its end
@@ -67,17 +67,16 @@ pub record Polls {A O : Type 0} (p : Steps A O) (s : State) (task : ℕ) (held :
 pub record PollBreaks {A O : Type 0} (p : Steps A O) (s : State) (task : ℕ) (v w : Value A O) : Type 0 where
   pub before : A
   pub left : A
-  pub there : find task v.held.tasks ≡ Some before
-  pub breaks : Breaks (p.task.next before s.clock.time task) (taken task v.held) s.turns (stood_in s) ⊎ Fronts (p.task.next before s.clock.time task) (taken task v.held) s.turns
   pub moved : Held A O
-  pub frees : Frees (taken task v.held) s.turns moved
+  pub there : find task v.held.tasks ≡ Some before
+  pub breaks : Breaks (p.task.next before s.clock.time task) (taken task v.held) s.turns (stood_in s) moved ⊎ Fronts (p.task.next before s.clock.time task) (taken task v.held) s.turns moved
   pub is : w ≡ record v { held = put task left moved; whole = false }
 
 -- the calls are those of the end of this state, or its end lacked memory
 abbrev pub EndsState : {A O : Type 0} → Steps A O → State → ℕ → A → Held A O → Value A O → Value A O → Type 0
 EndsState p s number before held v w =
     (Walks (p.task.last before s.clock.time number) held s.turns (stood_in s) tt tt w.held × (w ≡ record v { held = w.held }))
-    ⊎ (Breaks (p.task.last before s.clock.time number) held s.turns (stood_in s) × Frees held s.turns w.held × (w ≡ record v { held = w.held; whole = false }))
+    ⊎ (Breaks (p.task.last before s.clock.time number) held s.turns (stood_in s) w.held × (w ≡ record v { held = w.held; whole = false }))
 
 -- the end of a running task
 abbrev pub EndsTask : {A O : Type 0} → Steps A O → State → Value A O → ℕ → Value A O → Type 0
@@ -112,17 +111,17 @@ MovesAnswer p s v task IsStopped w = w ≡ v
 MovesAnswer p s v task LacksMemory w = PollBreaks p s task v w
 MovesAnswer p s v task IsEnded w = EndsTask p s v task w
 
--- the maker lacked memory, and then what it made is free; or it said so itself, and made nothing
+-- the maker lacked memory, and then the root that it made is free; or it said so itself, and made none
 abbrev pub MakerBreaks : {A O : Type 0} → Steps A O → State → Value A O → Value A O → Type 0
 MakerBreaks p s v w =
-    (Breaks (p.first s.clock.time) v.held s.turns (stood_in s) × (w ≡ record v { held = w.held; unmade = w.unmade; whole = false }))
-    ⊎ (Fronts (p.first s.clock.time) v.held s.turns × (w ≡ record v { held = w.held; unmade = None; whole = false }))
+    (Breaks (p.first s.clock.time) v.held s.turns (stood_in s) w.held × (w ≡ record v { held = w.held; unmade = w.unmade; whole = false }))
+    ⊎ (Fronts (p.first s.clock.time) v.held s.turns w.held × (w ≡ record v { held = w.held; unmade = None; whole = false }))
 
 -- a run that ends before its root is taken in: the maker made one, or it broke off
 abbrev pub MovesCleanup : {A O : Type 0} → Steps A O → State → Value A O → Phase → Value A O → Type 0
 MovesCleanup {A = A} p s v Making w =
     ((a : A) × Makes p s v.held a w.held × (w ≡ record v { held = w.held; unmade = Some a }))
-    ⊎ (MakerBreaks p s v w × Frees v.held s.turns w.held)
+    ⊎ MakerBreaks p s v w
 MovesCleanup p s v _ w = w ≡ v
 
 -- the end of a root that was not taken in. Without one nobody makes a call

@@ -3,7 +3,7 @@ use Rattle.std.specs.Prelude.{◌≡◌, ℕ, List, [], ◌∷◌, ◌++◌, Opt
 use Rattle.rt_base.specs.declared.error.Error.{Error}
 use Rattle.rt_base.specs.declared.execution.Execution.{Execution}
 use Rattle.rt_audit.specs.declared.call.Call.{Call}
-use Rattle.rt_audit.specs.declared.call.Call.TheVariants.{CloseNode, Spawn, Abort, Join, GiveUp, SleepPoll, SlotSend, SlotClose, SlotPoll, SlotGiveUp, AbortWait}
+use Rattle.rt_audit.specs.declared.call.Call.TheVariants.{CloseNode, Spawn, Abort, Join, GiveUp, SleepPoll, SlotSend, SlotClose, SlotPoll, SlotGiveUp, AbortWait, Signal, SignalClose, SignalerClose, CompletionClose}
 use Rattle.rt_audit.specs.declared.reply.CallReply.{CallReply}
 use Rattle.rt_audit.specs.declared.reply.CallReply.TheVariants.{Done, TaskAt, PendingAt, Ready as IsReady, Refused}
 use Rattle.rt_super.specs.Alarms.{AlarmList}
@@ -11,6 +11,7 @@ use Rattle.rt_super.specs.Ancestry.{is_live}
 use Rattle.rt_model.specs.Lists.{find, without}
 use Rattle.rt_model.specs.Results.{may_abort}
 use Rattle.rt_model.specs.Slots.{Slotted, is_open}
+use Rattle.rt_model.specs.Signals.{has_signaler}
 use Rattle.rt_model.specs.State.{Stood, Turn}
 use Rattle.rt_model.specs.Alarms.{alarm_of}
 
@@ -166,4 +167,8 @@ has_place stood (SlotSend slot) = is_some (find slot stood.slots.senders)
 has_place stood (SlotClose slot) = is_some (find slot stood.slots.senders)
 has_place stood (SlotGiveUp slot) = is_some (find slot stood.slots.results)
 has_place stood (AbortWait slot) = may_abort (find slot stood.slots.results)
+has_place stood (Signal signaler value) = has_signaler stood.signals stood.stop signaler
+has_place stood (SignalClose signal) = is_some (find signal stood.signals.signals)
+has_place stood (SignalerClose signaler) = has_signaler stood.signals stood.stop signaler
+has_place stood (CompletionClose completion) = is_some (find completion stood.signals.completions)
 has_place stood _ = true

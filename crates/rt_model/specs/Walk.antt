@@ -2,7 +2,7 @@
 use Rattle.std.specs.Prelude.{◌≡◌, List, [], ◌∷◌, ◌++◌, true, false}
 use Rattle.rt_audit.specs.declared.reply.CallReply.TheVariants.{Done}
 use Rattle.rt_model.specs.State.{Stood, Turn}
-use Rattle.rt_model.specs.Turns.{Ask, Heard, Held, Asks, call_of, heard_of, moved, has_place}
+use Rattle.rt_model.specs.Turns.{Ask, Heard, Held, Asks, Frees, call_of, heard_of, moved, has_place}
 
 -- what is done next: a call, and then what follows from what was heard of it; a token spent, which tells nothing; or an answer and the state after it
 pub data Step (A L O R : Type 0) : Type 0 where
@@ -35,10 +35,10 @@ Walks step held [] stood answer left end = Gave stood held step answer left end
 Walks step held (t ∷ turns) stood answer left end =
     Goes (λ held step. Walks step held turns stood answer left end) held step t
 
--- these turns are made one after another, and are a front of the walk
-abbrev pub Fronts : {A L O R : Type 0} → Step A L O R → Held A O → List Turn → Type 0
-Fronts step held [] = Unit {0}
-Fronts step held (t ∷ turns) = Goes (λ held step. Fronts step held turns) held step t
+-- these turns are made one after another, are a front of the walk, and leave these values
+abbrev pub Fronts : {A L O R : Type 0} → Step A L O R → Held A O → List Turn → Held A O → Type 0
+Fronts step held [] end = end ≡ held
+Fronts step held (t ∷ turns) end = Goes (λ held step. Fronts step held turns end) held step t
 
 -- what stood before these turns, when this stands after them
 abbrev pub stood_before : List Turn → Stood → Stood
@@ -51,17 +51,20 @@ Lacks stood (Does ask on) = Unit {0}
 Lacks stood (Spends ask next) = (has_place stood (call_of ask) ≡ false) × Lacks stood next
 Lacks stood (Gives answer left) = ⊥
 
--- these turns are made one after another, and then a call lacks memory
-abbrev pub Stops : {A L O R : Type 0} → Step A L O R → Held A O → List Turn → Stood → Type 0
-Stops step held [] stood = Lacks stood step
-Stops step held (t ∷ turns) stood = Goes (λ held step. Stops step held turns stood) held step t
+-- these turns are made one after another and leave these values, and then a call lacks memory
+abbrev pub Stops : {A L O R : Type 0} → Step A L O R → Held A O → List Turn → Stood → Held A O → Type 0
+Stops step held [] stood end = Lacks stood step × (end ≡ held)
+Stops step held (t ∷ turns) stood end = Goes (λ held step. Stops step held turns stood end) held step t
 
--- a part in which a call lacked memory: its turns up to there are a front of the walk, at which a call comes that may lack it. What came after is free
-pub record Breaks {A L O R : Type 0} (step : Step A L O R) (held : Held A O) (turns : List Turn) (stood : Stood) : Type 0 where
+-- a part in which a call lacked memory: its turns up to there are a front of the walk, at which a call comes that may lack it, and what
+-- they made is held. The calls that came after are free, and so is what those made
+pub record Breaks {A L O R : Type 0} (step : Step A L O R) (held : Held A O) (turns : List Turn) (stood : Stood) (end : Held A O) : Type 0 where
   pub front : List Turn
   pub rest : List Turn
+  pub mid : Held A O
   pub are : turns ≡ front ++ rest
-  pub walks : Stops step held front (stood_before rest stood)
+  pub walks : Stops step held front (stood_before rest stood) mid
+  pub frees : Frees mid rest end
 
 -- one after the other: what follows goes by the answer and the state that the first leaves
 unfoldable pub then : {A L O R M Q : Type 0} → Step A L O R → (R → L → Step A M O Q) → Step A M O Q

@@ -1,8 +1,10 @@
+pub mod Fields
 pub mod Members
 pub mod Permutations
 pub mod Prefixes
 pub mod Quiet
 pub mod Tables
+pub mod Callers
 pub mod Ended
 pub mod Families
 pub mod Placed

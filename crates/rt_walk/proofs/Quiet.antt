@@ -1,6 +1,8 @@
 -- The calls under way make no difference to what may come, and none to what is kept.
-use Rattle.std.proofs.Common.{◌≡◌, ◌↔◌, ℕ, Bool, true, false, IsTrue, refl, ap, not, leb, ◌-◌, ◌^◌}
+use Rattle.std.proofs.Common.{◌≡◌, ◌↔◌, ℕ, List, Bool, true, false, IsTrue, refl, ap, not, leb, ◌-◌, ◌^◌}
 use Rattle.rt_base.specs.declared.error.Error.{Error}
+use Rattle.rt_base.specs.declared.no_memory.NoMemory.{NoMemory as OutOfMemory}
+use Rattle.std.proofs.Common.{Result, Ok, Err, IfOk}
 use Rattle.rt_audit.specs.declared.answer.AnswerKind.{AnswerKind}
 use Rattle.rt_audit.specs.declared.answer.AnswerKind.TheVariants.{Pending, Ready, Panicked, Stopped, NoMemory, Ended}
 use Rattle.rt_audit.specs.declared.call.Call.{Call}
@@ -14,7 +16,7 @@ use Rattle.rt_model.specs.declared.begin.Begin.{Begin}
 use Rattle.rt_model.specs.State.{State, Phase, begun, Making, Between, Entered, Visiting, Turning}
 use Rattle.rt_model.specs.Causes.{cause_at}
 use Rattle.rt_model.specs.Effects.{after, cleans, due_node, entered, is_closing, marks_after, nodes_after, owed_after, panicked_after, phase_after, results_after}
-use Rattle.rt_model.specs.Rules.{Answers, ChildAnswers, May, MayAnswer, MayRound, SpawnAnswers, Unless, is_free}
+use Rattle.rt_model.specs.Rules.{Answers, ChildAnswers, May, MayAnswer, MayEvent, MayRound, SpawnAnswers, Unless, is_free}
 use Rattle.rt_walk.specs.Quiet.{quiet}
 
 unless-same : (b : Bool) (e : Error) (f g : CallReply → Type 0) (r : CallReply) → f r ≡ g r → Unless b e f r ≡ Unless b e g r
@@ -68,7 +70,12 @@ round-quiet Between s = refl
 round-quiet Turning s = refl
 round-quiet _ s = refl
 
+event-quiet : (p : Phase) (s : State) (label : List ℕ) (fields : List (List ℕ)) → MayEvent p s label fields ≡ MayEvent p (quiet s) label fields
+event-quiet (Entered task left) s label fields = refl
+event-quiet _ s label fields = refl
+
 may-quiet : (s : State) (e : Entry) → May s e ≡ May (quiet s) e
+may-quiet s (Event label fields) = rw (event-quiet s.phase s label fields) refl
 may-quiet s (CallEntry by call reply) = rw (answers-quiet s call reply) refl
 may-quiet s (Answer task kind) = rw (answer-quiet s task kind) refl
 may-quiet s (Round order) = rw (round-quiet s.phase s) refl
@@ -138,6 +145,10 @@ begun-quiet b = refl
 
 pub may-states : (r : Bool) (w s : State) (e : Entry) → quiet s ≡ w → (IsTrue r ↔ May w e) → IsTrue r ↔ May s e
 may-states r w s e is h = rw (may-quiet s e, is) h
+
+pub may-alike : (r : Result Bool OutOfMemory) (w : State) (e : Entry) → IfOk r (λ may. IsTrue may ↔ May w e) → IfOk r (λ may. (s : State) → quiet s ≡ w → IsTrue may ↔ May s e)
+may-alike (Ok r) w e h = λ s is. may-states r w s e is h
+may-alike (Err lack) w e h = tt
 
 pub after-states : (v w s : State) (e : Entry) → v ≡ quiet (after w e) → quiet s ≡ w → v ≡ quiet (after s e)
 after-states v w s e then is = rw (after-quiet s e, is) then

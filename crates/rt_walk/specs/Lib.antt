@@ -6,3 +6,4 @@ pub mod Family
 pub mod Memory
 pub mod Places
 pub mod Rising
+pub mod Signaled

@@ -20,6 +20,9 @@ quiet s = record {
   marks = s.marks;
   results = s.results;
   slots = s.slots;
+  signals = s.signals;
+  stop = s.stop;
+  announced = s.announced;
   owed = s.owed;
   turns = [];
 }

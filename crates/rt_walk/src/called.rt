@@ -1,7 +1,8 @@
 //! What a call with its reply does to each part.
 
 ghost use Rattle.std.specs.Prelude.{◌≡◌, ◌++◌, [], OnOk};
-ghost use Rattle.rt_model.specs.Effects.{alarms_called, due_called, label_at, labels_called, marks_called, nodes_called, ready_called, results_called, running_called};
+ghost use Rattle.rt_model.specs.Effects.{alarms_called, label_at, labels_called, marks_called, nodes_called, ready_called, results_called, running_called};
+ghost use Rattle.rt_walk.specs.Signaled.{due_beside};
 
 use crate::marks::{add_due, flag};
 use crate::nodes::Nodes;
@@ -161,7 +162,7 @@ pub fn add_due_called(
     reply: &CallReply,
     due: &mut Vec<u64>,
 ) -> Result<(), NoMemory>
-    ensures { OnOk result (due.new.items ≡ due.old.items ++ due_called closing marks.now slots.now call.now reply.now) }
+    ensures { OnOk result (due.new.items ≡ due.old.items ++ due_beside closing marks.now slots.now call.now reply.now) }
 {
     if closing {
         return Ok(());

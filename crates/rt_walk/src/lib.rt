@@ -1,6 +1,7 @@
 //! Walks over the entries of a journal, and says whether each may come where it stands.
 #![tactic(auto)]
 
+mod announced;
 mod below;
 mod called;
 mod family;
@@ -19,6 +20,7 @@ mod stage;
 mod step;
 mod table;
 mod told_alarms;
+mod told_signals;
 mod walker;
 
 pub use first::first_unlawful;

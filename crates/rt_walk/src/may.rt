@@ -1,15 +1,16 @@
 //! What may come next.
 
-ghost use Rattle.std.specs.Prelude.{◌≡◌, ◌↔◌, [], IfOk, OnErr, IsTrue, List, ℕ, true};
+ghost use Rattle.std.specs.Prelude.{◌≡◌, ◌↔◌, ◌<◌, ◌-◌, ◌^◌, [], IfOk, IfNone, IfSome, OnErr, IsTrue, List, ℕ, Option, true};
 ghost use Rattle.rt_audit.specs.declared.entry.Entry.TheVariants.{Start, Event, Root, Round, Visit, Answer, NodeEnd, Advance, Skip, Fire, Crash, Finish};
-ghost use Rattle.rt_model.specs.State.{Halted, Polling, State};
+ghost use Rattle.rt_model.specs.State.{Halted, Making, Polling, State};
 ghost use Rattle.rt_model.specs.Causes.{ends_next};
 ghost use Rattle.rt_model.specs.Effects.{left_of};
-ghost use Rattle.rt_model.specs.Rules.{IsEndedNext, May, MayAnswer, MayCall, MayFree, MayRound};
+ghost use Rattle.rt_model.specs.Rules.{CallsAt, IsEndedNext, May, MayAnswer, MayCall, MayFree, MayRound};
 ghost use Rattle.rt_walk.specs.Quiet.{quiet};
 ghost use Rattle.rt_walk.specs.Memory.{TakesMemory};
 
 use crate::Walker;
+use crate::announced::are_of;
 use crate::numbers::is_permutation;
 use crate::stage::Stage;
 use rt_audit::{AnswerKind, Entry, EventFields, EventLabel, FinishCause};
@@ -42,22 +43,28 @@ impl Walker {
                 deadline,
                 cycle,
             } => self.may_start(*next, *now, *deadline, *cycle),
-            Entry::Call { by, call, reply } => self.may_call(*by) && self.answers(call, reply)?,
+            Entry::Call { by, call, reply } => {
+                self.may_call(*by)
+                    && self.answers(call, reply)?
+                    && are_of(self.announced.as_slice(), call, reply)
+            }
             Entry::Event { label, fields } => self.may_event(label, fields),
             Entry::Wake { .. } => false,
             Entry::Draw { .. } => self.may_round(),
-            Entry::Root { task } => self.may_root(*task),
+            Entry::Root { task } => self.may_root(*task) && self.announced.is_empty(),
             Entry::Round { order } => {
                 self.may_round()
                     && is_permutation(self.allocator(), self.ready.as_slice(), order.as_slice())?
             }
             Entry::Visit { task } => self.may_visit(*task),
-            Entry::Answer { task, kind } => self.may_answer(*task, *kind),
+            Entry::Answer { task, kind } => {
+                self.may_answer(*task, *kind) && self.announced.is_empty()
+            }
             Entry::NodeEnd { node } => self.may_end_node(*node),
             Entry::Advance { now } => self.may_advance(*now),
             Entry::Skip { now } => self.may_skip(*now),
             Entry::Fire { alarm } => self.may_fire(*alarm),
-            Entry::Cleanup => self.stage.may_close(),
+            Entry::Cleanup => self.stage.may_close() && self.announced.is_empty(),
             Entry::Crash { choices } => self.may_crash(choices),
             Entry::Finish { cause } => self.may_finish(*cause),
         })
@@ -103,6 +110,7 @@ impl Walker {
         self.running.ends_next(self.root)
     }
 
+    /// Whether the event of a visit comes here as it is, or any event of a call.
     fn may_event(&self, label: &EventLabel, fields: &EventFields) -> bool
         ensures { IsTrue result ↔ MayFree self.now (Event label.now fields.now) }
     {
@@ -111,12 +119,40 @@ impl Walker {
                 label.as_str() == "process_task"
                     && fields.are_of_task(*task, self.task_label(*task))
             }
-            _ => false,
+            _ => self.are_calls_made(),
+        }
+    }
+
+    /// Whether somebody makes calls here.
+    fn are_calls_made(&self) -> bool
+        ensures { IsTrue result ↔ ((by : Option ℕ) × MayCall self.now by) }
+    {
+        self.caller().is_some()
+    }
+
+    /// Who makes the calls here, if somebody does: in the name of a task, or of none.
+    #[tactic(auto, using(crate::proofs::Callers::caller_laws))]
+    fn caller(&self) -> Option<Option<u64>>
+        ensures some { IfSome result (λ by. MayCall self.now by) }
+        ensures none { IfNone result ((by : Option ℕ) → MayCall self.now by → ⊥) }
+    {
+        match &self.stage {
+            Stage::Making => Some(None),
+            Stage::Polling { task, .. } | Stage::Ending { task, .. } => Some(Some(*task)),
+            Stage::Closing { .. } => {
+                let next = self.ends_next();
+                if self.is_ended_next(next) {
+                    Some(next)
+                } else {
+                    None
+                }
+            }
+            _ => None,
         }
     }
 
     fn may_root(&self, task: u64) -> bool
-        ensures { IsTrue result ↔ MayFree self.now (Root task) }
+        ensures { IsTrue result ↔ ((self.now.phase ≡ Making) × (task ≡ self.now.numbers.next) × (task < 2 ^ 64 - 1)) }
     {
         matches!(self.stage, Stage::Making) && task as u128 == self.next && task < u64::MAX
     }
@@ -143,7 +179,7 @@ impl Walker {
     }
 
     fn may_answer(&self, task: u64, kind: AnswerKind) -> bool
-        ensures { IsTrue result ↔ MayFree self.now (Answer task kind) }
+        ensures { IsTrue result ↔ MayAnswer self.now task kind }
     {
         match kind {
             AnswerKind::Pending | AnswerKind::Ready | AnswerKind::Panicked | AnswerKind::NoMemory =>
@@ -228,6 +264,7 @@ impl Walker {
         matches!(self.stage, Stage::Closing { .. })
             && self.running.is_empty()
             && choices.as_slice().is_empty()
+            && self.announced.is_empty()
     }
 
     fn may_finish(&self, cause: FinishCause) -> bool

@@ -1,17 +1,19 @@
 //! What a call may be answered.
 
-ghost use Rattle.std.specs.Prelude.{◌≡◌, ◌↔◌, IfOk, OnErr, IsTrue, option_map};
+ghost use Rattle.std.specs.Prelude.{◌≡◌, ◌↔◌, ◌⊎◌, IfErr, IfOk, OnErr, IsTrue, option_map};
 ghost use Rattle.rt_base.specs.declared.error.Error.TheVariants.{UnknownToken, Metric};
-ghost use Rattle.rt_audit.specs.declared.call.Call.TheVariants.{Abort, AbortTask, Child, CloseNode, GiveUp, SleepPoll, Slot, Spawn, Wake};
+ghost use Rattle.rt_audit.specs.declared.call.Call.TheVariants.{Abort, AbortTask, Child, CloneSignal, CloseNode, GiveUp, SleepPoll, Slot, Spawn, Wake};
+ghost use Rattle.rt_model.specs.Signals.{met_reply, shown_reply, stopped_reply};
 ghost use Rattle.rt_model.specs.Lists.{find};
 ghost use Rattle.rt_walk.specs.Memory.{HasLabel};
-ghost use Rattle.rt_model.specs.Rules.{Answers, ChildAnswers, IsRefusal, IsSent, JoinAnswers, OutcomeAnswers, ReceiveAnswers, SpawnAnswers, Unless, label_refusal};
+ghost use Rattle.rt_model.specs.Rules.{Answers, ChildAnswers, IsRefusal, IsSent, JoinAnswers, OutcomeAnswers, ReceiveAnswers, ShownAs, SpawnAnswers, Unless, label_refusal};
 
 use crate::Walker;
 use crate::results::may_abort;
 use rt_audit::{Call, CallReply, Label};
-use rt_base::{Error, MAX_TIME, MetricError, Nanos, NoMemory, child_label};
+use rt_base::{Error, MAX_TIME, MetricError, Nanos, NoMemory, Poll, child_label};
 use rt_model::{Outcome, TaskResult};
+use rt_super::Stopped;
 use std::alloc::Global;
 
 impl Walker {
@@ -36,6 +38,20 @@ impl Walker {
             Call::SlotPoll { slot } => receive_answers(self.slots.get(*slot), reply),
             Call::SlotGiveUp { slot } => is_done(reply) && self.slots.get(*slot).is_some(),
             Call::AbortWait { slot } => is_done(reply) && self.slots.may_abort(*slot),
+            Call::Signaler => is_signal(reply, self.signals.count()),
+            Call::CloneSignal { signal } => self.clone_answers(*signal, reply),
+            Call::Signal { signaler, .. } => is_done(reply) && self.signals.has_signaler(*signaler),
+            Call::SignalPoll { signal } => is_shown(self.signals.shown(*signal), reply),
+            Call::SignalClose { signal } => is_done(reply) && self.signals.has_signal(*signal),
+            Call::SignalerClose { signaler } => {
+                is_done(reply) && self.signals.has_signaler(*signaler)
+            }
+            Call::CompletionPoll { completion } => is_met(self.signals.met(*completion), reply),
+            Call::CompletionClose { completion } => {
+                is_done(reply) && self.signals.has_completion(*completion)
+            }
+            Call::Stop { .. } => is_completion(reply, self.signals.count()),
+            Call::Stopped => is_stopped(&self.signals.stopped(), reply),
         })
     }
 
@@ -122,6 +138,16 @@ impl Walker {
         }
     }
 
+    fn clone_answers(&self, signal: u64, reply: &CallReply) -> bool
+        ensures { IsTrue result ↔ Answers self.now (CloneSignal signal) reply.now }
+    {
+        if self.signals.has_signal(signal) {
+            is_signal(reply, self.signals.count())
+        } else {
+            is_unknown(reply)
+        }
+    }
+
     fn sleep_answers(&self, due: Nanos, reply: &CallReply) -> bool
         ensures { IsTrue result ↔ Answers self.now (SleepPoll due) reply.now }
     {
@@ -171,6 +197,87 @@ fn outcome_answers(outcome: Outcome, reply: &CallReply) -> bool
         Outcome::There => matches!(reply, CallReply::Ready),
         Outcome::Exited => is_exited(reply),
         Outcome::Closed => is_closed(reply),
+    }
+}
+
+fn is_signal(reply: &CallReply, number: u64) -> bool
+    ensures { IsTrue result ↔ (reply.now ≡ CallReply.SignalAt number) }
+{
+    match reply {
+        CallReply::SignalAt { signal } => *signal == number,
+        _ => false,
+    }
+}
+
+fn is_completion(reply: &CallReply, number: u64) -> bool
+    ensures { IsTrue result ↔ (reply.now ≡ CallReply.CompletionAt number) }
+{
+    match reply {
+        CallReply::CompletionAt { completion } => *completion == number,
+        _ => false,
+    }
+}
+
+/// Whether a poll of a signal that shows this is told so.
+fn is_shown(shown: Result<Poll<i32>, Error>, reply: &CallReply) -> bool
+    requires { IfErr shown (λ e. (e ≡ Error.UnknownToken) ⊎ (e ≡ Error.Closed)) }
+    ensures { IsTrue result ↔ ShownAs shown_reply shown reply.now }
+{
+    match shown {
+        Ok(Poll::Ready(shown)) => is_value(reply, shown),
+        Ok(Poll::Pending) => is_pending(reply),
+        Err(Error::UnknownToken) => is_unknown(reply),
+        Err(error) => {
+            drop(error);
+            is_closed(reply)
+        }
+    }
+}
+
+/// Whether a poll of a completion that is met so is told so.
+fn is_met(met: Result<Poll<()>, Error>, reply: &CallReply) -> bool
+    requires { IfErr met (λ e. e ≡ Error.UnknownToken) }
+    ensures { IsTrue result ↔ ShownAs met_reply met reply.now }
+{
+    match met {
+        Ok(Poll::Ready(())) => is_ready(reply),
+        Ok(Poll::Pending) => is_pending(reply),
+        Err(error) => {
+            drop(error);
+            is_unknown(reply)
+        }
+    }
+}
+
+fn is_value(reply: &CallReply, shown: i32) -> bool
+    ensures { IsTrue result ↔ (reply.now ≡ CallReply.Value shown) }
+{
+    match reply {
+        CallReply::Value { value } => *value == shown,
+        _ => false,
+    }
+}
+
+fn is_pending(reply: &CallReply) -> bool
+    ensures { IsTrue result ↔ (reply.now ≡ CallReply.Pending) }
+{
+    matches!(reply, CallReply::Pending)
+}
+
+fn is_ready(reply: &CallReply) -> bool
+    ensures { IsTrue result ↔ (reply.now ≡ CallReply.Ready) }
+{
+    matches!(reply, CallReply::Ready)
+}
+
+/// Whether `stopped` is answered so.
+fn is_stopped(stopped: &Stopped, reply: &CallReply) -> bool
+    ensures { IsTrue result ↔ (reply.now ≡ stopped_reply stopped.now) }
+{
+    match (stopped, reply) {
+        (Stopped::Waiting(number), CallReply::SignalAt { signal }) => signal == number,
+        (Stopped::Resolved(came), CallReply::ClosedWith { value }) => value == came,
+        _ => false,
     }
 }
 

@@ -4,12 +4,14 @@ ghost use Rattle.std.specs.Prelude.{◌≡◌, ◌++◌, [], IfOk, OnOk, ℕ, Li
 ghost use Rattle.rt_audit.specs.declared.entry.Entry.TheVariants.{Start, Call as CallEntry, Event, Wake, Draw, Root, Round, Visit, Answer, NodeEnd, Advance, Skip, Fire, Cleanup, Crash, Finish};
 ghost use Rattle.rt_base.specs.declared.choice.Choice.{Choice};
 ghost use Rattle.rt_model.specs.Lists.{is_some_number};
-ghost use Rattle.rt_model.specs.State.{State, Blank, Over};
-ghost use Rattle.rt_model.specs.Effects.{after, due_answered, due_called, due_panic, finished, is_closing, left_of};
+ghost use Rattle.rt_model.specs.State.{State, Blank, Entered, Over, stood_in};
+ghost use Rattle.rt_walk.specs.Signaled.{due_beside};
+ghost use Rattle.rt_model.specs.Effects.{after, due_answered, due_called, due_panic, finished, is_closing, left_of, signals_called, stop_called, visited};
 ghost use Rattle.rt_walk.specs.Quiet.{quiet};
 ghost use Rattle.rt_walk.specs.Stage.{phase_of};
 
 use crate::Walker;
+use crate::announced::Announced;
 use crate::called::{
     add_due_called, call_alarms, call_labels, call_marks, call_nodes, call_ready, call_results,
     call_running,
@@ -18,7 +20,7 @@ use crate::left::Left;
 use crate::marks::{self, flag_all, is_flagged, remove_if, remove_left};
 use crate::results::{add_due_ended, add_due_left, end_result, leave_result};
 use crate::stage::Stage;
-use rt_audit::{AnswerKind, Call, CallReply, Entry, FinishCause};
+use rt_audit::{AnswerKind, Call, CallReply, Entry, EventFields, EventLabel, FinishCause};
 use rt_base::{Nanos, NoMemory};
 use rt_model::Outcome;
 use std::mem;
@@ -36,7 +38,7 @@ impl Walker {
         match entry {
             Entry::Start { .. } => self.start(),
             Entry::Call { by, call, reply } => self.call(*by, call, reply)?,
-            Entry::Event { .. } => self.enter(),
+            Entry::Event { label, fields } => self.event(label, fields)?,
             Entry::Wake { task } => self.wake(*task)?,
             Entry::Draw { value } => self.draw(*value)?,
             Entry::Root { task } => self.take_root(*task)?,
@@ -62,7 +64,7 @@ impl Walker {
 
     /// The run stands so from here on, and nobody is to be woken.
     fn turn_to(&mut self, stage: Stage)
-        ensures { self.new ≡ record self.old { phase = phase_of stage; owed = []; turns = [] } }
+        ensures { self.new ≡ record self.old { phase = phase_of stage; owed = []; announced = []; turns = [] } }
     {
         drop(mem::replace(&mut self.stage, stage));
         self.owe_nobody();
@@ -70,16 +72,25 @@ impl Walker {
 
     /// Nobody is to be woken.
     fn owe_nobody(&mut self)
-        ensures { self.new ≡ record self.old { owed = [] } }
+        ensures { self.new ≡ record self.old { owed = []; announced = []; turns = [] } }
     {
-        self.owed = Left::new(self.allocator());
+        let nobody = Left::new(self.allocator());
+        self.owe(nobody);
+    }
+
+    /// These are to be woken, and no event stands before the next call.
+    fn owe(&mut self, owed: Left)
+        ensures { self.new ≡ record self.old { owed = owed; announced = []; turns = [] } }
+    {
+        drop(mem::replace(&mut self.owed, owed));
+        self.announced.clear();
     }
 
     fn call(&mut self, by: Option<u64>, call: &Call, reply: &CallReply) -> Result<(), NoMemory>
         ensures { OnOk result (self.new ≡ quiet (after self.old (CallEntry by call.now reply.now))) }
     {
-        let due = self.due_called(call, reply)?;
-        self.owed = Left::from_vec(due);
+        let due = self.due_called(by, call, reply)?;
+        self.owe(Left::from_vec(due));
         if let (Call::Spawn { .. }, CallReply::TaskAt { task, .. }) = (call, reply) {
             self.next = *task as u128 + 1;
         }
@@ -93,9 +104,28 @@ impl Walker {
         self.slots.call(by, call, reply)
     }
 
-    /// Whom a call must wake.
-    fn due_called(&self, call: &Call, reply: &CallReply) -> Result<Vec<u64>, NoMemory>
-        ensures { IfOk result (λ due. due.items ≡ due_called (is_closing self.now.phase) self.now.marks self.now.slots call.now reply.now) }
+    /// Takes what a call does to signals in. Answers whom it must wake.
+    fn due_called(
+        &mut self,
+        by: Option<u64>,
+        call: &Call,
+        reply: &CallReply,
+    ) -> Result<Vec<u64>, NoMemory>
+        ensures due { IfOk result (λ due. due.items ≡ due_called (is_closing self.old.phase) self.old.marks (stood_in self.old) call.now reply.now) }
+        ensures state { OnOk result (self.new ≡ record self.old { signals = signals_called self.old.signals self.old.stop by call.now reply.now; stop = stop_called self.old.stop call.now reply.now; turns = [] }) }
+    {
+        let mut due = self.due_beside(call, reply)?;
+        let alloc = self.allocator();
+        let mut woken = self.signals.call(alloc, by, call, reply)?;
+        if !self.stage.is_closing() {
+            due.append(&mut woken)?;
+        }
+        Ok(due)
+    }
+
+    /// Whom a call must wake by marks and slots.
+    fn due_beside(&self, call: &Call, reply: &CallReply) -> Result<Vec<u64>, NoMemory>
+        ensures { IfOk result (λ due. due.items ≡ due_beside (is_closing self.now.phase) self.now.marks self.now.slots call.now reply.now) }
     {
         let mut due = Vec::new(self.allocator());
         add_due_called(
@@ -164,7 +194,22 @@ impl Walker {
         Ok(())
     }
 
+    fn event(&mut self, label: &EventLabel, fields: &EventFields) -> Result<(), NoMemory>
+        ensures { OnOk result (self.new ≡ quiet (after self.old (Event label.now fields.now))) }
+    {
+        if matches!(self.stage, Stage::Entered { .. }) {
+            self.enter();
+        } else {
+            let event = Announced::of(self.allocator(), label, fields)?;
+            self.announced.push(event)?;
+            self.owed = Left::new(self.allocator());
+        }
+        Ok(())
+    }
+
+    /// The visit of a task begins.
     fn enter(&mut self)
+        requires { self.old.phase ≡ Entered (visited self.old.phase) (left_of self.old.phase) }
         ensures { (label : List ℕ) (fields : List (List ℕ)) → self.new ≡ quiet (after self.old (Event label fields)) }
     {
         let stage = match mem::replace(&mut self.stage, Stage::Blank) {
@@ -174,7 +219,8 @@ impl Walker {
             }
             stage => stage,
         };
-        self.turn_to(stage);
+        drop(mem::replace(&mut self.stage, stage));
+        self.owed = Left::new(self.allocator());
     }
 
     fn visit(&mut self, task: u64)
@@ -223,7 +269,7 @@ impl Walker {
 
     /// A task has finished so.
     fn finish_task(&mut self, task: u64, cause: FinishCause, outcome: Outcome)
-        ensures { self.new ≡ record self.old { phase = finished (is_some_number task self.old.root) cause outcome task (left_of self.old.phase); owed = []; turns = [] } }
+        ensures { self.new ≡ record self.old { phase = finished (is_some_number task self.old.root) cause outcome task (left_of self.old.phase); owed = []; announced = []; turns = [] } }
     {
         let left = self.take_left();
         let stage = Stage::after_last(self.root == Some(task), cause, outcome, task, left);
@@ -232,7 +278,7 @@ impl Walker {
 
     /// The rounds end for this cause.
     fn go_over(&mut self, cause: FinishCause)
-        ensures { self.new ≡ record self.old { phase = Over cause; owed = []; turns = [] } }
+        ensures { self.new ≡ record self.old { phase = Over cause; owed = []; announced = []; turns = [] } }
     {
         self.turn_to(Stage::Over { cause });
     }
@@ -301,7 +347,8 @@ impl Walker {
     fn fire(&mut self) -> Result<(), NoMemory>
         ensures { OnOk result ((alarm : ℕ) → self.new ≡ quiet (after self.old (Fire alarm))) }
     {
-        self.owed = Left::of_one(self.allocator(), self.alarms.pop())?;
+        let owed = Left::of_one(self.allocator(), self.alarms.pop())?;
+        self.owe(owed);
         Ok(())
     }
 

@@ -10,6 +10,7 @@ ghost use Rattle.rt_model.specs.Effects.{after, is_settled, label_at, task_label
 ghost use Rattle.rt_model.specs.Runs.{renews};
 ghost use Rattle.rt_walk.specs.Quiet.{quiet};
 
+use crate::announced::Announced;
 use crate::called::label_at;
 use crate::left::Left;
 use crate::marks::is_ended_at;
@@ -19,6 +20,7 @@ use crate::slots::Slots;
 use crate::stage::Stage;
 use crate::table::Table;
 use crate::told_alarms::ToldAlarms;
+use crate::told_signals::ToldSignals;
 use rt_audit::{Entry, FinishCause};
 use rt_base::{MAX_TIME, Nanos, NoMemory, Text};
 use rt_model::{Begin, Mark, TaskResult};
@@ -45,6 +47,8 @@ pub struct Walker {
     pub(crate) marks: Table<Mark>,
     pub(crate) results: Table<TaskResult>,
     pub(crate) slots: Slots,
+    pub(crate) signals: ToldSignals,
+    pub(crate) announced: Vec<Announced>,
     pub(crate) owed: Left,
 }
 
@@ -55,7 +59,7 @@ impl Model for Walker {
 
     ghost Value = { State };
 
-    ghost view = { λ w. record { clock = record { time = w.time; fixed = w.begin }; phase = phase_of w.stage; numbers = record { first = w.begin.first; next = w.next }; root = w.root; root_left = w.root_left; panicked = w.panicked; running = w.running; ready = w.ready.items; draws = w.draws.items; alarms = w.alarms; nodes = w.nodes; labels = w.labels; marks = w.marks; results = w.results; slots = w.slots; owed = w.owed; turns = [] } };
+    ghost view = { λ w. record { clock = record { time = w.time; fixed = w.begin }; phase = phase_of w.stage; numbers = record { first = w.begin.first; next = w.next }; root = w.root; root_left = w.root_left; panicked = w.panicked; running = w.running; ready = w.ready.items; draws = w.draws.items; alarms = w.alarms; nodes = w.nodes; labels = w.labels; marks = w.marks; results = w.results; slots = w.slots; signals = w.signals.signals; stop = w.signals.stop; announced = w.announced.items; owed = w.owed; turns = [] } };
 }
 
 #[tactic(auto, unfolding(rt_model::specs::Effects::after, rt_model::specs::State::begun))]
@@ -84,6 +88,8 @@ impl Walker {
             marks: Table::new(alloc),
             results: Table::new(alloc),
             slots: Slots::new(alloc),
+            signals: ToldSignals::new(alloc)?,
+            announced: Vec::new(alloc),
             owed: Left::new(alloc),
         })
     }

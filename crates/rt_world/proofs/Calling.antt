@@ -5,7 +5,7 @@ use Rattle.rt_base.specs.declared.error.Error.TheVariants.{UnknownToken, TooMany
 use Rattle.rt_base.specs.declared.no_memory.NoMemory.{NoMemory as OutOfMemory}
 use Rattle.rt_base.specs.declared.execution.Execution.{Execution}
 use Rattle.rt_audit.specs.declared.call.Call.{Call}
-use Rattle.rt_audit.specs.declared.call.Call.TheVariants.{Child, CloseNode, Spawn, Abort, AbortTask, Wake, Join, GiveUp, SleepPoll, Slot, SlotSend, SlotClose, SlotPoll, SlotGiveUp, AbortWait}
+use Rattle.rt_audit.specs.declared.call.Call.TheVariants.{Child, CloseNode, Spawn, Abort, AbortTask, Wake, Join, GiveUp, SleepPoll, Slot, SlotSend, SlotClose, SlotPoll, SlotGiveUp, AbortWait, Signaler, CloneSignal, Signal, SignalPoll, SignalClose, SignalerClose, CompletionPoll, CompletionClose, Stop, Stopped}
 use Rattle.rt_audit.specs.declared.reply.CallReply.{CallReply}
 use Rattle.rt_audit.specs.declared.reply.CallReply.TheVariants.{Done, NodeAt, TaskAt, SlotAt, Pending, PendingAt, Ready, Refused}
 use Rattle.rt_model.specs.declared.result.Outcome.{Outcome}
@@ -67,6 +67,16 @@ module _ {A O : Type 0} (tasks : Roomed (ℕ × A)) (outputs : Roomed (ℕ × O)
     quiet-refused (SlotPoll slot) e = (refl, refl, refl)
     quiet-refused (SlotGiveUp slot) e = (refl, refl, refl)
     quiet-refused (AbortWait slot) e = (refl, refl, refl)
+    quiet-refused Signaler e = (refl, refl, refl)
+    quiet-refused (CloneSignal signal) e = (refl, refl, refl)
+    quiet-refused (Signal signaler value) e = (refl, refl, refl)
+    quiet-refused (SignalPoll signal) e = (refl, refl, refl)
+    quiet-refused (SignalClose signal) e = (refl, refl, refl)
+    quiet-refused (SignalerClose signaler) e = (refl, refl, refl)
+    quiet-refused (CompletionPoll completion) e = (refl, refl, refl)
+    quiet-refused (CompletionClose completion) e = (refl, refl, refl)
+    quiet-refused (Stop value) e = (refl, refl, refl)
+    quiet-refused Stopped e = (refl, refl, refl)
 
     seated-refused : (call : Call) (e : Error) → IsRefused by old new call e → AreSeated tasks outputs out new.told.state
     seated-refused call e (inl lack) = seated-lacking lack.1

@@ -13,7 +13,7 @@ use Rattle.rt_model.specs.State.{State, Clock, Phase, begun, stood_in, Making}
 use Rattle.rt_model.specs.Effects.{after, after_all}
 use Rattle.rt_model.specs.Events.{process_task}
 use Rattle.rt_model.specs.Lists.{find, is_some_number}
-use Rattle.rt_model.specs.Turns.{Held, Frees, put}
+use Rattle.rt_model.specs.Turns.{Held, put}
 use Rattle.rt_model.specs.Walk.{Walks, Fronts, Breaks}
 use Rattle.rt_model.specs.Tied.{Steps, Value, nothing, Moves, MovesCleanup, MakerBreaks, EndsState, IsTied, Polls, given, kept_text, taken, no_number}
 use Rattle.rt_model.proofs.Append.{after_all-append, IsTied-append}
@@ -27,6 +27,7 @@ use Rattle.rt_world.specs.Follows.{Follows, Agrees, AgreesWith, value_of, unmade
 tied-calls : {A O : Type 0} → (p : Steps A O) (s : State) (v : Value A O) (es : List Entry) → AreCalls es → IsTied p s v es v
 tied-calls p s v [] h = refl
 tied-calls p s v (Call by call reply ∷ es) h = (v, refl, tied-calls p (after s (Call by call reply)) v es h.1)
+tied-calls p s v (Event label fields ∷ es) h = (v, refl, tied-calls p (after s (Event label fields)) v es h.1)
 tied-calls p s v (Wake task ∷ es) h = (v, refl, tied-calls p (after s (Wake task)) v es h.1)
 tied-calls p s v (_ ∷ es) h = cc
 
@@ -135,16 +136,15 @@ module _ {A O : Type 0} (p : Steps A O) where
         follows-pushed w2.told (value_of w0 None None true) (record { held = put task b w2.held; output = None; panic = kept_text w2.told.state task text w2.panic; unmade = None; whole = true }) (AnswerEntry task IsPanicked) (polled f)
         (text, put task b w2.held, polls (Panicked text) walks, rw panic refl)
 
-    pub visit-cut : (Breaks (p.task.next a w1.told.state.clock.time task) w1.held w2.told.state.turns (stood_in w2.told.state) ⊎ Fronts (p.task.next a w1.told.state.clock.time task) w1.held w2.told.state.turns) → Frees w1.held w2.told.state.turns w2.held → Agrees p true w0 None → Follows p (pushed w2.told (AnswerEntry task LacksMemory)) (record { held = put task b w2.held; output = None; panic = w2.panic; unmade = None; whole = false })
-    visit-cut breaks frees f =
+    pub visit-cut : (Breaks (p.task.next a w1.told.state.clock.time task) w1.held w2.told.state.turns (stood_in w2.told.state) w2.held ⊎ Fronts (p.task.next a w1.told.state.clock.time task) w1.held w2.told.state.turns w2.held) → Agrees p true w0 None → Follows p (pushed w2.told (AnswerEntry task LacksMemory)) (record { held = put task b w2.held; output = None; panic = w2.panic; unmade = None; whole = false })
+    visit-cut breaks f =
         follows-pushed w2.told (value_of w0 None None true) (record { held = put task b w2.held; output = None; panic = w2.panic; unmade = None; whole = false }) (AnswerEntry task LacksMemory) (polled f)
         (record {
           before = a;
           left = b;
+          moved = w2.held;
           there = there;
           breaks = rw (← ap (λ (w : World A O G). w.held) began, ap (λ (c : Clock). c.time) kept.clock) breaks;
-          moved = w2.held;
-          frees = rw (← ap (λ (w : World A O G). w.held) began) frees;
           is = rw panic refl;
         })
 
@@ -180,9 +180,9 @@ module _ {A O : Type 0} (p : Steps A O) where
     pub closed-unmade : (whole : Bool) (unmade : Option A) → MakingAgrees p whole old unmade → Follows p u (value_of old None unmade whole)
     closed-unmade true (Some root) m = closed-as (unmade_of m.before) (value_of old None (Some root) true) m.follows (inl (root, m.walks, rw calm refl))
     closed-unmade true None m = absurd m
-    closed-unmade false unmade m = closed-as (unmade_of m.before) (value_of old None unmade false) m.follows (inr (broken m.breaks, m.frees))
+    closed-unmade false unmade m = closed-as (unmade_of m.before) (value_of old None unmade false) m.follows (inr (broken m.breaks))
       where
-        broken : (Breaks (p.first old.told.state.clock.time) m.before old.told.state.turns (stood_in old.told.state) ⊎ (Fronts (p.first old.told.state.clock.time) m.before old.told.state.turns × (unmade ≡ None))) → MakerBreaks p old.told.state (unmade_of m.before) (value_of old None unmade false)
+        broken : (Breaks (p.first old.told.state.clock.time) m.before old.told.state.turns (stood_in old.told.state) old.held ⊎ (Fronts (p.first old.told.state.clock.time) m.before old.told.state.turns old.held × (unmade ≡ None))) → MakerBreaks p old.told.state (unmade_of m.before) (value_of old None unmade false)
         broken (inl breaks) = inl (breaks, rw calm refl)
         broken (inr fronts) = inr (fronts.0, rw (calm, fronts.1) refl)
 
@@ -208,9 +208,9 @@ module _ {A O : Type 0} (p : Steps A O) where
     ended-tied walks f =
         ended whole (inl (rw (← ap (λ (w : World A O G). w.held) began, ap (λ (c : Clock). c.time) kept.clock) walks, rw same-panic refl)) f
 
-    pub ended-broken : Breaks (p.task.last a w1.told.state.clock.time task) w1.held w2.told.state.turns (stood_in w2.told.state) → Frees w1.held w2.told.state.turns w2.held → AgreesWith p whole w0 output unmade → Follows p (pushed w2.told (AnswerEntry task IsEnded)) (value_of w2 output unmade false)
-    ended-broken breaks frees f =
-        ended false (inr (rw (← ap (λ (w : World A O G). w.held) began, ap (λ (c : Clock). c.time) kept.clock) breaks, rw (← ap (λ (w : World A O G). w.held) began) frees, rw same-panic refl)) f
+    pub ended-broken : Breaks (p.task.last a w1.told.state.clock.time task) w1.held w2.told.state.turns (stood_in w2.told.state) w2.held → AgreesWith p whole w0 output unmade → Follows p (pushed w2.told (AnswerEntry task IsEnded)) (value_of w2 output unmade false)
+    ended-broken breaks f =
+        ended false (inr (rw (← ap (λ (w : World A O G). w.held) began, ap (λ (c : Clock). c.time) kept.clock) breaks, rw same-panic refl)) f
 
   -- the end of a root that was not taken in: the worlds before its calls and after them
   module _ {G : Type 0} (w0 w2 : World A O G) (a : A) (none : w0.told.calls ≡ []) (kept : Kept w0 w2) (calls : AreCalls w2.told.calls) (state : w2.told.state ≡ after_all (begun w2.told.begin) (own w2.told)) (output : Option O) (whole : Bool) where
@@ -221,5 +221,5 @@ module _ {A O : Type 0} (p : Steps A O) where
     pub unmade-tied : Walks (p.task.last a w0.told.state.clock.time no_number) w0.held w2.told.state.turns (stood_in w2.told.state) tt tt w2.held → AgreesWith p whole w0 output (Some a) → Follows p (pushed w2.told (Crash [])) (value_of w2 output None whole)
     unmade-tied walks f = unmade-as whole (inl (rw (ap (λ (c : Clock). c.time) kept.clock) walks, rw kept.panic refl)) f
 
-    pub unmade-broken : Breaks (p.task.last a w0.told.state.clock.time no_number) w0.held w2.told.state.turns (stood_in w2.told.state) → Frees w0.held w2.told.state.turns w2.held → AgreesWith p whole w0 output (Some a) → Follows p (pushed w2.told (Crash [])) (value_of w2 output None false)
-    unmade-broken breaks frees f = unmade-as false (inr (rw (ap (λ (c : Clock). c.time) kept.clock) breaks, frees, rw kept.panic refl)) f
+    pub unmade-broken : Breaks (p.task.last a w0.told.state.clock.time no_number) w0.held w2.told.state.turns (stood_in w2.told.state) w2.held → AgreesWith p whole w0 output (Some a) → Follows p (pushed w2.told (Crash [])) (value_of w2 output None false)
+    unmade-broken breaks f = unmade-as false (inr (rw (ap (λ (c : Clock). c.time) kept.clock) breaks, rw kept.panic refl)) f

@@ -9,3 +9,4 @@ pub mod Fronts
 pub mod Running
 pub mod Ending
 pub mod Slotted
+pub mod Signaled

@@ -207,12 +207,12 @@ module _ {A O : Type 0} (p : Steps A O) (s : State) where
   -- what the values of an answer keep
   cleanup-panic : (v w : Value A O) (phase : Phase) → MovesCleanup p s v phase w → w.panic ≡ v.panic
   cleanup-panic v w Making (inl m) = ap (λ (x : Value A O). x.panic) m.2
-  cleanup-panic v w Making (inr m) = elim m.0 [ inl b ↦ ap (λ (x : Value A O). x.panic) b.1 | inr b ↦ ap (λ (x : Value A O). x.panic) b.1 ]
+  cleanup-panic v w Making (inr m) = elim m [ inl b ↦ ap (λ (x : Value A O). x.panic) b.1 | inr b ↦ ap (λ (x : Value A O). x.panic) b.1 ]
   cleanup-panic v w phase m = ap (λ (x : Value A O). x.panic) m
 
   ends-panic : (v w : Value A O) (number : ℕ) (a : A) (held : Held A O) → EndsState p s number a held v w → w.panic ≡ v.panic
   ends-panic v w number a held (inl m) = ap (λ (x : Value A O). x.panic) m.1
-  ends-panic v w number a held (inr m) = ap (λ (x : Value A O). x.panic) m.2
+  ends-panic v w number a held (inr m) = ap (λ (x : Value A O). x.panic) m.1
 
   crash-panic : (v w : Value A O) (unmade : Option A) → MovesCrash p s v unmade w → w.panic ≡ v.panic
   crash-panic v w None m = ap (λ (x : Value A O). x.panic) m.0
@@ -242,7 +242,7 @@ module _ {A O : Type 0} (p : Steps A O) (s : State) where
   texts-move v w (Round order) may m h = rw (m.0) (calmly s.panicked s.clock.fixed.catch (is_some v.panic) (Visiting order) (after s (Round order)) refl h.kept)
   texts-move v w (Visit task) may m h = rw (m.0) (calmly s.panicked s.clock.fixed.catch (is_some v.panic) (Entered task _) (after s (Visit task)) refl h.kept)
   texts-move v w (Event label fields) may m h = rw m (texts-event s.panicked s.clock.fixed.catch (is_some v.panic) true s.phase s (after s (Event label fields)) refl h)
-  texts-move v w (AnswerEntry task kind) may m h = texts-answer v w task kind may.1 m h
+  texts-move v w (AnswerEntry task kind) may m h = texts-answer v w task kind may.1.0 m h
   texts-move v w (Advance now) may m h = rw (m.0) (calmly s.panicked s.clock.fixed.catch (is_some v.panic) Turning (after s (Advance now)) refl h.kept)
   texts-move v w (Skip now) may m h = rw (m.0) (same-phase s.panicked s.clock.fixed.catch (is_some v.panic) s.phase s (after s (Skip now)) h)
   texts-move v w (Fire alarm) may m h = rw (m.0) (same-phase s.panicked s.clock.fixed.catch (is_some v.panic) s.phase s (after s (Fire alarm)) h)

@@ -51,18 +51,20 @@ unmarked (Some made) new stays n = let e = stays made refl in absurd (cc)
 
 module _ {A L O R M Q G : Type 0} (old mid new : World A O G) (first : Step A L O R) (more : R → L → Step A M O Q) (r : R) (a : L) (given : Option (Q × M)) (one : Turned first old mid (Some (r, a))) (two : Turned (more r a) mid new given) where
   turned-ends : (Walks first old.held one.more (stood_in mid.told.state) r a mid.held) → (given : Option (Q × M)) → EndsWith (more r a) mid.held two.more (stood_in new.told.state) given new.held → EndsWith (then first more) old.held (one.more ++ two.more) (stood_in new.told.state) given new.held
-  turned-ends w None e = fronts-then more (stood_in mid.told.state) r a mid.held (stood_in new.told.state) one.more two.more old.held first two.stood w e
+  turned-ends w None e = fronts-then more (stood_in mid.told.state) r a mid.held (stood_in new.told.state) new.held one.more two.more old.held first two.stood w e
   turned-ends w (Some g) e = walks-then more (stood_in mid.told.state) r a mid.held (stood_in new.told.state) g.0 g.1 new.held one.more two.more old.held first two.stood w e
 
-  turned-broke : (made : List Turn) → old.lacked ≡ None → new.lacked ≡ Some made → (there : Option (List Turn)) → mid.lacked ≡ there → Broke (then first more) old.held old.told.state.turns made (one.more ++ two.more) (stood_in new.told.state)
+  turned-broke : (made : List Turn) → old.lacked ≡ None → new.lacked ≡ Some made → (there : Option (List Turn)) → mid.lacked ≡ there → Broke (then first more) old.held old.told.state.turns made (one.more ++ two.more) (stood_in new.told.state) new.held
   turned-broke made o n None m =
       let k = two.broke made m n in
       record {
         front = one.more ++ k.front;
         rest = k.rest;
+        mid = k.mid;
         are = rw (k.are, append_assoc one.more k.front k.rest) refl;
         before = k.before ∙ ap (λ xs. xs ++ k.front) one.turns ∙ append_assoc old.told.state.turns one.more k.front;
-        walks = stops-then more (stood_in mid.told.state) r a mid.held (stood_before k.rest (stood_in new.told.state)) one.more k.front old.held first (sym (stood-both k.front k.rest (stood_in new.told.state)) ∙ sym (ap (λ us. stood_before us (stood_in new.told.state)) k.are) ∙ two.stood) (one.ends m) k.walks;
+        walks = stops-then more (stood_in mid.told.state) r a mid.held (stood_before k.rest (stood_in new.told.state)) k.mid one.more k.front old.held first (sym (stood-both k.front k.rest (stood_in new.told.state)) ∙ sym (ap (λ us. stood_before us (stood_in new.told.state)) k.are) ∙ two.stood) (one.ends m) k.walks;
+        frees = k.frees;
       }
   turned-broke made o n (Some before) m =
       let k = one.broke before o m in
@@ -70,9 +72,11 @@ module _ {A L O R M Q G : Type 0} (old mid new : World A O G) (first : Step A L 
       record {
         front = k.front;
         rest = k.rest ++ two.more;
+        mid = k.mid;
         are = rw (k.are) (append_assoc k.front k.rest two.more);
         before = same ∙ k.before;
-        walks = stops-first more (stood_before (k.rest ++ two.more) (stood_in new.told.state)) k.front old.held first (rw (stood-both k.rest two.more (stood_in new.told.state), two.stood) k.walks);
+        walks = stops-first more (stood_before (k.rest ++ two.more) (stood_in new.told.state)) k.mid k.front old.held first (rw (stood-both k.rest two.more (stood_in new.told.state), two.stood) k.walks);
+        frees = frees-append k.rest two.more k.mid mid.held new.held k.frees two.frees;
       }
 
   turned-then : Turned (then first more) old new given
@@ -99,7 +103,7 @@ has-none false h k = cc
 
 module _ {A L O R G : Type 0} (old mid new : World A O G) (given : Option (R × L)) where
   -- a turn more in front
-  turned-before : (t : Turn) (step next : Step A L O R) → mid.told.state.turns ≡ old.told.state.turns ++ t ∷ [] → FreesOne t.stood old.held t.call t.reply mid.held → mid.lacked ≡ old.lacked → t.stood ≡ stood_in old.told.state → ((us : List Turn) (stood : Stood) (end : Held A O) (given : Option (R × L)) → EndsWith next mid.held us stood given end → EndsWith step old.held (t ∷ us) stood given end) → ((front : List Turn) (stood : Stood) → Stops next mid.held front stood → Stops step old.held (t ∷ front) stood) → Turned next mid new given → Turned step old new given
+  turned-before : (t : Turn) (step next : Step A L O R) → mid.told.state.turns ≡ old.told.state.turns ++ t ∷ [] → FreesOne t.stood old.held t.call t.reply mid.held → mid.lacked ≡ old.lacked → t.stood ≡ stood_in old.told.state → ((us : List Turn) (stood : Stood) (end : Held A O) (given : Option (R × L)) → EndsWith next mid.held us stood given end → EndsWith step old.held (t ∷ us) stood given end) → ((front : List Turn) (stood : Stood) (end : Held A O) → Stops next mid.held front stood end → Stops step old.held (t ∷ front) stood end) → Turned next mid new given → Turned step old new given
   turned-before t step next is frees lacked stood walk front two = record {
     more = t ∷ two.more;
     turns = two.turns ∙ ap (λ ts. ts ++ two.more) is ∙ append_assoc old.told.state.turns (t ∷ []) two.more;
@@ -112,9 +116,11 @@ module _ {A L O R G : Type 0} (old mid new : World A O G) (given : Option (R × 
         record {
           front = t ∷ k.front;
           rest = k.rest;
+          mid = k.mid;
           are = ap (λ xs. t ∷ xs) k.are;
           before = k.before ∙ ap (λ ts. ts ++ k.front) is ∙ append_assoc old.told.state.turns (t ∷ []) k.front;
-          walks = front k.front (stood_before k.rest (stood_in new.told.state)) k.walks;
+          walks = front k.front (stood_before k.rest (stood_in new.told.state)) k.mid k.walks;
+          frees = k.frees;
         };
   }
 
@@ -123,8 +129,8 @@ module _ {A L O R G : Type 0} (old mid new : World A O G) (given : Option (R × 
     does-ends on us stood end None w = (asks, rw (← is) w)
     does-ends on us stood end (Some g) w = (asks, rw (← is) w)
 
-    does-stops : (on : Heard O → Step A L O R) (front : List Turn) (stood : Stood) → Stops (on (heard_of old.held t)) mid.held front stood → Stops (Does ask on) old.held (t ∷ front) stood
-    does-stops on front stood w = (asks, rw (← is) w)
+    does-stops : (on : Heard O → Step A L O R) (front : List Turn) (stood : Stood) (end : Held A O) → Stops (on (heard_of old.held t)) mid.held front stood end → Stops (Does ask on) old.held (t ∷ front) stood end
+    does-stops on front stood end w = (asks, rw (← is) w)
 
   -- a call, and then what follows from what was heard of it
   turned-made : (ask : Ask A O) (reply : CallReply) (heard : Heard O) (on : Heard O → Step A L O R) → Made old mid ask reply → Asks old.held ask (turn_in old.told.state (call_of ask) reply) → heard ≡ heard_of old.held (turn_in old.told.state (call_of ask) reply) → Turned (on heard) mid new given → Turned (Does ask on) old new given
@@ -132,7 +138,7 @@ module _ {A L O R G : Type 0} (old mid new : World A O G) (given : Option (R × 
       let t = turn_in old.told.state (call_of ask) reply in
       turned-before t (Does ask on) (on heard) made.turns (rw made.held (frees-moved old.held ask t asks)) made.lacked refl
       (λ us stood end given w. does-ends t ask asks made.held on us stood end given (rw (← is) w))
-      (λ front stood w. does-stops t ask asks made.held on front stood (rw (← is) w))
+      (λ front stood end w. does-stops t ask asks made.held on front stood end (rw (← is) w))
       two
 
   turned-sleep : (due : ℕ) (alarm told : Option ℕ) (on : Heard O → Step A L O R) → told ≡ slept_number old.told.state.clock.time old.told.state.alarms due alarm → Made old mid (Sleeping due alarm) (sleep_reply told) → Turned (on (Plain (sleep_reply told))) mid new given → Turned (Does (Sleeping due alarm) on) old new given
@@ -150,7 +156,7 @@ module _ {A L O R G : Type 0} (old mid new : World A O G) (given : Option (R × 
         let t = turn_in old.told.state (call_of ask) Done in
         turned-before t (Spends ask next) next made.turns (rw made.held (frees-spent (stood_in old.told.state) old.held ask spends)) made.lacked refl
         (λ us stood end given w. spent-ends next us stood end given w)
-        (λ front stood w. (λ place. (refl, refl, rw (← made.held) w), λ none. absurd (has-none (has_place (stood_in old.told.state) (call_of ask)) there none)))
+        (λ front stood end w. (λ place. (refl, refl, rw (← made.held) w), λ none. absurd (has-none (has_place (stood_in old.told.state) (call_of ask)) there none)))
         two
 
 -- a token that has no place is spent by no call
@@ -158,17 +164,17 @@ walks-gone : {A L O R : Type 0} (ts : List Turn) (stood before : Stood) (q : R) 
 walks-gone [] stood before q b held end ask next stands gone w = (rw stands gone, w)
 walks-gone (t ∷ ts) stood before q b held end ask next stands gone w = (λ there. absurd (has-none (has_place t.stood (call_of ask)) there (rw stands gone)), λ none. w)
 
-fronts-gone : {A L O R : Type 0} (ts : List Turn) (stood before : Stood) (held : Held A O) (ask : Ask A O) (next : Step A L O R) → stood_before ts stood ≡ before → has_place before (call_of ask) ≡ false → Fronts next held ts → Fronts (Spends ask next) held ts
-fronts-gone [] stood before held ask next stands gone w = tt
-fronts-gone (t ∷ ts) stood before held ask next stands gone w = (λ there. absurd (has-none (has_place t.stood (call_of ask)) there (rw stands gone)), λ none. w)
+fronts-gone : {A L O R : Type 0} (ts : List Turn) (stood before : Stood) (held end : Held A O) (ask : Ask A O) (next : Step A L O R) → stood_before ts stood ≡ before → has_place before (call_of ask) ≡ false → Fronts next held ts end → Fronts (Spends ask next) held ts end
+fronts-gone [] stood before held end ask next stands gone w = w
+fronts-gone (t ∷ ts) stood before held end ask next stands gone w = (λ there. absurd (has-none (has_place t.stood (call_of ask)) there (rw stands gone)), λ none. w)
 
-stops-gone : {A L O R : Type 0} (ts : List Turn) (stood before : Stood) (held : Held A O) (ask : Ask A O) (next : Step A L O R) → stood_before ts stood ≡ before → has_place before (call_of ask) ≡ false → Stops next held ts stood → Stops (Spends ask next) held ts stood
-stops-gone [] stood before held ask next stands gone w = (rw stands gone, w)
-stops-gone (t ∷ ts) stood before held ask next stands gone w = (λ there. absurd (has-none (has_place t.stood (call_of ask)) there (rw stands gone)), λ none. w)
+stops-gone : {A L O R : Type 0} (ts : List Turn) (stood before : Stood) (held end : Held A O) (ask : Ask A O) (next : Step A L O R) → stood_before ts stood ≡ before → has_place before (call_of ask) ≡ false → Stops next held ts stood end → Stops (Spends ask next) held ts stood end
+stops-gone [] stood before held end ask next stands gone w = ((rw stands gone, w.0), w.1)
+stops-gone (t ∷ ts) stood before held end ask next stands gone w = (λ there. absurd (has-none (has_place t.stood (call_of ask)) there (rw stands gone)), λ none. w)
 
 module _ {A L O R G : Type 0} (old new : World A O G) (given : Option (R × L)) where
   gone-ends : (us : List Turn) (ask : Ask A O) (next : Step A L O R) → has_place (stood_in old.told.state) (call_of ask) ≡ false → stood_before us (stood_in new.told.state) ≡ stood_in old.told.state → (given : Option (R × L)) → EndsWith next old.held us (stood_in new.told.state) given new.held → EndsWith (Spends ask next) old.held us (stood_in new.told.state) given new.held
-  gone-ends us ask next gone stood None w = fronts-gone us (stood_in new.told.state) (stood_in old.told.state) old.held ask next stood gone w
+  gone-ends us ask next gone stood None w = fronts-gone us (stood_in new.told.state) (stood_in old.told.state) old.held new.held ask next stood gone w
   gone-ends us ask next gone stood (Some g) w = walks-gone us (stood_in new.told.state) (stood_in old.told.state) g.0 g.1 old.held new.held ask next stood gone w
 
   turned-gone : (ask : Ask A O) (next : Step A L O R) → has_place (stood_in old.told.state) (call_of ask) ≡ false → Turned next old new given → Turned (Spends ask next) old new given
@@ -184,9 +190,11 @@ module _ {A L O R G : Type 0} (old new : World A O G) (given : Option (R × L)) 
         record {
           front = k.front;
           rest = k.rest;
+          mid = k.mid;
           are = k.are;
           before = k.before;
-          walks = stops-gone k.front (stood_before k.rest (stood_in new.told.state)) (stood_in old.told.state) old.held ask next (sym (stood-both k.front k.rest (stood_in new.told.state)) ∙ sym (ap (λ us. stood_before us (stood_in new.told.state)) k.are) ∙ two.stood) gone k.walks;
+          frees = k.frees;
+          walks = stops-gone k.front (stood_before k.rest (stood_in new.told.state)) (stood_in old.told.state) old.held k.mid ask next (sym (stood-both k.front k.rest (stood_in new.told.state)) ∙ sym (ap (λ us. stood_before us (stood_in new.told.state)) k.are) ∙ two.stood) gone k.walks;
         };
   }
 
@@ -217,9 +225,11 @@ turned-lacking w given step lacks = by w.lacked refl
       broke = λ made o n. record {
         front = [];
         rest = [];
+        mid = w.held;
         are = refl;
         before = let m = rw e at n in let s : made ≡ w.told.state.turns = cc in s ∙ sym (append-nil w.told.state.turns);
-        walks = lacks;
+        walks = (lacks, refl);
+        frees = refl;
       };
     }
     by (Some made) e = record {
@@ -252,9 +262,11 @@ turned-behind {A = A} {L = L} {O = O} {R = R} {G = G} old mid new given later st
           broke = λ made o n. record {
             front = [];
             rest = two.more;
+            mid = old.held;
             are = refl;
             before = let s : made ≡ old.told.state.turns = cc in s ∙ sym (append-nil old.told.state.turns);
-            walks = rw (two.stood, told) lacks;
+            walks = (rw (two.stood, told) lacks, refl);
+            frees = rw (← held) two.frees;
           };
         }
     by (Some before) e =
@@ -295,6 +307,11 @@ module _ {A L O R G : Type 0} (old mid new : World A O G) (q : R) (b : L) where
   pub walked-wake : (task : ℕ) (reply : CallReply) (on : Heard O → Step A L O R) → Made old mid (Plainly (Wake task)) reply → Walked (on (Plain reply)) mid new q b → Walked (Does (Plainly (Wake task)) on) old new q b
   unfolding Walked
   walked-wake task reply on made two = (turned-made old mid new (Some (q, b)) (Plainly (Wake task)) reply (Plain reply) on made (refl, tt) refl two)
+
+  -- any call
+  pub walked-made : (ask : Ask A O) (reply : CallReply) (heard : Heard O) (on : Heard O → Step A L O R) → Made old mid ask reply → Asks old.held ask (turn_in old.told.state (call_of ask) reply) → heard ≡ heard_of old.held (turn_in old.told.state (call_of ask) reply) → Walked (on heard) mid new q b → Walked (Does ask on) old new q b
+  unfolding Walked
+  walked-made ask reply heard on made asks is two = turned-made old mid new (Some (q, b)) ask reply heard on made asks is two
 
   -- a result that is polled
   pub walked-join : (task : ℕ) (reply : CallReply) (heard : Heard O) (on : Heard O → Step A L O R) → Made old mid (Plainly (Join task)) reply → heard ≡ heard_of old.held (turn_in old.told.state (Join task) reply) → Walked (on heard) mid new q b → Walked (Does (Plainly (Join task)) on) old new q b
@@ -379,7 +396,7 @@ module _ {A O G : Type 0} (old mid new : World A O G) (answer : Answer O) (left 
   polled-sleep due alarm told on is made two = (turned-sleep old mid new (answered_by answer left) due alarm told on is made two)
 
 answered-ends : {A O : Type 0} (held : Held A O) (stood : Stood) (answer : Answer O) (left : A) → EndsWith (Gives answer left) held [] stood (answered_by answer left) held
-answered-ends held stood NoMemory left = tt
+answered-ends held stood NoMemory left = refl
 answered-ends held stood answer left = (refl, refl, refl)
 
 module _ {A O G : Type 0} (w : World A O G) (left : A) where
@@ -390,7 +407,7 @@ module _ {A O G : Type 0} (w : World A O G) (left : A) where
   -- it breaks off
   pub polled-lacks : (step : Step A A O (Answer O)) → Polled step w w NoMemory left
   unfolding Polled
-  polled-lacks step = (turned-none w None step tt)
+  polled-lacks step = (turned-none w None step refl)
 
 pub polled-lacking : {A O G : Type 0} (old new : World A O G) (step : Step A A O (Answer O)) (answer : Answer O) (left : A) → new ≡ lacking old → Lacks (stood_in old.told.state) step → Polled step old new answer left
 unfolding Polled
@@ -420,7 +437,7 @@ module _ {A O G : Type 0} (w : World A O G) where
 
   pub rooted-lacks : (step : Step A A O (Unit {0})) (lack : OutOfMemory) → Rooted step w w (Err lack)
   unfolding Rooted
-  rooted-lacks step lack = (turned-none w None step tt)
+  rooted-lacks step lack = (turned-none w None step refl)
 
 pub rooted-lacking : {A O G : Type 0} (old new : World A O G) (step : Step A A O (Unit {0})) (result : Result A OutOfMemory) → new ≡ lacking old → Lacks (stood_in old.told.state) step → Rooted step old new result
 unfolding Rooted
@@ -437,7 +454,7 @@ module _ {A O G : Type 0} (old new : World A O G) where
   }
 
   -- it was made
-  called-made : (ask : Ask A O) (reply : CallReply) (heard : Heard O) → Made old new ask reply → Asks old.held ask (turn_in old.told.state (call_of ask) reply) → heard ≡ heard_of old.held (turn_in old.told.state (call_of ask) reply) → Called ask old new heard
+  pub called-made : (ask : Ask A O) (reply : CallReply) (heard : Heard O) → Made old new ask reply → Asks old.held ask (turn_in old.told.state (call_of ask) reply) → heard ≡ heard_of old.held (turn_in old.told.state (call_of ask) reply) → Called ask old new heard
   called-made ask reply heard made asks is = called-as ask heard (λ L R end given on two. turned-made old new end given ask reply heard on made asks is two)
 
   -- it lacked memory
@@ -445,7 +462,7 @@ module _ {A O G : Type 0} (old new : World A O G) where
   called-lacking ask heard is = called-as ask heard (λ L R end given on two. turned-behind old new end given given (Does ask on) (on heard) is tt two)
 
   -- it was refused
-  called-refused : (ask : Ask A O) (error : Error) → ((reply : CallReply) → Asks old.held ask (turn_in old.told.state (call_of ask) (Refused error))) → Plain (Refused error) ≡ heard_of old.held (turn_in old.told.state (call_of ask) (Refused error)) → IsRefused old new ask error → Called ask old new (Plain (Refused error))
+  pub called-refused : (ask : Ask A O) (error : Error) → ((reply : CallReply) → Asks old.held ask (turn_in old.told.state (call_of ask) (Refused error))) → Plain (Refused error) ≡ heard_of old.held (turn_in old.told.state (call_of ask) (Refused error)) → IsRefused old new ask error → Called ask old new (Plain (Refused error))
   called-refused ask error asks is (inl lack) = called-lacking ask (Plain (Refused error)) lack.1
   called-refused ask error asks is (inr made) = called-made ask (Refused error) (Plain (Refused error)) made (asks (Refused error)) is
 
@@ -493,24 +510,21 @@ module _ {A L O R G : Type 0} (step : Step A L O R) (old new : World A O G) (giv
   turned-all = rw (two.turns, fresh) refl
 
   -- it broke off before a call lacked memory
-  turned-front : given ≡ None → new.lacked ≡ None → Fronts step old.held new.told.state.turns
+  turned-front : given ≡ None → new.lacked ≡ None → Fronts step old.held new.told.state.turns new.held
   turned-front e long = rw (← turned-all) (rw e at (two.ends long))
 
-  turned-frees : Frees old.held new.told.state.turns new.held
-  turned-frees = rw (← turned-all) two.frees
-
-  turned-short : old.lacked ≡ None → (there : Option (List Turn)) → new.lacked ≡ there → is_some new.lacked ≡ true → Breaks step old.held new.told.state.turns (stood_in new.told.state)
+  turned-short : old.lacked ≡ None → (there : Option (List Turn)) → new.lacked ≡ there → is_some new.lacked ≡ true → Breaks step old.held new.told.state.turns (stood_in new.told.state) new.held
   turned-short o None e is = let m = rw e at is in absurd (cc)
   turned-short o (Some made) e is =
       let k = two.broke made o e in
-      record { front = k.front; rest = k.rest; are = rw (← turned-all) k.are; walks = k.walks }
+      record { front = k.front; rest = k.rest; mid = k.mid; are = rw (← turned-all) k.are; walks = k.walks; frees = k.frees }
 
 module _ {A L O R G : Type 0} (old new : World A O G) (step : Step A L O R) (q : R) (b : L) (fresh : old.told.state.turns ≡ []) where
   walked-fresh : new.lacked ≡ None → Walked step old new q b → Walks step old.held new.told.state.turns (stood_in new.told.state) q b new.held
   unfolding Walked
   walked-fresh long two = rw (← turned-all step old new (Some (q, b)) fresh two) (two.ends long)
 
-  walked-short : old.lacked ≡ None → is_some new.lacked ≡ true → Walked step old new q b → Breaks step old.held new.told.state.turns (stood_in new.told.state)
+  walked-short : old.lacked ≡ None → is_some new.lacked ≡ true → Walked step old new q b → Breaks step old.held new.told.state.turns (stood_in new.told.state) new.held
   unfolding Walked
   walked-short o n two = turned-short step old new (Some (q, b)) fresh two o new.lacked refl n
 
@@ -519,52 +533,40 @@ module _ {A O G : Type 0} (old new : World A O G) (step : Last A O) (fresh : old
   unfolding Spent Walked
   spent-fresh long w = walked-fresh old new step tt tt fresh long w
 
-  pub spent-short : old.lacked ≡ None → is_some new.lacked ≡ true → Spent step old new → Breaks step old.held new.told.state.turns (stood_in new.told.state)
+  pub spent-short : old.lacked ≡ None → is_some new.lacked ≡ true → Spent step old new → Breaks step old.held new.told.state.turns (stood_in new.told.state) new.held
   unfolding Spent Walked
   spent-short o n w = walked-short old new step tt tt fresh o n w
-
-  pub spent-frees : Spent step old new → Frees old.held new.told.state.turns new.held
-  unfolding Spent
-  spent-frees w = turned-frees step old new (Some (tt, tt)) fresh w
 
 module _ {A O G : Type 0} (old new : World A O G) (step : Step A A O (Answer O)) (answer : Answer O) (left : A) (fresh : old.told.state.turns ≡ []) where
   pub polled-fresh : new.lacked ≡ None → answered_by answer left ≡ Some (answer, left) → Polled step old new answer left → Walks step old.held new.told.state.turns (stood_in new.told.state) answer left new.held
   unfolding Polled
   polled-fresh long e two = rw (← turned-all step old new (answered_by answer left) fresh two) (rw e at (two.ends long))
 
-  pub polled-short : old.lacked ≡ None → is_some new.lacked ≡ true → Polled step old new answer left → Breaks step old.held new.told.state.turns (stood_in new.told.state)
+  pub polled-short : old.lacked ≡ None → is_some new.lacked ≡ true → Polled step old new answer left → Breaks step old.held new.told.state.turns (stood_in new.told.state) new.held
   unfolding Polled
   polled-short o n two = turned-short step old new (answered_by answer left) fresh two o new.lacked refl n
 
-  pub polled-broken : new.lacked ≡ None → answered_by answer left ≡ None → Polled step old new answer left → Fronts step old.held new.told.state.turns
+  pub polled-broken : new.lacked ≡ None → answered_by answer left ≡ None → Polled step old new answer left → Fronts step old.held new.told.state.turns new.held
   unfolding Polled
   polled-broken long e two = turned-front step old new (answered_by answer left) fresh two e long
-
-  pub polled-frees : Polled step old new answer left → Frees old.held new.told.state.turns new.held
-  unfolding Polled
-  polled-frees two = turned-frees step old new (answered_by answer left) fresh two
 
 module _ {A O G : Type 0} (old new : World A O G) (step : Step A A O (Unit {0})) (fresh : old.told.state.turns ≡ []) where
   pub rooted-fresh : (root : A) → new.lacked ≡ None → Rooted step old new (Ok root) → Walks step old.held new.told.state.turns (stood_in new.told.state) tt root new.held
   unfolding Rooted
   rooted-fresh root long two = rw (← turned-all step old new (Some (tt, root)) fresh two) (two.ends long)
 
-  pub rooted-short : (result : Result A OutOfMemory) → old.lacked ≡ None → is_some new.lacked ≡ true → Rooted step old new result → Breaks step old.held new.told.state.turns (stood_in new.told.state)
+  pub rooted-short : (result : Result A OutOfMemory) → old.lacked ≡ None → is_some new.lacked ≡ true → Rooted step old new result → Breaks step old.held new.told.state.turns (stood_in new.told.state) new.held
   unfolding Rooted
   rooted-short result o n two = turned-short step old new (root_by result) fresh two o new.lacked refl n
 
-  rooted-none : (lack : OutOfMemory) → old.lacked ≡ None → (there : Option (List Turn)) → new.lacked ≡ there → Rooted step old new (Err lack) → Breaks step old.held new.told.state.turns (stood_in new.told.state) ⊎ Fronts step old.held new.told.state.turns
+  rooted-none : (lack : OutOfMemory) → old.lacked ≡ None → (there : Option (List Turn)) → new.lacked ≡ there → Rooted step old new (Err lack) → Breaks step old.held new.told.state.turns (stood_in new.told.state) new.held ⊎ Fronts step old.held new.told.state.turns new.held
   unfolding Rooted
   rooted-none lack o None e two = inr (turned-front step old new None fresh two refl e)
   rooted-none lack o (Some made) e r = inl (rooted-short (Err lack) o (rw e refl) r)
 
   -- without a root
-  pub rooted-broken : (lack : OutOfMemory) → old.lacked ≡ None → Rooted step old new (Err lack) → Breaks step old.held new.told.state.turns (stood_in new.told.state) ⊎ Fronts step old.held new.told.state.turns
+  pub rooted-broken : (lack : OutOfMemory) → old.lacked ≡ None → Rooted step old new (Err lack) → Breaks step old.held new.told.state.turns (stood_in new.told.state) new.held ⊎ Fronts step old.held new.told.state.turns new.held
   rooted-broken lack o r = rooted-none lack o new.lacked refl r
-
-  pub rooted-frees : (result : Result A OutOfMemory) → Rooted step old new result → Frees old.held new.told.state.turns new.held
-  unfolding Rooted
-  rooted-frees result two = turned-frees step old new (root_by result) fresh two
 
 -- no call lacked memory
 pub long : {lacked : Option (List Turn)} → false ≡ is_some lacked → lacked ≡ None
@@ -675,7 +677,7 @@ module _ {A O G : Type 0} (old new : World A O G) (ask : Ask A O) where
 -- and what is read of it
 module _ {A O G V : Type 0} (old new : World A O G) (read : Heard O → V) (value : V) where
   -- it was made
-  tells-made : (ask : Ask A O) (reply : CallReply) (heard : Heard O) → Made old new ask reply → Asks old.held ask (turn_in old.told.state (call_of ask) reply) → heard ≡ heard_of old.held (turn_in old.told.state (call_of ask) reply) → read heard ≡ value → Goes (tells ask read) old new value tt
+  pub tells-made : (ask : Ask A O) (reply : CallReply) (heard : Heard O) → Made old new ask reply → Asks old.held ask (turn_in old.told.state (call_of ask) reply) → heard ≡ heard_of old.held (turn_in old.told.state (call_of ask) reply) → read heard ≡ value → Goes (tells ask read) old new value tt
   unfolding tells Walked
   tells-made ask reply heard made asks is e =
       goes-on old new (tells ask read) value tt (turned-made old new new (Some (value, tt)) ask reply heard (λ heard. Gives (read heard) tt) made asks is (turned-none new (Some (value, tt)) (Gives (read heard) tt) (e, refl, refl)))
@@ -686,7 +688,7 @@ module _ {A O G V : Type 0} (old new : World A O G) (read : Heard O → V) (valu
   tells-lacking ask is = goes-on old new (tells ask read) value tt (walked-lacking old new (tells ask read) value tt is tt)
 
   -- it was refused
-  tells-refused : (ask : Ask A O) (error : Error) → Asks old.held ask (turn_in old.told.state (call_of ask) (Refused error)) → Plain (Refused error) ≡ heard_of old.held (turn_in old.told.state (call_of ask) (Refused error)) → IsRefused old new ask error → read (Plain (Refused error)) ≡ value → Goes (tells ask read) old new value tt
+  pub tells-refused : (ask : Ask A O) (error : Error) → Asks old.held ask (turn_in old.told.state (call_of ask) (Refused error)) → Plain (Refused error) ≡ heard_of old.held (turn_in old.told.state (call_of ask) (Refused error)) → IsRefused old new ask error → read (Plain (Refused error)) ≡ value → Goes (tells ask read) old new value tt
   tells-refused ask error asks is (inl lack) e = tells-lacking ask lack.1
   tells-refused ask error asks is (inr made) e = tells-made ask (Refused error) (Plain (Refused error)) made asks is e
 

@@ -2,7 +2,7 @@
 use Rattle.std.specs.Prelude.{◌≡◌, ◌⊎◌, Bool, true, false, Option, Some, None}
 use Rattle.rt_model.specs.State.{begun, stood_in}
 use Rattle.rt_model.specs.Effects.{after_all}
-use Rattle.rt_model.specs.Turns.{Held, Frees}
+use Rattle.rt_model.specs.Turns.{Held}
 use Rattle.rt_model.specs.Walk.{Walks, Fronts, Breaks}
 use Rattle.rt_model.specs.Tied.{Steps, Value, nothing, IsTied}
 use Rattle.rt_machine.specs.Told.{Told, own}
@@ -47,10 +47,9 @@ pub record IsMade {A O G : Type 0} (p : Steps A O) (w : World A O G) (root : A) 
 pub record IsUnmade {A O G : Type 0} (p : Steps A O) (w : World A O G) (unmade : Option A) : Type 0 where
   pub before : Held A O
   pub follows : Follows p w.told (unmade_of before)
-  pub breaks : Breaks (p.first w.told.state.clock.time) before w.told.state.turns (stood_in w.told.state) ⊎ (Fronts (p.first w.told.state.clock.time) before w.told.state.turns × (unmade ≡ None))
-  pub frees : Frees before w.told.state.turns w.held
+  pub breaks : Breaks (p.first w.told.state.clock.time) before w.told.state.turns (stood_in w.told.state) w.held ⊎ (Fronts (p.first w.told.state.clock.time) before w.told.state.turns w.held × (unmade ≡ None))
 
--- what a maker made that lacked memory is free
+-- the root of a maker that lacked memory is free
 abbrev pub MakingAgrees : {A O G : Type 0} → Steps A O → Bool → World A O G → Option A → Type 0
 MakingAgrees p true w (Some root) = IsMade p w root
 MakingAgrees p true w None = ⊥

@@ -1,31 +1,36 @@
 -- How far steps were walked between two worlds.
-use Rattle.std.specs.Prelude.{◌≡◌, ◌++◌, ℕ, List, Bool, Option, Some, None, true, is_some, Result, Ok, Err}
+use Rattle.std.specs.Prelude.{◌≡◌, ◌++◌, ℕ, ℤ, List, Bool, Option, Some, None, true, is_some, Result, Ok, Err}
 use Rattle.rt_base.specs.declared.error.Error.{Error}
 use Rattle.rt_base.specs.declared.error.Error.TheVariants.{NoMemory as LacksMemory}
 use Rattle.rt_base.specs.declared.no_memory.NoMemory.{NoMemory as OutOfMemory}
 use Rattle.rt_base.specs.declared.poll.Poll.{Poll}
 use Rattle.rt_base.specs.declared.poll.Poll.TheVariants.{Ready as IsReady}
-use Rattle.rt_audit.specs.declared.reply.CallReply.TheVariants.{Done, NodeAt, SlotAt, Pending, Refused}
+use Rattle.rt_audit.specs.declared.reply.CallReply.TheVariants.{Done, NodeAt, SlotAt, SignalAt, CompletionAt, Pending, Refused}
 use Rattle.rt_model.specs.declared.answer.Answer.{Answer}
 use Rattle.rt_model.specs.declared.answer.Answer.TheVariants.{NoMemory}
 use Rattle.rt_model.specs.State.{Turn, Stood, stood_in}
 use Rattle.rt_model.specs.Turns.{Ask, Heard, Plain, Handed, Held, Frees}
 use Rattle.rt_model.specs.Walk.{Step, Last, Does, Gives, Spends as IsSpent, Walks, Fronts, Stops, then, followed_by, stood_before}
+use Rattle.rt_super.specs.declared.stopper.Stopped.{Stopped}
+use Rattle.rt_model.specs.Signals.{met_reply, shown_reply, stopped_reply}
 use Rattle.rt_machine.specs.Calls.{sleep_reply, spawn_reply}
 use Rattle.rt_world.specs.World.{World}
 use Rattle.rt_world.specs.Calls.{SpentBy}
 
--- a call lacked memory behind these turns: those among the further ones are a front of the walk
-pub record Broke {A L O R : Type 0} (step : Step A L O R) (held : Held A O) (past made more : List Turn) (stood : Stood) : Type 0 where
+-- a call lacked memory behind these turns: those among the further ones are a front of the walk, and what they made is held. What the
+-- others made is free
+pub record Broke {A L O R : Type 0} (step : Step A L O R) (held : Held A O) (past made more : List Turn) (stood : Stood) (end : Held A O) : Type 0 where
   pub front : List Turn
   pub rest : List Turn
+  pub mid : Held A O
   pub are : more ≡ front ++ rest
   pub before : made ≡ past ++ front
-  pub walks : Stops step held front (stood_before rest stood)
+  pub walks : Stops step held front (stood_before rest stood) mid
+  pub frees : Frees mid rest end
 
 -- these turns are those of the steps, which gave this answer and left this state; or without one they are a front of them
 abbrev pub EndsWith : {A L O R : Type 0} → Step A L O R → Held A O → List Turn → Stood → Option (R × L) → Held A O → Type 0
-EndsWith step held turns stood None end = Fronts step held turns
+EndsWith step held turns stood None end = Fronts step held turns end
 EndsWith step held turns stood (Some given) end = Walks step held turns stood given.0 given.1 end
 
 -- from the one world to the other these turns were made, which end so where no call lacked memory
@@ -36,7 +41,7 @@ pub record Turned {A L O R G : Type 0} (step : Step A L O R) (old new : World A 
   pub frees : Frees old.held more new.held
   pub marked : (made : List Turn) → old.lacked ≡ Some made → new.lacked ≡ Some made
   pub ends : new.lacked ≡ None → EndsWith step old.held more (stood_in new.told.state) given new.held
-  pub broke : (made : List Turn) → old.lacked ≡ None → new.lacked ≡ Some made → Broke step old.held old.told.state.turns made more (stood_in new.told.state)
+  pub broke : (made : List Turn) → old.lacked ≡ None → new.lacked ≡ Some made → Broke step old.held old.told.state.turns made more (stood_in new.told.state) new.held
 
 -- the steps were walked, and gave this answer
 unfoldable pub Walked : {A L O R G : Type 0} → Step A L O R → World A O G → World A O G → R → L → Type 0
@@ -95,6 +100,31 @@ sleep_told (Err lack) = Plain (Refused LacksMemory)
 abbrev pub slot_told : {O : Type 0} → Result ℕ OutOfMemory → Heard O
 slot_told (Ok slot) = Plain (SlotAt slot)
 slot_told (Err lack) = Plain (Refused LacksMemory)
+
+-- the number of a signaler, and of its first signal and its completion
+abbrev pub signaler_told : {O : Type 0} → Result ℕ OutOfMemory → Heard O
+signaler_told (Ok signal) = Plain (SignalAt signal)
+signaler_told (Err lack) = Plain (Refused LacksMemory)
+
+abbrev pub clone_told : {O : Type 0} → Result ℕ Error → Heard O
+clone_told (Ok signal) = Plain (SignalAt signal)
+clone_told (Err error) = Plain (Refused error)
+
+abbrev pub shown_told : {O : Type 0} → Result (Poll ℤ) Error → Heard O
+shown_told (Ok shown) = Plain (shown_reply shown)
+shown_told (Err error) = Plain (Refused error)
+
+abbrev pub met_told : {O : Type 0} → Result (Poll (Unit {0})) Error → Heard O
+met_told (Ok met) = Plain (met_reply met)
+met_told (Err error) = Plain (Refused error)
+
+abbrev pub stop_told : {O : Type 0} → Result ℕ OutOfMemory → Heard O
+stop_told (Ok completion) = Plain (CompletionAt completion)
+stop_told (Err lack) = Plain (Refused LacksMemory)
+
+abbrev pub stopped_told : {O : Type 0} → Result Stopped OutOfMemory → Heard O
+stopped_told (Ok stopped) = Plain (stopped_reply stopped)
+stopped_told (Err lack) = Plain (Refused LacksMemory)
 
 abbrev pub ends_told : {O : Type 0} → Result (ℕ × ℕ) Error → Heard O
 ends_told (Ok ends) = Plain (SlotAt ends.0)

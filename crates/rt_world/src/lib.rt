@@ -8,6 +8,7 @@ mod outcome;
 mod poller;
 mod receiving;
 mod rounds;
+mod signals;
 mod slots;
 mod spawning;
 mod task;

@@ -35,7 +35,7 @@ pub enum Turnout<O> {
 #[tactic(auto, using(crate::proofs::Seats::seat_laws, crate::proofs::Coming::coming_laws), unfolding(rt_model::specs::Effects::after))]
 impl<T, O, G> World<T, O, G> {
     /// Stops the root, since a panic is kept.
-    fn stop(&mut self, task: u64)
+    fn halt(&mut self, task: u64)
         requires halted { self.old.told.state.phase ≡ Halted task }
         requires none_out { self.old.out ≡ None }
         ensures { self.new ≡ record self.old { told = pushed self.old.told (Entry.Answer task AnswerKind.Stopped) } }
@@ -146,7 +146,7 @@ impl<T: Task, G: Rng> World<T, T::Output, G> {
             return Err(FinishCause::NoMemory);
         };
         if self.is_stopped(task) {
-            self.stop(task);
+            self.halt(task);
             return Err(FinishCause::TaskPanicked);
         }
         if self.is_flagged(task) {

@@ -1,6 +1,6 @@
 use Rattle.std.proofs.Common.{◌∙◌, inl, None, false, refl, sym}
 use Rattle.rt_model.specs.Tied.{with_first, Steps}
-use Rattle.rt_world.proofs.Walked.{rooted-broken, rooted-short, rooted-fresh, rooted-frees, long}
+use Rattle.rt_world.proofs.Walked.{rooted-broken, rooted-short, rooted-fresh, long}
 use Rattle.rt_core.proofs.Outcomes.{ended-cut, unmade, none-made, made}
 use Rattle.rt_core.proofs.running.run_maker.Goals as goal
 
@@ -12,7 +12,7 @@ returns-in_default-clause-agrees g c f =
     let breaks = rooted-broken c.args.world.now c.make.new.world _ c.requires.turns _ c.requires.ready.unmarked (rw c.in_default.is at c.make.ensures.steps) in
     ended-cut p _ _ None None false
     (c.cleanup_unmade.ensures.agrees first false
-    (unmade p c.args.world.now c.make.new.world None kept (c.facts.ensures.follows p c.args.world.now.told _ (rw c.requires.ready.calm at f) c.requires.calls kept.begin kept.past) (none-made _ _ None refl breaks) (rooted-frees c.args.world.now c.make.new.world _ c.requires.turns _ c.make.ensures.steps)))
+    (unmade p c.args.world.now c.make.new.world None kept (c.facts.ensures.follows p c.args.world.now.told _ (rw c.requires.ready.calm at f) c.requires.calls kept.begin kept.past) (none-made _ _ None refl breaks)))
 
 pub returns-then-is_short-clause-agrees : goal.returns-then-is_short-clause-agrees
 returns-then-is_short-clause-agrees g c f =
@@ -22,7 +22,7 @@ returns-then-is_short-clause-agrees g c f =
     let breaks = rooted-short c.args.world.now c.make.new.world _ c.requires.turns _ c.requires.ready.unmarked (sym c.if-is_short.ensures) c.make.ensures.steps in
     ended-cut p _ _ None None false
     (c.cleanup_unmade-then-is_short.ensures.agrees first false
-    (unmade p c.args.world.now c.make.new.world _ kept (c.facts-2.ensures.follows p c.args.world.now.told _ (rw c.requires.ready.calm at f) c.requires.calls kept.begin kept.past) (inl breaks) (rooted-frees c.args.world.now c.make.new.world _ c.requires.turns _ c.make.ensures.steps)))
+    (unmade p c.args.world.now c.make.new.world _ kept (c.facts-2.ensures.follows p c.args.world.now.told _ (rw c.requires.ready.calm at f) c.requires.calls kept.begin kept.past) (inl breaks)))
 
 pub returns-clause-agrees : goal.returns-clause-agrees
 returns-clause-agrees g c f =

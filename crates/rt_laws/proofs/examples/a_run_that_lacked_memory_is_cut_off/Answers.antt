@@ -1,6 +1,7 @@
 use Rattle.rt_laws.proofs.Runs.{cut_off}
 use Rattle.rt_laws.proofs.Cut.{lacks_within, lacks_lawfully}
 use Rattle.rt_laws.proofs.Spawned.{lacks_beside}
+use Rattle.rt_laws.proofs.Lacked.{lacks_in_join, lacks_at_first, lacks_behind_send}
 use Rattle.rt_laws.proofs.examples.a_run_that_lacked_memory_is_cut_off.Goals as goal
 
 pub returns-clause-at_once : goal.returns-clause-at_once
@@ -14,3 +15,12 @@ returns-clause-lawful c = lacks_lawfully
 
 pub returns-clause-beside : goal.returns-clause-beside
 returns-clause-beside c = lacks_beside
+
+pub returns-clause-spawned : goal.returns-clause-spawned
+returns-clause-spawned c = lacks_in_join
+
+pub returns-clause-free : goal.returns-clause-free
+returns-clause-free c = lacks_at_first
+
+pub returns-clause-sent : goal.returns-clause-sent
+returns-clause-sent c = lacks_behind_send

@@ -2,6 +2,7 @@ use Rattle.std.proofs.Common.{◌≡◌, ◌≤◌, ◌+◌, ◌∙◌, ◌++◌
 use Rattle.rt_model.specs.Lists.{find, replaced, those}
 use Rattle.rt_model.specs.Rows.{total}
 use Rattle.rt_model.specs.Slots.{aborted}
+use Rattle.rt_model.specs.State.{stood_in}
 use Rattle.rt_model.specs.Effects.{after, is_closing}
 use Rattle.rt_machine.specs.Places.{result_places, sender_places}
 use Rattle.rt_machine.specs.Told.{Told}
@@ -30,7 +31,7 @@ invariant_of-self c =
     let same : c.abort_slot-waiter.new.slots.items ≡ replaced aborted slot s.slots.results = rw i.slots_are c.abort_slot-waiter.ensures.items in
     let totals = ap (λ xs. total result_places xs) same in
     let fits = c.abort_slot-waiter.ensures.fits in
-    let owed : c.note.new.self.told.state.owed ≡ (if closing then [] else those waiter) = ap (λ (t : Told). t.state.owed) c.note.ensures.told ∙ due-abort-wait (is_closing s.phase) s.marks s.slots slot ∙ rw (i.closing_is, c.abort_slot-waiter.ensures.waiter, i.slots_are) refl in
+    let owed : c.note.new.self.told.state.owed ≡ (if closing then [] else those waiter) = ap (λ (t : Told). t.state.owed) c.note.ensures.told ∙ due-abort-wait (is_closing s.phase) s.marks (stood_in s) slot ∙ rw (i.closing_is, c.abort_slot-waiter.ensures.waiter, i.slots_are) refl in
     let woken : length c.note.new.self.told.state.owed ≤ length (those waiter) = rw owed (owed-fewer closing (those waiter)) in
     let shown = ap (λ (xs : List ℕ). length xs) c.wake_waiter.ensures.ready in
     let grown = length-append c.self.inside.ready.items c.note.new.self.told.state.owed in
@@ -50,6 +51,10 @@ invariant_of-self c =
       marks_are = i.marks_are;
       results_are = i.results_are;
       slots_are = rw (c.abort_slot-waiter.ensures.items, c.abort_slot-waiter.ensures.next, i.slots_are) refl;
+      signals_are = i.signals_are;
+      stop_is = i.stop_is;
+      nobody_met = i.nobody_met;
+      none_announced = refl;
       none_drawn = i.none_drawn;
       none_owed = refl;
       all_ended = i.all_ended;

@@ -1,5 +1,6 @@
 use Rattle.std.proofs.Common.{◌≡◌, ◌∙◌, refl, sym, arith, true}
 use Rattle.rt_super.specs.Ancestry.{is_live}
+use Rattle.rt_model.specs.State.{stood_in}
 use Rattle.rt_model.specs.Effects.{after, is_closing}
 use Rattle.rt_machine.proofs.Nodes.{live-release, length-release}
 use Rattle.rt_machine.proofs.Owed.{due-close}
@@ -35,8 +36,12 @@ invariant_of-self c =
       marks_are = i.marks_are;
       results_are = i.results_are;
       slots_are = i.slots_are;
+      signals_are = i.signals_are;
+      stop_is = i.stop_is;
+      nobody_met = i.nobody_met;
+      none_announced = refl;
       none_drawn = i.none_drawn;
-      none_owed = due-close (is_closing s.phase) s.marks s.slots c.args.node;
+      none_owed = due-close (is_closing s.phase) s.marks (stood_in s) c.args.node;
       all_ended = λ closing. over-release s.nodes c.args.node (i.all_ended closing);
       label_next = i.label_next ∙ sym (length-release c.self.inside.tree c.args.node);
       mark_next = i.mark_next;

@@ -1,5 +1,6 @@
 use Rattle.std.proofs.Common.{◌≡◌, ◌∙◌, refl, sym, arith, Some}
 use Rattle.rt_model.specs.Lists.{find}
+use Rattle.rt_model.specs.State.{stood_in}
 use Rattle.rt_model.specs.Effects.{after, is_closing}
 use Rattle.rt_machine.specs.Places.{result_places}
 use Rattle.rt_machine.proofs.Totals.{without-places}
@@ -36,8 +37,12 @@ invariant_of-self c =
       marks_are = i.marks_are;
       results_are = rw (c.remove.ensures.items, i.results_are) refl;
       slots_are = i.slots_are;
+      signals_are = i.signals_are;
+      stop_is = i.stop_is;
+      nobody_met = i.nobody_met;
+      none_announced = refl;
       none_drawn = i.none_drawn;
-      none_owed = due-give-up (is_closing s.phase) s.marks s.slots c.args.task;
+      none_owed = due-give-up (is_closing s.phase) s.marks (stood_in s) c.args.task;
       all_ended = i.all_ended;
       label_next = i.label_next;
       mark_next = i.mark_next;

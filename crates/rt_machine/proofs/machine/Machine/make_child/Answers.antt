@@ -1,5 +1,6 @@
 use Rattle.std.proofs.Common.{◌≡◌, ◌∙◌, refl, sym, arith, true, length}
 use Rattle.rt_super.specs.Ancestry.{is_live, with_child}
+use Rattle.rt_model.specs.State.{stood_in}
 use Rattle.rt_model.specs.Effects.{after, is_closing}
 use Rattle.rt_machine.proofs.Nodes.{live-child, length-child}
 use Rattle.rt_machine.proofs.Fine.{on-ok, places-most}
@@ -38,8 +39,12 @@ invariant_of-self-2 c =
       marks_are = i.marks_are;
       results_are = i.results_are;
       slots_are = i.slots_are;
+      signals_are = i.signals_are;
+      stop_is = i.stop_is;
+      nobody_met = i.nobody_met;
+      none_announced = refl;
       none_drawn = i.none_drawn;
-      none_owed = due-child (is_closing s.phase) s.marks s.slots c.args.node label number c.in-Ok.ended;
+      none_owed = due-child (is_closing s.phase) s.marks (stood_in s) c.args.node label number c.in-Ok.ended;
       all_ended = λ closing. rw (i.nodes_are, ← made) (over-child c.self.inside.tree c.child.new.self number c.args.node c.in-Ok.ended made c.in-Ok.ensures.flag c.in-Ok.ensures.born live (rw (← i.nodes_are) (i.all_ended closing)));
       label_next = rw (c.push.ensures.count, c.reserve-place.ensures.count, i.label_next, made, length-child c.self.inside.tree number c.args.node) refl;
       mark_next = i.mark_next;

@@ -3,6 +3,7 @@ use Rattle.rt_model.specs.Lists.{find, replaced, those, without}
 use Rattle.rt_model.specs.Rows.{total}
 use Rattle.rt_model.specs.Slots.{settled}
 use Rattle.rt_model.specs.declared.result.Outcome.TheVariants.{There, Closed}
+use Rattle.rt_model.specs.State.{stood_in}
 use Rattle.rt_model.specs.Effects.{after, is_closing}
 use Rattle.rt_machine.specs.Places.{result_places, sender_places}
 use Rattle.rt_machine.specs.Told.{Told}
@@ -36,7 +37,7 @@ invariant_of-self c =
     let same : c.settle_open-waiter.new.slots.items ≡ replaced (settled Closed) slot s.slots.results = rw i.slots_are c.settle_open-waiter.ensures.items in
     let totals = ap (λ xs. total result_places xs) same in
     let fits = c.settle_open-waiter.ensures.fits in
-    let owed : c.note.new.self.told.state.owed ≡ (if closing then [] else those waiter) = ap (λ (t : Told). t.state.owed) c.note.ensures.told ∙ due-close-slot (is_closing s.phase) s.marks s.slots slot ∙ rw (i.closing_is, c.settle_open-waiter.ensures.waiter, i.slots_are) refl in
+    let owed : c.note.new.self.told.state.owed ≡ (if closing then [] else those waiter) = ap (λ (t : Told). t.state.owed) c.note.ensures.told ∙ due-close-slot (is_closing s.phase) s.marks (stood_in s) slot ∙ rw (i.closing_is, c.settle_open-waiter.ensures.waiter, i.slots_are) refl in
     let woken : length c.note.new.self.told.state.owed ≤ length (those waiter) = rw owed (owed-fewer closing (those waiter)) in
     let shown = ap (λ (xs : List ℕ). length xs) c.wake_waiter.ensures.ready in
     let grown = length-append c.self.inside.ready.items c.note.new.self.told.state.owed in
@@ -56,6 +57,10 @@ invariant_of-self c =
       marks_are = i.marks_are;
       results_are = i.results_are;
       slots_are = rw (c.settle_open-waiter.ensures.items, c.settle_open-waiter.ensures.next, c.remove.ensures.items, i.slots_are) refl;
+      signals_are = i.signals_are;
+      stop_is = i.stop_is;
+      nobody_met = i.nobody_met;
+      none_announced = refl;
       none_drawn = i.none_drawn;
       none_owed = refl;
       all_ended = i.all_ended;

@@ -1,5 +1,6 @@
 use Rattle.std.proofs.Common.{◌≡◌, ◌∙◌, refl, sym, arith, Some}
 use Rattle.rt_model.specs.Lists.{find}
+use Rattle.rt_model.specs.State.{stood_in}
 use Rattle.rt_model.specs.Effects.{after, is_closing}
 use Rattle.rt_machine.specs.Places.{result_places}
 use Rattle.rt_machine.proofs.Totals.{without-places}
@@ -36,8 +37,12 @@ invariant_of-self c =
       marks_are = i.marks_are;
       results_are = i.results_are;
       slots_are = rw (c.remove.ensures.items, c.remove.ensures.next, i.slots_are) refl;
+      signals_are = i.signals_are;
+      stop_is = i.stop_is;
+      nobody_met = i.nobody_met;
+      none_announced = refl;
       none_drawn = i.none_drawn;
-      none_owed = due-let-go (is_closing s.phase) s.marks s.slots c.args.slot;
+      none_owed = due-let-go (is_closing s.phase) s.marks (stood_in s) c.args.slot;
       all_ended = i.all_ended;
       label_next = i.label_next;
       mark_next = i.mark_next;

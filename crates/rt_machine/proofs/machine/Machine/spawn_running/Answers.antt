@@ -4,6 +4,7 @@ use Rattle.rt_super.specs.Ancestry.{is_ended, with_child, with_task}
 use Rattle.rt_model.specs.Rules.{is_free}
 use Rattle.rt_machine.proofs.Seats.{free-live}
 use Rattle.rt_model.specs.State.{Numbers}
+use Rattle.rt_model.specs.State.{stood_in}
 use Rattle.rt_model.specs.Effects.{after, is_closing, label_at}
 use Rattle.rt_model.specs.Marks.{new_mark}
 use Rattle.rt_model.specs.Results.{new_result}
@@ -54,8 +55,12 @@ invariant_of-self-2 c =
       marks_are = rw (c.push-2.ensures.items, c.reserve_task.ensures.mark_items, c.reserve_task.ensures.mark_next, i.mark_next, i.marks_are) refl;
       results_are = rw (c.push-3.ensures.items, c.reserve_task.ensures.result_items, c.reserve_task.ensures.result_next, i.result_next, i.results_are) refl;
       slots_are = i.slots_are;
+      signals_are = i.signals_are;
+      stop_is = i.stop_is;
+      nobody_met = i.nobody_met;
+      none_announced = refl;
       none_drawn = i.none_drawn;
-      none_owed = due-spawn (is_closing s.phase) s.marks s.slots node _;
+      none_owed = due-spawn (is_closing s.phase) s.marks (stood_in s) node _;
       all_ended = λ closing. absurd (not-both (is_ended s.nodes node) (over-node s.nodes node (i.all_ended closing) (free-live s.nodes node free)) unended);
       label_next = rw (c.push.ensures.count, c.reserve_task.ensures.count, i.label_next, made, length-task (with_child tree number node) node task, length-child tree number node) refl;
       mark_next = rw (c.push-2.ensures.next, c.reserve_task.ensures.mark_next, i.mark_next) refl;

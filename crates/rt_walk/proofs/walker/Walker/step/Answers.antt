@@ -7,11 +7,8 @@ returns-in-Start-clause-here c = rw c.in-Start.is (c.start.ensures c.in-Start.ne
 pub returns-in-Start-clause-alike : goal.returns-in-Start-clause-alike
 returns-in-Start-clause-alike c s = after-states _ _ s _ (returns-in-Start-clause-here c)
 
-pub returns-in-Event-clause-here : goal.returns-in-Event-clause-here
-returns-in-Event-clause-here c = rw c.in-Event.is (c.enter.ensures c.in-Event.label c.in-Event.fields)
-
-pub returns-in-Event-clause-alike : goal.returns-in-Event-clause-alike
-returns-in-Event-clause-alike c s = after-states _ _ s _ (returns-in-Event-clause-here c)
+pub returns-in_ok-event-in-Event-clause-alike : goal.returns-in_ok-event-in-Event-clause-alike
+returns-in_ok-event-in-Event-clause-alike c s = after-states _ _ s _ (rw c.in-Event.is c.in_ok-event-in-Event.ensures)
 
 pub returns-in-Crash-clause-here : goal.returns-in-Crash-clause-here
 returns-in-Crash-clause-here c = rw c.in-Crash.is (c.crash.ensures c.in-Crash.choices)

@@ -2,7 +2,7 @@ use Rattle.std.proofs.Common.{refl, sym, ◌∙◌}
 use Rattle.rt_model.specs.Tied.{with_first, Steps}
 use Rattle.rt_world.proofs.Follows.{unmade-tied, unmade-broken}
 use Rattle.rt_world.proofs.Fronts.{seals-crashed}
-use Rattle.rt_world.proofs.Walked.{spent-fresh, spent-short, spent-frees, long}
+use Rattle.rt_world.proofs.Walked.{spent-fresh, spent-short, long}
 use Rattle.rt_world.proofs.ends.World+T+T+Output+G.crash_unmade.Goals as goal
 
 pub returns-then-lacked-clause-agrees : goal.returns-then-lacked-clause-agrees
@@ -10,7 +10,7 @@ returns-then-lacked-clause-agrees g c first whole output f =
     let p : Steps g.row.T.Denot g.row.T-Output.Denot = with_first g.T.Task.steps first in
     let i = c.requires.closing in
     rw (c.crash.ensures, c.take_short-lacked.ensures.gone)
-    (unmade-broken p c.args.self.now c.end.new.world c.args.unmade i.calls c.end.ensures.kept c.facts.ensures.calls c.facts.ensures.state output whole (rw i.out at (spent-short c.args.self.now c.end.new.world _ i.turns i.lacked (sym c.take_short-lacked.ensures.was ∙ c.if-lacked.true) c.end.ensures.steps)) (spent-frees c.args.self.now c.end.new.world _ i.turns c.end.ensures.steps) f)
+    (unmade-broken p c.args.self.now c.end.new.world c.args.unmade i.calls c.end.ensures.kept c.facts.ensures.calls c.facts.ensures.state output whole (rw i.out at (spent-short c.args.self.now c.end.new.world _ i.turns i.lacked (sym c.take_short-lacked.ensures.was ∙ c.if-lacked.true) c.end.ensures.steps)) f)
 
 pub returns-clause-agrees : goal.returns-clause-agrees
 returns-clause-agrees g c first whole output f =

@@ -3,7 +3,7 @@ use Rattle.rt_model.specs.Tied.{with_first, Steps}
 use Rattle.rt_machine.specs.Places.{number_of}
 use Rattle.rt_world.proofs.Follows.{ended-tied, ended-broken}
 use Rattle.rt_world.proofs.Fronts.{front-ended}
-use Rattle.rt_world.proofs.Walked.{spent-fresh, spent-short, spent-frees, long}
+use Rattle.rt_world.proofs.Walked.{spent-fresh, spent-short, long}
 use Rattle.rt_world.proofs.ends.World+T+T+Output+G.end_task.Goals as goal
 
 pub returns-then-lacked-clause-agrees : goal.returns-then-lacked-clause-agrees
@@ -14,8 +14,7 @@ returns-then-lacked-clause-agrees g c first whole output unmade f =
     let number : number_of c.take_state-state.new.self.out ≡ c.in_ok-task.task = rw taken refl in
     rw (c.task_ended.ensures, c.take_short-lacked.ensures.gone)
     (ended-broken p c.args.self.now c.take_state-state.new.self c.end.new.world c.in_ok-task.task c.take_state-state.result taken c.requires.calls c.end.ensures.kept c.facts.ensures.calls c.facts.ensures.state output unmade whole state
-    (rw number at (spent-short c.take_state-state.new.self c.end.new.world _ (rw taken c.requires.turns) (rw taken c.requires.lacked) (sym c.take_short-lacked.ensures.was ∙ c.if-lacked.true) c.end.ensures.steps))
-    (spent-frees c.take_state-state.new.self c.end.new.world _ (rw taken c.requires.turns) c.end.ensures.steps) f)
+    (rw number at (spent-short c.take_state-state.new.self c.end.new.world _ (rw taken c.requires.turns) (rw taken c.requires.lacked) (sym c.take_short-lacked.ensures.was ∙ c.if-lacked.true) c.end.ensures.steps)) f)
 
 pub returns-clause-agrees : goal.returns-clause-agrees
 returns-clause-agrees g c first whole output unmade f =

@@ -3,7 +3,7 @@ use Rattle.rt_model.specs.Tied.{with_first, Steps}
 use Rattle.rt_machine.specs.Places.{number_of}
 use Rattle.rt_world.proofs.Follows.{ended-tied, ended-broken, follows-calmly}
 use Rattle.rt_world.proofs.Fronts.{passes-ended}
-use Rattle.rt_world.proofs.Walked.{spent-fresh, spent-short, spent-frees, long}
+use Rattle.rt_world.proofs.Walked.{spent-fresh, spent-short, long}
 use Rattle.rt_world.proofs.visits.World+T+T+Output+G.end_in_visit.Goals as goal
 
 pub returns-then-lacked-clause-agrees : goal.returns-then-lacked-clause-agrees
@@ -16,8 +16,7 @@ returns-then-lacked-clause-agrees g c first f =
       rw (c.end_visit.ensures.rest, c.take_short-lacked.ensures.gone)
           (follows-calmly p _ c.end_visit.new.self.told _ (rw c.take_short-lacked.ensures.gone at c.end_visit.ensures.calm)
           (ended-broken p c.args.self.now c.take_state-state.new.self c.end.new.world c.args.task c.take_state-state.result taken fresh.calls c.end.ensures.kept c.facts.ensures.calls c.facts.ensures.state None None true c.take_state-state.ensures.state
-          (rw number at (spent-short c.take_state-state.new.self c.end.new.world _ (rw taken fresh.turns) (rw taken fresh.lacked) (sym c.take_short-lacked.ensures.was ∙ c.if-lacked.true) c.end.ensures.steps))
-          (spent-frees c.take_state-state.new.self c.end.new.world _ (rw taken fresh.turns) c.end.ensures.steps) f)),
+          (rw number at (spent-short c.take_state-state.new.self c.end.new.world _ (rw taken fresh.turns) (rw taken fresh.lacked) (sym c.take_short-lacked.ensures.was ∙ c.if-lacked.true) c.end.ensures.steps)) f)),
     )
 
 pub returns-clause-agrees : goal.returns-clause-agrees

@@ -3,7 +3,7 @@ use Rattle.rt_model.specs.Lists.{is_some_number}
 use Rattle.rt_model.specs.Tied.{with_first, Steps}
 use Rattle.rt_world.proofs.Follows.{visit-pending, visit-ready, visit-panicked, visit-cut}
 use Rattle.rt_world.proofs.Fronts.{passes-answered}
-use Rattle.rt_world.proofs.Walked.{polled-fresh, polled-short, polled-broken, polled-frees, long}
+use Rattle.rt_world.proofs.Walked.{polled-fresh, polled-short, polled-broken, long}
 use Rattle.rt_world.proofs.visits.World+T+T+Output+G.poll_task.Goals as goal
 
 pub returns-then-is_short-clause-agrees : goal.returns-then-is_short-clause-agrees
@@ -14,8 +14,7 @@ returns-then-is_short-clause-agrees g c first f =
       false,
       rw c.answer.ensures
           (visit-cut p c.args.self.now c.take_state-state.new.self c.poll-answer.new.world c.args.task c.take_state-state.result c.poll-answer.new.self taken c.take_state-state.ensures.state fresh.calls c.poll-answer.ensures.kept c.facts.ensures.calls c.facts.ensures.state
-          (inl (rw c.new-cx.ensures at (polled-short c.take_state-state.new.self c.poll-answer.new.world _ _ _ (rw taken fresh.turns) (rw taken fresh.lacked) (sym c.if-is_short.ensures) c.poll-answer.ensures.steps)))
-          (polled-frees c.take_state-state.new.self c.poll-answer.new.world _ _ _ (rw taken fresh.turns) c.poll-answer.ensures.steps) f),
+          (inl (rw c.new-cx.ensures at (polled-short c.take_state-state.new.self c.poll-answer.new.world _ _ _ (rw taken fresh.turns) (rw taken fresh.lacked) (sym c.if-is_short.ensures) c.poll-answer.ensures.steps))) f),
     )
 
 pub returns-in-NoMemory-clause-agrees : goal.returns-in-NoMemory-clause-agrees
@@ -26,8 +25,7 @@ returns-in-NoMemory-clause-agrees g c first f =
       false,
       rw c.answer-in-NoMemory.ensures
           (visit-cut p c.args.self.now c.take_state-state.new.self c.poll-answer.new.world c.args.task c.take_state-state.result c.poll-answer.new.self taken c.take_state-state.ensures.state fresh.calls c.poll-answer.ensures.kept c.facts.ensures.calls c.facts.ensures.state
-          (inr (rw c.new-cx.ensures at (polled-broken c.take_state-state.new.self c.poll-answer.new.world _ _ _ (rw taken fresh.turns) (long c.if-is_short.ensures) refl c.in-NoMemory.ensures.steps)))
-          (polled-frees c.take_state-state.new.self c.poll-answer.new.world _ _ _ (rw taken fresh.turns) c.poll-answer.ensures.steps) f),
+          (inr (rw c.new-cx.ensures at (polled-broken c.take_state-state.new.self c.poll-answer.new.world _ _ _ (rw taken fresh.turns) (long c.if-is_short.ensures) refl c.in-NoMemory.ensures.steps))) f),
     )
 
 pub returns-then-flagged-clause-agrees : goal.returns-then-flagged-clause-agrees

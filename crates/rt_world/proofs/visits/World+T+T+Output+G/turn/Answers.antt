@@ -5,7 +5,7 @@ use Rattle.rt_world.proofs.visits.World+T+T+Output+G.turn.Goals as goal
 pub returns-then-is_stopped-clause-agrees : goal.returns-then-is_stopped-clause-agrees
 returns-then-is_stopped-clause-agrees g c first f =
     let p : Steps g.row.T.Denot g.row.T-Output.Denot = with_first g.T.Task.steps first in
-    agrees-stopped p c.enter.new.self c.stop.new.self c.args.task c.stop.ensures (agrees-entered p c.args.self.now c.enter.new.self c.args.task _ (rw c.in-Ok.is at c.enter.ensures.ok) f)
+    agrees-stopped p c.enter.new.self c.halt.new.self c.args.task c.halt.ensures (agrees-entered p c.args.self.now c.enter.new.self c.args.task _ (rw c.in-Ok.is at c.enter.ensures.ok) f)
 
 pub returns-then-is_flagged-clause-agrees : goal.returns-then-is_flagged-clause-agrees
 returns-then-is_flagged-clause-agrees g c first f =

@@ -1,0 +1,58 @@
+-- An event where calls are made.
+use Rattle.std.proofs.Common.{◌≡◌, ℕ, ℤ, List, [], ◌∷◌, ◌++◌, refl, ap, Option}
+use Rattle.rt_audit.specs.declared.entry.Entry.TheVariants.{Call as CallEntry, Event}
+use Rattle.rt_audit.specs.declared.call.Call.TheVariants.{Stop}
+use Rattle.rt_audit.specs.declared.reply.CallReply.TheVariants.{CompletionAt}
+use Rattle.rt_super.specs.Signals.{stop_after, with_stop}
+use Rattle.rt_model.specs.State.{State, Phase, Blank, Making, Between, Visiting, Entered, Polling, Halted, Ending, Leaving, Turning, Over, Cleaning, Closing, Crashed, Finished, Announced, stood_in}
+use Rattle.rt_model.specs.Causes.{ends_next}
+use Rattle.rt_model.specs.Effects.{after, announces, due_called, entered, is_closing}
+use Rattle.rt_model.specs.Rules.{CallsAt, MayCall}
+use Rattle.rt_machine.specs.Calls.{turn_in}
+
+entered-same : (s : State) (p : Phase) (root next by : Option ℕ) → CallsAt p root next by → entered s p ≡ p
+entered-same s Making root next by may = refl
+entered-same s (Polling task left) root next by may = refl
+entered-same s (Ending task result left) root next by may = refl
+entered-same s (Closing cause) root next by may = refl
+entered-same s Blank root next by may = absurd may
+entered-same s Between root next by may = absurd may
+entered-same s (Visiting left) root next by may = absurd may
+entered-same s (Entered task left) root next by may = absurd may
+entered-same s (Halted task) root next by may = absurd may
+entered-same s (Leaving task result left) root next by may = absurd may
+entered-same s Turning root next by may = absurd may
+entered-same s (Over cause) root next by may = absurd may
+entered-same s (Cleaning cause) root next by may = absurd may
+entered-same s (Crashed cause) root next by may = absurd may
+entered-same s (Finished cause) root next by may = absurd may
+
+announces-one : (p : Phase) (root next by : Option ℕ) (events : List Announced) (label : List ℕ) (fields : List (List ℕ)) → CallsAt p root next by → announces p events label fields ≡ events ++ record { label = label; fields = fields } ∷ []
+announces-one Making root next by events label fields may = refl
+announces-one (Polling task left) root next by events label fields may = refl
+announces-one (Ending task result left) root next by events label fields may = refl
+announces-one (Closing cause) root next by events label fields may = refl
+announces-one Blank root next by events label fields may = absurd may
+announces-one Between root next by events label fields may = absurd may
+announces-one (Visiting left) root next by events label fields may = absurd may
+announces-one (Entered task left) root next by events label fields may = absurd may
+announces-one (Halted task) root next by events label fields may = absurd may
+announces-one (Leaving task result left) root next by events label fields may = absurd may
+announces-one Turning root next by events label fields may = absurd may
+announces-one (Over cause) root next by events label fields may = absurd may
+announces-one (Cleaning cause) root next by events label fields may = absurd may
+announces-one (Crashed cause) root next by events label fields may = absurd may
+announces-one (Finished cause) root next by events label fields may = absurd may
+
+-- it joins those of the call that comes next, and that is all
+pub after-event : (s : State) (by : Option ℕ) (label : List ℕ) (fields : List (List ℕ)) → MayCall s by → after s (Event label fields) ≡ record s { announced = s.announced ++ record { label = label; fields = fields } ∷ []; owed = [] }
+unfolding after
+after-event s by label fields may =
+    rw (entered-same s s.phase s.root (ends_next s.running s.root) by may, announces-one s.phase s.root (ends_next s.running s.root) by s.announced label fields may) refl
+
+-- and the call of a stop behind its own
+pub after-stop : (s : State) (by : Option ℕ) (value : ℤ) (number : ℕ) (label : List ℕ) (fields : List (List ℕ)) → MayCall s by → after (after s (Event label fields)) (CallEntry by (Stop value) (CompletionAt number)) ≡ record s { signals = stop_after s.signals s.stop value; stop = with_stop s.stop value; announced = []; owed = due_called (is_closing s.phase) s.marks (stood_in s) (Stop value) (CompletionAt number); turns = s.turns ++ turn_in s (Stop value) (CompletionAt number) ∷ [] }
+unfolding after
+after-stop s by value number label fields may = ap (λ u. after u (CallEntry by (Stop value) (CompletionAt number))) (after-event s by label fields may)
+
+pub ruleset event_laws = (after-event)

@@ -1,0 +1,111 @@
+//! The events that stand before a call.
+
+ghost use Rattle.std.specs.Prelude.{◌≡◌, ◌∷◌, [], ◌↔◌, IfOk, IsTrue, codes};
+ghost use Rattle.std.specs.Int.{cast_unsigned, to_be_bytes, w32};
+ghost use Rattle.rt_model.specs.Events.{announced_by};
+
+use rt_audit::{Call, CallReply, EventFields, EventLabel};
+use rt_base::{Items, NoMemory, Text};
+use std::alloc::Global;
+use std::marker::Model;
+
+/// An event that stands before its call.
+#[derive(Drop)]
+pub struct Announced {
+    label: Text,
+    fields: Items<Items<u8>>,
+}
+
+impl Model for Announced {
+    ghost use Rattle.rt_model.specs.State.{Announced};
+
+    ghost Value = { Announced };
+
+    ghost view = { λ a. record { label = a.label; fields = a.fields } };
+}
+
+impl Announced {
+    /// A copy of an event.
+    pub fn of(
+        alloc: Global,
+        label: &EventLabel,
+        fields: &EventFields,
+    ) -> Result<Announced, NoMemory>
+        ensures { IfOk result (λ a. a ≡ record { label = label.now; fields = fields.now }) }
+    {
+        let label = Text::of(label.as_str().to_owned(alloc)?);
+        let fields = copied(alloc, fields)?;
+        Ok(Announced { label, fields })
+    }
+
+    /// Whether this is its label.
+    fn is_named(&self, label: &str) -> bool
+        ensures { IsTrue result ↔ (self.now.label ≡ label.now) }
+    {
+        self.label.as_str() == label
+    }
+
+    /// Whether it has this field alone.
+    fn has_one(&self, field: &[u8]) -> bool
+        ensures { IsTrue result ↔ (self.now.fields ≡ field.now ∷ []) }
+    {
+        is_only(&self.fields, field)
+    }
+
+    /// Whether it has no field.
+    fn has_none(&self) -> bool
+        ensures { IsTrue result ↔ (self.now.fields ≡ []) }
+    {
+        self.fields.as_slice().is_empty()
+    }
+}
+
+/// Whether these fields are this one alone.
+fn is_only(fields: &Items<Items<u8>>, field: &[u8]) -> bool
+    ensures { IsTrue result ↔ (fields.now ≡ field.now ∷ []) }
+{
+    match fields.as_slice() {
+        [only] => only.as_slice() == field,
+        _ => false,
+    }
+}
+
+/// A copy of fields.
+fn copied(alloc: Global, fields: &EventFields) -> Result<Items<Items<u8>>, NoMemory>
+    ensures { IfOk result (λ copy. copy ≡ fields.now) }
+{
+    let mut copies = Vec::new(alloc);
+    for place in 0..fields.len() {
+        match fields.get(place) {
+            Some(field) => copies.push(Items::of(field.to_vec(alloc)?))?,
+            None => unreachable!(),
+        }
+    }
+    Ok(Items::of(copies))
+}
+
+/// Whether this is the event of a stop with this value.
+fn is_stop(event: &Announced, value: i32) -> bool
+    ensures { IsTrue result ↔ (event.now ≡ record { label = codes "stop"; fields = to_be_bytes w32 (cast_unsigned w32 value) ∷ [] }) }
+{
+    event.is_named("stop") && event.has_one(value.to_be_bytes().as_slice())
+}
+
+/// Whether this is the event of a signal of the shutdown.
+fn is_stopped(event: &Announced) -> bool
+    ensures { IsTrue result ↔ (event.now ≡ record { label = codes "stopped"; fields = [] }) }
+{
+    event.is_named("stopped") && event.has_none()
+}
+
+/// Whether these are the events of a call with this reply.
+pub fn are_of(announced: &[Announced], call: &Call, reply: &CallReply) -> bool
+    ensures { IsTrue result ↔ (announced.now ≡ announced_by call.now reply.now) }
+{
+    match (call, announced) {
+        (Call::Stop { value }, [event]) => is_stop(event, *value),
+        (Call::Stopped, [event]) => is_stopped(event),
+        (Call::Stop { .. } | Call::Stopped, _) => false,
+        _ => announced.is_empty(),
+    }
+}
