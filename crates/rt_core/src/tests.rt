@@ -6,8 +6,9 @@ ghost use Rattle.rt_world.specs.Calls.{Kept};
 
 use crate::utils::reschedule;
 use crate::{
-    Answer, Config, ConfigError, Context, Cx, Error, Execution, Failure, MAX_TIME, Name, NoMemory,
-    Outcome, Poller, Refused, Rng, RootMaker, RunError, Runner, Sleep, Task, Timeout, World,
+    Answer, Config, ConfigError, Context, Cx, Error, Execution, Failure, Handle, HandleOf,
+    MAX_TIME, Name, NoMemory, Outcome, Poller, Refused, Rng, RootMaker, RunError, Runner, Sleep,
+    Task, Timeout, World,
 };
 use rand_chacha::ChaCha12Rng;
 use rand_core::SeedableRng;
@@ -155,38 +156,39 @@ impl RootMaker<Juggler> for RootJuggler {
     }
 }
 
-/// A task that at each poll polls a sleep under a limit, and is never ready.
+/// A task that at each poll polls a handle of a sleep under a limit, and is never ready.
 struct Hasty {
     context: Context,
-    waits: Timeout<Sleep>,
+    waits: Handle<Hasty, Timeout<Sleep>>,
 }
 
 impl Outcome for Hasty {
-    type Output = u64;
+    type Output = ();
 }
 
 #[tactic(auto, using(rt_world::proofs::Walked::task_laws))]
 impl Task for Hasty {
     ghost use Rattle.rt_model.specs.declared.answer.Answer.TheVariants.{Pending};
     ghost use Rattle.rt_model.specs.Walk.{Gives, then, followed_by};
+    ghost use Rattle.rt_core.specs.Handles.{handle_polls, handle_spends};
     ghost use Rattle.rt_core.specs.Pollers.{sleep_polls, sleep_spends, closes};
     ghost use Rattle.rt_core.specs.Timeouts.{timeout_polls, timeout_spends};
 
-    ghost steps = { record { next = λ h now task. then (timeout_polls (λ sleep now task. sleep_polls sleep) h.waits now task) (λ answer waits. Gives Pending (record { context = h.context; waits = waits })); last = λ h now task. followed_by (timeout_spends sleep_spends h.waits) (closes h.context.node) } };
+    ghost steps = { record { next = λ h now task. then (handle_polls (λ limit. timeout_polls (λ sleep now task. sleep_polls sleep) limit now task) h.waits) (λ answer waits. Gives Pending (record { context = h.context; waits = waits })); last = λ h now task. followed_by (handle_spends (timeout_spends sleep_spends) h.waits) (closes h.context.node) } };
 
-    fn poll<G: Rng>(&mut self, world: &mut World<Self, u64, G>, cx: &Cx) -> Answer<u64> {
+    fn poll<G: Rng>(&mut self, world: &mut World<Self, (), G>, cx: &Cx) -> Answer<()> {
         drop(self.waits.poll(world, cx));
         Answer::Pending
     }
 
-    fn end<G: Rng>(self, world: &mut World<Self, u64, G>) {
+    fn end<G: Rng>(self, world: &mut World<Self, (), G>) {
         let Hasty { context, waits } = self;
         waits.give_up(world);
         context.close(world);
     }
 }
 
-/// Makes a task whose sleep ends at 5 ms, and its limit 3 ms after its first poll.
+/// Makes a task whose sleep ends at 5 ms, and its limit 3 ms after its first poll. Its handle was guarded before.
 #[derive(Clone, Copy)]
 struct RootHasty;
 
@@ -194,17 +196,19 @@ struct RootHasty;
 impl RootMaker<Hasty> for RootHasty {
     ghost use Rattle.std.specs.Prelude.{None};
     ghost use Rattle.rt_model.specs.Walk.{Gives};
+    ghost use Rattle.rt_core.specs.Handles.{polled_handle};
     ghost use Rattle.rt_core.specs.Pollers.{until};
     ghost use Rattle.rt_core.specs.Contexts.{root_context};
 
-    ghost first = { λ maker now. Gives tt (record { context = root_context; waits = record { state = until 5000000; duration = 3000000; sleep = None } }) };
+    ghost first = { λ maker now. Gives tt (record { context = root_context; waits = polled_handle (record { state = until 5000000; duration = 3000000; sleep = None }) }) };
 
     fn make<G: Rng>(
         self,
         context: Context,
-        _world: &mut World<Hasty, u64, G>,
+        _world: &mut World<Hasty, (), G>,
     ) -> Result<Hasty, NoMemory> {
-        let waits = context.timeout(3_000_000, Sleep::until(5_000_000));
+        let limit = context.timeout(3_000_000, Sleep::until(5_000_000));
+        let waits = HandleOf::from_future(limit).abort_on_drop().join();
         Ok(Hasty { context, waits })
     }
 }
@@ -327,7 +331,7 @@ finish timeout
     Ok(cause == RunError::Timeout && text.as_str() == expected)
 }
 
-/// Whether a limit is polled where its state isn't ready, and is over in time.
+/// Whether a limit is polled where its state isn't ready, and is over in time, and its handle polls it no more then.
 fn limits(alloc: Global) -> Result<bool, NoMemory> {
     let expected = "\
 start 0 - 1000000 0
@@ -355,7 +359,6 @@ wake 0
 round 0
 visit 0
 event process_task 00000000000000000000000000000000 -
-call 0 sleep-poll 5000000 -> ready
 answer 0 pending
 advance 6000000
 cleanup
@@ -370,7 +373,7 @@ finish stalled
     };
     let Failure { cause, journal } = failure;
     let text = lines(alloc, &journal)?;
-    Ok(cause == RunError::Stalled && text.as_str() == expected)
+    Ok(cause.cause() == FinishCause::Stalled && text.as_str() == expected)
 }
 
 /// Whether runs complete, and leave what they should.
@@ -411,20 +414,8 @@ fn keeps_settings() -> bool {
 /// The world of a run whose maker is under way.
 type Making = WorldOf<Probe, ChaCha12Rng>;
 
-/// A context with a further attribute, or as it was where it was refused, and whether it was taken.
-fn taking(context: Context, key: &str, value: &str) -> (Context, bool) {
-    match context.with_attribute(key, value) {
-        Ok(context) => (context, true),
-        Err(refused) => {
-            let Refused { back, error } = refused;
-            drop(error);
-            (back, false)
-        }
-    }
-}
-
-/// The same, and whether the key was refused as a bad label.
-fn refusing(context: Context, key: &str, value: &str) -> (Context, bool) {
+/// The context with this attribute, or as it was, and whether the key was refused as a bad label.
+fn tagged(context: Context, key: &str, value: &str) -> (Context, bool) {
     match context.with_attribute(key, value) {
         Ok(context) => (context, false),
         Err(refused) => {
@@ -490,12 +481,12 @@ fn spawns_aborted(context: Context, world: &mut Making) -> bool
 
 /// Whether attributes are taken and refused as they should be. The context comes back.
 fn takes_attributes(alloc: Global) -> (Context, bool) {
-    let (context, late) = taking(Context::root(alloc), "b", "2");
-    let (context, early) = taking(context, "a", "1");
-    let (context, again) = taking(context, "b", "3");
-    let (context, refused) = refusing(context, "9", "4");
+    let (context, late) = tagged(Context::root(alloc), "b", "2");
+    let (context, early) = tagged(context, "a", "1");
+    let (context, again) = tagged(context, "b", "3");
+    let (context, bad) = tagged(context, "9", "4");
     let named = has_name(alloc, &context, " a=1 b=3");
-    (context, late && early && again && refused && named)
+    (context, bad && !late && !early && !again && named)
 }
 
 /// Why a child is refused, if it is.
@@ -534,20 +525,21 @@ fn answers_contexts(alloc: Global, world: &mut Making) -> bool
     ensures { Kept world.old world.new }
 {
     let (context, attributes) = takes_attributes(alloc);
+    let timed = context.current(world) == 3;
     let reserved = refusal(&context, world, "runtime");
     let spawned = spawns_on_a_child(alloc, &context, world);
     context.close(world);
     let unknown = world.abort_task(9) == Err(Error::UnknownToken);
     let hinted = world.executions() == [(0, Execution::Dedicated)].as_slice();
     let refused = reserved == Some(Error::Metric(MetricError::Reserved));
-    attributes && refused && spawned && unknown && hinted
+    attributes && timed && refused && spawned && unknown && hinted
 }
 
 /// Whether the calls of contexts and handles in a maker are answered and written as they should be.
 #[tactic(auto, unfolding(rt_model::specs::Effects::after, rt_model::specs::State::begun))]
 fn writes_contexts(alloc: Global) -> Result<bool, NoMemory> {
     let expected = "\
-start 0 - 1000000 0
+start 3 - 1000000 0
 call - child 0 runtime -> err 14
 call - child 0 left -> node 1
 call - spawn 1 -> task 0 node 2
@@ -563,7 +555,7 @@ crash
 finish nomemory
 ";
     let begin = Begin {
-        start: 0,
+        start: 3,
         cycle: 1_000_000,
         deadline: None,
         first: 0,

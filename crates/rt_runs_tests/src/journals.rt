@@ -226,6 +226,57 @@ crash
 finish stalled
 ";
 
+/// A task wakes itself twice, and ends at the first of its two visits. Its number is passed over there and in the next round.
+const TWICE: &str = "start 0 - 1000000 0
+root 0
+round 0
+visit 0
+event process_task 0 -
+call 0 child 0 h -> node 1
+call 0 spawn 1 -> task 1 node 2
+call 0 join 1 -> pending
+answer 0 pending
+advance 1000000
+round 1
+visit 1
+event process_task 1 h
+call 1 wake 1 -> ok
+wake 1
+call 1 wake 1 -> ok
+wake 1
+answer 1 pending
+advance 2000000
+round 1 1
+visit 1
+event process_task 1 h
+answer 1 ready
+call 1 close-node 2 -> ok
+answer 1 ended
+wake 0
+nodeend 1
+wake 1
+advance 3000000
+round 0 1
+visit 0
+event process_task 0 -
+call 0 join 1 -> ready
+call 0 give-up 1 -> ok
+call 0 wake 0 -> ok
+wake 0
+answer 0 pending
+advance 4000000
+round 0
+visit 0
+event process_task 0 -
+answer 0 ready
+cleanup
+nodeend 0
+call 0 close-node 0 -> ok
+answer 0 ended
+crash
+finish ok
+";
+
 /// A child ends with its parent, and goes unpolled; another task goes on.
 const FAMILY: &str = "start 0 - 1000000 0
 root 0
@@ -740,12 +791,13 @@ finish tasks
 ";
 
 /// How each run begins, and its journal. A line that begins with `silent` is a call that writes nothing.
-pub const JOURNALS: [(Begin, &str); 20] = [
+pub const JOURNALS: [(Begin, &str); 21] = [
     (BEGIN, MADE),
     (BEGIN, SLOTS),
     (BEGIN, ABORTS),
     (BEGIN, STOPS),
     (BEGIN, ABORTED),
+    (BEGIN, TWICE),
     (BEGIN, FAMILY),
     (BEGIN, WAITERS),
     (BEGIN, PANIC),

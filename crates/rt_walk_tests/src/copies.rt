@@ -43,7 +43,6 @@ pub const VISITS: &[Copied] = &[
         4,
         Before("cleanup"),
     ),
-    ("two events", 5, Before("event process_task 0 -")),
     ("a cleanup in a poll", 5, Before("cleanup")),
     ("a draw in a poll", 5, Before("draw 0")),
     ("another task's answer", 5, Instead("answer 1 ready")),
@@ -262,7 +261,7 @@ pub const SPAWNS: &[Copied] = &[
     (
         "a refused close of a spent context",
         9,
-        Instead("call 0 close-node 1 -> err 12"),
+        Before("call 0 close-node 1 -> err 12"),
     ),
     ("the end of the root", 10, Instead("answer 1 ended")),
     ("the end of another node", 11, Instead("nodeend 2")),
@@ -445,6 +444,31 @@ pub const FAMILIES: &[Copied] = &[
     ("another task whose own number isn't queued", 69, Missing),
 ];
 
+/// Over a task that wakes itself twice and ends at the first of its two visits.
+pub const TWICE_WOKEN: &[Copied] = &[
+    (
+        "a round with a number once that was woken twice",
+        19,
+        Instead("round 1"),
+    ),
+    ("no wake of a task that was left pending", 27, Missing),
+    (
+        "a second visit of a task that has ended",
+        28,
+        Before("visit 1"),
+    ),
+    (
+        "a round without the number of a task that has ended",
+        29,
+        Instead("round 0"),
+    ),
+    (
+        "a visit of that task in the next round",
+        37,
+        Before("visit 1"),
+    ),
+];
+
 /// Over a caught panic.
 pub const CAUGHT_PANICS: &[Copied] = &[
     ("no wake of the root that joins", 16, Missing),
@@ -464,6 +488,50 @@ pub const CAUGHT_PANICS: &[Copied] = &[
         "a task that panicked as closed",
         22,
         Instead("call 0 join 1 -> err 2"),
+    ),
+];
+
+/// Over a panic of the root.
+pub const ROOT_PANICS: &[Copied] = &[
+    (
+        "an end of the root in its visit",
+        6,
+        Before("answer 0 ended"),
+    ),
+    ("a call behind the panic", 6, Before("call 0 wake 0 -> ok")),
+    ("an advance behind the panic", 6, Before("advance 1000000")),
+    ("a finish as if nobody panicked", 11, Instead("finish ok")),
+];
+
+/// Over a run that is cut off before its first round.
+pub const CUTS: &[Copied] = &[
+    (
+        "an answer of a root that wasn't visited",
+        2,
+        Before("answer 0 pending"),
+    ),
+    ("a root that doesn't end", 5, Missing),
+    ("a finish as if the root was ready", 7, Instead("finish ok")),
+    ("a finish as of a stall", 7, Instead("finish stalled")),
+];
+
+/// Over a run that is cut off before its root.
+pub const UNMADES: &[Copied] = &[
+    (
+        "a call by a root that wasn't taken in",
+        3,
+        Instead("call 0 close-node 0 -> ok"),
+    ),
+    ("a root in the cleanup", 3, Before("root 0")),
+    (
+        "the end of a root that wasn't taken in",
+        4,
+        Before("answer 0 ended"),
+    ),
+    (
+        "too many tasks while numbers are left",
+        5,
+        Instead("finish tasks"),
     ),
 ];
 
@@ -550,17 +618,17 @@ pub const REFUSALS: &[Copied] = &[
     (
         "a second abort by the handle",
         17,
-        Instead("call 0 abort 1 -> ok"),
+        Before("call 0 abort 1 -> ok"),
     ),
     (
         "a second close of a context",
         18,
-        Instead("call 0 close-node 1 -> ok"),
+        Before("call 0 close-node 1 -> ok"),
     ),
     (
         "a child of a closed context",
         18,
-        Instead("call 0 child 1 b -> node 4"),
+        Before("call 0 child 1 b -> node 4"),
     ),
 ];
 
@@ -592,6 +660,55 @@ pub const SPAWNS_ON_AN_ENDED_NODE: &[Copied] = &[
         27,
         Instead("call 0 join 1 -> pending"),
     ),
+];
+
+/// Over two tasks that take the last numbers.
+pub const LAST_TASKS: &[Copied] = &[
+    (
+        "the greatest number for the root",
+        3,
+        Instead("root 18446744073709551615"),
+    ),
+    (
+        "too many tasks on a context that isn't there",
+        8,
+        Instead("call 18446744073709551613 spawn 4 -> err 13"),
+    ),
+    (
+        "the greatest number for a task",
+        9,
+        Instead("call 18446744073709551613 spawn 3 -> task 18446744073709551615 node 4"),
+    ),
+    (
+        "a spent context that is told of too many tasks",
+        11,
+        Instead("call 18446744073709551613 spawn 3 -> err 13"),
+    ),
+    (
+        "a wake of the greatest number",
+        18,
+        Instead("call 18446744073709551614 wake 18446744073709551615 -> ok"),
+    ),
+];
+
+/// Over a maker that leaves no number for the root.
+pub const NO_ROOTS: &[Copied] = &[
+    (
+        "a task by the greatest number",
+        4,
+        Instead("call - spawn 3 -> task 18446744073709551615 node 4"),
+    ),
+    (
+        "a root by the greatest number",
+        6,
+        Before("root 18446744073709551615"),
+    ),
+    (
+        "a round without a root",
+        6,
+        Before("round 18446744073709551614"),
+    ),
+    ("a finish as of a stall", 12, Instead("finish stalled")),
 ];
 
 /// Over a cleanup of three tasks.

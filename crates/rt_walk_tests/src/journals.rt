@@ -29,6 +29,18 @@ pub const CATCHING: Begin = Begin {
     catch: true,
 };
 
+/// Where two numbers are left.
+pub const TWO_LEFT: Begin = Begin {
+    first: u64::MAX - 2,
+    ..BEGIN
+};
+
+/// Where one number is left.
+pub const ONE_LEFT: Begin = Begin {
+    first: u64::MAX - 1,
+    ..BEGIN
+};
+
 /// A root that is ready at its first visit.
 pub const READY: &str = "start 0 - 1000000 0
 root 0
@@ -232,6 +244,57 @@ crash
 finish ok
 ";
 
+/// A task wakes itself twice, and ends at the first of its two visits. Its number is passed over there and in the next round.
+pub const TWICE: &str = "start 0 - 1000000 0
+root 0
+round 0
+visit 0
+event process_task 0 -
+call 0 child 0 h -> node 1
+call 0 spawn 1 -> task 1 node 2
+call 0 join 1 -> pending
+answer 0 pending
+advance 1000000
+round 1
+visit 1
+event process_task 1 h
+call 1 wake 1 -> ok
+wake 1
+call 1 wake 1 -> ok
+wake 1
+answer 1 pending
+advance 2000000
+round 1 1
+visit 1
+event process_task 1 h
+answer 1 ready
+call 1 close-node 2 -> ok
+answer 1 ended
+wake 0
+nodeend 1
+wake 1
+advance 3000000
+round 0 1
+visit 0
+event process_task 0 -
+call 0 join 1 -> ready
+call 0 give-up 1 -> ok
+call 0 wake 0 -> ok
+wake 0
+answer 0 pending
+advance 4000000
+round 0
+visit 0
+event process_task 0 -
+answer 0 ready
+cleanup
+nodeend 0
+call 0 close-node 0 -> ok
+answer 0 ended
+crash
+finish ok
+";
+
 /// A child ends with its parent, and goes unpolled; another task goes on.
 pub const FAMILY: &str = "start 0 - 1000000 0
 root 0
@@ -409,7 +472,7 @@ visit 0
 event process_task 0 -
 call 0 child 0 runtimes -> err reserved
 call 0 child 0 9a -> err label
-call 0 child 1 a -> err 12
+call 0 child 1 9a -> err 12
 call 0 spawn 1 -> err 12
 call 0 abort-task 9 -> err 12
 call 0 wake 9 -> err 12
@@ -542,4 +605,52 @@ call 0 close-node 0 -> ok
 answer 0 ended
 crash
 finish ok
+";
+
+/// The greatest number is no task's.
+pub const LAST_NUMBERS: &str = "start 0 - 1000000 18446744073709551613
+call - child 0 a -> node 1
+call - spawn 1 -> task 18446744073709551613 node 2
+root 18446744073709551614
+round 18446744073709551613 18446744073709551614
+visit 18446744073709551613
+event process_task 18446744073709551613 a
+call 18446744073709551613 child 2 b -> node 3
+call 18446744073709551613 spawn 4 -> err 12
+call 18446744073709551613 spawn 3 -> err 13
+call 18446744073709551613 close-node 3 -> ok
+call 18446744073709551613 spawn 3 -> err 12
+answer 18446744073709551613 ready
+call 18446744073709551613 close-node 2 -> ok
+answer 18446744073709551613 ended
+nodeend 1
+visit 18446744073709551614
+event process_task 18446744073709551614 -
+call 18446744073709551614 wake 18446744073709551615 -> err 12
+answer 18446744073709551614 ready
+cleanup
+nodeend 0
+call 18446744073709551614 child 0 c -> node 4 ended
+call 18446744073709551614 spawn 4 -> err 13
+call 18446744073709551614 close-node 4 -> ok
+call 18446744073709551614 close-node 0 -> ok
+answer 18446744073709551614 ended
+crash
+finish ok
+";
+
+/// No number is left for the root.
+pub const NO_NUMBER: &str = "start 0 - 1000000 18446744073709551614
+call - child 0 a -> node 1
+call - spawn 1 -> task 18446744073709551614 node 2
+call - child 0 b -> node 3
+call - spawn 3 -> err 13
+call - close-node 3 -> ok
+cleanup
+nodeend 0
+call 18446744073709551614 close-node 2 -> ok
+answer 18446744073709551614 ended
+call - close-node 0 -> ok
+crash
+finish tasks
 ";

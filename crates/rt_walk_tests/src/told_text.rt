@@ -136,6 +136,7 @@ fn cause_of(word: &str) -> Option<FinishCause> {
         "timeout" => FinishCause::Timeout,
         "stalled" => FinishCause::Stalled,
         "panicked" => FinishCause::TaskPanicked,
+        "tasks" => FinishCause::TooManyTasks,
         "nomemory" => FinishCause::NoMemory,
         _ => return None,
     })

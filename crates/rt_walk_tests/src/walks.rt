@@ -1,14 +1,16 @@
 // Journals that are lawful to their ends, and copies with the place of the line that is refused.
 
-use crate::copies::Change::{Instead, Missing};
+use crate::copies::Change::{Before, Instead, Missing};
 use crate::copies::{
-    ABORTS_OF_ITSELF, CAUGHT_PANICS, CLEANUPS, Change, Copied, DEADLINES, FAMILIES, FIRES, NODES,
-    ORDERS, PANICS, REFUSALS, SLEEPS, SLOT_POLLS, SLOT_SENDS, SPAWNS, SPAWNS_ON_AN_ENDED_NODE,
-    STARTS, STOPS_OF_ITSELF, VISITS, VISITS_WITH_AN_END, WAKES,
+    ABORTS_OF_ITSELF, CAUGHT_PANICS, CLEANUPS, CUTS, Change, Copied, DEADLINES, FAMILIES, FIRES,
+    LAST_TASKS, NO_ROOTS, NODES, ORDERS, PANICS, REFUSALS, ROOT_PANICS, SLEEPS, SLOT_POLLS,
+    SLOT_SENDS, SPAWNS, SPAWNS_ON_AN_ENDED_NODE, STARTS, STOPS_OF_ITSELF, TWICE_WOKEN, UNMADES,
+    VISITS, VISITS_WITH_AN_END, WAKES,
 };
 use crate::journals::{
-    ABORTS, BEGIN, CATCHING, CAUGHT, CLEANUP, CUT, FAMILY, LATE, MADE, NODE_ENDED, PANIC, READY,
-    REFUSED, ROOT_PANIC, SLEEP, SLOTS, STALL, STOPS, TIMED, UNMADE,
+    ABORTS, BEGIN, CATCHING, CAUGHT, CLEANUP, CUT, FAMILY, LAST_NUMBERS, LATE, MADE, NO_NUMBER,
+    NODE_ENDED, ONE_LEFT, PANIC, READY, REFUSED, ROOT_PANIC, SLEEP, SLOTS, STALL, STOPS, TIMED,
+    TWICE, TWO_LEFT, UNMADE,
 };
 use crate::many::{MANY_ALARMS, MANY_TASKS, joined};
 use crate::told_text::{Unread, entries_of};
@@ -71,6 +73,7 @@ const JOURNALS: &[(&str, Begin, &str)] = &[
     ("a task that the maker spawned", BEGIN, MADE),
     ("an abort of itself", BEGIN, ABORTS),
     ("an abort of itself that is left pending", BEGIN, STOPS),
+    ("a task that is woken twice and ends", BEGIN, TWICE),
     ("a child that ends with its parent", BEGIN, FAMILY),
     ("a reported panic", BEGIN, PANIC),
     ("a caught panic", CATCHING, CAUGHT),
@@ -84,6 +87,8 @@ const JOURNALS: &[(&str, Begin, &str)] = &[
     ("a cleanup by numbers", BEGIN, CLEANUP),
     ("a node that ended before the cleanup", BEGIN, NODE_ENDED),
     ("slots of a sender and a receiver", BEGIN, SLOTS),
+    ("the last numbers", TWO_LEFT, LAST_NUMBERS),
+    ("no number for the root", ONE_LEFT, NO_NUMBER),
 ];
 
 /// The end of the first front of a journal that isn't lawful.
@@ -117,6 +122,8 @@ const OF_A_ROOT: &[Copies] = &[
     (BEGIN, SLEEP, FIRES),
     (TIMED, LATE, DEADLINES),
     (BEGIN, STALL, WAKES),
+    (BEGIN, CUT, CUTS),
+    (BEGIN, UNMADE, UNMADES),
 ];
 
 const OF_TASKS: &[Copies] = &[
@@ -124,16 +131,20 @@ const OF_TASKS: &[Copies] = &[
     (BEGIN, MADE, VISITS_WITH_AN_END),
     (BEGIN, ABORTS, ABORTS_OF_ITSELF),
     (BEGIN, STOPS, STOPS_OF_ITSELF),
+    (BEGIN, TWICE, TWICE_WOKEN),
     (BEGIN, FAMILY, FAMILIES),
 ];
 
 const OF_PANICS_AND_REFUSALS: &[Copies] = &[
     (BEGIN, PANIC, PANICS),
     (CATCHING, CAUGHT, CAUGHT_PANICS),
+    (BEGIN, ROOT_PANIC, ROOT_PANICS),
     (BEGIN, REFUSED, REFUSALS),
     (BEGIN, REFUSED, SPAWNS_ON_AN_ENDED_NODE),
     (BEGIN, CLEANUP, ORDERS),
     (BEGIN, NODE_ENDED, NODES),
+    (TWO_LEFT, LAST_NUMBERS, LAST_TASKS),
+    (ONE_LEFT, NO_NUMBER, NO_ROOTS),
 ];
 
 const OF_SLOTS: &[Copies] = &[(BEGIN, SLOTS, SLOT_POLLS), (BEGIN, SLOTS, SLOT_SENDS)];
@@ -218,6 +229,13 @@ const ELSEWHERE: &[Walk] = &[
             Instead("call 0 sleep-poll 9223372036854775807999999999 -> pending 0"),
         )),
         first: Some(8),
+    },
+    Walk {
+        name: "an event in a poll that no call follows",
+        begins: (BEGIN, &[]),
+        texts: &[READY],
+        change: Some((5, Before("event process_task 0 -"))),
+        first: Some(6),
     },
     Walk {
         name: "a sleep of a task at its end",
