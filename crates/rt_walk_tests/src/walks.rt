@@ -131,9 +131,10 @@ const OF_TASKS: &[Copies] = &[
     (BEGIN, MADE, VISITS_WITH_AN_END),
     (BEGIN, ABORTS, ABORTS_OF_ITSELF),
     (BEGIN, STOPS, STOPS_OF_ITSELF),
-    (BEGIN, TWICE, TWICE_WOKEN),
     (BEGIN, FAMILY, FAMILIES),
 ];
+
+const OF_DOUBLE_WAKES: &[Copies] = &[(BEGIN, TWICE, TWICE_WOKEN)];
 
 const OF_PANICS_AND_REFUSALS: &[Copies] = &[
     (BEGIN, PANIC, PANICS),
@@ -185,6 +186,12 @@ fn damaged_copies_of_a_root(rt: HostRuntime) -> Result<(), Fail> {
 #[test]
 fn damaged_copies_of_tasks(rt: HostRuntime) -> Result<(), Fail> {
     assert!(rt; first_kept(rt.alloc(), OF_TASKS)?.is_none());
+    Ok(())
+}
+
+#[test]
+fn damaged_copies_of_double_wakes(rt: HostRuntime) -> Result<(), Fail> {
+    assert!(rt; first_kept(rt.alloc(), OF_DOUBLE_WAKES)?.is_none());
     Ok(())
 }
 
