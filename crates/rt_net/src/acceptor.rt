@@ -1,5 +1,5 @@
 // One listener, and the connections that wait at it.
-ghost use Rattle.std.specs.Prelude.{◌≡◌, ◌+◌, ◌*◌, ◌≤◌, [], ◌∷◌, ◌++◌, true, false, Some, None, OnErr, IfOk, OnOk, length, option_to_list};
+ghost use Rattle.std.specs.Prelude.{◌≡◌, [], ◌∷◌, ◌++◌, true, None, OnErr, IfOk, OnOk};
 ghost use Rattle.rt_net.specs.Network.{Accepts, after_accept, fresh_listener, closed_listener, IsQuietListener, after_closing, woken_by_closing};
 
 use crate::channels::{close_sink, close_stream};
@@ -78,14 +78,8 @@ impl Acceptor {
         ensures added { OnOk result (self.new ≡ record self.old { waiting = self.old.waiting ++ connection ∷ []; task = None }) }
         ensures refused { OnErr result (self.new ≡ self.old) }
     {
-        let tasks = self
-            .waiting
-            .len()
-            .checked_add(1)
-            .and_then(|count| count.checked_mul(2));
-        let Some(tasks) = tasks else {
-            return Err(NoMemory);
-        };
+        let connections = self.waiting.len().checked_add(1).ok_or(NoMemory)?;
+        let tasks = connections.checked_mul(2).ok_or(NoMemory)?;
         self.woken.reserve(tasks)?;
         self.waiting.push_back(connection)?;
         Ok(self.task.take())

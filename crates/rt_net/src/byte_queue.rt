@@ -1,9 +1,9 @@
 // Bytes that come in at the back and go out at the front, in one block of memory.
 // What is added may move the bytes to a new block, but so seldom that a byte is moved a bounded number of times.
-ghost use Rattle.std.specs.Prelude.{◌≡◌, ℕ, ◌+◌, ◌-◌, ◌<◌, ◌≤◌, [], ◌++◌, length, take, drop, OnOk, OnErr, IfOk};
+ghost use Rattle.std.specs.Prelude.{◌≡◌, ◌≤◌, [], ◌++◌, length, take, drop, OnOk, OnErr, IfOk};
 
 use rt_base::NoMemory;
-use rt_bufs::IoBufs;
+use rt_bufs::{IoBuf, IoBufs};
 use std::alloc::Global;
 use std::marker::Model;
 
@@ -47,6 +47,24 @@ impl ByteQueue {
         ensures { result.now ≡ self.now }
     {
         &self.bytes.as_slice()[self.start..]
+    }
+
+    /// A copy of the first `len` bytes.
+    pub fn first(&self, len: usize) -> Result<IoBuf, NoMemory>
+        requires { len ≤ length self.now }
+        ensures { IfOk result (λ b. b ≡ take len self.now) }
+    {
+        let mut first = Vec::with_capacity(self.alloc(), len)?;
+        first.extend_from_slice(&self.as_slice()[..len])?;
+        IoBuf::from_vec(first)
+    }
+
+    /// A copy of the first `len` bytes, in a row of one chunk.
+    pub fn first_chunk(&self, len: usize) -> Result<IoBufs, NoMemory>
+        requires { len ≤ length self.now }
+        ensures { IfOk result (λ b. b.bytes ≡ take len self.now) }
+    {
+        IoBufs::from_buf(self.alloc(), self.first(len)?)
     }
 
     /// The memory that the queue lives in.

@@ -8,20 +8,18 @@ use crate::pipe::Pipe;
 pub fn has_sink(pipes: &Vec<Pipe>, number: u64) -> bool
     ensures { result ≡ is_some (live_sink pipes.now.items number) }
 {
-    match pipes.get(number as usize) {
-        Some(pipe) => pipe.has_sink(),
-        None => false,
-    }
+    pipes
+        .get(number as usize)
+        .is_some_and(|pipe| pipe.has_sink())
 }
 
 /// Whether a live stream has the number.
 pub fn has_stream(pipes: &Vec<Pipe>, number: u64) -> bool
     ensures { result ≡ is_some (live_stream pipes.now.items number) }
 {
-    match pipes.get(number as usize) {
-        Some(pipe) => pipe.has_stream(),
-        None => false,
-    }
+    pipes
+        .get(number as usize)
+        .is_some_and(|pipe| pipe.has_stream())
 }
 
 /// Closes the sink of this number, and answers the receiver that this wakes.

@@ -1,12 +1,11 @@
 // The network in memory.
-ghost use Rattle.std.specs.Prelude.{◌≡◌, ◌+◌, ◌-◌, ◌^◌, ◌<◌, ◌≤◌, ◌↔◌, [], ◌∷◌, ◌++◌, length, min, IsTrue, IfOk, IfSome, OnErr, OnOk, Ok, Err, Some, None, true, false, is_some, slice_get, All, ◌||◌};
+ghost use Rattle.std.specs.Prelude.{◌≡◌, ◌↔◌, length, IsTrue, IfOk, IfSome, OnErr, OnOk, Ok, Some, true, false, is_some, slice_get, All, ◌||◌};
 ghost use Rattle.std.specs.List.{list_any};
-ghost use Rattle.rt_net.specs.Channel.{fresh, ChannelState, AreCounted, IsQuiet};
+ghost use Rattle.rt_net.specs.Channel.{ChannelState, AreCounted, IsQuiet};
 ghost use Rattle.rt_net.specs.Network.{ListenerState, IsQuietListener, is_waited_at, has_acceptor, waiting_halves, waiting_task, number_at, listener_at, live_listener};
 ghost use Rattle.rt_net.specs.Calls.{IsDialerAddress, NetBinds, NetDials, NetAccepts, net_after_bind, net_after_dial, net_after_accept, opened, idle_sink, idle_stream};
 ghost use Rattle.rt_net.specs.Kept.{empty_net, moved_to};
 ghost use Rattle.rt_base.specs.Counted.{counted, Counts};
-ghost use Rattle.rt_base.specs.declared.error.Error.TheVariants.{UnknownToken};
 
 use crate::acceptor::Acceptor;
 use crate::channels::{close_sink, close_stream, has_sink, has_stream};
@@ -24,9 +23,10 @@ use std::marker::Model;
 /// The address that dialers have.
 const LOCALHOST: Ip = Ip::V4([127, 0, 0, 1]);
 
-/// The ports of dialers: the first, and the one behind the last.
+/// The first port of a dialer.
 const FIRST_PORT: u16 = 32768;
 
+/// The port behind a dialer's last.
 const PORTS_END: u16 = 61000;
 
 /// The buffer size of a channel, in bytes.
@@ -112,18 +112,21 @@ impl Net {
         ensures channels { All IsQuiet self.now.state.channels }
         ensures listeners { All IsQuietListener self.now.state.listeners }
     {
+        // Not `||`: what is said of the listeners is known from the walk over them.
         anyone_waits_at(&self.channels) | anyone_waits_at(&self.listeners)
     }
 
-    // Counts a refusal.
-    fn count<V>(&mut self, answer: &Result<V, Error>)
-        ensures after { self.new ≡ record self.old { refusals = counted self.old.refusals answer.now } }
-        ensures counts { Counts self.old.refusals self.new.refusals answer.now }
+    // The answer of a call, which is counted where it is a refusal.
+    fn counted<V>(&mut self, answer: Result<V, Error>) -> Result<V, Error>
+        ensures answer { result ≡ answer }
+        ensures after { self.new ≡ record self.old { refusals = counted self.old.refusals answer } }
+        ensures counts { Counts self.old.refusals self.new.refusals answer }
     {
-        match answer {
+        match &answer {
             Ok(_) | Err(Error::NoMemory) => {}
             Err(_) => self.refusals = self.refusals.saturating_add(1),
         }
+        answer
     }
 
     // Makes a channel.
@@ -139,15 +142,6 @@ impl Net {
         Ok((Sink::idle(number), Stream::idle(number)))
     }
 
-    // Counts a call with the token of no live object, and answers its error.
-    fn unknown(&mut self) -> Error
-        ensures error { result ≡ UnknownToken }
-        ensures after { self.new ≡ record self.old { refusals = min (self.old.refusals + 1) (2 ^ 64 - 1) } }
-    {
-        self.refusals = self.refusals.saturating_add(1);
-        Error::UnknownToken
-    }
-
     // The number of the listener that was bound at this address, where there is one.
     fn number_of(&self, address: Addr) -> Option<usize>
         ensures { result ≡ number_at self.now.state.addresses address }
@@ -160,22 +154,17 @@ impl Net {
         ensures number { result ≡ listener_at self.now.state address }
         ensures live { IfSome result (λ n. is_some (live_listener self.now.state.listeners n) ≡ true) }
     {
-        let number = self.number_of(address)?;
-        if self.has_listener(number as u64) {
-            Some(number)
-        } else {
-            None
-        }
+        self.number_of(address)
+            .filter(|number| self.has_listener(*number as u64))
     }
 
     // Whether a live listener has the number.
     fn has_listener(&self, number: u64) -> bool
         ensures { result ≡ is_some (live_listener self.now.state.listeners number) }
     {
-        match self.listeners.get(number as usize) {
-            Some(listener) => listener.is_alive(),
-            None => false,
-        }
+        self.listeners
+            .get(number as usize)
+            .is_some_and(|listener| listener.is_alive())
     }
 
     // Binds a listener.
@@ -183,10 +172,7 @@ impl Net {
         ensures binds { NetBinds self.old.state socket result }
         ensures after { self.new ≡ moved_to self.old (net_after_bind self.old.state socket result) }
     {
-        if is_dialer_address(socket) {
-            return Err(Error::BindFailed);
-        }
-        if let Some(_) = self.number_of(socket) {
+        if is_dialer_address(socket) || self.number_of(socket).is_some() {
             return Err(Error::BindFailed);
         }
         let number = self.listeners.len() as u64;
@@ -269,7 +255,7 @@ impl Network for Net {
     type Stream = Stream;
 
     ghost use Rattle.std.specs.Prelude.{◌≡◌, [], slice_get};
-    ghost use Rattle.rt_net.specs.Kept.{Kept, answered, moved_to};
+    ghost use Rattle.rt_net.specs.Kept.{answered, moved_to};
     ghost use Rattle.rt_net.specs.Asked.{asked_of};
     ghost use Rattle.rt_net.specs.Waiting.{is_pending, still_waits, waits};
     ghost use Rattle.rt_net.specs.Network.{sink_wakes, stream_wakes, with_given_up_send, with_given_up_recv, with_closed_sink, with_closed_stream, without_task};
@@ -327,12 +313,11 @@ impl Network for Net {
         task: u64,
     ) -> Reply<Result<Poll<()>, Error>> {
         if !has_sink(&self.channels, sink.number) {
-            return Reply::of(Err(self.unknown()), None);
+            return Reply::of(self.counted(Err(Error::UnknownToken)), None);
         }
         let reply = self.channels[sink.number as usize].send(bufs, task);
         sink.sending = is_pending(&reply.value);
-        self.count(&reply.value);
-        reply
+        Reply::of(self.counted(reply.value), reply.wake)
     }
 
     fn poll_send<E: Env>(
@@ -342,12 +327,11 @@ impl Network for Net {
         task: u64,
     ) -> Result<Poll<()>, Error> {
         if !has_sink(&self.channels, sink.number) {
-            return Err(self.unknown());
+            return self.counted(Err(Error::UnknownToken));
         }
         let answer = self.channels[sink.number as usize].poll_send(task);
         sink.sending = is_pending(&answer);
-        self.count(&answer);
-        answer
+        self.counted(answer)
     }
 
     fn recv<E: Env>(
@@ -358,12 +342,11 @@ impl Network for Net {
         task: u64,
     ) -> Result<Reply<Poll<IoBufs>>, Error> {
         if !has_stream(&self.channels, stream.number) {
-            return Err(self.unknown());
+            return self.counted(Err(Error::UnknownToken));
         }
         let answer = self.channels[stream.number as usize].recv(len, task);
         stream.receiving = waits(&answer);
-        self.count(&answer);
-        answer
+        self.counted(answer)
     }
 
     fn poll_recv<E: Env>(
@@ -373,19 +356,17 @@ impl Network for Net {
         task: u64,
     ) -> Result<Poll<IoBufs>, Error> {
         if !has_stream(&self.channels, stream.number) {
-            return Err(self.unknown());
+            return self.counted(Err(Error::UnknownToken));
         }
         let answer = self.channels[stream.number as usize].poll_recv(task);
         stream.receiving = is_pending(&answer);
-        self.count(&answer);
-        answer
+        self.counted(answer)
     }
 
     fn asked_len(&self, stream: &Stream) -> usize {
-        match self.channels.get(stream.number as usize) {
-            Some(pipe) => pipe.asked_len(),
-            None => 0,
-        }
+        self.channels
+            .get(stream.number as usize)
+            .map_or(0, |pipe| pipe.asked_len())
     }
 
     fn peek<E: Env>(
@@ -395,11 +376,10 @@ impl Network for Net {
         max_len: usize,
     ) -> Result<IoBuf, Error> {
         if !has_stream(&self.channels, stream.number) {
-            return Err(self.unknown());
+            return self.counted(Err(Error::UnknownToken));
         }
         let answer = self.channels[stream.number as usize].peek(max_len);
-        self.count(&answer);
-        answer
+        self.counted(answer)
     }
 
     fn give_up_send(&mut self, sink: &mut Sink) {
@@ -431,14 +411,12 @@ impl Network for Net {
 
     fn bind<E: Env>(&mut self, _env: &mut E, socket: Addr) -> Result<Listener, Error> {
         let answer = self.listen(socket);
-        self.count(&answer);
-        answer
+        self.counted(answer)
     }
 
     fn dial<E: Env>(&mut self, _env: &mut E, socket: Addr) -> Result<Reply<(Sink, Stream)>, Error> {
         let answer = self.connect(socket);
-        self.count(&answer);
-        answer
+        self.counted(answer)
     }
 
     fn accept<E: Env>(
@@ -448,8 +426,7 @@ impl Network for Net {
         task: u64,
     ) -> Result<Poll<(Addr, Sink, Stream)>, Error> {
         let answer = self.take(listener.number, task);
-        self.count(&answer);
-        answer
+        self.counted(answer)
     }
 
     fn poll_accept<E: Env>(

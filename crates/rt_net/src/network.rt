@@ -3,7 +3,7 @@
 // Code over any `N: Network` is proved from this trait alone. There is one relation for each call, over the network
 // and the token before it, the arguments, the answer, the network and the token after it, and what the call noted in
 // the environment. So a wrapper states its own relations by those of what it wraps.
-ghost use Rattle.std.specs.Prelude.{◌≡◌, ◌≤◌, ◌+◌, ℕ, Bool, true, false, List, Option, Result, OnOk, IfOk};
+ghost use Rattle.std.specs.Prelude.{◌≡◌, ◌≤◌, ◌+◌, ℕ, true, false, List, Option, Result, OnOk, IfOk};
 ghost use Rattle.rt_base.specs.declared.addr.Addr.{Addr};
 ghost use Rattle.rt_base.specs.declared.error.Error.{Error};
 ghost use Rattle.rt_base.specs.declared.poll.Poll.{Poll};

@@ -1,5 +1,7 @@
 // One channel: the bytes that were not answered yet, and who waits at its two ends.
-ghost use Rattle.std.specs.Prelude.{◌≡◌, ℕ, ◌+◌, ◌-◌, ◌<◌, ◌≤◌, min, [], ◌++◌, length, take, drop, OnOk, OnErr, IfOk, Ok, Err, Some, None, true, false};
+ghost use Rattle.std.specs.Prelude.{◌≡◌, ◌-◌, ◌<◌, ◌≤◌, OnOk, OnErr, IfOk, IfErr, None, true, false};
+ghost use Rattle.rt_base.specs.declared.error.Error.TheVariants.{RecvFailed};
+ghost use Rattle.rt_base.specs.declared.poll.Poll.TheVariants.{Pending};
 ghost use Rattle.rt_net.specs.Channel.{fresh, is_open, receiver_task, failed_send, Sends, PollsSend, after_send, after_poll_send, closed_sink, closed_stream, given_up_send, given_up_recv, sent, appended, handed_task, is_drained, Settles, settled, answered, pulled, drained_task, moved, failed_recv, parked, Receives, PollsReceive, after_recv, after_poll_recv, started_length, Peeks, held, left, with_ended_sink, AreCounted, IsQuiet};
 
 use crate::byte_queue::ByteQueue;
@@ -90,12 +92,10 @@ impl Pipe {
         ensures link { result.link ≡ None }
     {
         if self.sink.is_spent() {
-            let wake = self.fail_sink();
-            return Reply::of(Err(Error::Closed), wake);
+            return Reply::of(Err(Error::Closed), self.fail_sink());
         }
         if !self.stream.alive {
-            let wake = self.fail_sink();
-            return Reply::of(Err(Error::SendFailed), wake);
+            return Reply::of(Err(Error::SendFailed), self.fail_sink());
         }
         match self.accept(&bufs) {
             Ok(wake) => Reply::of(Ok(self.settle(task)), wake),
@@ -131,14 +131,10 @@ impl Pipe {
         }
         if self.held_after(len) < len {
             let wake = self.pull(len);
-            if !self.sink.is_open() {
-                self.fail_recv();
-                return Err(Error::RecvFailed);
-            }
-            self.park(len, task);
-            return Ok(Reply::of(Poll::Pending, wake));
+            let answer = self.wait_or_fail(len, task)?;
+            return Ok(Reply::of(answer, wake));
         }
-        let bytes = first_bytes(self.bytes.alloc(), self.bytes.as_slice(), len)?;
+        let bytes = self.bytes.first_chunk(len)?;
         let wake = self.pull(len);
         self.answer(len);
         Ok(Reply::of(Poll::Ready(bytes), wake))
@@ -155,12 +151,7 @@ impl Pipe {
             return Ok(Poll::Ready(IoBufs::new(self.bytes.alloc())));
         };
         if self.held < len {
-            if !self.sink.is_open() {
-                self.fail_recv();
-                return Err(Error::RecvFailed);
-            }
-            self.park(len, task);
-            return Ok(Poll::Pending);
+            return self.wait_or_fail(len, task);
         }
         let Some(bytes) = self.ready.take() else {
             unreachable!()
@@ -183,9 +174,7 @@ impl Pipe {
         requires { self.now.stream.alive ≡ true }
         ensures { Peeks self.now max_len result }
     {
-        let first = &self.bytes.as_slice()[..max_len.min(self.held)];
-        let bytes = first.to_vec(self.bytes.alloc())?;
-        Ok(IoBuf::from_vec(bytes)?)
+        Ok(self.bytes.first(max_len.min(self.held))?)
     }
 
     /// Gives a started `send` up.
@@ -216,9 +205,10 @@ impl Pipe {
         ensures woken { result ≡ receiver_task self.old.receiver }
         ensures closed { self.new ≡ closed_sink self.old }
     {
-        let mut closed = self.sink;
-        closed.alive = false;
-        let wake = self.end_sink(closed);
+        let wake = self.end_sink(Half {
+            alive: false,
+            ..self.sink
+        });
         self.free();
         wake
     }
@@ -251,8 +241,7 @@ impl Pipe {
         let mut wake = None;
         if let (Some(parked), Some(len)) = (self.receiver, self.receiving) {
             if parked.need <= left {
-                let answer = first_bytes(self.bytes.alloc(), self.bytes.as_slice(), len);
-                let Ok(bytes) = answer else {
+                let Ok(bytes) = self.bytes.first_chunk(len) else {
                     self.bytes.truncate(kept);
                     return Err(NoMemory);
                 };
@@ -317,28 +306,28 @@ impl Pipe {
         self.sender.take()
     }
 
-    // Parks the `recv` of `len` bytes.
-    fn park(&mut self, len: usize, task: u64)
-        requires stream { is_open self.old.stream ≡ true }
+    // A `recv` of `len` bytes, of which some are missing, waits, or fails for good where no more come.
+    fn wait_or_fail(&mut self, len: usize, task: u64) -> Result<Poll<IoBufs>, Error>
         requires lacks { held self.old < len }
-        requires sink { is_open self.old.sink ≡ true }
-        requires empty { left self.old < len - held self.old }
-        ensures { self.new ≡ parked self.old len task }
+        requires empty { is_open self.old.sink ≡ true → left self.old < len - held self.old }
+        requires stream { is_open self.old.sink ≡ true → is_open self.old.stream ≡ true }
+        ensures waits { IfOk result (λ answer. (answer ≡ Pending) × (is_open self.old.sink ≡ true)) }
+        ensures fails { IfErr result (λ error. (error ≡ RecvFailed) × (is_open self.old.sink ≡ false)) }
+        ensures parked { OnOk result (self.new ≡ parked self.old len task) }
+        ensures failed { OnErr result (self.new ≡ failed_recv self.old) }
     {
+        if !self.sink.is_open() {
+            self.stream.failed = true;
+            self.receiver = None;
+            self.receiving = None;
+            return Err(Error::RecvFailed);
+        }
         self.receiver = Some(Parked {
             need: len - self.held,
             task,
         });
         self.receiving = Some(len);
-    }
-
-    // The `recv` fails for good.
-    fn fail_recv(&mut self)
-        ensures { self.new ≡ failed_recv self.old }
-    {
-        self.stream.failed = true;
-        self.receiver = None;
-        self.receiving = None;
+        Ok(Poll::Pending)
     }
 
     // Takes the first `len` bytes out, which were answered.
@@ -359,9 +348,10 @@ impl Pipe {
         ensures woken { result ≡ receiver_task self.old.receiver }
         ensures ended { self.new ≡ failed_send self.old }
     {
-        let mut failed = self.sink;
-        failed.failed = true;
-        self.end_sink(failed)
+        self.end_sink(Half {
+            failed: true,
+            ..self.sink
+        })
     }
 
     // Leaves the sink so, which is open no more, and answers the receiver that this wakes.
@@ -394,10 +384,7 @@ impl Pipe {
     fn waiting_receiver(&self) -> Option<u64>
         ensures { result ≡ receiver_task self.now.receiver }
     {
-        match self.receiver {
-            Some(parked) => Some(parked.task),
-            None => None,
-        }
+        self.receiver.map(|parked| parked.task)
     }
 }
 
@@ -413,14 +400,4 @@ impl Waited for Pipe {
         let (receiver, sender) = self.waiting();
         receiver.is_some() || sender.is_some()
     }
-}
-
-// A copy of the first `len` bytes.
-fn first_bytes(alloc: Global, bytes: &[u8], len: usize) -> Result<IoBufs, NoMemory>
-    requires { len ≤ length bytes.now }
-    ensures { IfOk result (λ b. b.bytes ≡ take len bytes.now) }
-{
-    let mut first = Vec::with_capacity(alloc, len)?;
-    first.extend_from_slice(&bytes[..len])?;
-    IoBufs::from_buf(alloc, IoBuf::from_vec(first)?)
 }

@@ -32,10 +32,7 @@ impl<V> Reply<V> {
 pub fn is_pending<V>(answer: &Result<Poll<V>, Error>) -> bool
     ensures { result ≡ is_pending answer.now }
 {
-    match answer {
-        Ok(Poll::Pending) => true,
-        Ok(Poll::Ready(_)) | Err(_) => false,
-    }
+    matches!(answer, Ok(Poll::Pending))
 }
 
 /// The call waits, of an answer that also tells a task.
@@ -43,10 +40,7 @@ pub fn waits<V>(answer: &Result<Reply<Poll<V>>, Error>) -> bool
     ensures { result ≡ waits answer.now }
 {
     match answer {
-        Ok(reply) => match reply.value {
-            Poll::Pending => true,
-            Poll::Ready(_) => false,
-        },
+        Ok(reply) => matches!(reply.value, Poll::Pending),
         Err(_) => false,
     }
 }

@@ -1,7 +1,7 @@
 // A network over any other. It notes an event where a `bind`, `dial`, `accept`, `send` or `recv` starts and where it ends,
 // though none where it was out of memory, counts bytes, and has tokens of its own, which know the other end's address. The event of a receive has
 // the bytes that came. All room is taken before the inner call. It is proved from the trait alone.
-ghost use Rattle.std.specs.Prelude.{◌≡◌, ◌+◌, ◌≤◌, ◌<◌, IfOk, OnOk, OnErr, Ok, ◌∷◌, ◌++◌, [], length, vec_capacity};
+ghost use Rattle.std.specs.Prelude.{◌≡◌, ◌+◌, ◌≤◌, ◌<◌, IfOk, OnOk, OnErr, ◌∷◌, ◌++◌, [], length, vec_capacity};
 ghost use Rattle.rt_base.specs.Noted.{Adds, Happened};
 ghost use Rattle.rt_net.specs.Asked.{HasLength};
 ghost use Rattle.rt_net_tests.specs.Noting.{named, refusal, ending, closing_event, receipt, count_if_ok, bytes_in, with_taken, KnowDialer};

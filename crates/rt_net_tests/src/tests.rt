@@ -1,5 +1,4 @@
 // Worked examples on the network in memory. Each body is over any network, so it is proved from the trait alone.
-ghost use Rattle.std.specs.Prelude.{◌≡◌, false};
 
 use crate::ending::{Ending, got, seen, seen_error};
 use crate::line::{Line, Step, poll_put, takes};
@@ -496,7 +495,7 @@ fn surface(rt: HostRuntime) -> Result<(), Fail> {
     assert!(rt; seen == (4000, Ok(0), Ending::Done, Ok(32768)));
     assert!(rt; net.waiting_halves(0) == (None, None));
     hears_at_home(&rt, &mut net, &mut Net::new(rt.alloc())?);
-    assert!(rt; net.waiting_acceptor(1).is_none());
+    assert!(rt; (net.waiting_acceptor(0), net.waiting_acceptor(1)) == (None, None));
     assert!(rt; !net.anyone_waits());
     Ok(())
 }
@@ -534,42 +533,57 @@ fn surface_of_what_passes_on(rt: HostRuntime) -> Result<(), Fail> {
     Ok(())
 }
 
-// Dials, and lets one task wait to receive and another to send.
+// Dials, receives so many bytes for one task and sends these for another, which ends so.
 fn dials_and_waits<N: Network>(
     rt: &impl Abort,
     net: &mut N,
     socket: Addr,
+    len: usize,
     bufs: IoBufs,
     tasks: (u64, u64),
+    endings: (Ending, Ending),
 ) -> (N::Sink, N::Stream) {
     let reply = net
         .dial(&mut NoEnv, socket)
         .expect(rt, "a listener is there");
     let (mut sink, mut stream) = reply.value;
-    let received = get(net, &mut NoEnv, &mut stream, 1, tasks.0);
+    let received = get(net, &mut NoEnv, &mut stream, len, tasks.0);
     let sent = put(net, &mut NoEnv, &mut sink, bufs, tasks.1);
-    assert!(rt; (received, sent) == (Ending::Waits, Ending::Waits));
+    assert!(rt; (received, sent) == endings);
     (sink, stream)
 }
 
-// In the order of their dials, each one's receiver before its sender.
+// In the order of their dials, each one's receiver before its sender. The second waits to receive alone, the third to send.
 #[test]
 fn closed_listener_wakes_its_dialers(rt: HostRuntime) -> Result<(), Fail> {
     let alloc = rt.alloc();
     let mut net = Net::new(alloc)?;
     let first = bytes(alloc, 65537)?;
-    let second = bytes(alloc, 65537)?;
-    let listener = net
-        .bind(&mut NoEnv, here(4000))
-        .expect(&rt, "the address is free");
-    let (sink, stream) = dials_and_waits(&rt, &mut net, here(4000), first, (7, 1));
-    let (other, last) = dials_and_waits(&rt, &mut net, here(4000), second, (8, 2));
+    let second = bytes(alloc, 1)?;
+    let third = bytes(alloc, 65537)?;
+    let at = here(4000);
+    let listener = net.bind(&mut NoEnv, at).expect(&rt, "the address is free");
+    let waits = (Ending::Waits, Ending::Waits);
+    let (sink, stream) = dials_and_waits(&rt, &mut net, at, 1, first, (7, 1), waits);
+    let receives = (Ending::Waits, Ending::Done);
+    let (second_sink, second_stream) = dials_and_waits(
+        &rt,
+        &mut net,
+        at,
+        1,
+        second,
+        (8, 3),
+        receives,
+    );
+    let sends = (Ending::Got(0), Ending::Waits);
+    let (third_sink, third_stream) = dials_and_waits(&rt, &mut net, at, 0, third, (9, 2), sends);
     net.close_listener(listener);
     for task in [Some(7), Some(1), Some(8), Some(2), None] {
         assert!(rt; net.next_woken() == task);
     }
     let _ = close(&mut net, sink, stream);
-    let _ = close(&mut net, other, last);
+    let _ = close(&mut net, second_sink, second_stream);
+    let _ = close(&mut net, third_sink, third_stream);
     Ok(())
 }
 

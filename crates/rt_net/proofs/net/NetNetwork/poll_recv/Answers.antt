@@ -13,14 +13,14 @@ returns-clause-gives g c =
     let n = c.args.stream.now.number in
     let r = c.poll_recv-answer.result in
     let pipe = called has_stream c.self.inside.channels.items n _ _ (λ k. after_poll_recv k c.args.task r) (r ≡ Err UnknownToken) (λ k. PollsReceive k r) c.index_mut.ensures.value (search rules) c.poll_recv-answer.ensures.polls c.poll_recv-answer.ensures.after in
-    ([], (search rules), (subst (λ (v : Kept). NetPollsReceive v.state n r) c.self.view_is pipe.0, (search (rules, pipe.1)), (search rules), (search rules)))
+    rw c.counted-2.ensures.answer ([], (search rules), (subst (λ (v : Kept). NetPollsReceive v.state n r) c.self.view_is pipe.0, (search (rules, pipe.1)), (search rules), (search rules)))
 
 pub returns-clause-length : goal.returns-clause-length
 returns-clause-length g c =
     let cs = c.self.inside.channels.items in
     let n = c.args.stream.now.number in
     let live = live-there has_stream cs n _ c.index_mut.ensures.value (search rules) in
-    polls-length cs c.args.self.now.state.channels n _ c.poll_recv-answer.result (ap (λ (v : Kept). v.state.channels) c.self.view_is) live c.poll_recv-answer.ensures.polls
+    rw c.counted-2.ensures.answer (polls-length cs c.args.self.now.state.channels n _ c.poll_recv-answer.result (ap (λ (v : Kept). v.state.channels) c.self.view_is) live c.poll_recv-answer.ensures.polls)
 
 pub returns-clause-asked : goal.returns-clause-asked
 returns-clause-asked g c w =
@@ -29,4 +29,4 @@ returns-clause-asked g c w =
     let r = c.poll_recv-answer.result in
     let live = live-there has_stream cs n _ c.index_mut.ensures.value (search rules) in
     let left = after-at cs n _ _ (λ k. after_poll_recv k c.args.task r) (live_stream cs n) live c.poll_recv-answer.ensures.after in
-    polls-ask cs c.args.self.now.state.channels c.count.new.self.state.channels n c.args.task _ r (ap (λ (v : Kept). v.state.channels) c.self.view_is) (search (rules, left)) live c.poll_recv-answer.ensures.polls w
+    polls-ask cs c.args.self.now.state.channels c.counted-2.new.self.state.channels n c.args.task _ r (ap (λ (v : Kept). v.state.channels) c.self.view_is) (search (rules, left)) live c.poll_recv-answer.ensures.polls (rw c.counted-2.ensures.answer at w)

@@ -13,7 +13,7 @@ returns-clause-gives g c =
     let n = c.args.stream.now.number in
     let r = c.recv-answer.result in
     let pipe = called has_stream c.self.inside.channels.items n _ _ (λ k. after_recv k c.args.len c.args.task r) (r ≡ Err UnknownToken) (λ k. Receives k c.args.len r) c.index_mut.ensures.value (search rules) c.recv-answer.ensures.receives c.recv-answer.ensures.after in
-    ([], (search rules), (subst (λ (v : Kept). NetReceives v.state n c.args.len r) c.self.view_is pipe.0, (search (rules, pipe.1)), (search rules), (search rules)))
+    rw c.counted-2.ensures.answer ([], (search rules), (subst (λ (v : Kept). NetReceives v.state n c.args.len r) c.self.view_is pipe.0, (search (rules, pipe.1)), (search rules), (search rules)))
 
 pub returns-clause-asked : goal.returns-clause-asked
 returns-clause-asked g c w =
@@ -22,4 +22,4 @@ returns-clause-asked g c w =
     let r = c.recv-answer.result in
     let live = live-there has_stream cs n _ c.index_mut.ensures.value (search rules) in
     let left = after-at cs n _ _ (λ k. after_recv k c.args.len c.args.task r) (live_stream cs n) live c.recv-answer.ensures.after in
-    receives-asks cs c.count.new.self.state.channels n c.args.len c.args.task _ r (search (rules, left)) live w
+    receives-asks cs c.counted-2.new.self.state.channels n c.args.len c.args.task _ r (search (rules, left)) live (rw c.counted-2.ensures.answer at w)

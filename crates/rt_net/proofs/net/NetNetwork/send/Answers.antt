@@ -1,4 +1,4 @@
-use Rattle.std.proofs.Common.{◌≡◌, [], Err, None, rules, subst}
+use Rattle.std.proofs.Common.{◌≡◌, [], Err, None, refl, rules, subst}
 use Rattle.rt_base.specs.declared.error.Error.TheVariants.{UnknownToken}
 use Rattle.rt_net.specs.Calls.{NetSends}
 use Rattle.rt_net.specs.Channel.{Sends, after_send}
@@ -12,4 +12,4 @@ returns-clause-gives g c =
     let n = c.args.sink.now.number in
     let r = c.send-reply.result in
     let pipe = called has_sink c.self.inside.channels.items n _ _ (λ k. after_send k c.args.bufs.bytes c.args.task r.value) ((r.value ≡ Err UnknownToken) × (r.wake ≡ None)) (λ k. Sends k c.args.bufs.bytes r.value r.wake) c.index_mut.ensures.value (search rules) c.send-reply.ensures.sends c.send-reply.ensures.after in
-    ([], (search rules), (subst (λ (v : Kept). NetSends v.state n c.args.bufs.bytes r) c.self.view_is (pipe.0, c.send-reply.ensures.link), (search (rules, pipe.1)), (search rules), (search rules)))
+    rw c.of-2.ensures (rw c.counted-2.ensures.answer ([], (search rules), (subst (λ (v : Kept). NetSends v.state n c.args.bufs.bytes (record { value = r.value; wake = r.wake; link = None })) c.self.view_is (pipe.0, refl), (search (rules, pipe.1)), (search rules), (search rules))))

@@ -1,10 +1,10 @@
 use Rattle.std.proofs.Common.{rules, arith, ◌≡◌, ◌<◌}
 use Rattle.rt_net.specs.Pipe.{channel_of}
 use Rattle.rt_net.proofs.Quiet.{parked-quiet}
-use Rattle.rt_net.proofs.pipe.Pipe.park.Goals as goal
+use Rattle.rt_net.proofs.pipe.Pipe.wait_or_fail.Goals as goal
 
-pub invariant_of-self : goal.invariant_of-self
-invariant_of-self c =
+pub invariant_of-self-2 : goal.invariant_of-self-2
+invariant_of-self-2 c =
     let quiet = parked-quiet (channel_of c.self.inside) c.self.inside.held c.args.len c.args.task (search (rules, arith)) c.self.invariant.quiet (search (rules, arith)) (search rules) (search rules) (search (rules, arith)) in
     let lacks : c.self.inside.held < c.args.len = search (rules, arith) in
     record {
