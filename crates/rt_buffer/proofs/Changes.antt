@@ -1,6 +1,7 @@
 -- A writer whose changes are shown.
-use Rattle.std.proofs.Common.{◌≡◌, ◌≤◌, ◌⊎◌, inl, inr, ℕ, ◌+◌, List, [], ◌∷◌, length, Option, Some, None, Result, Ok, Err, refl, sym, ap, ◌∙◌, subst, Bool, true, false}
+use Rattle.std.proofs.Common.{◌≡◌, ◌≤◌, ◌⊎◌, ◌*◌, arith, inl, inr, ℕ, ◌+◌, List, [], ◌∷◌, length, Option, Some, None, Result, Ok, Err, refl, sym, ap, ◌∙◌, subst, Bool, true, false}
 use Rattle.std.proofs.lemmas.Bool.{leb-true, and_parts}
+use Rattle.std.proofs.Math.Nat.{mul-le-mul_right}
 use Rattle.std.specs.Prelude.{⊤, ◌&&◌, ◌^◌, nat_le, nat_lt}
 use Rattle.rt_base.specs.declared.error.Error.{Error}
 use Rattle.rt_base.specs.declared.poll.Poll.TheVariants as poll
@@ -217,3 +218,17 @@ merged_whole t at chunks content tip left tips lefts none lies =
     let m = merged_left t at chunks content tip left tips lefts lies in
     let empty : chunks_written left.at left.chunks (laid_over tip content) ≡ laid_over tip content = rw none refl in
     (m.0, sym empty ∙ m.1)
+
+less_at : (t : Tip) (at : ℕ) (c : List ℕ) (cs : List (List ℕ)) (yes : Bool) → is_within t at (length c) ≡ yes → length (merged_chunks (merged t c at) (at + length c) cs).left.chunks ≤ length cs → length (merged_chunks t at (c ∷ cs)).left.chunks ≤ length (c ∷ cs)
+less_at t at c cs true is rest = rw is (omega (arith, rest))
+less_at t at c cs false is rest = rw is (omega arith)
+
+-- no more chunks are left than there were
+pub merged_less : (t : Tip) (at : ℕ) (chunks : List (List ℕ)) → length (merged_chunks t at chunks).left.chunks ≤ length chunks
+merged_less t at [] = omega arith
+merged_less t at (c ∷ cs) = less_at t at c cs (is_within t at (length c)) refl (merged_less (merged t c at) (at + length c) cs)
+
+pub spent_less : (n m most old new : ℕ) → n ≤ m → old ≤ new + (most + n * (2 * most)) → old ≤ new + (most + m * (2 * most))
+spent_less n m most old new less spent =
+    let more : n * (2 * most) ≤ m * (2 * most) = mul-le-mul_right (2 * most) less in
+    omega (arith, more, spent)

@@ -297,7 +297,7 @@ call_keeps c bytes left promised keeps b task content (work.Write p) old store s
     let shows = keeping.2 in
     write_behind c bytes left promised keeps b task content keeping.0 p did.0 did.2 did.1 store s x keeping.1 (tip_waits c bytes left promised keeps b task keeping.0 old.held.state old did.0 did.1 did.2 refl shows.0 shows.1 shows.2 did.3) did.4
 
-with_handle_as : {B : Type 0} (s : Stepped (B × Held) ((B × Held) × Rest)) (done : B × Held → Type 0) (waits : (B × Held) × Rest → Type 0) → IfStepped s done waits → IfBegun (with_handle s) done waits
+pub with_handle_as : {B : Type 0} (s : Stepped (B × Held) ((B × Held) × Rest)) (done : B × Held → Type 0) (waits : (B × Held) × Rest → Type 0) → IfStepped s done waits → IfBegun (with_handle s) done waits
 with_handle_as (step.Done w) done waits h = h
 with_handle_as (step.Waiting p) done waits h = h
 with_handle_as (step.Failed e) done waits h = h

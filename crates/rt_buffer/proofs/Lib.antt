@@ -5,14 +5,17 @@ pub mod DelayedKept
 pub mod DelayedOthers
 pub mod Durable
 pub mod Flat
+pub mod Framed
 pub mod Holding
 pub mod Kept
 pub mod Laid
+pub mod Memory
 pub mod Merging
 pub mod Mocks
 pub mod Noting
 pub mod Others
 pub mod Overlaid
+pub mod Seen
 pub mod Shown
 pub mod Steps
 pub mod Written

@@ -1,5 +1,6 @@
 -- One step of a writer behind another.
-use Rattle.std.proofs.Common.{◌≡◌, inr, ℕ, ◌+◌, Bool, true, false, List, [], ◌∷◌, ◌++◌, length, Option, Some, None, Result, Ok, Err, refl, subst, slice_get}
+use Rattle.std.proofs.Common.{◌≡◌, ◌≤◌, ◌*◌, arith, inr, ℕ, ◌+◌, Bool, true, false, List, [], ◌∷◌, ◌++◌, length, Option, Some, None, Result, Ok, Err, refl, subst, slice_get}
+use Rattle.std.proofs.Math.Nat.{suc-mul}
 use Rattle.rt_base.specs.declared.error.Error.{Error}
 use Rattle.rt_base.specs.declared.error.Error.TheVariants.{NoMemory}
 use Rattle.rt_base.specs.declared.poll.Poll.TheVariants as poll
@@ -280,3 +281,11 @@ unseen_handle blob f g (begun.Failed e) is = is
 
 pub starts_handle : {S B W P : Type 0} (c : StoreCalls S B) (blob : B) (task : ℕ) (old : Writer S) (store : S) (f : W → B × Held) (g : P → (B × Held) × Rest) (r : Begun W P) (x : List Noted) → Starts c blob task old store (seen_start f g r) x → GivesHandle blob f (λ p. (g p).0.0) r
 starts_handle c blob task old store f g r x did = unseen_handle blob f g r (starts_handed c blob task old store (seen_start f g r) x did)
+
+-- what a chunk takes of an environment is there, where there is room for two calls for each
+pub spent_chunk : (at : ℕ) (chunks : List (List ℕ)) (chunk : List ℕ) (rest : Pieces) (most start before after total : ℕ) → slice_get chunks 0 ≡ Some chunk → rest ≡ passed at chunks → start + length chunks * (2 * most) ≤ before + total → before ≤ after + 2 * most
+    → start + length rest.chunks * (2 * most) ≤ after + total
+spent_chunk at [] chunk rest most start before after total found is room spent = absurd (cc)
+spent_chunk at (c ∷ cs) chunk rest most start before after total found is room spent =
+    let one : length (c ∷ cs) * (2 * most) ≡ length cs * (2 * most) + 2 * most = suc-mul (length cs) (2 * most) in
+    rw is (omega (arith, one, room, spent))

@@ -1,10 +1,12 @@
 -- What a store that holds syncs back keeps of its blobs by a crash, by what its inner store keeps of them.
-use Rattle.std.specs.Prelude.{ℕ, ◌+◌, ◌==◌, Bool, true, false, not, ◌&&◌, if◌then◌else◌, List, [], Option, Some, None, slice_get, nat_lt}
-use Rattle.rt_buffer.specs.Calls.{StoreCalls}
+use Rattle.std.specs.Prelude.{ℕ, ◌+◌, ◌==◌, Bool, true, false, not, ◌&&◌, if◌then◌else◌, List, [], length, Option, Some, None, slice_get, nat_lt}
+use Rattle.rt_buffer.specs.Calls.{StoreCalls, seen_calls}
+use Rattle.rt_buffer.specs.declared.delayed_sync.DelayedSyncBlob.{DelayedSyncBlob}
+use Rattle.rt_buffer.specs.declared.delayed_sync.DelayedSyncContext.{DelayedSyncContext}
 use Rattle.rt_buffer.specs.declared.shared_blob.SharedBlob.{SharedBlob}
 use Rattle.rt_buffer.specs.declared.stage.Stage.{Stage}
 use Rattle.rt_buffer.specs.declared.stage.Stage.TheVariants as stage
-use Rattle.rt_buffer.specs.Delayed.{Delayed, GivesUp, LetsGo, OnBlob, Polls, Starts, Syncs, Writes, blob_at, stage_of}
+use Rattle.rt_buffer.specs.Delayed.{Delayed, GivesUp, LetsGo, OnBlob, Polls, Starts, Syncs, Writes, blob_at, delayed, stage_of}
 use Rattle.rt_store.specs.declared.ticket.Ticket.{Ticket}
 use Rattle.rt_store.specs.declared.ticket.Ticket.TheVariants.{Ready, Numbered}
 
@@ -20,6 +22,13 @@ delayed_calls c = record {
   starts = λ s n r new x. Starts n (blob_at s.blobs n) s r new x;
   closes = λ s n new. LetsGo c (Some n) s new;
 }
+
+-- the parts of such a store, and its calls on them
+abbrev pub delayed_of : {S B : Type 0} → DelayedSyncContext S B → Delayed S B
+delayed_of s = delayed s.inner s.pending s.blobs.items s.tickets.items s.refusals
+
+abbrev pub context_calls : {S B : Type 0} → StoreCalls S B → StoreCalls (DelayedSyncContext S B) DelayedSyncBlob
+context_calls {S = S} {B = B} c = seen_calls (λ (s : DelayedSyncContext S B). delayed_of s) (λ (k : DelayedSyncBlob). k.number) (delayed_calls c)
 
 -- the bytes of the inner blob of a number, and what each crash leaves of it
 abbrev pub bytes_in : {S B : Type 0} → (S → B → List ℕ) → S → Option B → List ℕ
@@ -69,3 +78,27 @@ apart_in apart s (Some a) (Some b) = apart s a b
 
 abbrev pub delayed_apart : {S B : Type 0} → (S → B → B → Bool) → Delayed S B → ℕ → ℕ → Bool
 delayed_apart apart s n m = not (n == m) && apart_in apart s.inner (blob_at s.blobs n) (blob_at s.blobs m)
+
+-- a number that was given out, of no inner blob or of one that is open
+abbrev pub opened_in : {S B : Type 0} → (S → B → Bool) → S → Option B → Bool
+opened_in opened s None = true
+opened_in opened s (Some b) = opened s b
+
+abbrev pub delayed_opened : {S B : Type 0} → (S → B → Bool) → Delayed S B → ℕ → Bool
+delayed_opened opened s n = nat_lt n (length s.blobs) && opened_in opened s.inner (blob_at s.blobs n)
+
+-- the same of such a store by its blobs
+abbrev pub context_bytes : {S B : Type 0} → (S → B → List ℕ) → DelayedSyncContext S B → DelayedSyncBlob → List ℕ
+context_bytes bytes s k = delayed_bytes bytes (delayed_of s) k.number
+
+abbrev pub context_left : {S B : Type 0} → (S → B → Option (List ℕ)) → DelayedSyncContext S B → DelayedSyncBlob → Option (List ℕ)
+context_left left s k = delayed_left left (delayed_of s) k.number
+
+abbrev pub context_promised : {S B : Type 0} → (S → B → List ℕ) → (S → Ticket → B → Option (List ℕ)) → DelayedSyncContext S B → Ticket → DelayedSyncBlob → Option (List ℕ)
+context_promised bytes promised s t k = delayed_promised bytes promised (delayed_of s) t k.number
+
+abbrev pub context_apart : {S B : Type 0} → (S → B → B → Bool) → DelayedSyncContext S B → DelayedSyncBlob → DelayedSyncBlob → Bool
+context_apart apart s k j = delayed_apart apart (delayed_of s) k.number j.number
+
+abbrev pub context_opened : {S B : Type 0} → (S → B → Bool) → DelayedSyncContext S B → DelayedSyncBlob → Bool
+context_opened opened s k = delayed_opened opened (delayed_of s) k.number

@@ -1,11 +1,13 @@
 -- What a store keeps of its blobs by a crash, and when a writer's changes are kept.
 use Rattle.std.specs.Prelude.{◌≡◌, ℕ, Bool, true, false, ⊤, List, Option, Some, Result, Ok, Err}
 use Rattle.rt_base.specs.declared.error.Error.{Error}
+use Rattle.rt_base.specs.declared.options.ReadOptions.{ReadOptions}
 use Rattle.rt_base.specs.declared.options.WriteOptions.{WriteOptions}
 use Rattle.rt_base.specs.declared.poll.Poll.{Poll}
 use Rattle.rt_base.specs.declared.poll.Poll.TheVariants as poll
 use Rattle.rt_base.specs.Noted.{Noted}
 use Rattle.rt_bufs.specs.Chunked.{Chunked}
+use Rattle.rt_bufs.specs.WritableChunks.{WritableChunks}
 use Rattle.rt_buffer.specs.Calls.{StoreCalls}
 use Rattle.rt_buffer.specs.declared.held.Held.{Held}
 use Rattle.rt_buffer.specs.declared.sync_handle.Begun.{Begun}
@@ -58,26 +60,41 @@ abbrev pub Stays : {S B : Type 0} → (S → B → List ℕ) → (S → B → Op
 Stays bytes left promised b s new =
     (bytes new b ≡ bytes s b) × (left new b ≡ left s b) × ((t : Ticket) (l : List ℕ) → promised s t b ≡ Some l → promised new t b ≡ Some l)
 
--- a call on `a` left `b` as it was, and the two are still apart
-abbrev pub Leaves : {S B : Type 0} → (S → B → List ℕ) → (S → B → Option (List ℕ)) → (S → Ticket → B → Option (List ℕ)) → (S → B → B → Bool) → B → B → S → S → Type 0
-Leaves bytes left promised apart a b s new = Stays bytes left promised b s new × (apart new a b ≡ true)
+-- any two blobs that were apart still are, and a blob that was open still counts as one. Of both the store says when they are so
+abbrev pub StayApart : {S B : Type 0} → (S → B → B → Bool) → (S → B → Bool) → S → S → Type 0
+StayApart {B = B} apart opened s new = ((a b : B) → apart s a b ≡ true → apart new a b ≡ true) × ((b : B) → opened s b ≡ true → opened new b ≡ true)
 
--- the calls on a blob leave each other one as it was, whatever they answer, and so do the polls and the end of a ticket that promises
--- something of it. Which blobs are apart is the store's to say, of both at once. A numbered ticket is one blob's, and the poll and the
--- end of one that is ready leave the store itself as it was
-pub record LeavesOthers {S B : Type 0} (c : StoreCalls S B) (bytes : S → B → List ℕ) (left : S → B → Option (List ℕ)) (promised : S → Ticket → B → Option (List ℕ)) (apart : S → B → B → Bool) : Type 0 where
-  pub write_leaves : (s : S) (a b : B) (at : ℕ) (w : Chunked) (options : WriteOptions) (r : Result Done Error) (new : S) (x : List Noted) → apart s a b ≡ true → c.writes s a at w options r new x → Leaves bytes left promised apart a b s new
-  pub given_up_leaves : (s : S) (a b : B) (at : ℕ) (w : Chunked) (options : WriteOptions) (t : Ticket) (mid : S) (x : List Noted) (new : S) → options.sync ≡ false → apart s a b ≡ true → c.writes s a at w options (Ok (Gated t)) mid x → c.gives_up mid t new → Leaves bytes left promised apart a b s new
-  pub resize_leaves : (s : S) (a b : B) (len : ℕ) (r : Result Unit Error) (new : S) (x : List Noted) → apart s a b ≡ true → c.resizes s a len r new x → Leaves bytes left promised apart a b s new
-  pub sync_leaves : (s : S) (a b : B) (r : Result Done Error) (new : S) (x : List Noted) → apart s a b ≡ true → c.syncs s a r new x → Leaves bytes left promised apart a b s new
-  pub start_leaves : (s : S) (a b : B) (r : Result Ticket Error) (new : S) (x : List Noted) → apart s a b ≡ true → c.starts s a r new x → Leaves bytes left promised apart a b s new
-  pub poll_leaves : (s : S) (t : Ticket) (a b : B) (l : List ℕ) (task : ℕ) (p : Poll (Result Unit Error)) (new : S) (held : Ticket) (x : List Noted) → apart s a b ≡ true → promised s t a ≡ Some l → c.polls s t task p new held x → Leaves bytes left promised apart a b s new
-  pub give_up_leaves : (s : S) (t : Ticket) (a b : B) (l : List ℕ) (new : S) → apart s a b ≡ true → promised s t a ≡ Some l → c.gives_up s t new → Leaves bytes left promised apart a b s new
-  pub close_leaves : (s : S) (a b : B) (new : S) → apart s a b ≡ true → c.closes s a new → Leaves bytes left promised apart a b s new
+-- a call on this blob left each one that is apart from it as it was
+abbrev pub Leaves : {S B : Type 0} → (S → B → List ℕ) → (S → B → Option (List ℕ)) → (S → Ticket → B → Option (List ℕ)) → (S → B → B → Bool) → (S → B → Bool) → B → S → S → Type 0
+Leaves {B = B} bytes left promised apart opened a s new = ((b : B) → apart s a b ≡ true → Stays bytes left promised b s new) × StayApart apart opened s new
+
+-- so the calls on a blob leave the others, whatever they answer, and so do the polls and the end of a ticket that promises something
+-- of it. A numbered ticket is one blob's, and the poll and the end of one that is ready leave the store itself as it was
+pub record LeavesOthers {S B : Type 0} (c : StoreCalls S B) (bytes : S → B → List ℕ) (left : S → B → Option (List ℕ)) (promised : S → Ticket → B → Option (List ℕ)) (apart : S → B → B → Bool) (opened : S → B → Bool) : Type 0 where
+  pub write_leaves : (s : S) (a : B) (at : ℕ) (w : Chunked) (options : WriteOptions) (r : Result Done Error) (new : S) (x : List Noted) → c.writes s a at w options r new x → Leaves bytes left promised apart opened a s new
+  pub given_up_leaves : (s : S) (a : B) (at : ℕ) (w : Chunked) (options : WriteOptions) (t : Ticket) (mid : S) (x : List Noted) (new : S) → options.sync ≡ false → c.writes s a at w options (Ok (Gated t)) mid x → c.gives_up mid t new → Leaves bytes left promised apart opened a s new
+  pub resize_leaves : (s : S) (a : B) (len : ℕ) (r : Result Unit Error) (new : S) (x : List Noted) → c.resizes s a len r new x → Leaves bytes left promised apart opened a s new
+  pub sync_leaves : (s : S) (a : B) (r : Result Done Error) (new : S) (x : List Noted) → c.syncs s a r new x → Leaves bytes left promised apart opened a s new
+  pub start_leaves : (s : S) (a : B) (r : Result Ticket Error) (new : S) (x : List Noted) → c.starts s a r new x → Leaves bytes left promised apart opened a s new
+  pub poll_leaves : (s : S) (t : Ticket) (a : B) (l : List ℕ) (task : ℕ) (p : Poll (Result Unit Error)) (new : S) (held : Ticket) (x : List Noted) → promised s t a ≡ Some l → c.polls s t task p new held x → Leaves bytes left promised apart opened a s new
+  pub give_up_leaves : (s : S) (t : Ticket) (a : B) (l : List ℕ) (new : S) → promised s t a ≡ Some l → c.gives_up s t new → Leaves bytes left promised apart opened a s new
+  pub close_leaves : (s : S) (a : B) (new : S) → c.closes s a new → Leaves bytes left promised apart opened a s new
   pub one_blob : (s : S) (n : ℕ) (a b : B) (l k : List ℕ) → apart s a b ≡ true → promised s (ticket.Numbered n) a ≡ Some l → promised s (ticket.Numbered n) b ≡ Some k → ⊥
   pub both_ways : (s : S) (a b : B) → apart s a b ≡ true → apart s b a ≡ true
   pub ready_polls : (s : S) (held : Result Unit Error) (task : ℕ) (p : Poll (Result Unit Error)) (new : S) (after : Ticket) (x : List Noted) → c.polls s (ticket.Ready held) task p new after x → new ≡ s
   pub ready_ends : (s : S) (held : Result Unit Error) (new : S) → c.gives_up s (ticket.Ready held) new → new ≡ s
+
+-- an open leaves the blobs that are open, and makes one that is apart from each of them
+pub record OpensApart {S B : Type 0} (opens : S → List ℕ → List ℕ → Result (B × ℕ) Error → S → List Noted → Type 0) (bytes : S → B → List ℕ) (left : S → B → Option (List ℕ)) (promised : S → Ticket → B → Option (List ℕ)) (apart : S → B → B → Bool) (opened : S → B → Bool) : Type 0 where
+  pub open_leaves : (s : S) (partition name : List ℕ) (r : Result (B × ℕ) Error) (new : S) (x : List Noted) (b : B) → opens s partition name r new x → opened s b ≡ true → Stays bytes left promised b s new × (opened new b ≡ true)
+  pub open_keeps : (s : S) (partition name : List ℕ) (r : Result (B × ℕ) Error) (new : S) (x : List Noted) (a b : B) → opens s partition name r new x → opened s a ≡ true → opened s b ≡ true → apart s a b ≡ true → apart new a b ≡ true
+  pub opens_one : (s : S) (partition name : List ℕ) (a : B × ℕ) (new : S) (x : List Noted) → opens s partition name (Ok a) new x → opened new a.0 ≡ true
+  pub opens_apart : (s : S) (partition name : List ℕ) (a : B × ℕ) (new : S) (x : List Noted) (b : B) → opens s partition name (Ok a) new x → opened s b ≡ true → apart new a.0 b ≡ true
+
+-- a read leaves each blob as it was, also the one that it reads
+pub record ReadsLeave {S B : Type 0} (reads : S → B → ℕ → ℕ → ReadOptions → Result WritableChunks Error → S → List Noted → Type 0) (bytes : S → B → List ℕ) (left : S → B → Option (List ℕ)) (promised : S → Ticket → B → Option (List ℕ)) (apart : S → B → B → Bool) (opened : S → B → Bool) : Type 0 where
+  pub read_leaves : (s : S) (a : B) (offset len : ℕ) (options : ReadOptions) (r : Result WritableChunks Error) (new : S) (x : List Noted) (b : B) → reads s a offset len options r new x → Stays bytes left promised b s new
+  pub read_keeps : (s : S) (a : B) (offset len : ℕ) (options : ReadOptions) (r : Result WritableChunks Error) (new : S) (x : List Noted) → reads s a offset len options r new x → StayApart apart opened s new
 
 -- what a writer knows of the durability of its blob is so
 abbrev pub KnowsState : {S B : Type 0} → (S → B → List ℕ) → (S → B → Option (List ℕ)) → (S → Ticket → B → Option (List ℕ)) → SyncState → S → B → Type 0

@@ -1,6 +1,6 @@
 -- What a writer's calls do that wait or change its blob: each as a relation over the writer and its store before it, what it
 -- came to, the two after it, and what it noted.
-use Rattle.std.specs.Prelude.{◌≡◌, ◌⊎◌, ℕ, ◌+◌, ◌-◌, ◌^◌, ◌==◌, min, ⊤, Bool, true, false, List, [], ◌∷◌, ◌++◌, length, Option, Some, None, Result, Ok, Err}
+use Rattle.std.specs.Prelude.{◌≡◌, ◌⊎◌, ℕ, ◌+◌, ◌-◌, ◌*◌, ◌^◌, ◌==◌, min, ⊤, Bool, true, false, List, [], ◌∷◌, ◌++◌, length, Option, Some, None, Result, Ok, Err}
 use Rattle.rt_base.specs.Counted.{Counts}
 use Rattle.rt_base.specs.declared.error.Error.{Error}
 use Rattle.rt_base.specs.declared.error.Error.TheVariants.{NoMemory}
@@ -22,7 +22,7 @@ use Rattle.rt_buffer.specs.declared.sync_handle.Begun.TheVariants as begun
 use Rattle.rt_buffer.specs.Pieces.{Pieces, merged_chunks}
 use Rattle.rt_buffer.specs.Writing.{ClosesWriter, has_bytes, is_in_the_way}
 use Rattle.rt_buffer.specs.Tip.{Tip, bytes_to_write, bytes_before, drained, is_within, merged, raised, resized_tip}
-use Rattle.rt_store.specs.Answered.{CountsDone, CountsPoll, CountsStart, PollsTicket}
+use Rattle.rt_store.specs.Answered.{CountsDone, CountsPoll, CountsStart, PollsTicket, is_numbered}
 use Rattle.rt_store.specs.declared.ticket.Done.{Done}
 use Rattle.rt_store.specs.declared.ticket.Done.TheVariants.{Now, Gated}
 use Rattle.rt_store.specs.declared.ticket.Ticket.{Ticket}
@@ -90,13 +90,13 @@ Settled (poll.Ready (Ok u)) mid t held r new = (r ≡ is_done) × (new ≡ write
 Settled (poll.Ready (Err e)) mid t held r new = (r ≡ Err e) × (new ≡ writer mid (with_state held (Started t)))
 Settled poll.Pending mid t held r new = (r ≡ Ok poll.Pending) × (new ≡ writer mid (with_state held (Started t)))
 
--- the wait for a started sync
+-- the wait for a started sync. A ticket that is ready is none of the store's, and its poll leaves that as it was
 abbrev pub WaitsFor : {S B : Type 0} → StoreCalls S B → ℕ → SyncState → Act S
 WaitsFor c task Clean old r new x = Rests old r new x
 WaitsFor c task Dirty old r new x = Rests old r new x
 WaitsFor {S} c task (Started t) old r new x =
     (p : Poll (Result Unit Error)) × (mid : S) × (held : Ticket) × c.polls old.store t task p mid held x
-    × PollsTicket t p held × CountsPoll (c.refusals old.store) (c.refusals mid) t held × Settled p mid held old.held r new
+    × PollsTicket t p held × CountsPoll (c.refusals old.store) (c.refusals mid) t held × Settled p mid held old.held r new × (is_numbered t ≡ false → mid ≡ old.store)
 
 abbrev pub Waits : {S B : Type 0} → StoreCalls S B → ℕ → Act S
 Waits c task old r new x = WaitsFor c task old.held.state old r new x
@@ -267,6 +267,14 @@ PutsChunks c blob at (chunk ∷ chunks) old r new x = Then (Puts c blob at chunk
 
 abbrev pub PutsAll : {S B : Type 0} → StoreCalls S B → B → Pieces → Act S
 PutsAll c blob p old r new x = PutsChunks c blob p.at p.chunks old r new x
+
+-- how much of its environment that takes at most, by what a call of the store does
+abbrev pub room_for : ℕ → Rest → ℕ
+room_for most work.Nothing = 0
+room_for most work.Sync = 3 * most
+room_for most (work.Resize n) = 2 * most
+room_for most (work.Write p) = length p.chunks * (2 * most)
+room_for most work.Start = 2 * most
 
 -- what a call does once no started sync is held
 abbrev pub Finishes : {S B : Type 0} → StoreCalls S B → B → Rest → ℕ → Act S

@@ -9,6 +9,7 @@ use Rattle.rt_bufs.specs.Chunked.{Chunked}
 use Rattle.rt_bufs.specs.WritableChunks.{WritableChunks}
 use Rattle.rt_buffer.specs.declared.sync_state.SyncState.{SyncState}
 use Rattle.rt_buffer.specs.declared.sync_state.SyncState.TheVariants.{Clean, Dirty, Started}
+use Rattle.rt_store.specs.Answered.{is_numbered}
 use Rattle.rt_store.specs.declared.ticket.Ticket.{Ticket}
 use Rattle.rt_buffer.specs.Reading.{no_hints}
 use Rattle.rt_buffer.specs.Tip.{Tip, end_of}
@@ -57,8 +58,8 @@ ReadsThrough reads refusals blob t offset len old r new x =
 abbrev pub LiesOver : Tip → List ℕ → Type 0
 LiesOver t content = (t.offset ≤ length content) × (length content ≤ end_of t)
 
--- a started sync is given up, and then the blob is closed
+-- a started sync is given up, which leaves the store as it was where its ticket is ready, and then the blob is closed
 abbrev pub ClosesWriter : {S B : Type 0} → (S → Ticket → S → Type 0) → (S → B → S → Type 0) → SyncState → B → S → S → Type 0
 ClosesWriter {S} gives_up closes Clean blob old new = closes old blob new
 ClosesWriter {S} gives_up closes Dirty blob old new = closes old blob new
-ClosesWriter {S} gives_up closes (Started t) blob old new = (mid : S) × gives_up old t mid × closes mid blob new
+ClosesWriter {S} gives_up closes (Started t) blob old new = (mid : S) × gives_up old t mid × (is_numbered t ≡ false → mid ≡ old) × closes mid blob new

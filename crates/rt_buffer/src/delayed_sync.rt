@@ -3,15 +3,15 @@ ghost use Rattle.std.specs.Prelude.{◌≡◌, ◌+◌, ◌<◌, ◌≤◌, ◌^
 ghost use Rattle.rt_base.specs.Counted.{Notes};
 ghost use Rattle.rt_base.specs.declared.error.Error.{Error};
 ghost use Rattle.rt_base.specs.declared.poll.Poll.{Poll};
-ghost use Rattle.rt_buffer.specs.Calls.{calls};
 ghost use Rattle.rt_buffer.specs.Delayed.{AnswersInner, ClosesAll, CountsAnswer, Finishes, GivesUpAll, GivesUpStage, LetsGo, PollsInner, PollsStage, Settles, SyncsAt, SyncsReleased, Writes, blob_at, delayed, gate_has_place, refused, without_ticket};
-ghost use Rattle.rt_buffer.specs.DelayedBytes.{delayed_apart, delayed_bytes, delayed_calls, delayed_left, delayed_promised};
-ghost use Rattle.rt_buffer.specs.Durable.{KeepsBytes, LeavesOthers};
+ghost use Rattle.rt_buffer.specs.DelayedBytes.{context_apart, context_bytes, context_left, context_opened, context_promised};
+ghost use Rattle.rt_buffer.specs.Durable.{KeepsBytes, LeavesOthers, OpensApart, ReadsLeave};
 ghost use Rattle.rt_buffer.specs.Mocks.{one_more};
 ghost use Rattle.rt_buffer.specs.Pending.{gate_of, none_pending};
 ghost use Rattle.rt_store.specs.Answered.{CountsDone, PollsTicket, is_numbered};
 ghost use Rattle.rt_store.specs.declared.ticket.Ticket.{Ticket};
 
+use crate::called::Called;
 use crate::pending_syncs::PendingSyncs;
 use crate::shared_blob::{SharedBlob, add_blob, has_place, hold, inner_of, let_go};
 use crate::stage::{Hold, Passed, Stage, add_ticket, pass_on, set_stage, stage_at};
@@ -60,9 +60,8 @@ impl<S: Storage> DelayedSyncContext<S> {
     ghost use Rattle.std.specs.Borrow.{sem};
     ghost use Rattle.rt_buffer.specs.Lent.{lends_inner, lends_pending};
 
-    /// Nothing is held back yet. Where the inner store's calls keep the bytes of its blobs, so do the calls over the parts of this one
-    /// and the numbers of its blobs; and where those leave the other blobs as they were, so do these.
-    #[tactic(auto, using(crate::proofs::DelayedKept::delayed_keeps, crate::proofs::DelayedOthers::delayed_others))]
+    /// Nothing is held back yet. Where the inner store keeps the bytes of its blobs, so does this one; and where the inner store's calls
+    /// leave the other blobs as they were, so do those of this one, and so of its opens and reads.
     pub fn new(alloc: Global, inner: S) -> DelayedSyncContext<S>
         ensures inner { result.inner ≡ inner }
         ensures pending { result.pending ≡ none_pending }
@@ -70,11 +69,17 @@ impl<S: Storage> DelayedSyncContext<S> {
         ensures tickets { result.tickets.items ≡ [] }
         ensures refusals { result.refusals ≡ 0 }
         ensures keeps { (bytes : S → S.Blob → List ℕ) → (left : S → S.Blob → Option (List ℕ)) → (promised : S → Ticket → S.Blob → Option (List ℕ)) →
-            KeepsBytes (calls S.refusals S.polls_sync S.gives_sync_up S.writes S.resizes S.syncs S.starts_sync S.closes) bytes left promised →
-            KeepsBytes (delayed_calls (calls S.refusals S.polls_sync S.gives_sync_up S.writes S.resizes S.syncs S.starts_sync S.closes)) (delayed_bytes bytes) (delayed_left left) (delayed_promised bytes promised) }
-        ensures others { (bytes : S → S.Blob → List ℕ) → (left : S → S.Blob → Option (List ℕ)) → (promised : S → Ticket → S.Blob → Option (List ℕ)) → (apart : S → S.Blob → S.Blob → Bool) →
-            KeepsBytes (calls S.refusals S.polls_sync S.gives_sync_up S.writes S.resizes S.syncs S.starts_sync S.closes) bytes left promised → LeavesOthers (calls S.refusals S.polls_sync S.gives_sync_up S.writes S.resizes S.syncs S.starts_sync S.closes) bytes left promised apart →
-            LeavesOthers (delayed_calls (calls S.refusals S.polls_sync S.gives_sync_up S.writes S.resizes S.syncs S.starts_sync S.closes)) (delayed_bytes bytes) (delayed_left left) (delayed_promised bytes promised) (delayed_apart apart) }
+            KeepsBytes ⟦<S as Called>⟧.calls bytes left promised →
+            KeepsBytes ⟦<DelayedSyncContext<S> as Called>⟧.calls (context_bytes bytes) (context_left left) (context_promised bytes promised) }
+        ensures others { (bytes : S → S.Blob → List ℕ) → (left : S → S.Blob → Option (List ℕ)) → (promised : S → Ticket → S.Blob → Option (List ℕ)) → (apart : S → S.Blob → S.Blob → Bool) → (opened : S → S.Blob → Bool) →
+            KeepsBytes ⟦<S as Called>⟧.calls bytes left promised → LeavesOthers ⟦<S as Called>⟧.calls bytes left promised apart opened →
+            LeavesOthers ⟦<DelayedSyncContext<S> as Called>⟧.calls (context_bytes bytes) (context_left left) (context_promised bytes promised) (context_apart apart) (context_opened opened) }
+        ensures opens { (bytes : S → S.Blob → List ℕ) → (left : S → S.Blob → Option (List ℕ)) → (promised : S → Ticket → S.Blob → Option (List ℕ)) → (apart : S → S.Blob → S.Blob → Bool) → (opened : S → S.Blob → Bool) →
+            OpensApart S.opens bytes left promised apart opened →
+            OpensApart ⟦<DelayedSyncContext<S> as Storage>⟧.opens (context_bytes bytes) (context_left left) (context_promised bytes promised) (context_apart apart) (context_opened opened) }
+        ensures reads { (bytes : S → S.Blob → List ℕ) → (left : S → S.Blob → Option (List ℕ)) → (promised : S → Ticket → S.Blob → Option (List ℕ)) → (apart : S → S.Blob → S.Blob → Bool) → (opened : S → S.Blob → Bool) →
+            ReadsLeave S.reads bytes left promised apart opened →
+            ReadsLeave ⟦<DelayedSyncContext<S> as Storage>⟧.reads (context_bytes bytes) (context_left left) (context_promised bytes promised) (context_apart apart) (context_opened opened) }
     {
         DelayedSyncContext {
             inner,
@@ -124,7 +129,7 @@ impl<S: Storage> DelayedSyncContext<S> {
 
     /// The inner store alone: what is still held is given up, and what is still open closed.
     pub fn into_inner(self) -> S
-        ensures { (given_up : S) × GivesUpAll (calls S.refusals S.polls_sync S.gives_sync_up S.writes S.resizes S.syncs S.starts_sync S.closes) self.tickets.items self.inner given_up × ClosesAll (calls S.refusals S.polls_sync S.gives_sync_up S.writes S.resizes S.syncs S.starts_sync S.closes) self.blobs.items given_up result }
+        ensures { (given_up : S) × GivesUpAll ⟦<S as Called>⟧.calls self.tickets.items self.inner given_up × ClosesAll ⟦<S as Called>⟧.calls self.blobs.items given_up result }
     {
         let DelayedSyncContext {
             mut inner,
@@ -141,7 +146,7 @@ impl<S: Storage> DelayedSyncContext<S> {
 
 // Gives up what is left of the inner store's tickets, the last one first.
 fn give_up_all<S: Storage>(inner: &mut S, mut tickets: Vec<Stage>)
-    ensures { GivesUpAll (calls S.refusals S.polls_sync S.gives_sync_up S.writes S.resizes S.syncs S.starts_sync S.closes) tickets.items inner.old inner.new }
+    ensures { GivesUpAll ⟦<S as Called>⟧.calls tickets.items inner.old inner.new }
 {
     while let Some(stage) = tickets.pop() {
         match stage {
@@ -153,7 +158,7 @@ fn give_up_all<S: Storage>(inner: &mut S, mut tickets: Vec<Stage>)
 
 // Closes what is left of the inner blobs, the last one first.
 fn close_all<S: Storage>(inner: &mut S, mut blobs: Vec<Option<SharedBlob<BlobOf<S>>>>)
-    ensures { ClosesAll (calls S.refusals S.polls_sync S.gives_sync_up S.writes S.resizes S.syncs S.starts_sync S.closes) blobs.items inner.old inner.new }
+    ensures { ClosesAll ⟦<S as Called>⟧.calls blobs.items inner.old inner.new }
 {
     while let Some(place) = blobs.pop() {
         if let Some(
@@ -183,7 +188,7 @@ impl<S: Storage> DelayedSyncContext<S> {
         requires opened { is_some (blob_at self.old.blobs.items number) ≡ true }
         requires room { vec_len self.old.tickets < vec_capacity self.old.tickets }
         requires place { gate_has_place self.old.blobs.items number (gate_of self.old.pending) ≡ true }
-        ensures syncs { Notes (E.noted env.old) (λ x. IfSome (blob_at self.old.blobs.items number) (λ b. SyncsAt (calls S.refusals S.polls_sync S.gives_sync_up S.writes S.resizes S.syncs S.starts_sync S.closes) number b (gate_of self.old.pending) (delayed self.old.inner self.old.pending self.old.blobs.items self.old.tickets.items self.old.refusals) result (delayed self.new.inner self.new.pending self.new.blobs.items self.new.tickets.items self.new.refusals) x)) (E.noted env.new) }
+        ensures syncs { Notes (E.noted env.old) (λ x. IfSome (blob_at self.old.blobs.items number) (λ b. SyncsAt ⟦<S as Called>⟧.calls number b (gate_of self.old.pending) (delayed self.old.inner self.old.pending self.old.blobs.items self.old.tickets.items self.old.refusals) result (delayed self.new.inner self.new.pending self.new.blobs.items self.new.tickets.items self.new.refusals) x)) (E.noted env.new) }
         ensures spent { E.spare env.old ≤ E.spare env.new + S.most }
         ensures counts { CountsDone (S.refusals self.old.inner + self.old.refusals) (S.refusals self.new.inner + self.new.refusals) result }
     {
@@ -215,7 +220,7 @@ impl<S: Storage> DelayedSyncContext<S> {
         requires opened { is_some (blob_at self.old.blobs.items number) ≡ true }
         requires room { vec_len self.old.tickets < vec_capacity self.old.tickets }
         requires place { gate_has_place self.old.blobs.items number (gate_of self.old.pending) ≡ true }
-        ensures writes { Notes (E.noted env.old) (λ x. Writes (calls S.refusals S.polls_sync S.gives_sync_up S.writes S.resizes S.syncs S.starts_sync S.closes) number (blob_at self.old.blobs.items number) true offset bufs options (delayed self.old.inner self.old.pending self.old.blobs.items self.old.tickets.items self.old.refusals) result (delayed self.new.inner self.new.pending self.new.blobs.items self.new.tickets.items self.new.refusals) x) (E.noted env.new) }
+        ensures writes { Notes (E.noted env.old) (λ x. Writes ⟦<S as Called>⟧.calls number (blob_at self.old.blobs.items number) true offset bufs options (delayed self.old.inner self.old.pending self.old.blobs.items self.old.tickets.items self.old.refusals) result (delayed self.new.inner self.new.pending self.new.blobs.items self.new.tickets.items self.new.refusals) x) (E.noted env.new) }
         ensures spent { E.spare env.old ≤ E.spare env.new + (S.most + S.most) }
         ensures counts { CountsDone (S.refusals self.old.inner + self.old.refusals) (S.refusals self.new.inner + self.new.refusals) result }
     {
@@ -235,7 +240,7 @@ impl<S: Storage> DelayedSyncContext<S> {
 
     // One holds the blob no more, and the last one closes it.
     fn let_go(&mut self, blob: Option<u64>)
-        ensures lets_go { LetsGo (calls S.refusals S.polls_sync S.gives_sync_up S.writes S.resizes S.syncs S.starts_sync S.closes) blob (delayed self.old.inner self.old.pending self.old.blobs.items self.old.tickets.items self.old.refusals) (delayed self.new.inner self.new.pending self.new.blobs.items self.new.tickets.items self.new.refusals) }
+        ensures lets_go { LetsGo ⟦<S as Called>⟧.calls blob (delayed self.old.inner self.old.pending self.old.blobs.items self.old.tickets.items self.old.refusals) (delayed self.new.inner self.new.pending self.new.blobs.items self.new.tickets.items self.new.refusals) }
         ensures counts { S.refusals self.old.inner ≤ S.refusals self.new.inner }
         ensures own { self.new.refusals ≡ self.old.refusals }
     {
@@ -249,7 +254,7 @@ impl<S: Storage> DelayedSyncContext<S> {
 
     // A ticket is out, and holds the blob no more.
     fn leave(&mut self, number: u64, blob: Option<u64>)
-        ensures leaves { LetsGo (calls S.refusals S.polls_sync S.gives_sync_up S.writes S.resizes S.syncs S.starts_sync S.closes) blob (without_ticket number (delayed self.old.inner self.old.pending self.old.blobs.items self.old.tickets.items self.old.refusals)) (delayed self.new.inner self.new.pending self.new.blobs.items self.new.tickets.items self.new.refusals) }
+        ensures leaves { LetsGo ⟦<S as Called>⟧.calls blob (without_ticket number (delayed self.old.inner self.old.pending self.old.blobs.items self.old.tickets.items self.old.refusals)) (delayed self.new.inner self.new.pending self.new.blobs.items self.new.tickets.items self.new.refusals) }
         ensures counts { S.refusals self.old.inner ≤ S.refusals self.new.inner }
         ensures own { self.new.refusals ≡ self.old.refusals }
     {
@@ -259,7 +264,7 @@ impl<S: Storage> DelayedSyncContext<S> {
 
     // A ticket is answered, and leaves.
     fn finish(&mut self, number: u64, blob: Option<u64>, counts: bool, answer: &Result<(), Error>)
-        ensures finishes { Finishes (calls S.refusals S.polls_sync S.gives_sync_up S.writes S.resizes S.syncs S.starts_sync S.closes) number blob counts answer.now (delayed self.old.inner self.old.pending self.old.blobs.items self.old.tickets.items self.old.refusals) (delayed self.new.inner self.new.pending self.new.blobs.items self.new.tickets.items self.new.refusals) }
+        ensures finishes { Finishes ⟦<S as Called>⟧.calls number blob counts answer.now (delayed self.old.inner self.old.pending self.old.blobs.items self.old.tickets.items self.old.refusals) (delayed self.new.inner self.new.pending self.new.blobs.items self.new.tickets.items self.new.refusals) }
         ensures counts { S.refusals self.old.inner ≤ S.refusals self.new.inner }
         ensures own { self.new.refusals ≡ self.old.refusals }
     {
@@ -277,7 +282,7 @@ impl<S: Storage> DelayedSyncContext<S> {
         counts: bool,
         answer: Result<(), Error>,
     ) -> Poll<Result<(), Error>>
-        ensures answers { AnswersInner (calls S.refusals S.polls_sync S.gives_sync_up S.writes S.resizes S.syncs S.starts_sync S.closes) number blob counts answer (delayed self.old.inner self.old.pending self.old.blobs.items self.old.tickets.items self.old.refusals) result (delayed self.new.inner self.new.pending self.new.blobs.items self.new.tickets.items self.new.refusals) }
+        ensures answers { AnswersInner ⟦<S as Called>⟧.calls number blob counts answer (delayed self.old.inner self.old.pending self.old.blobs.items self.old.tickets.items self.old.refusals) result (delayed self.new.inner self.new.pending self.new.blobs.items self.new.tickets.items self.new.refusals) }
         ensures counts { S.refusals self.old.inner ≤ S.refusals self.new.inner }
         ensures own { self.new.refusals ≡ self.old.refusals }
     {
@@ -296,7 +301,7 @@ impl<S: Storage> DelayedSyncContext<S> {
         passed: Passed,
         task: u64,
     ) -> Poll<Result<(), Error>>
-        ensures polls { Notes (E.noted env.old) (λ x. PollsInner (calls S.refusals S.polls_sync S.gives_sync_up S.writes S.resizes S.syncs S.starts_sync S.closes) number task passed (delayed self.old.inner self.old.pending self.old.blobs.items self.old.tickets.items self.old.refusals) result (delayed self.new.inner self.new.pending self.new.blobs.items self.new.tickets.items self.new.refusals) x) (E.noted env.new) }
+        ensures polls { Notes (E.noted env.old) (λ x. PollsInner ⟦<S as Called>⟧.calls number task passed (delayed self.old.inner self.old.pending self.old.blobs.items self.old.tickets.items self.old.refusals) result (delayed self.new.inner self.new.pending self.new.blobs.items self.new.tickets.items self.new.refusals) x) (E.noted env.new) }
         ensures spent { E.spare env.old ≤ E.spare env.new + S.most }
         ensures counts { CountsAnswer (S.refusals self.old.inner + self.old.refusals) (S.refusals self.new.inner + self.new.refusals) result }
     {
@@ -316,7 +321,7 @@ impl<S: Storage> DelayedSyncContext<S> {
         held: Hold,
         task: u64,
     ) -> Poll<Result<(), Error>>
-        ensures polls { Notes (E.noted env.old) (λ x. SyncsReleased (calls S.refusals S.polls_sync S.gives_sync_up S.writes S.resizes S.syncs S.starts_sync S.closes) number task held (blob_at self.old.blobs.items held.blob) (delayed self.old.inner self.old.pending self.old.blobs.items self.old.tickets.items self.old.refusals) result (delayed self.new.inner self.new.pending self.new.blobs.items self.new.tickets.items self.new.refusals) x) (E.noted env.new) }
+        ensures polls { Notes (E.noted env.old) (λ x. SyncsReleased ⟦<S as Called>⟧.calls number task held (blob_at self.old.blobs.items held.blob) (delayed self.old.inner self.old.pending self.old.blobs.items self.old.tickets.items self.old.refusals) result (delayed self.new.inner self.new.pending self.new.blobs.items self.new.tickets.items self.new.refusals) x) (E.noted env.new) }
         ensures spent { E.spare env.old ≤ E.spare env.new + (S.most + S.most) }
         ensures counts { CountsAnswer (S.refusals self.old.inner + self.old.refusals) (S.refusals self.new.inner + self.new.refusals) result }
     {
@@ -360,7 +365,7 @@ impl<S: Storage> DelayedSyncContext<S> {
 
     // A ticket with a number is given up.
     fn give_up_numbered(&mut self, number: u64)
-        ensures gives_up { GivesUpStage (calls S.refusals S.polls_sync S.gives_sync_up S.writes S.resizes S.syncs S.starts_sync S.closes) number (slice_get self.old.tickets.items number) (delayed self.old.inner self.old.pending self.old.blobs.items self.old.tickets.items self.old.refusals) (delayed self.new.inner self.new.pending self.new.blobs.items self.new.tickets.items self.new.refusals) }
+        ensures gives_up { GivesUpStage ⟦<S as Called>⟧.calls number (slice_get self.old.tickets.items number) (delayed self.old.inner self.old.pending self.old.blobs.items self.old.tickets.items self.old.refusals) (delayed self.new.inner self.new.pending self.new.blobs.items self.new.tickets.items self.new.refusals) }
         ensures counts { S.refusals self.old.inner + self.old.refusals ≤ S.refusals self.new.inner + self.new.refusals }
     {
         match stage_at(self.tickets.as_slice(), number) {
@@ -380,7 +385,7 @@ impl<S: Storage> DelayedSyncContext<S> {
         number: u64,
         task: u64,
     ) -> Poll<Result<(), Error>>
-        ensures polls { Notes (E.noted env.old) (λ x. PollsStage (calls S.refusals S.polls_sync S.gives_sync_up S.writes S.resizes S.syncs S.starts_sync S.closes) number task (slice_get self.old.tickets.items number) (delayed self.old.inner self.old.pending self.old.blobs.items self.old.tickets.items self.old.refusals) result (delayed self.new.inner self.new.pending self.new.blobs.items self.new.tickets.items self.new.refusals) x) (E.noted env.new) }
+        ensures polls { Notes (E.noted env.old) (λ x. PollsStage ⟦<S as Called>⟧.calls number task (slice_get self.old.tickets.items number) (delayed self.old.inner self.old.pending self.old.blobs.items self.old.tickets.items self.old.refusals) result (delayed self.new.inner self.new.pending self.new.blobs.items self.new.tickets.items self.new.refusals) x) (E.noted env.new) }
         ensures spent { E.spare env.old ≤ E.spare env.new + (S.most + S.most) }
         ensures counts { CountsAnswer (S.refusals self.old.inner + self.old.refusals) (S.refusals self.new.inner + self.new.refusals) result }
     {
@@ -421,8 +426,8 @@ impl<S: Storage> Storage for DelayedSyncContext<S> {
     type Blob = DelayedSyncBlob;
 
     ghost use Rattle.std.specs.Prelude.{◌≡◌, ◌+◌, ◌&&◌};
-    ghost use Rattle.rt_buffer.specs.Calls.{calls};
-    ghost use Rattle.rt_buffer.specs.Delayed.{GivesUp, LetsGo, OnBlob, Opens, Polls, Starts, Syncs, Writes, blob_at, delayed, moved};
+    ghost use Rattle.rt_buffer.specs.Delayed.{OnBlob, Opens, blob_at, moved};
+    ghost use Rattle.rt_buffer.specs.DelayedBytes.{context_calls, delayed_of};
 
     ghost refusals = { λ s. S.refusals s.inner + s.refusals };
 
@@ -430,35 +435,35 @@ impl<S: Storage> Storage for DelayedSyncContext<S> {
 
     ghost per_range = { S.per_range };
 
-    ghost opens_versioned = { λ s p n versions r t x. Opens (λ low. S.opens_versioned s.inner p n versions low) (λ b a. (b, a.1, a.2)) (λ a. a.0.number) (delayed s.inner s.pending s.blobs.items s.tickets.items s.refusals) r (delayed t.inner t.pending t.blobs.items t.tickets.items t.refusals) x };
+    ghost opens_versioned = { λ s p n versions r t x. Opens (λ low. S.opens_versioned s.inner p n versions low) (λ b a. (b, a.1, a.2)) (λ a. a.0.number) (delayed_of s) r (delayed_of t) x };
 
-    ghost opens = { λ s p n r t x. Opens (λ low. S.opens s.inner p n low) (λ b a. (b, a.1)) (λ a. a.0.number) (delayed s.inner s.pending s.blobs.items s.tickets.items s.refusals) r (delayed t.inner t.pending t.blobs.items t.tickets.items t.refusals) x };
+    ghost opens = { λ s p n r t x. Opens (λ low. S.opens s.inner p n low) (λ b a. (b, a.1)) (λ a. a.0.number) (delayed_of s) r (delayed_of t) x };
 
-    ghost removes = { λ s p n r t x. S.removes s.inner p n r t.inner x × ((delayed t.inner t.pending t.blobs.items t.tickets.items t.refusals) ≡ moved (delayed s.inner s.pending s.blobs.items s.tickets.items s.refusals) t.inner) };
+    ghost removes = { λ s p n r t x. S.removes s.inner p n r t.inner x × ((delayed_of t) ≡ moved (delayed_of s) t.inner) };
 
-    ghost scans = { λ s p r t x. S.scans s.inner p r t.inner x × ((delayed t.inner t.pending t.blobs.items t.tickets.items t.refusals) ≡ moved (delayed s.inner s.pending s.blobs.items s.tickets.items s.refusals) t.inner) };
+    ghost scans = { λ s p r t x. S.scans s.inner p r t.inner x × ((delayed_of t) ≡ moved (delayed_of s) t.inner) };
 
-    ghost reads = { λ s k offset len options r t x. OnBlob (λ b. S.reads s.inner b offset len options) (blob_at s.blobs.items k.number) (delayed s.inner s.pending s.blobs.items s.tickets.items s.refusals) r (delayed t.inner t.pending t.blobs.items t.tickets.items t.refusals) x };
+    ghost reads = { λ s k offset len options r t x. OnBlob (λ b. S.reads s.inner b offset len options) (blob_at s.blobs.items k.number) (delayed_of s) r (delayed_of t) x };
 
-    ghost reads_into = { λ s k offset len bufs options r t x. OnBlob (λ b. S.reads_into s.inner b offset len bufs options) (blob_at s.blobs.items k.number) (delayed s.inner s.pending s.blobs.items s.tickets.items s.refusals) r (delayed t.inner t.pending t.blobs.items t.tickets.items t.refusals) x };
+    ghost reads_into = { λ s k offset len bufs options r t x. OnBlob (λ b. S.reads_into s.inner b offset len bufs options) (blob_at s.blobs.items k.number) (delayed_of s) r (delayed_of t) x };
 
-    ghost reads_many = { λ s k ranges options r t x. OnBlob (λ b. S.reads_many s.inner b ranges options) (blob_at s.blobs.items k.number) (delayed s.inner s.pending s.blobs.items s.tickets.items s.refusals) r (delayed t.inner t.pending t.blobs.items t.tickets.items t.refusals) x };
+    ghost reads_many = { λ s k ranges options r t x. OnBlob (λ b. S.reads_many s.inner b ranges options) (blob_at s.blobs.items k.number) (delayed_of s) r (delayed_of t) x };
 
-    ghost reads_in_order = { λ s k ranges options r t x. OnBlob (λ b. S.reads_in_order s.inner b ranges options) (blob_at s.blobs.items k.number) (delayed s.inner s.pending s.blobs.items s.tickets.items s.refusals) r (delayed t.inner t.pending t.blobs.items t.tickets.items t.refusals) x };
+    ghost reads_in_order = { λ s k ranges options r t x. OnBlob (λ b. S.reads_in_order s.inner b ranges options) (blob_at s.blobs.items k.number) (delayed_of s) r (delayed_of t) x };
 
-    ghost writes = { λ s k offset bufs options r t x. Writes (calls S.refusals S.polls_sync S.gives_sync_up S.writes S.resizes S.syncs S.starts_sync S.closes) k.number (blob_at s.blobs.items k.number) (options.sync && s.pending.is_armed) offset bufs options (delayed s.inner s.pending s.blobs.items s.tickets.items s.refusals) r (delayed t.inner t.pending t.blobs.items t.tickets.items t.refusals) x };
+    ghost writes = { (context_calls ⟦<S as Called>⟧.calls).writes };
 
-    ghost resizes = { λ s k len r t x. OnBlob (λ b. S.resizes s.inner b len) (blob_at s.blobs.items k.number) (delayed s.inner s.pending s.blobs.items s.tickets.items s.refusals) r (delayed t.inner t.pending t.blobs.items t.tickets.items t.refusals) x };
+    ghost resizes = { (context_calls ⟦<S as Called>⟧.calls).resizes };
 
-    ghost syncs = { λ s k r t x. Syncs (calls S.refusals S.polls_sync S.gives_sync_up S.writes S.resizes S.syncs S.starts_sync S.closes) k.number (blob_at s.blobs.items k.number) (delayed s.inner s.pending s.blobs.items s.tickets.items s.refusals) r (delayed t.inner t.pending t.blobs.items t.tickets.items t.refusals) x };
+    ghost syncs = { (context_calls ⟦<S as Called>⟧.calls).syncs };
 
-    ghost starts_sync = { λ s k r t x. Starts k.number (blob_at s.blobs.items k.number) (delayed s.inner s.pending s.blobs.items s.tickets.items s.refusals) r (delayed t.inner t.pending t.blobs.items t.tickets.items t.refusals) x };
+    ghost starts_sync = { (context_calls ⟦<S as Called>⟧.calls).starts };
 
-    ghost polls_sync = { λ s ticket task p t u x. Polls (calls S.refusals S.polls_sync S.gives_sync_up S.writes S.resizes S.syncs S.starts_sync S.closes) task ticket (delayed s.inner s.pending s.blobs.items s.tickets.items s.refusals) p (delayed t.inner t.pending t.blobs.items t.tickets.items t.refusals) u x };
+    ghost polls_sync = { (context_calls ⟦<S as Called>⟧.calls).polls };
 
-    ghost gives_sync_up = { λ s ticket t. GivesUp (calls S.refusals S.polls_sync S.gives_sync_up S.writes S.resizes S.syncs S.starts_sync S.closes) ticket (delayed s.inner s.pending s.blobs.items s.tickets.items s.refusals) (delayed t.inner t.pending t.blobs.items t.tickets.items t.refusals) };
+    ghost gives_sync_up = { (context_calls ⟦<S as Called>⟧.calls).gives_up };
 
-    ghost closes = { λ s k t. LetsGo (calls S.refusals S.polls_sync S.gives_sync_up S.writes S.resizes S.syncs S.starts_sync S.closes) (Some k.number) (delayed s.inner s.pending s.blobs.items s.tickets.items s.refusals) (delayed t.inner t.pending t.blobs.items t.tickets.items t.refusals) };
+    ghost closes = { (context_calls ⟦<S as Called>⟧.calls).closes };
 
     #[tactic(auto, using(crate::proofs::Holding::twice_room))]
     fn take_room<E: Env>(

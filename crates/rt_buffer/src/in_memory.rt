@@ -1,8 +1,8 @@
 // A writer of a store in memory, by what each crash leaves.
-ghost use Rattle.std.specs.Prelude.{◌≡◌, ℕ, ⊤, List, Ok, Some};
+ghost use Rattle.std.specs.Prelude.{◌≡◌, ◌+◌, ◌≤◌, ℕ, ⊤, List, Ok, Some};
 ghost use Rattle.rt_base.specs.declared.choice.Choice.{Choice};
-ghost use Rattle.rt_buffer.specs.Durable.{Asked, HoldsBytes, HoldsSync, IfStepped, Keeping, Keeps, KeepsBytes, KnowsState, LeavesOthers};
-ghost use Rattle.rt_buffer.specs.Memory.{CrashLeaves, memory_apart, memory_bytes, memory_calls, memory_left, memory_promised};
+ghost use Rattle.rt_buffer.specs.Durable.{Asked, HoldsBytes, HoldsSync, IfStepped, Keeping, Keeps, KnowsState};
+ghost use Rattle.rt_buffer.specs.Memory.{CrashLeaves, MemoryKeeps, memory_bytes, memory_left, memory_promised};
 ghost use Rattle.rt_buffer.specs.Steps.{answer_of};
 ghost use Rattle.rt_buffer.specs.Tip.{laid_over};
 ghost use Rattle.rt_buffer.specs.Writing.{LiesOver};
@@ -17,22 +17,21 @@ use rt_store::MemStore;
 
 impl Write<MemStore> {
     /// [`sync`](Self::sync), by what each crash of a store in memory leaves: once it is done, exactly the bytes that the writer stands
-    /// for. Such a store keeps bytes, so that what other calls of the writer say of that is so, and its calls on a blob leave the others
-    /// as they were.
+    /// for. Such a store keeps bytes, so that what other calls of the writer say of that is so.
     pub fn sync_in_memory<E: Env>(
         self,
         store: &mut MemStore,
         env: &mut E,
         task: u64,
     ) -> Step<MemStore>
-        ensures keeps { KeepsBytes memory_calls memory_bytes memory_left memory_promised }
-        ensures others { LeavesOthers memory_calls memory_bytes memory_left memory_promised memory_apart }
+        ensures memory { MemoryKeeps }
         ensures durable { LiesOver self.held.tip (memory_bytes store.old self.blob) → KnowsState memory_bytes memory_left memory_promised self.held.state store.old self.blob →
             IfStepped result (λ w. Keeps memory_bytes memory_left memory_promised (laid_over self.held.tip (memory_bytes store.old self.blob)) Rest.Sync w.held store.new self.blob
             × ((blob : FileState) (choices : List Choice) → blob_of store.new self.blob ≡ Some blob → (crashed choices blob).content ≡ laid_over self.held.tip (memory_bytes store.old self.blob)))
             (λ p. Keeping memory_bytes memory_left memory_promised (laid_over self.held.tip (memory_bytes store.old self.blob)) p.rest p.write.held store.new self.blob) }
         ensures crash { LiesOver self.held.tip (memory_bytes store.old self.blob) → KnowsState memory_bytes memory_left memory_promised self.held.state store.old self.blob →
             IfStepped result (λ w. CrashLeaves (laid_over self.held.tip (memory_bytes store.old self.blob)) store.new self.blob) (λ p. ⊤) }
+        ensures spent { E.spare env.old ≤ E.spare env.new + 4 }
     {
         self.sync(store, env, task)
     }
@@ -49,13 +48,14 @@ impl SyncHandle {
         env: &mut E,
         task: u64,
     ) -> Poll<Result<(), Error>>
-        ensures keeps { KeepsBytes memory_calls memory_bytes memory_left memory_promised }
+        ensures memory { MemoryKeeps }
         ensures durable { write.old.held.syncs ≡ self.old.number → HoldsSync memory_bytes memory_left memory_promised write.old.held store.old write.old.blob →
             (memory_bytes store.new write.old.blob ≡ memory_bytes store.old write.old.blob) × Asked memory_bytes memory_left memory_promised (answer_of result) write.new.held store.new write.old.blob }
         ensures crash { (content : List ℕ) → write.old.held.syncs ≡ self.old.number → HoldsBytes memory_bytes memory_left memory_promised content write.old.held store.old write.old.blob →
             result ≡ Poll.Ready (Ok tt) → CrashLeaves content store.new write.old.blob }
         ensures blob { write.new.blob ≡ write.old.blob }
         ensures same { self.new ≡ self.old }
+        ensures spent { E.spare env.old ≤ E.spare env.new + 1 }
     {
         self.poll(write, store, env, task)
     }

@@ -1,19 +1,21 @@
 // A writer of a blob that holds the last bytes back.
-ghost use Rattle.std.specs.Prelude.{◌≡◌, ◌+◌, ◌-◌, ◌^◌, ◌<◌, ◌≤◌, ℕ, [], List, Ok, Err, IfOk, OnErr, OnOk, length, take, drop, if◌then◌else◌, ◌||◌, ◌&&◌, not, true, false, Option, Some, None, MatchResult};
+ghost use Rattle.std.specs.Prelude.{◌≡◌, ◌+◌, ◌-◌, ◌*◌, ◌^◌, ◌<◌, ◌≤◌, ℕ, [], List, Ok, Err, IfOk, OnErr, OnOk, length, take, drop, if◌then◌else◌, ◌||◌, ◌&&◌, not, true, false, Option, Some, None, MatchResult, ⊤};
 ghost use Rattle.rt_base.specs.Counted.{Notes};
 ghost use Rattle.rt_base.specs.declared.error.Error.{Error};
-ghost use Rattle.rt_buffer.specs.Calls.{calls};
 ghost use Rattle.rt_buffer.specs.declared.sync_state.SyncState.{SyncState};
 ghost use Rattle.rt_buffer.specs.Durable.{HoldsSync, IfBegun, IfStepped, Keeping, Keeps, KeepsBytes, KnowsState, Shows};
 ghost use Rattle.rt_buffer.specs.Flat.{HasBytes};
+ghost use Rattle.rt_buffer.specs.Framing.{OnOthers};
+ghost use Rattle.rt_buffer.specs.Memory.{MemoryKeeps};
 ghost use Rattle.rt_buffer.specs.Pieces.{with_bytes};
-ghost use Rattle.rt_buffer.specs.Steps.{AreBuffers, Begins, Drains, Ends, Finishes, GivesHandle, IfStarted, Puts, PutsAgain, PutsAll, ResizesBlob, ResizesTip, Runs, Saves, Settles, Starts, SyncsBlob, Then, Waits, WritesAt, WritesChunk, WritesDurably, WritesOut, is_started, seen_start, seen_step, with_state, with_tip, writer};
+ghost use Rattle.rt_buffer.specs.Steps.{AreBuffers, Begins, Drains, Ends, Finishes, GivesHandle, IfStarted, Puts, PutsAgain, PutsAll, ResizesBlob, ResizesTip, Runs, Saves, Settles, Starts, SyncsBlob, Then, Waits, WritesAt, WritesChunk, WritesDurably, WritesOut, is_started, room_for, seen_start, seen_step, with_state, with_tip, writer};
 ghost use Rattle.rt_buffer.specs.Tip.{empty_tip, bytes_to_write, bytes_before, drained, resized_tip, end_of, is_within, merged, laid_over};
 ghost use Rattle.rt_buffer.specs.Writing.{has_bytes, needs_sync, ReadsTip, ReadsThrough, LiesOver, ClosesWriter};
 ghost use Rattle.rt_store.specs.Answered.{is_numbered};
 ghost use Rattle.rt_store.specs.Content.{resized, written};
 ghost use Rattle.rt_store.specs.declared.ticket.Ticket.{Ticket};
 
+use crate::called::Called;
 use crate::held::Held;
 use crate::pieces::Pieces;
 use crate::sync_handle::{Started, handed};
@@ -35,13 +37,15 @@ pub struct Write<S: Storage> {
 }
 
 impl<S: Storage> Write<S> {
-    /// A writer of a blob of this size, that holds up to `capacity` bytes back. The blob counts as changed.
+    /// A writer of a blob of this size, that holds up to `capacity` bytes back. The blob counts as changed. What a store in memory keeps
+    /// of its blobs is said here too, for each writer of one.
     pub fn new(alloc: Global, blob: BlobOf<S>, size: u64, capacity: usize) -> Write<S>
         requires { 0 < capacity }
         ensures blob { result.blob ≡ blob }
         ensures tip { result.held.tip ≡ empty_tip size capacity }
         ensures dirty { result.held.state ≡ SyncState.Dirty }
         ensures syncs { result.held.syncs ≡ 0 }
+        ensures memory { MemoryKeeps }
     {
         Write {
             blob,
@@ -120,6 +124,7 @@ impl<S: Storage> Write<S> {
     /// Closes the blob, and gives a started sync up. The bytes that are held back are lost. It takes no memory.
     pub fn close(self, store: &mut S)
         ensures closed { ClosesWriter S.gives_sync_up S.closes self.held.state self.blob store.old store.new }
+        ensures others { OnOthers ⟦<S as Called>⟧.calls self.held.state self.blob store.old store.new (λ know. ⊤) }
     {
         let Write {
             blob,
@@ -152,11 +157,13 @@ impl<S: Storage> Write<S> {
         bufs: IoBufs,
         task: u64,
     ) -> Step<S>
-        ensures overflow { 2 ^ 64 ≤ offset + length bufs.bytes → Ends (calls S.refusals S.polls_sync S.gives_sync_up S.writes S.resizes S.syncs S.starts_sync S.closes) self.blob Rest.Nothing (Err Error.OffsetOverflow) (writer store.old self.held) store.new (seen_step (λ w. (w.blob, w.held)) (λ p. ((p.write.blob, p.write.held), p.rest)) result) × (env.new ≡ env.old) }
-        ensures writes { offset + length bufs.bytes < 2 ^ 64 → Notes (E.noted env.old) (λ x. WritesAt (calls S.refusals S.polls_sync S.gives_sync_up S.writes S.resizes S.syncs S.starts_sync S.closes) self.blob offset bufs.chunks task (writer store.old self.held) store.new (seen_step (λ w. (w.blob, w.held)) (λ p. ((p.write.blob, p.write.held), p.rest)) result) x) (E.noted env.new) }
+        ensures overflow { 2 ^ 64 ≤ offset + length bufs.bytes → Ends ⟦<S as Called>⟧.calls self.blob Rest.Nothing (Err Error.OffsetOverflow) (writer store.old self.held) store.new (seen_step (λ w. (w.blob, w.held)) (λ p. ((p.write.blob, p.write.held), p.rest)) result) × (env.new ≡ env.old) }
+        ensures writes { offset + length bufs.bytes < 2 ^ 64 → Notes (E.noted env.old) (λ x. WritesAt ⟦<S as Called>⟧.calls self.blob offset bufs.chunks task (writer store.old self.held) store.new (seen_step (λ w. (w.blob, w.held)) (λ p. ((p.write.blob, p.write.held), p.rest)) result) x) (E.noted env.new) }
         ensures flat { (bytes : S → S.Blob → List ℕ) → (left : S → S.Blob → Option (List ℕ)) → (promised : S → Ticket → S.Blob → Option (List ℕ)) →
-            KeepsBytes (calls S.refusals S.polls_sync S.gives_sync_up S.writes S.resizes S.syncs S.starts_sync S.closes) bytes left promised → LiesOver self.held.tip (bytes store.old self.blob) → KnowsState bytes left promised self.held.state store.old self.blob →
+            KeepsBytes ⟦<S as Called>⟧.calls bytes left promised → LiesOver self.held.tip (bytes store.old self.blob) → KnowsState bytes left promised self.held.state store.old self.blob →
             IfStepped result (λ w. Shows bytes left promised (with_bytes offset bufs.bytes (laid_over self.held.tip (bytes store.old self.blob))) w.held store.new self.blob) (λ p. Keeping bytes left promised (with_bytes offset bufs.bytes (laid_over self.held.tip (bytes store.old self.blob))) p.rest p.write.held store.new self.blob) }
+        ensures others { OnOthers ⟦<S as Called>⟧.calls self.held.state self.blob store.old store.new (λ know. IfStepped result (λ w. know w.held.state) (λ p. know p.write.held.state)) }
+        ensures spent { E.spare env.old ≤ E.spare env.new + (S.most + length bufs.chunks * (2 * S.most)) }
     {
         let mut left = match Pieces::new(self.alloc, offset, bufs) {
             Ok(left) => left,
@@ -174,10 +181,12 @@ impl<S: Storage> Write<S> {
     ///
     /// Errors: that of the started sync, the store's refusal, `NoMemory`. After one the blob is closed.
     pub fn sync<E: Env>(self, store: &mut S, env: &mut E, task: u64) -> Step<S>
-        ensures runs { Notes (E.noted env.old) (λ x. Runs (calls S.refusals S.polls_sync S.gives_sync_up S.writes S.resizes S.syncs S.starts_sync S.closes) self.blob Rest.Sync task (writer store.old self.held) store.new (seen_step (λ w. (w.blob, w.held)) (λ p. ((p.write.blob, p.write.held), p.rest)) result) x) (E.noted env.new) }
+        ensures runs { Notes (E.noted env.old) (λ x. Runs ⟦<S as Called>⟧.calls self.blob Rest.Sync task (writer store.old self.held) store.new (seen_step (λ w. (w.blob, w.held)) (λ p. ((p.write.blob, p.write.held), p.rest)) result) x) (E.noted env.new) }
         ensures durable { (bytes : S → S.Blob → List ℕ) → (left : S → S.Blob → Option (List ℕ)) → (promised : S → Ticket → S.Blob → Option (List ℕ)) →
-            KeepsBytes (calls S.refusals S.polls_sync S.gives_sync_up S.writes S.resizes S.syncs S.starts_sync S.closes) bytes left promised → LiesOver self.held.tip (bytes store.old self.blob) → KnowsState bytes left promised self.held.state store.old self.blob →
+            KeepsBytes ⟦<S as Called>⟧.calls bytes left promised → LiesOver self.held.tip (bytes store.old self.blob) → KnowsState bytes left promised self.held.state store.old self.blob →
             IfStepped result (λ w. Keeps bytes left promised (laid_over self.held.tip (bytes store.old self.blob)) Rest.Sync w.held store.new self.blob) (λ p. Keeping bytes left promised (laid_over self.held.tip (bytes store.old self.blob)) p.rest p.write.held store.new self.blob) }
+        ensures others { OnOthers ⟦<S as Called>⟧.calls self.held.state self.blob store.old store.new (λ know. IfStepped result (λ w. know w.held.state) (λ p. know p.write.held.state)) }
+        ensures spent { E.spare env.old ≤ E.spare env.new + 4 * S.most }
     {
         self.run(store, env, Rest::Sync, task)
     }
@@ -187,11 +196,13 @@ impl<S: Storage> Write<S> {
     ///
     /// Errors: that of the earlier sync, the store's refusal, `NoMemory`. After one the blob is closed.
     pub fn start_sync<E: Env>(mut self, store: &mut S, env: &mut E, task: u64) -> Started<S>
-        ensures starts { Notes (E.noted env.old) (λ x. Starts (calls S.refusals S.polls_sync S.gives_sync_up S.writes S.resizes S.syncs S.starts_sync S.closes) self.blob task (writer store.old self.held) store.new (seen_start (λ w. (w.blob, w.held)) (λ p. ((p.write.blob, p.write.held), p.rest)) result) x) (E.noted env.new) }
+        ensures starts { Notes (E.noted env.old) (λ x. Starts ⟦<S as Called>⟧.calls self.blob task (writer store.old self.held) store.new (seen_start (λ w. (w.blob, w.held)) (λ p. ((p.write.blob, p.write.held), p.rest)) result) x) (E.noted env.new) }
         ensures handle { GivesHandle self.blob (λ w. (w.blob, w.held)) (λ p. p.write.blob) result }
         ensures durable { (bytes : S → S.Blob → List ℕ) → (left : S → S.Blob → Option (List ℕ)) → (promised : S → Ticket → S.Blob → Option (List ℕ)) →
-            KeepsBytes (calls S.refusals S.polls_sync S.gives_sync_up S.writes S.resizes S.syncs S.starts_sync S.closes) bytes left promised → LiesOver self.held.tip (bytes store.old self.blob) → KnowsState bytes left promised self.held.state store.old self.blob →
+            KeepsBytes ⟦<S as Called>⟧.calls bytes left promised → LiesOver self.held.tip (bytes store.old self.blob) → KnowsState bytes left promised self.held.state store.old self.blob →
             IfBegun result (λ w. Keeps bytes left promised (laid_over self.held.tip (bytes store.old self.blob)) Rest.Start w.held store.new self.blob) (λ p. Keeping bytes left promised (laid_over self.held.tip (bytes store.old self.blob)) p.rest p.write.held store.new self.blob) }
+        ensures others { OnOthers ⟦<S as Called>⟧.calls self.held.state self.blob store.old store.new (λ know. IfBegun result (λ w. know w.held.state) (λ p. know p.write.held.state)) }
+        ensures spent { E.spare env.old ≤ E.spare env.new + 3 * S.most }
     {
         if self.held.tip.is_empty() {
             let progress = self.begin(store, env);
@@ -204,10 +215,12 @@ impl<S: Storage> Write<S> {
     ///
     /// Errors: that of the started sync, the store's refusal, `NoMemory`. After one the blob is closed.
     pub fn resize<E: Env>(self, store: &mut S, env: &mut E, len: u64, task: u64) -> Step<S>
-        ensures runs { Notes (E.noted env.old) (λ x. Runs (calls S.refusals S.polls_sync S.gives_sync_up S.writes S.resizes S.syncs S.starts_sync S.closes) self.blob (Rest.Resize len) task (writer store.old self.held) store.new (seen_step (λ w. (w.blob, w.held)) (λ p. ((p.write.blob, p.write.held), p.rest)) result) x) (E.noted env.new) }
+        ensures runs { Notes (E.noted env.old) (λ x. Runs ⟦<S as Called>⟧.calls self.blob (Rest.Resize len) task (writer store.old self.held) store.new (seen_step (λ w. (w.blob, w.held)) (λ p. ((p.write.blob, p.write.held), p.rest)) result) x) (E.noted env.new) }
         ensures flat { (bytes : S → S.Blob → List ℕ) → (left : S → S.Blob → Option (List ℕ)) → (promised : S → Ticket → S.Blob → Option (List ℕ)) →
-            KeepsBytes (calls S.refusals S.polls_sync S.gives_sync_up S.writes S.resizes S.syncs S.starts_sync S.closes) bytes left promised → LiesOver self.held.tip (bytes store.old self.blob) → KnowsState bytes left promised self.held.state store.old self.blob →
+            KeepsBytes ⟦<S as Called>⟧.calls bytes left promised → LiesOver self.held.tip (bytes store.old self.blob) → KnowsState bytes left promised self.held.state store.old self.blob →
             IfStepped result (λ w. Shows bytes left promised (resized len (laid_over self.held.tip (bytes store.old self.blob))) w.held store.new self.blob) (λ p. Keeping bytes left promised (resized len (laid_over self.held.tip (bytes store.old self.blob))) p.rest p.write.held store.new self.blob) }
+        ensures others { OnOthers ⟦<S as Called>⟧.calls self.held.state self.blob store.old store.new (λ know. IfStepped result (λ w. know w.held.state) (λ p. know p.write.held.state)) }
+        ensures spent { E.spare env.old ≤ E.spare env.new + 3 * S.most }
     {
         self.run(store, env, Rest::Resize(len), task)
     }
@@ -216,10 +229,12 @@ impl<S: Storage> Write<S> {
     ///
     /// Errors: that of the sync. After one the blob is closed.
     pub fn wait_for_sync<E: Env>(self, store: &mut S, env: &mut E, task: u64) -> Step<S>
-        ensures runs { Notes (E.noted env.old) (λ x. Runs (calls S.refusals S.polls_sync S.gives_sync_up S.writes S.resizes S.syncs S.starts_sync S.closes) self.blob Rest.Nothing task (writer store.old self.held) store.new (seen_step (λ w. (w.blob, w.held)) (λ p. ((p.write.blob, p.write.held), p.rest)) result) x) (E.noted env.new) }
+        ensures runs { Notes (E.noted env.old) (λ x. Runs ⟦<S as Called>⟧.calls self.blob Rest.Nothing task (writer store.old self.held) store.new (seen_step (λ w. (w.blob, w.held)) (λ p. ((p.write.blob, p.write.held), p.rest)) result) x) (E.noted env.new) }
         ensures durable { (bytes : S → S.Blob → List ℕ) → (left : S → S.Blob → Option (List ℕ)) → (promised : S → Ticket → S.Blob → Option (List ℕ)) →
-            KeepsBytes (calls S.refusals S.polls_sync S.gives_sync_up S.writes S.resizes S.syncs S.starts_sync S.closes) bytes left promised → HoldsSync bytes left promised self.held store.old self.blob →
+            KeepsBytes ⟦<S as Called>⟧.calls bytes left promised → HoldsSync bytes left promised self.held store.old self.blob →
             IfStepped result (λ w. Keeps bytes left promised (bytes store.old self.blob) Rest.Nothing w.held store.new self.blob) (λ p. Keeping bytes left promised (bytes store.old self.blob) p.rest p.write.held store.new self.blob) }
+        ensures others { OnOthers ⟦<S as Called>⟧.calls self.held.state self.blob store.old store.new (λ know. IfStepped result (λ w. know w.held.state) (λ p. know p.write.held.state)) }
+        ensures spent { E.spare env.old ≤ E.spare env.new + S.most }
     {
         self.run(store, env, Rest::Nothing, task)
     }
@@ -232,7 +247,8 @@ impl<S: Storage> Write<S> {
         rest: Rest,
         task: u64,
     ) -> Step<S>
-        ensures runs { Notes (E.noted env.old) (λ x. Runs (calls S.refusals S.polls_sync S.gives_sync_up S.writes S.resizes S.syncs S.starts_sync S.closes) self.blob rest task (writer store.old self.held) store.new (seen_step (λ w. (w.blob, w.held)) (λ p. ((p.write.blob, p.write.held), p.rest)) result) x) (E.noted env.new) }
+        ensures runs { Notes (E.noted env.old) (λ x. Runs ⟦<S as Called>⟧.calls self.blob rest task (writer store.old self.held) store.new (seen_step (λ w. (w.blob, w.held)) (λ p. ((p.write.blob, p.write.held), p.rest)) result) x) (E.noted env.new) }
+        ensures spent { E.spare env.old ≤ E.spare env.new + (S.most + room_for S.most rest) }
     {
         match self.wait(store, env, task) {
             Ok(Poll::Ready(())) => {
@@ -246,7 +262,7 @@ impl<S: Storage> Write<S> {
 
     // What a call answers that came to this, with what is left to do where it waits.
     fn end(self, store: &mut S, progress: Result<Poll<()>, Error>, rest: Rest) -> Step<S>
-        ensures { Ends (calls S.refusals S.polls_sync S.gives_sync_up S.writes S.resizes S.syncs S.starts_sync S.closes) self.blob rest progress (writer store.old self.held) store.new (seen_step (λ w. (w.blob, w.held)) (λ p. ((p.write.blob, p.write.held), p.rest)) result) }
+        ensures { Ends ⟦<S as Called>⟧.calls self.blob rest progress (writer store.old self.held) store.new (seen_step (λ w. (w.blob, w.held)) (λ p. ((p.write.blob, p.write.held), p.rest)) result) }
     {
         match progress {
             Ok(Poll::Ready(())) => Stepped::Done(self),
@@ -315,9 +331,10 @@ impl<S: Storage> Write<S> {
         env: &mut E,
         task: u64,
     ) -> Result<Poll<()>, Error>
-        ensures waits { Notes (E.noted env.old) (λ x. Waits (calls S.refusals S.polls_sync S.gives_sync_up S.writes S.resizes S.syncs S.starts_sync S.closes) task (writer store.old self.old.held) result (writer store.new self.new.held) x) (E.noted env.new) }
+        ensures waits { Notes (E.noted env.old) (λ x. Waits ⟦<S as Called>⟧.calls task (writer store.old self.old.held) result (writer store.new self.new.held) x) (E.noted env.new) }
         ensures settled { result ≡ Ok (Poll.Ready tt) → is_started self.new.held.state ≡ false }
         ensures blob { self.new.blob ≡ self.old.blob }
+        ensures spent { E.spare env.old ≤ E.spare env.new + S.most }
     {
         let SyncState::Started(ticket) = &mut self.held.state else {
             return Ok(Poll::Ready(()));
@@ -342,8 +359,9 @@ impl<S: Storage> Write<S> {
         task: u64,
     ) -> Result<Poll<()>, Error>
         requires { is_started self.old.held.state ≡ false }
-        ensures finishes { Notes (E.noted env.old) (λ x. Finishes (calls S.refusals S.polls_sync S.gives_sync_up S.writes S.resizes S.syncs S.starts_sync S.closes) self.old.blob rest task (writer store.old self.old.held) result (writer store.new self.new.held) x) (E.noted env.new) }
+        ensures finishes { Notes (E.noted env.old) (λ x. Finishes ⟦<S as Called>⟧.calls self.old.blob rest task (writer store.old self.old.held) result (writer store.new self.new.held) x) (E.noted env.new) }
         ensures blob { self.new.blob ≡ self.old.blob }
+        ensures spent { E.spare env.old ≤ E.spare env.new + room_for S.most rest }
     {
         match rest {
             Rest::Nothing => Ok(Poll::Ready(())),
@@ -363,8 +381,9 @@ impl<S: Storage> Write<S> {
         task: u64,
     ) -> Result<Poll<()>, Error>
         requires { is_started self.old.held.state ≡ false }
-        ensures settles { Notes (E.noted env.old) (λ x. Settles (calls S.refusals S.polls_sync S.gives_sync_up S.writes S.resizes S.syncs S.starts_sync S.closes) task done (writer store.old self.old.held) result (writer store.new self.new.held) x) (E.noted env.new) }
+        ensures settles { Notes (E.noted env.old) (λ x. Settles ⟦<S as Called>⟧.calls task done (writer store.old self.old.held) result (writer store.new self.new.held) x) (E.noted env.new) }
         ensures blob { self.new.blob ≡ self.old.blob }
+        ensures spent { E.spare env.old ≤ E.spare env.new + S.most }
     {
         match done {
             Done::Now => {
@@ -385,8 +404,9 @@ impl<S: Storage> Write<S> {
         task: u64,
     ) -> Result<Poll<()>, Error>
         requires { is_started self.old.held.state ≡ false }
-        ensures syncs { Notes (E.noted env.old) (λ x. SyncsBlob (calls S.refusals S.polls_sync S.gives_sync_up S.writes S.resizes S.syncs S.starts_sync S.closes) self.old.blob task (writer store.old self.old.held) result (writer store.new self.new.held) x) (E.noted env.new) }
+        ensures syncs { Notes (E.noted env.old) (λ x. SyncsBlob ⟦<S as Called>⟧.calls self.old.blob task (writer store.old self.old.held) result (writer store.new self.new.held) x) (E.noted env.new) }
         ensures blob { self.new.blob ≡ self.old.blob }
+        ensures spent { E.spare env.old ≤ E.spare env.new + 2 * S.most }
     {
         let done = store.sync(env, &self.blob)?;
         self.keep(store, env, done, task)
@@ -401,8 +421,9 @@ impl<S: Storage> Write<S> {
         task: u64,
     ) -> Result<Poll<()>, Error>
         requires { is_started self.old.held.state ≡ false }
-        ensures writes { Notes (E.noted env.old) (λ x. WritesDurably (calls S.refusals S.polls_sync S.gives_sync_up S.writes S.resizes S.syncs S.starts_sync S.closes) self.old.blob task offset bufs (writer store.old self.old.held) result (writer store.new self.new.held) x) (E.noted env.new) }
+        ensures writes { Notes (E.noted env.old) (λ x. WritesDurably ⟦<S as Called>⟧.calls self.old.blob task offset bufs (writer store.old self.old.held) result (writer store.new self.new.held) x) (E.noted env.new) }
         ensures blob { self.new.blob ≡ self.old.blob }
+        ensures spent { E.spare env.old ≤ E.spare env.new + 2 * S.most }
     {
         let done = store.write_at(env, &self.blob, offset, bufs, WriteOptions::SYNC)?;
         self.keep(store, env, done, task)
@@ -417,9 +438,10 @@ impl<S: Storage> Write<S> {
         bufs: IoBufs,
     ) -> Result<Poll<()>, Error>
         requires { is_started self.old.held.state ≡ false }
-        ensures writes { Notes (E.noted env.old) (λ x. WritesOut (calls S.refusals S.polls_sync S.gives_sync_up S.writes S.resizes S.syncs S.starts_sync S.closes) self.old.blob offset bufs (writer store.old self.old.held) result (writer store.new self.new.held) x) (E.noted env.new) }
+        ensures writes { Notes (E.noted env.old) (λ x. WritesOut ⟦<S as Called>⟧.calls self.old.blob offset bufs (writer store.old self.old.held) result (writer store.new self.new.held) x) (E.noted env.new) }
         ensures settled { is_started self.new.held.state ≡ false }
         ensures blob { self.new.blob ≡ self.old.blob }
+        ensures spent { E.spare env.old ≤ E.spare env.new + S.most }
     {
         self.held.set_state(SyncState::Dirty);
         match store.write_at(env, &self.blob, offset, bufs, WriteOptions::default())? {
@@ -447,9 +469,10 @@ impl<S: Storage> Write<S> {
     // Writes the bytes of the tip out, where there are any.
     fn drain<E: Env>(&mut self, store: &mut S, env: &mut E) -> Result<Poll<()>, Error>
         requires { is_started self.old.held.state ≡ false }
-        ensures drains { Notes (E.noted env.old) (λ x. Drains (calls S.refusals S.polls_sync S.gives_sync_up S.writes S.resizes S.syncs S.starts_sync S.closes) self.old.blob (writer store.old self.old.held) result (writer store.new self.new.held) x) (E.noted env.new) }
+        ensures drains { Notes (E.noted env.old) (λ x. Drains ⟦<S as Called>⟧.calls self.old.blob (writer store.old self.old.held) result (writer store.new self.new.held) x) (E.noted env.new) }
         ensures settled { is_started self.new.held.state ≡ false }
         ensures blob { self.new.blob ≡ self.old.blob }
+        ensures spent { E.spare env.old ≤ E.spare env.new + S.most }
     {
         match self.take_tip() {
             Err(error) => Err(error),
@@ -469,8 +492,9 @@ impl<S: Storage> Write<S> {
         task: u64,
     ) -> Result<Poll<()>, Error>
         requires { is_started self.old.held.state ≡ false }
-        ensures writes { Notes (E.noted env.old) (λ x. Then (WritesOut (calls S.refusals S.polls_sync S.gives_sync_up S.writes S.resizes S.syncs S.starts_sync S.closes) self.old.blob offset bufs) (SyncsBlob (calls S.refusals S.polls_sync S.gives_sync_up S.writes S.resizes S.syncs S.starts_sync S.closes) self.old.blob task) (writer store.old self.old.held) result (writer store.new self.new.held) x) (E.noted env.new) }
+        ensures writes { Notes (E.noted env.old) (λ x. Then (WritesOut ⟦<S as Called>⟧.calls self.old.blob offset bufs) (SyncsBlob ⟦<S as Called>⟧.calls self.old.blob task) (writer store.old self.old.held) result (writer store.new self.new.held) x) (E.noted env.new) }
         ensures blob { self.new.blob ≡ self.old.blob }
+        ensures spent { E.spare env.old ≤ E.spare env.new + 3 * S.most }
     {
         match self.write_out(store, env, offset, bufs) {
             Err(error) => Err(error),
@@ -482,8 +506,9 @@ impl<S: Storage> Write<S> {
     // Makes the tip and all changes durable, where no ticket is held.
     fn save<E: Env>(&mut self, store: &mut S, env: &mut E, task: u64) -> Result<Poll<()>, Error>
         requires { is_started self.old.held.state ≡ false }
-        ensures saves { Notes (E.noted env.old) (λ x. Saves (calls S.refusals S.polls_sync S.gives_sync_up S.writes S.resizes S.syncs S.starts_sync S.closes) self.old.blob task (writer store.old self.old.held) result (writer store.new self.new.held) x) (E.noted env.new) }
+        ensures saves { Notes (E.noted env.old) (λ x. Saves ⟦<S as Called>⟧.calls self.old.blob task (writer store.old self.old.held) result (writer store.new self.new.held) x) (E.noted env.new) }
         ensures blob { self.new.blob ≡ self.old.blob }
+        ensures spent { E.spare env.old ≤ E.spare env.new + 3 * S.most }
     {
         let taken = self.take_tip();
         let is_clean = self.held.is_clean();
@@ -500,8 +525,9 @@ impl<S: Storage> Write<S> {
 
     // Starts a sync where a change is open.
     fn begin<E: Env>(&mut self, store: &mut S, env: &mut E) -> Result<Poll<()>, Error>
-        ensures begins { Notes (E.noted env.old) (λ x. Begins (calls S.refusals S.polls_sync S.gives_sync_up S.writes S.resizes S.syncs S.starts_sync S.closes) self.old.blob (writer store.old self.old.held) result (writer store.new self.new.held) x) (E.noted env.new) }
+        ensures begins { Notes (E.noted env.old) (λ x. Begins ⟦<S as Called>⟧.calls self.old.blob (writer store.old self.old.held) result (writer store.new self.new.held) x) (E.noted env.new) }
         ensures blob { self.new.blob ≡ self.old.blob }
+        ensures spent { E.spare env.old ≤ E.spare env.new + S.most }
     {
         match self.held.state {
             SyncState::Clean | SyncState::Started(_) => Ok(Poll::Ready(())),
@@ -518,8 +544,9 @@ impl<S: Storage> Write<S> {
     #[tactic(auto, using(crate::proofs::Steps::then_done, crate::proofs::Steps::then_waits, crate::proofs::Steps::then_refused))]
     fn drain_and_begin<E: Env>(&mut self, store: &mut S, env: &mut E) -> Result<Poll<()>, Error>
         requires { is_started self.old.held.state ≡ false }
-        ensures begins { Notes (E.noted env.old) (λ x. Then (Drains (calls S.refusals S.polls_sync S.gives_sync_up S.writes S.resizes S.syncs S.starts_sync S.closes) self.old.blob) (Begins (calls S.refusals S.polls_sync S.gives_sync_up S.writes S.resizes S.syncs S.starts_sync S.closes) self.old.blob) (writer store.old self.old.held) result (writer store.new self.new.held) x) (E.noted env.new) }
+        ensures begins { Notes (E.noted env.old) (λ x. Then (Drains ⟦<S as Called>⟧.calls self.old.blob) (Begins ⟦<S as Called>⟧.calls self.old.blob) (writer store.old self.old.held) result (writer store.new self.new.held) x) (E.noted env.new) }
         ensures blob { self.new.blob ≡ self.old.blob }
+        ensures spent { E.spare env.old ≤ E.spare env.new + 2 * S.most }
     {
         match self.drain(store, env) {
             Err(error) => Err(error),
@@ -535,8 +562,9 @@ impl<S: Storage> Write<S> {
         len: u64,
     ) -> Result<Poll<()>, Error>
         requires { is_started self.old.held.state ≡ false }
-        ensures resizes { Notes (E.noted env.old) (λ x. ResizesBlob (calls S.refusals S.polls_sync S.gives_sync_up S.writes S.resizes S.syncs S.starts_sync S.closes) self.old.blob len (writer store.old self.old.held) result (writer store.new self.new.held) x) (E.noted env.new) }
+        ensures resizes { Notes (E.noted env.old) (λ x. ResizesBlob ⟦<S as Called>⟧.calls self.old.blob len (writer store.old self.old.held) result (writer store.new self.new.held) x) (E.noted env.new) }
         ensures blob { self.new.blob ≡ self.old.blob }
+        ensures spent { E.spare env.old ≤ E.spare env.new + S.most }
     {
         self.held.set_state(SyncState::Dirty);
         match store.resize(env, &self.blob, len) {
@@ -569,8 +597,9 @@ impl<S: Storage> Write<S> {
         len: u64,
     ) -> Result<Poll<()>, Error>
         requires { is_started self.old.held.state ≡ false }
-        ensures writes { Notes (E.noted env.old) (λ x. Then (WritesOut (calls S.refusals S.polls_sync S.gives_sync_up S.writes S.resizes S.syncs S.starts_sync S.closes) self.old.blob offset bufs) (ResizesBlob (calls S.refusals S.polls_sync S.gives_sync_up S.writes S.resizes S.syncs S.starts_sync S.closes) self.old.blob len) (writer store.old self.old.held) result (writer store.new self.new.held) x) (E.noted env.new) }
+        ensures writes { Notes (E.noted env.old) (λ x. Then (WritesOut ⟦<S as Called>⟧.calls self.old.blob offset bufs) (ResizesBlob ⟦<S as Called>⟧.calls self.old.blob len) (writer store.old self.old.held) result (writer store.new self.new.held) x) (E.noted env.new) }
         ensures blob { self.new.blob ≡ self.old.blob }
+        ensures spent { E.spare env.old ≤ E.spare env.new + 2 * S.most }
     {
         match self.write_out(store, env, offset, bufs) {
             Err(error) => Err(error),
@@ -587,8 +616,9 @@ impl<S: Storage> Write<S> {
         len: u64,
     ) -> Result<Poll<()>, Error>
         requires { is_started self.old.held.state ≡ false }
-        ensures resizes { Notes (E.noted env.old) (λ x. ResizesTip (calls S.refusals S.polls_sync S.gives_sync_up S.writes S.resizes S.syncs S.starts_sync S.closes) self.old.blob len (writer store.old self.old.held) result (writer store.new self.new.held) x) (E.noted env.new) }
+        ensures resizes { Notes (E.noted env.old) (λ x. ResizesTip ⟦<S as Called>⟧.calls self.old.blob len (writer store.old self.old.held) result (writer store.new self.new.held) x) (E.noted env.new) }
         ensures blob { self.new.blob ≡ self.old.blob }
+        ensures spent { E.spare env.old ≤ E.spare env.new + 2 * S.most }
     {
         match self.cut_tip(len) {
             Err(error) => Err(error),
@@ -618,9 +648,10 @@ impl<S: Storage> Write<S> {
     ) -> Result<Poll<()>, Error>
         requires free { is_started self.old.held.state ≡ false }
         requires fits { at + length chunk < 2 ^ 64 }
-        ensures writes { Notes (E.noted env.old) (λ x. WritesChunk (calls S.refusals S.polls_sync S.gives_sync_up S.writes S.resizes S.syncs S.starts_sync S.closes) self.old.blob at chunk (writer store.old self.old.held) result (writer store.new self.new.held) x) (E.noted env.new) }
+        ensures writes { Notes (E.noted env.old) (λ x. WritesChunk ⟦<S as Called>⟧.calls self.old.blob at chunk (writer store.old self.old.held) result (writer store.new self.new.held) x) (E.noted env.new) }
         ensures settled { is_started self.new.held.state ≡ false }
         ensures blob { self.new.blob ≡ self.old.blob }
+        ensures spent { E.spare env.old ≤ E.spare env.new + S.most }
     {
         let end = at + chunk.len() as u64;
         let bufs = IoBufs::from_buf(self.alloc, chunk)?;
@@ -644,9 +675,10 @@ impl<S: Storage> Write<S> {
     ) -> Result<Poll<()>, Error>
         requires free { is_started self.old.held.state ≡ false }
         requires fits { at + length chunk < 2 ^ 64 }
-        ensures puts { Notes (E.noted env.old) (λ x. PutsAgain (calls S.refusals S.polls_sync S.gives_sync_up S.writes S.resizes S.syncs S.starts_sync S.closes) self.old.blob at chunk (writer store.old self.old.held) result (writer store.new self.new.held) x) (E.noted env.new) }
+        ensures puts { Notes (E.noted env.old) (λ x. PutsAgain ⟦<S as Called>⟧.calls self.old.blob at chunk (writer store.old self.old.held) result (writer store.new self.new.held) x) (E.noted env.new) }
         ensures settled { is_started self.new.held.state ≡ false }
         ensures blob { self.new.blob ≡ self.old.blob }
+        ensures spent { E.spare env.old ≤ E.spare env.new + S.most }
     {
         match self.merge(at, &chunk) {
             Err(error) => Err(error),
@@ -666,9 +698,10 @@ impl<S: Storage> Write<S> {
     ) -> Result<Poll<()>, Error>
         requires free { is_started self.old.held.state ≡ false }
         requires fits { at + length chunk < 2 ^ 64 }
-        ensures puts { Notes (E.noted env.old) (λ x. Then (Drains (calls S.refusals S.polls_sync S.gives_sync_up S.writes S.resizes S.syncs S.starts_sync S.closes) self.old.blob) (PutsAgain (calls S.refusals S.polls_sync S.gives_sync_up S.writes S.resizes S.syncs S.starts_sync S.closes) self.old.blob at chunk) (writer store.old self.old.held) result (writer store.new self.new.held) x) (E.noted env.new) }
+        ensures puts { Notes (E.noted env.old) (λ x. Then (Drains ⟦<S as Called>⟧.calls self.old.blob) (PutsAgain ⟦<S as Called>⟧.calls self.old.blob at chunk) (writer store.old self.old.held) result (writer store.new self.new.held) x) (E.noted env.new) }
         ensures settled { is_started self.new.held.state ≡ false }
         ensures blob { self.new.blob ≡ self.old.blob }
+        ensures spent { E.spare env.old ≤ E.spare env.new + 2 * S.most }
     {
         match self.drain(store, env) {
             Err(error) => Err(error),
@@ -687,9 +720,10 @@ impl<S: Storage> Write<S> {
     ) -> Result<Poll<()>, Error>
         requires free { is_started self.old.held.state ≡ false }
         requires fits { at + length chunk < 2 ^ 64 }
-        ensures puts { Notes (E.noted env.old) (λ x. Puts (calls S.refusals S.polls_sync S.gives_sync_up S.writes S.resizes S.syncs S.starts_sync S.closes) self.old.blob at chunk (writer store.old self.old.held) result (writer store.new self.new.held) x) (E.noted env.new) }
+        ensures puts { Notes (E.noted env.old) (λ x. Puts ⟦<S as Called>⟧.calls self.old.blob at chunk (writer store.old self.old.held) result (writer store.new self.new.held) x) (E.noted env.new) }
         ensures settled { is_started self.new.held.state ≡ false }
         ensures blob { self.new.blob ≡ self.old.blob }
+        ensures spent { E.spare env.old ≤ E.spare env.new + 2 * S.most }
     {
         let is_in_the_way = self.held.tip.is_in_the_way(at + chunk.len() as u64);
         match self.merge(at, &chunk) {
@@ -708,8 +742,9 @@ impl<S: Storage> Write<S> {
         left: Pieces,
     ) -> Result<Poll<()>, Error>
         requires { is_started self.old.held.state ≡ false }
-        ensures puts { Notes (E.noted env.old) (λ x. PutsAll (calls S.refusals S.polls_sync S.gives_sync_up S.writes S.resizes S.syncs S.starts_sync S.closes) self.old.blob left (writer store.old self.old.held) result (writer store.new self.new.held) x) (E.noted env.new) }
+        ensures puts { Notes (E.noted env.old) (λ x. PutsAll ⟦<S as Called>⟧.calls self.old.blob left (writer store.old self.old.held) result (writer store.new self.new.held) x) (E.noted env.new) }
         ensures blob { self.new.blob ≡ self.old.blob }
+        ensures spent { E.spare env.old ≤ E.spare env.new + length left.chunks * (2 * S.most) }
     {
         let mut left = left;
         let mut at = left.at();

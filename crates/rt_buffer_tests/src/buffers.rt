@@ -4,9 +4,9 @@
 // are over any store where they can be, since those are proved in less time.
 
 ghost use Rattle.std.specs.Prelude.{◌≡◌, ℕ, IfOk, OnOk, List, take, drop};
-ghost use Rattle.rt_buffer.specs.Durable.{HoldsBytes, KeepsBytes, KnowsState};
+ghost use Rattle.rt_buffer.specs.Durable.{HoldsBytes, KnowsState};
 ghost use Rattle.rt_buffer.specs.Flat.{StandsFor};
-ghost use Rattle.rt_buffer.specs.Memory.{CrashLeaves, memory_bytes, memory_calls, memory_left, memory_promised};
+ghost use Rattle.rt_buffer.specs.Memory.{CrashLeaves, MemoryKeeps, memory_bytes, memory_left, memory_promised};
 ghost use Rattle.rt_buffer.specs.Tip.{laid_over};
 ghost use Rattle.rt_buffer.specs.Writing.{LiesOver};
 ghost use Rattle.rt_store.specs.Calls.{blob_of};
@@ -105,6 +105,15 @@ fn tip_merges_at_its_edges(rt: HostRuntime) -> Result<(), Fail> {
     let mut tip = Buffer::new(rt.alloc(), 10, 8);
     let seen = merges_each(&mut tip, 10, EDGES);
     assert!(rt; (seen == 9) & (tip.size() == 18));
+    Ok(())
+}
+
+#[test]
+fn tip_lacks_memory(rt: HostRuntime) -> Result<(), Fail> {
+    let mut tip = Buffer::new(rt.alloc(), 10, usize::MAX);
+    let first = came(tip.merge(b"abc", 10), true);
+    let lacks = failed(tip.merge(b"a", u64::MAX - 1), NoMemory);
+    assert!(rt; first & lacks & has(&tip, 10, b"abc"));
     Ok(())
 }
 
@@ -247,11 +256,19 @@ const READS: &[Piece] = &[
     (2, b"d!", 0, 0),
 ];
 
+/// Whether a read of one byte more is refused.
+fn ends<S: Storage>(store: &mut S, reader: &mut Read<S>) -> bool {
+    failed(
+        reader.read(store, &mut NoEnv, 1),
+        Error::BlobInsufficientLength,
+    )
+}
+
 /// Whether the text is read, to its end and no further.
 fn reads_text<S: Storage>(store: &mut S, reader: &mut Read<S>) -> bool {
     let seen = reads_each(store, reader, READS);
-    let more = went(reader.read(store, &mut NoEnv, 1));
-    (seen == 4) & !more & (reader.position() == 12) & (reader.blob_size() == 12)
+    let last = ends(store, reader);
+    (seen == 4) & last & (reader.position() == 12) & (reader.blob_size() == 12)
 }
 
 /// Whether so many bytes are held after a seek.
@@ -472,10 +489,20 @@ fn write_text(alloc: Global, store: &mut MemStore) -> Result<(), Error> {
     Ok(())
 }
 
+/// The text at once, and its first bytes again.
+const WHOLE: &[Piece] = &[(12, b"hello world!", 0, 0)];
+
+fn reads_whole<S: Storage>(store: &mut S, reader: &mut Read<S>) -> bool {
+    let whole = reads_each(store, reader, WHOLE);
+    let last = ends(store, reader);
+    let back = seeks(reader, 0, 0);
+    (whole == 1) & last & back & (reads_each(store, reader, START) == 1)
+}
+
 fn reads_back<S: Storage>(alloc: Global, store: &mut S) -> Result<bool, Error> {
     let (blob, len) = store.open(&mut NoEnv, "p", b"a")?;
     let mut reader = Read::new(alloc, blob, len, 8);
-    let read = reads_text(store, &mut reader);
+    let read = reads_whole(store, &mut reader);
     reader.close(store);
     Ok(read & (len == 12))
 }
@@ -586,12 +613,12 @@ fn is_long<S: Storage>(store: &mut S, expected: u64) -> Result<bool, Error> {
     Ok(len == expected)
 }
 
-/// How long the blob is then and after a crash, and how many numbers that may draw.
+/// What the blob has then and after a crash, and how many numbers that may draw.
 fn crash_behind(alloc: Global, store: &mut MemStore) -> Result<bool, Error> {
     write_behind(alloc, store)?;
-    let before = is_long(store, 4)?;
+    let before = has_bytes(alloc, store, b"a", b"abcd")?;
     let draws = crash(alloc, store)?;
-    let after = is_long(store, 2)?;
+    let after = has_bytes(alloc, store, b"a", b"ab")?;
     Ok(before & (draws == 2) & after)
 }
 
@@ -663,7 +690,7 @@ fn ask(
     mut handle: SyncHandle,
     store: &mut MemStore,
 ) -> Result<Write<MemStore>, Error>
-    ensures keeps { KeepsBytes memory_calls memory_bytes memory_left memory_promised }
+    ensures memory { MemoryKeeps }
     ensures crash { (content : List ℕ) → handle.number ≡ writer.held.syncs → HoldsBytes memory_bytes memory_left memory_promised content writer.held store.old writer.blob →
         OnOk result (CrashLeaves content store.new writer.blob) }
 {

@@ -79,13 +79,31 @@ pub fn poll_and_end<S: Storage>(store: &mut S, mut ticket: Ticket) -> Poll<Resul
     polled
 }
 
-/// Whether a durability call was made that is held, whether a crash would draw two numbers by then and none once it is released, and
-/// whether it is done then.
-fn releases_gate(store: &mut Delayed, ticket: Ticket) -> bool {
-    let held = (store.pending().calls() == 1) & (store.inner().crash_draws() == 2);
+/// A store whose syncs are held back, over one that counts those that reach it.
+type Counted = DelayedSyncContext<Delayed>;
+
+fn counted(alloc: Global) -> Result<Counted, NoMemory> {
+    Ok(DelayedSyncContext::new(alloc, delayed(alloc)?))
+}
+
+/// Whether durability calls are counted from then on, and none is held.
+fn counts_calls(pending: &mut PendingSyncs) -> bool {
+    let armed = arms(pending);
+    went(pending.unblock()) & armed
+}
+
+/// Whether so many syncs reached the inner store, and a crash would draw so many numbers.
+fn reached(inner: &Delayed, calls: u64, draws: usize) -> bool {
+    (inner.pending().calls() == calls) & (inner.inner().crash_draws() == draws)
+}
+
+/// Whether a durability call was made that is held, and no sync reached the inner store by then; and whether it is done by one once it
+/// is released.
+fn releases_gate(store: &mut Counted, ticket: Ticket) -> bool {
+    let held = (store.pending().calls() == 1) & reached(store.inner(), 0, 2);
     let _ = release_pending_syncs(store.pending_mut());
     let done = same(poll_and_end(store, ticket), Poll::Ready(Ok(())));
-    held & done & (store.inner().crash_draws() == 0)
+    held & done & reached(store.inner(), 1, 0)
 }
 
 /// The ticket of a durable write of `c`, where a gate holds it.
@@ -98,7 +116,7 @@ pub fn write_gated<S: Storage>(alloc: Global, store: &mut S, blob: &S::Blob) -> 
     }
 }
 
-fn gates_write(alloc: Global, store: &mut Delayed) -> Result<bool, Error> {
+fn gates_write(alloc: Global, store: &mut Counted) -> Result<bool, Error> {
     let (blob, _) = store.open(&mut NoEnv, "p", b"a")?;
     let seen = match write_gated(alloc, store, &blob) {
         Some(ticket) => releases_gate(store, ticket),
@@ -110,10 +128,10 @@ fn gates_write(alloc: Global, store: &mut Delayed) -> Result<bool, Error> {
 
 #[test]
 fn gated_write(rt: HostRuntime) -> Result<(), Fail> {
-    let mut store = delayed(rt.alloc())?;
-    let armed = arms(store.pending_mut());
+    let mut store = counted(rt.alloc())?;
+    let armed = counts_calls(store.inner_mut().pending_mut()) & arms(store.pending_mut());
     let seen = came(gates_write(rt.alloc(), &mut store), true);
-    let _inner = store.into_inner();
+    let _inner = store.into_inner().into_inner();
     assert!(rt; armed & seen);
     Ok(())
 }

@@ -43,7 +43,24 @@ fn syncs<S: Storage>(store: &mut S, writer: Write<S>) -> bool {
     }
 }
 
-/// Whether it is, where each sync of a store in memory fails by then, and a durable write doesn't.
+/// Writes `ab`, and whether its sync fails where each sync of a store in memory does.
+fn fails_first(alloc: Global, store: &mut WriteFaultContext<MemStore>) -> Result<bool, Error> {
+    store.inner.config_mut().sync_rate = 1_000_000;
+    let writer = opened(alloc, store, b"a")?;
+    let writer = put(alloc, store, writer, 0, b"ab")?;
+    Ok(sync_fails(store, writer, Error::Io(IoKind::InjectedStorageFault)))
+}
+
+// The first write isn't durable: it was written, and a crash would decide over it.
+#[test]
+fn first_write_is_plain(rt: HostRuntime) -> Result<(), Fail> {
+    let mut store = write_faults(rt.alloc())?;
+    let fails = came(fails_first(rt.alloc(), &mut store), true);
+    assert!(rt; fails & (store.faults.writes() == 1) & (store.inner.crash_draws() == 2));
+    Ok(())
+}
+
+/// Whether the sync of both is done, where each sync of a store in memory fails before the last, and a durable write doesn't.
 fn writes_once(alloc: Global, store: &mut WriteFaultContext<MemStore>) -> Result<bool, Error> {
     let writer = write_both(alloc, store)?;
     store.inner.config_mut().sync_rate = 1_000_000;

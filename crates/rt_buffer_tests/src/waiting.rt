@@ -17,6 +17,7 @@ enum Call {
     Start,
     Write,
     Resize,
+    Wait,
 }
 
 /// A call behind a writer of `ab` and, held back, `c`; whether the sync of `ab` was started; what the writer shows once the call is
@@ -29,6 +30,7 @@ const WAITS: &[Wait] = &[
     (Call::Start, true, b"abc", 2),
     (Call::Write, true, b"abc0123456789abcdefg", 4),
     (Call::Resize, true, b"a", 2),
+    (Call::Wait, true, b"abc", 0),
 ];
 
 /// More bytes than the tip has room for.
@@ -70,6 +72,7 @@ fn make<S: Storage>(alloc: Global, store: &mut S, writer: Write<S>, call: Call) 
         Call::Start => step_of(writer.start_sync(store, &mut NoEnv, 3)),
         Call::Write => write_long(alloc, store, writer),
         Call::Resize => writer.resize(store, &mut NoEnv, 1, 3),
+        Call::Wait => writer.wait_for_sync(store, &mut NoEnv, 3),
     }
 }
 
@@ -145,7 +148,7 @@ fn waits_each(alloc: Global, each: &[Wait]) -> usize {
 
 #[test]
 fn waiting_call_goes_on(rt: HostRuntime) -> Result<(), Fail> {
-    assert!(rt; waits_each(rt.alloc(), WAITS) == 5);
+    assert!(rt; waits_each(rt.alloc(), WAITS) == 6);
     Ok(())
 }
 
@@ -196,6 +199,7 @@ const STOPS: &[(Call, bool)] = &[
     (Call::Start, true),
     (Call::Write, false),
     (Call::Resize, true),
+    (Call::Wait, false),
 ];
 
 /// How many calls stop so.
@@ -211,6 +215,6 @@ fn stops_each(alloc: Global, each: &[(Call, bool)]) -> usize {
 
 #[test]
 fn waiting_call_stops(rt: HostRuntime) -> Result<(), Fail> {
-    assert!(rt; stops_each(rt.alloc(), STOPS) == 4);
+    assert!(rt; stops_each(rt.alloc(), STOPS) == 5);
     Ok(())
 }

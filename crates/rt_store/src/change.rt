@@ -9,10 +9,11 @@ pub struct Change {
     pub before: Before,
 }
 
-/// What a change wrote over: the bytes from `at` on, and the length.
+/// What a change wrote over: the bytes from `at` on, how many bytes were held, and how many of them the blob had.
 #[derive(Drop)]
 pub struct Before {
     pub at: usize,
     pub saved: Vec<u8>,
+    pub held: usize,
     pub len: usize,
 }

@@ -1,18 +1,20 @@
 // A blob of the store in memory.
 //
-// There is one block of bytes, the content. Each change that a crash may undo is kept with the bytes that it wrote
-// over, so the base is the content with these changes undone: a sync forgets them and copies nothing, and a crash
-// undoes them and does those again that it keeps, in the room that they had.
-ghost use Rattle.std.specs.Prelude.{◌≡◌, ◌+◌, ◌*◌, ◌<◌, ◌≤◌, ◌++◌, [], List, length, None, true, ⊤, IfOk, vec_len, vec_capacity};
+// There is one block of bytes, of which the content is the first ones. Each change that a crash may undo is kept with
+// the bytes that it wrote over, so the base is the content with these changes undone: a sync forgets them and copies
+// nothing, and a crash undoes them and does those again that it keeps, in the room that they had. Bytes that a change
+// of length cuts stay in the block behind the content until a sync or a crash, so that it copies none; what is written
+// there before that is kept as any other change.
+ghost use Rattle.std.specs.Prelude.{◌≡◌, ◌+◌, ◌*◌, ◌^◌, ◌<◌, ◌≤◌, ◌++◌, [], List, length, None, true, false, ⊤, IfOk, OnOk, vec_len, vec_capacity};
 ghost use Rattle.rt_base.specs.Counted.{Notes};
 ghost use Rattle.rt_base.specs.declared.choice.Choice.{Choice};
-ghost use Rattle.rt_store.specs.Changes.{all_undone, mutations};
+ghost use Rattle.rt_store.specs.Changes.{end_of, laid, len_before, undone};
 ghost use Rattle.rt_store.specs.Crash.{Chooses};
 ghost use Rattle.rt_store.specs.Draws.{Answers, if_ok};
 ghost use Rattle.rt_store.specs.File.{FileState, fresh_file, mutated, synced, crashed, detached, closed, with_token, is_settled};
 
-use crate::change::Change;
-use crate::content::{apply, before_of, undo};
+use crate::change::{Before, Change};
+use crate::content::{before_of, lay};
 use crate::crash::{redo, restore};
 use crate::draws::passes;
 use crate::faults::FaultConfig;
@@ -30,20 +32,21 @@ pub struct File {
     version: BlobVersion,
     token: Option<u64>,
     removed: bool,
-    content: Vec<u8>,
+    held: Vec<u8>,
+    len: usize,
     later: Vec<Change>,
 }
 
 impl Model for File {
-    ghost use Rattle.std.specs.Prelude.{◌≡◌, true, [], All, vec_capacity};
-    ghost use Rattle.rt_store.specs.Changes.{all_undone, mutations, HasRoom};
+    ghost use Rattle.std.specs.Prelude.{◌≡◌, ◌≤◌, true, [], All, length, take, vec_capacity};
+    ghost use Rattle.rt_store.specs.Changes.{all_undone, len_before, mutations, HasRoom};
     ghost use Rattle.rt_store.specs.File.{FileState};
 
     ghost Value = { FileState };
 
-    ghost view = { λ f. record { version = f.version; token = f.token; removed = f.removed; content = f.content.items; base = all_undone f.later.items f.content.items; later = mutations f.later.items } };
+    ghost view = { λ f. record { version = f.version; token = f.token; removed = f.removed; content = take f.len f.held.items; base = take (len_before f.later.items f.len) (all_undone f.later.items f.held.items); later = mutations f.later.items } };
 
-    ghost invariant = { λ f. All (HasRoom (vec_capacity f.content)) f.later.items × (f.removed ≡ true → f.later.items ≡ []) };
+    ghost invariant = { λ f. (f.len ≤ length f.held.items) × All (HasRoom (vec_capacity f.held)) f.later.items × (f.removed ≡ true → f.later.items ≡ []) };
 }
 
 impl File {
@@ -55,7 +58,8 @@ impl File {
             version,
             token: Some(token),
             removed: false,
-            content: Vec::new(alloc),
+            held: Vec::new(alloc),
+            len: 0,
             later: Vec::new(alloc),
         }
     }
@@ -78,7 +82,7 @@ impl File {
     pub fn content(&self) -> &[u8]
         ensures { result.now ≡ self.now.content }
     {
-        self.content.as_slice()
+        &self.held[..self.len]
     }
 
     /// How many changes a crash decides over.
@@ -89,7 +93,6 @@ impl File {
     }
 
     /// Changes the bytes, save where a fault is drawn. It answers how many changes more a crash decides over.
-    #[tactic(auto, using(crate::proofs::Undone::undone_snoc, crate::proofs::Undone::mutations_snoc, crate::proofs::Undone::none_left))]
     pub fn mutate<E: Env>(
         &mut self,
         env: &mut E,
@@ -102,25 +105,77 @@ impl File {
         ensures after { self.new ≡ if_ok result (mutated mutation self.old) self.old }
         ensures spent { E.spare env.old ≤ E.spare env.new + 1 }
     {
-        let end = mutation.end();
-        if end > MOST_BYTES {
+        if mutation.end() > MOST_BYTES {
+            drop(mutation);
             return Err(Error::NoMemory);
         }
-        let alloc = *self.content.allocator();
-        let before = before_of(alloc, self.content.as_slice(), &mutation)?;
-        self.content
-            .reserve(end.saturating_sub(self.content.len()))?;
-        self.later.reserve(1)?;
+        if self.is_settled(&mutation) {
+            let done = self.settle(env, rate, &mutation);
+            drop(mutation);
+            return done;
+        }
+        self.leave_open(env, rate, mutation)
+    }
+
+    // Does a change that no crash decides over.
+    #[tactic(auto, using(crate::proofs::Undone::none_left))]
+    fn settle<E: Env>(
+        &mut self,
+        env: &mut E,
+        rate: u32,
+        mutation: &Mutation,
+    ) -> Result<usize, Error>
+        requires draw { 0 < rate → 0 < E.spare env.old }
+        requires fits { end_of mutation.now < 2 ^ 63 }
+        requires settled { is_settled mutation.now self.old ≡ true }
+        ensures gives { Notes (E.noted env.old) (Answers None rate (λ _. ⊤) result) (E.noted env.new) }
+        ensures none { IfOk result (λ n. n ≡ 0) }
+        ensures after { self.new ≡ if_ok result (mutated mutation.now self.old) self.old }
+        ensures spent { E.spare env.old ≤ E.spare env.new + 1 }
+    {
+        self.held
+            .reserve(mutation.end().saturating_sub(self.held.len()))?;
         if !passes(env, rate) {
             return Err(Error::Io(IoKind::InjectedStorageFault));
         }
-        if self.is_settled(&mutation) {
-            apply(&mut self.content, &mutation);
-            return Ok(0);
+        self.len = lay(&mut self.held, self.len, mutation);
+        Ok(0)
+    }
+
+    // Does a change that a crash decides over.
+    #[tactic(auto, using(crate::proofs::Undone::undone_snoc, crate::proofs::Undone::len_before_snoc, crate::proofs::Undone::mutations_snoc))]
+    fn leave_open<E: Env>(
+        &mut self,
+        env: &mut E,
+        rate: u32,
+        mutation: Mutation,
+    ) -> Result<usize, Error>
+        requires draw { 0 < rate → 0 < E.spare env.old }
+        requires fits { end_of mutation < 2 ^ 63 }
+        requires opened { is_settled mutation self.old ≡ false }
+        ensures gives { Notes (E.noted env.old) (Answers None rate (λ _. ⊤) result) (E.noted env.new) }
+        ensures one { IfOk result (λ n. n ≡ 1) }
+        ensures after { self.new ≡ if_ok result (mutated mutation self.old) self.old }
+        ensures spent { E.spare env.old ≤ E.spare env.new + 1 }
+    {
+        match begin(
+            &mut self.held,
+            self.len,
+            &mut self.later,
+            env,
+            rate,
+            &mutation,
+        ) {
+            Ok(before) => {
+                self.len = lay(&mut self.held, self.len, &mutation);
+                self.later.push_reserved(Change { mutation, before });
+                Ok(1)
+            }
+            Err(error) => {
+                drop(mutation);
+                Err(error)
+            }
         }
-        apply(&mut self.content, &mutation);
-        self.later.push_reserved(Change { mutation, before });
-        Ok(1)
     }
 
     // Whether no crash decides over this change.
@@ -137,6 +192,7 @@ impl File {
     {
         let fewer = self.later.len();
         self.later.clear();
+        self.held.truncate(self.len);
         fewer
     }
 
@@ -156,14 +212,11 @@ impl File {
         ensures later { result ≡ length self.old.later }
         ensures places { vec_capacity choices.new ≡ vec_capacity choices.old }
     {
-        restore(&mut self.content, self.later.as_slice());
-        redo(
-            &mut self.content,
-            env,
-            faults,
-            self.later.as_slice(),
-            choices,
-        );
+        let len = len_before(self.later.as_slice(), self.len);
+        restore(&mut self.held, self.later.as_slice());
+        self.held.truncate(len);
+        redo(&mut self.held, env, faults, self.later.as_slice(), choices);
+        self.len = self.held.len();
         let decided = self.later.len();
         self.later.clear();
         decided
@@ -206,8 +259,52 @@ impl File {
         requires { self.old.removed ≡ true }
         ensures { self.new ≡ record self.old { content = []; base = []; later = [] } }
     {
-        let alloc = *self.content.allocator();
+        let alloc = *self.held.allocator();
         self.later.clear();
-        self.content = Vec::new(alloc);
+        self.held = Vec::new(alloc);
+        self.len = 0;
     }
+}
+
+// How many bytes a blob had before these changes, if it has so many now.
+fn len_before(later: &[Change], len: usize) -> usize
+    ensures { result ≡ len_before later.now len }
+{
+    match later.first() {
+        Some(change) => change.before.len,
+        None => len,
+    }
+}
+
+// Takes the room for a change that a crash decides over, and answers what undoes it, save where a fault is drawn.
+fn begin<E: Env>(
+    held: &mut Vec<u8>,
+    len: usize,
+    later: &mut Vec<Change>,
+    env: &mut E,
+    rate: u32,
+    mutation: &Mutation,
+) -> Result<Before, Error>
+    requires draw { 0 < rate → 0 < E.spare env.old }
+    requires fits { end_of mutation.now < 2 ^ 63 }
+    requires within { len ≤ length held.old.items }
+    ensures gives { Notes (E.noted env.old) (Answers None rate (λ _. ⊤) result) (E.noted env.new) }
+    ensures undoes { IfOk result (λ b. undone b (laid mutation.now len held.old.items) ≡ held.old.items) }
+    ensures len { IfOk result (λ b. b.len ≡ len) }
+    ensures ends { IfOk result (λ b. b.at + length b.saved.items ≤ length held.old.items) }
+    ensures held { held.new.items ≡ held.old.items }
+    ensures kept { vec_capacity held.old ≤ vec_capacity held.new }
+    ensures room { OnOk result (end_of mutation.now ≤ vec_capacity held.new) }
+    ensures later { later.new.items ≡ later.old.items }
+    ensures place { OnOk result (vec_len later.new + 1 ≤ vec_capacity later.new) }
+    ensures spent { E.spare env.old ≤ E.spare env.new + 1 }
+{
+    held.reserve(mutation.end().saturating_sub(held.len()))?;
+    later.reserve(1)?;
+    let before = before_of(*held.allocator(), held.as_slice(), len, mutation)?;
+    if !passes(env, rate) {
+        drop(before);
+        return Err(Error::Io(IoKind::InjectedStorageFault));
+    }
+    Ok(before)
 }

@@ -133,9 +133,11 @@ impl Files {
         ensures spent { E.spare env.old ≤ E.spare env.new + 1 }
     {
         if !self.is_live(blob) {
+            drop(mutation);
             return Err(Error::UnknownToken);
         }
         if mutation.overflows() {
+            drop(mutation);
             return Err(Error::OffsetOverflow);
         }
         let file = &mut self.files[blob.place as usize];

@@ -6,7 +6,7 @@ ghost use Rattle.rt_store.specs.Calls.{name_refusal};
 ghost use Rattle.rt_store.specs.Draws.{Answers};
 
 use crate::directory::Directory;
-use crate::opening::{hex_of, is_partition_name, text_of};
+use crate::opening::{is_partition_name, text_of, texts_of};
 use crate::store::draw;
 use rt_base::{Env, Error};
 use std::alloc::Global;
@@ -32,7 +32,8 @@ pub fn find<E: Env>(
     };
     if let Some(name) = name {
         if names.get(name).is_none() {
-            return Err(Error::BlobMissing(text_of(alloc, partition)?, hex_of(alloc, name)?));
+            let (partition, name) = texts_of(alloc, partition, name)?;
+            return Err(Error::BlobMissing(partition, name));
         }
     }
     draw(env, rate)

@@ -1,12 +1,12 @@
 // The store in memory.
-ghost use Rattle.std.specs.Prelude.{◌≡◌, ◌+◌, ◌*◌, ◌<◌, ◌≤◌, ◌++◌, ℕ, List, length, IfOk, IfSome, vec_len, vec_capacity, ⊤};
+ghost use Rattle.std.specs.Prelude.{◌≡◌, ◌+◌, ◌*◌, ◌<◌, ◌≤◌, ◌++◌, ℕ, List, [], length, IfOk, IfSome, vec_len, vec_capacity, ⊤};
 ghost use Rattle.std.specs.Borrow.{sem};
 ghost use Rattle.std.specs.Option.{option_copied};
 ghost use Rattle.rt_base.specs.Counted.{counted, Counts, Notes};
 ghost use Rattle.rt_audit.specs.Digest.{fields_digest};
 ghost use Rattle.rt_store.specs.Answered.{CountsStart, StartsOrLacks};
 ghost use Rattle.rt_store.specs.Audit.{audit_fields};
-ghost use Rattle.rt_store.specs.Calls.{IsNow, KeepsRoom, Reads, ReadsMany, ReadsInOrder, Writes, Resizes, Syncs, Saves, Opens, Removes, Scans, IsOpened, started, default_range, blob_of, with_blob, after_write, after_resize, after_sync, after_open, after_remove, without_blob, without_blobs, open_refusal};
+ghost use Rattle.rt_store.specs.Calls.{IsNow, KeepsRoom, Reads, ReadsMany, ReadsInOrder, Writes, Resizes, Syncs, Saves, Opens, Removes, Scans, IsOpened, started, default_range, blob_of, many_refusal, with_blob, after_write, after_resize, after_sync, after_open, after_remove, without_blob, without_blobs, open_refusal};
 ghost use Rattle.rt_base.specs.declared.choice.Choice.{Choice};
 ghost use Rattle.rt_store.specs.Changes.{end_of};
 ghost use Rattle.rt_store.specs.Crash.{ChoosesAll};
@@ -15,8 +15,8 @@ ghost use Rattle.rt_store.specs.Draws.{Answers, if_ok};
 ghost use Rattle.rt_store.specs.File.{mutated};
 ghost use Rattle.rt_store.specs.Kept.{empty_store, injected_by, moved_to};
 ghost use Rattle.rt_store.specs.Leading.{IsCoherent};
-ghost use Rattle.rt_store.specs.Reading.{HaveLengths, HavePlacedLengths, IsWhole};
-ghost use Rattle.rt_store.specs.Store.{count_later, end_refusal, refusal_at};
+ghost use Rattle.rt_store.specs.Reading.{HaveLengths, HavePlacedLengths, IsWhole, bytes_of, ranges_of};
+ghost use Rattle.rt_store.specs.Store.{content_at, count_later, end_refusal, refusal_at};
 ghost use Rattle.rt_store.specs.Whole.{after_admit, after_crash, snapshot_of, store_of};
 
 use crate::auditing::audit_all;
@@ -254,8 +254,24 @@ impl MemStore {
         buf.clear();
         buf.put_slice(bytes);
         let bufs = IoBufsMut::from_mut(self.alloc, buf)?;
-        draw(env, rate)?;
-        Ok(bufs)
+        match draw(env, rate) {
+            Ok(()) => Ok(bufs),
+            Err(error) => {
+                drop(bufs);
+                Err(error)
+            }
+        }
+    }
+
+    // The bytes of several ranges, with no draw.
+    fn ranges_at(&self, blob: &Blob, ranges: &[(u64, usize)]) -> Result<Vec<IoBufsMut>, Error>
+        ensures gives { Answers (refusal_at (blob_of self.now blob.now) (many_refusal ranges.now)) 0 (λ bufs. bytes_of bufs.items ≡ ranges_of ranges.now (content_at (blob_of self.now blob.now))) result [] }
+        ensures len { IfOk result (λ bufs. HaveLengths ranges.now bufs.items) }
+    {
+        match self.files.at(blob) {
+            Some(file) => read_ranges(self.alloc, file.content(), ranges),
+            None => Err(Error::UnknownToken),
+        }
     }
 
     // Reads several ranges.
@@ -271,12 +287,14 @@ impl MemStore {
     {
         let rate = self.faults.read_rate;
         take_draw(env, rate)?;
-        let Some(file) = self.files.at(blob) else {
-            return Err(Error::UnknownToken);
-        };
-        let bufs = read_ranges(self.alloc, file.content(), ranges)?;
-        draw(env, rate)?;
-        Ok(bufs)
+        let bufs = self.ranges_at(blob, ranges)?;
+        match draw(env, rate) {
+            Ok(()) => Ok(bufs),
+            Err(error) => {
+                drop(bufs);
+                Err(error)
+            }
+        }
     }
 
     // The same, each with its place.
@@ -294,13 +312,15 @@ impl MemStore {
     {
         let rate = self.faults.read_rate;
         take_draw(env, rate)?;
-        let Some(file) = self.files.at(blob) else {
-            return Err(Error::UnknownToken);
-        };
-        let bufs = read_ranges(self.alloc, file.content(), ranges)?;
+        let bufs = self.ranges_at(blob, ranges)?;
         let reads = with_places(self.alloc, bufs)?;
-        draw(env, rate)?;
-        Ok(reads)
+        match draw(env, rate) {
+            Ok(()) => Ok(reads),
+            Err(error) => {
+                drop(reads);
+                Err(error)
+            }
+        }
     }
 
     // Writes bytes.
@@ -318,7 +338,10 @@ impl MemStore {
         ensures spent { E.spare env.old ≤ E.spare env.new + 1 }
     {
         let rate = self.faults.write.rate;
-        take_draw(env, rate)?;
+        let Ok(()) = take_draw(env, rate) else {
+            drop(bufs);
+            return Err(Error::NoMemory);
+        };
         let mutation = Mutation::Write {
             at: offset as usize,
             bytes: bufs.coalesce()?,
@@ -355,6 +378,7 @@ impl MemStore {
         ensures spent { E.spare env.old ≤ E.spare env.new + 1 }
     {
         if self.later >= MOST_CHANGES {
+            drop(mutation);
             return Err(Error::NoMemory);
         }
         let more = self.files.mutate(env, blob, rate, mutation)?;

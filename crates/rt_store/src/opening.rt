@@ -40,7 +40,8 @@ pub fn reopen<E: Env>(
     ensures spent { E.spare env.old ≤ E.spare env.new + 1 }
 {
     if file.token().is_some() {
-        return Err(Error::BlobAlreadyOpen(text_of(alloc, partition)?, hex_of(alloc, name)?));
+        let (partition, name) = texts_of(alloc, partition, name)?;
+        return Err(Error::BlobAlreadyOpen(partition, name));
     }
     let found = file.version();
     let (least, greatest) = versions;
@@ -61,8 +62,22 @@ pub fn text_of(alloc: Global, text: &str) -> Result<Text, NoMemory>
     Ok(Text::of(String::from_str(alloc, text)?))
 }
 
-/// The bytes in lower-case hex.
-pub fn hex_of(alloc: Global, bytes: &[u8]) -> Result<Text, NoMemory>
+/// The texts that name a blob in a refusal: its partition, and its name in hex.
+pub fn texts_of(alloc: Global, partition: &str, name: &[u8]) -> Result<(Text, Text), NoMemory>
+    ensures { IfOk result (λ texts. (texts.0 ≡ partition.now) × (texts.1 ≡ encode_lower name.now)) }
+{
+    let partition = text_of(alloc, partition)?;
+    match hex_of(alloc, name) {
+        Ok(name) => Ok((partition, name)),
+        Err(NoMemory) => {
+            drop(partition);
+            Err(NoMemory)
+        }
+    }
+}
+
+// The bytes in lower-case hex.
+fn hex_of(alloc: Global, bytes: &[u8]) -> Result<Text, NoMemory>
     ensures { IfOk result (λ t. t ≡ encode_lower bytes.now) }
 {
     Ok(Text::of(hex::encode(alloc, bytes)?))

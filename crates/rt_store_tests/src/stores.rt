@@ -641,6 +641,35 @@ fn admitted_bytes_stay(rt: HostRuntime) -> Result<(), Fail> {
     Ok(())
 }
 
+/// Three bytes are cut to one, and others are written behind it.
+fn cut_and_write<S: Storage>(alloc: Global, store: &mut S) -> Result<bool, Error> {
+    let (blob, _) = store.open(&mut NoEnv, "p", b"n")?;
+    let cut = went(store.resize(&mut NoEnv, &blob, 1));
+    let written = went(write(alloc, store, &blob, 2, WriteOptions::default()));
+    let seen = reads(store, &blob, 0, 5, b"a\0abc");
+    store.close(blob);
+    Ok(cut & written & seen)
+}
+
+/// Whether the blob has exactly these bytes.
+fn shows<S: Storage>(store: &mut S, expected: &[u8]) -> Result<bool, Error> {
+    let (blob, len) = store.open(&mut NoEnv, "p", b"n")?;
+    let seen = reads(store, &blob, 0, expected.len(), expected);
+    store.close(blob);
+    Ok(seen & (len == expected.len() as u64))
+}
+
+#[test]
+fn cut_bytes_come_back(rt: HostRuntime) -> Result<(), Fail> {
+    let mut store = MemStore::new(rt.alloc(), FaultConfig::default())?;
+    let kept = keeps(rt.alloc(), &mut store, "p", true);
+    let changed = came(cut_and_write(rt.alloc(), &mut store), true);
+    let both = &[Choice::Dropped, Choice::Dropped];
+    let chosen = chooses(rt.alloc(), &mut store, &mut NoEnv, both);
+    assert!(rt; kept & changed & chosen & came(shows(&mut store, b"abc"), true));
+    Ok(())
+}
+
 /// Reads that may fault.
 fn read_each<S: Storage>(store: &mut S, blob: &S::Blob) {
     drop(store.read_at(&mut NoEnv, blob, 0, 0, ReadOptions::default()));

@@ -9,7 +9,7 @@ pub returns-in-Done : goal.returns-in-Done
 returns-in-Done c = record {
   crash = λ lies knows.
       let content = laid_over c.args.writer.held.tip (memory_bytes c.args.store.now c.args.writer.blob) in
-      let kept = c.in-Done.ensures.durable memory_bytes memory_left memory_promised c.ask.ensures.keeps lies knows in
+      let kept = c.in-Done.ensures.durable memory_bytes memory_left memory_promised c.ask.ensures.memory.keeps lies knows in
       subst (λ (b : Blob). OnOk c.ask.result (CrashLeaves content c.ask.new.store b)) c.in-Done.ensures.handle.0
       (c.ask.ensures.crash content c.in-Done.ensures.handle.1 (rw c.in-Done.ensures.handle.0 kept));
 }

@@ -2,14 +2,11 @@ use Rattle.rt_buffer.specs.Memory.{memory_bytes, memory_left, memory_promised}
 use Rattle.rt_buffer.specs.Tip.{laid_over}
 use Rattle.rt_buffer.proofs.Crashes.{store_leaves}
 use Rattle.rt_buffer.proofs.Kept.{crash_leaves, memory_keeps, stepped_by}
-use Rattle.rt_buffer.proofs.Others.{memory_others}
+use Rattle.rt_buffer.proofs.Memory.{memory_all}
 use Rattle.rt_buffer.proofs.in_memory.Write+MemStore.sync_in_memory.Goals as goal
 
-pub returns-clause-keeps : goal.returns-clause-keeps
-returns-clause-keeps g c = memory_keeps
-
-pub returns-clause-others : goal.returns-clause-others
-returns-clause-others g c = memory_others
+pub returns-clause-memory : goal.returns-clause-memory
+returns-clause-memory g c = memory_all
 
 pub returns-clause-durable : goal.returns-clause-durable
 returns-clause-durable g c = λ lies knows.

@@ -2,10 +2,11 @@ use Rattle.std.proofs.Common.{◌∙◌}
 use Rattle.rt_buffer.specs.Memory.{memory_bytes, memory_left, memory_promised}
 use Rattle.rt_buffer.proofs.Crashes.{asked_left, store_leaves}
 use Rattle.rt_buffer.proofs.Kept.{memory_keeps}
+use Rattle.rt_buffer.proofs.Memory.{memory_all}
 use Rattle.rt_buffer.proofs.sync_handle.SyncHandle.poll_in_memory.Goals as goal
 
-pub returns-clause-keeps : goal.returns-clause-keeps
-returns-clause-keeps g c = memory_keeps
+pub returns-clause-memory : goal.returns-clause-memory
+returns-clause-memory g c = memory_all
 
 pub returns-clause-durable : goal.returns-clause-durable
 returns-clause-durable g c = c.poll.ensures.durable memory_bytes memory_left memory_promised memory_keeps

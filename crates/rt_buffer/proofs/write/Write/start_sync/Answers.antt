@@ -1,7 +1,8 @@
-use Rattle.std.proofs.Common.{refl}
+use Rattle.std.proofs.Common.{arith, refl}
 use Rattle.rt_buffer.specs.Calls.{calls}
 use Rattle.rt_buffer.specs.Steps.{writer}
 use Rattle.rt_buffer.proofs.Durable.{start_keeps, unbegun}
+use Rattle.rt_buffer.proofs.Framed.{starts_leave}
 use Rattle.rt_buffer.proofs.Steps.{none_has, some_has, starts_at_once, starts_behind, starts_handle}
 use Rattle.rt_buffer.proofs.write.Write.start_sync.Goals as goal
 
@@ -14,6 +15,10 @@ returns-then-is_empty g c =
       durable = λ bytes left promised keeps lies knows.
           unbegun _ _ c.handed.result _ _ (start_keeps (calls g.S.Storage.refusals g.S.Storage.polls_sync g.S.Storage.gives_sync_up g.S.Storage.writes g.S.Storage.resizes g.S.Storage.syncs g.S.Storage.starts_sync g.S.Storage.closes) bytes left promised keeps c.args.self.blob c.args.task
           (writer c.args.store.now c.args.self.held) c.end.new.store _ starts.0 lies knows starts.2);
+      others = λ bytes left promised apart opened keeps others knows.
+          let came = starts_leave (calls g.S.Storage.refusals g.S.Storage.polls_sync g.S.Storage.gives_sync_up g.S.Storage.writes g.S.Storage.resizes g.S.Storage.syncs g.S.Storage.starts_sync g.S.Storage.closes) bytes left promised apart opened keeps others c.args.self.blob c.args.task (writer c.args.store.now c.args.self.held) c.end.new.store _ starts.0 knows starts.2 in
+          (came.0, unbegun _ _ c.handed.result _ _ came.1);
+      spent = omega (arith, c.begin-progress.ensures.spent);
     }
 
 pub returns : goal.returns
@@ -25,4 +30,8 @@ returns g c =
       durable = λ bytes left promised keeps lies knows.
           unbegun _ _ c.handed-2.result _ _ (start_keeps (calls g.S.Storage.refusals g.S.Storage.polls_sync g.S.Storage.gives_sync_up g.S.Storage.writes g.S.Storage.resizes g.S.Storage.syncs g.S.Storage.starts_sync g.S.Storage.closes) bytes left promised keeps c.args.self.blob c.args.task
           (writer c.args.store.now c.args.self.held) c.run.new.store _ starts.0 lies knows starts.2);
+      others = λ bytes left promised apart opened keeps others knows.
+          let came = starts_leave (calls g.S.Storage.refusals g.S.Storage.polls_sync g.S.Storage.gives_sync_up g.S.Storage.writes g.S.Storage.resizes g.S.Storage.syncs g.S.Storage.starts_sync g.S.Storage.closes) bytes left promised apart opened keeps others c.args.self.blob c.args.task (writer c.args.store.now c.args.self.held) c.run.new.store _ starts.0 knows starts.2 in
+          (came.0, unbegun _ _ c.handed-2.result _ _ came.1);
+      spent = omega (arith, c.run.ensures.spent);
     }

@@ -1,10 +1,13 @@
-use Rattle.std.proofs.Common.{refl, ◌∙◌}
+use Rattle.std.proofs.Common.{◌≤◌, length, refl, ◌∙◌}
+use Rattle.rt_base.specs.declared.error.Error.TheVariants.{NoMemory}
 use Rattle.rt_buffer.specs.Calls.{calls}
 use Rattle.rt_buffer.specs.declared.write_op.Rest.TheVariants as work
 use Rattle.rt_buffer.specs.Pieces.{with_bytes}
+use Rattle.rt_buffer.specs.Steps.{with_tip, writer}
 use Rattle.rt_buffer.specs.Tip.{laid_over}
-use Rattle.rt_buffer.proofs.Changes.{merged_left, merged_whole}
+use Rattle.rt_buffer.proofs.Changes.{merged_left, merged_less, merged_whole, spent_less}
 use Rattle.rt_buffer.proofs.Durable.{call_keeps, unseen}
+use Rattle.rt_buffer.proofs.Framed.{ended, runs}
 use Rattle.rt_buffer.proofs.Overlaid.{chunks_are}
 use Rattle.rt_buffer.proofs.Steps.{writes_left}
 use Rattle.rt_buffer.proofs.write.Write.write_at.Goals as goal
@@ -29,3 +32,24 @@ returns-in-Ok-2-clause-flat g c = λ bytes left promised keeps lies knows.
     let runs = c.run.ensures.runs in
     unseen _ _ c.run.result _ _ (call_keeps (calls g.S.Storage.refusals g.S.Storage.polls_sync g.S.Storage.gives_sync_up g.S.Storage.writes g.S.Storage.resizes g.S.Storage.syncs g.S.Storage.starts_sync g.S.Storage.closes) bytes left promised keeps c.args.self.blob c.args.task (with_bytes c.args.offset c.args.bufs.bytes (laid_over c.args.self.held.tip (bytes c.args.store.now c.args.self.blob))) (work.Write c.merge_chunks.new.left)
     _ c.run.new.store _ runs.0 (laid_over c.merge_chunks.new.self (bytes c.args.store.now c.args.self.blob), m.1 ∙ chunks_are c.args.offset c.args.bufs.chunks c.args.bufs.bytes (laid_over c.args.self.held.tip (bytes c.args.store.now c.args.self.blob)) c.new.ensures.filled c.new.ensures.joined, (m.0, refl, knows)) runs.2)
+
+pub returns-in-Ok-2-clause-spent : goal.returns-in-Ok-2-clause-spent
+returns-in-Ok-2-clause-spent g c =
+    let few : length c.merge_chunks.new.left.chunks ≤ length c.args.bufs.chunks = rw (rw c.in-Ok.ensures.made at c.in-Ok-2.ensures.left) (merged_less c.args.self.held.tip c.args.offset c.args.bufs.chunks) in
+    spent_less (length c.merge_chunks.new.left.chunks) (length c.args.bufs.chunks) g.S.Storage.most (g.E.Env.spare c.args.env.now) (g.E.Env.spare c.run.new.env) few c.run.ensures.spent
+
+pub returns-in-Err-clause-others : goal.returns-in-Err-clause-others
+returns-in-Err-clause-others g c = λ bytes left promised apart opened keeps others knows.
+    let came = ended (calls g.S.Storage.refusals g.S.Storage.polls_sync g.S.Storage.gives_sync_up g.S.Storage.writes g.S.Storage.resizes g.S.Storage.syncs g.S.Storage.starts_sync g.S.Storage.closes) bytes left promised apart opened keeps others c.args.self.blob c.in-Err.error (writer c.args.store.now c.args.self.held) c.end.new.store _ knows c.end.ensures in
+    (came.0, unseen _ _ c.end.result _ _ came.1)
+
+pub returns-in-Err-merge_chunks-clause-others : goal.returns-in-Err-merge_chunks-clause-others
+returns-in-Err-merge_chunks-clause-others g c = λ bytes left promised apart opened keeps others knows.
+    let came = ended (calls g.S.Storage.refusals g.S.Storage.polls_sync g.S.Storage.gives_sync_up g.S.Storage.writes g.S.Storage.resizes g.S.Storage.syncs g.S.Storage.starts_sync g.S.Storage.closes) bytes left promised apart opened keeps others c.args.self.blob NoMemory (writer c.args.store.now (with_tip c.args.self.held c.merge_chunks.new.self)) c.end-in-Err-merge_chunks.new.store _ knows c.end-in-Err-merge_chunks.ensures in
+    (came.0, unseen _ _ c.end-in-Err-merge_chunks.result _ _ came.1)
+
+pub returns-in-Ok-2-clause-others : goal.returns-in-Ok-2-clause-others
+returns-in-Ok-2-clause-others g c = λ bytes left promised apart opened keeps others knows.
+    let ran = c.run.ensures.runs in
+    let came = runs (calls g.S.Storage.refusals g.S.Storage.polls_sync g.S.Storage.gives_sync_up g.S.Storage.writes g.S.Storage.resizes g.S.Storage.syncs g.S.Storage.starts_sync g.S.Storage.closes) bytes left promised apart opened keeps others c.args.self.blob (work.Write c.merge_chunks.new.left) c.args.task (writer c.args.store.now (with_tip c.args.self.held c.merge_chunks.new.self)) c.run.new.store _ ran.0 knows ran.2 in
+    (came.0, unseen _ _ c.run.result _ _ came.1)

@@ -1,9 +1,8 @@
-use Rattle.std.proofs.Common.{◌≡◌, [], length, rules, subst, sym}
+use Rattle.std.proofs.Common.{rules}
 use Rattle.rt_base.specs.Counted.{Notes}
 use Rattle.rt_store.proofs.Refusing.{noted_refusal}
 use Rattle.rt_store.specs.Calls.{blob_of, many_refusal}
 use Rattle.rt_store.specs.Draws.{Refused}
-use Rattle.rt_store.specs.Reading.{ranges_refusal}
 use Rattle.rt_store.specs.Store.{refusal_at}
 use Rattle.rt_store.proofs.mem_store.MemStore.read_ranges.Goals as goal
 
@@ -12,8 +11,6 @@ returns-in_err-bufs-clause-gives g c =
     let rate = c.args.self.now.faults.read_rate in
     let error = c.in_err-bufs.field-0.0 in
     let refusal = refusal_at (blob_of c.args.self.now c.args.blob.now) (many_refusal c.args.ranges.now) in
-    let e : refusal ≡ ranges_refusal c.args.ranges.now (length c.content.result.now) = search rules in
-    let r : Refused refusal 0 error [] = subst (λ o. Refused o 0 error []) (sym e) c.in_err-bufs.ensures.gives in
     let h : Notes (g.E.Env.noted c.args.env.now) (Refused refusal rate error) (g.E.Env.noted c.take_draw.new.env) =
-    noted_refusal refusal rate error (g.E.Env.noted c.args.env.now) (g.E.Env.noted c.take_draw.new.env) c.take_draw.ensures.noted r in
+    noted_refusal refusal rate error (g.E.Env.noted c.args.env.now) (g.E.Env.noted c.take_draw.new.env) c.take_draw.ensures.noted c.in_err-bufs.ensures.gives in
     search (rules, h)
