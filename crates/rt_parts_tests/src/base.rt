@@ -1,12 +1,12 @@
 // What no clause says: printed texts, and that calls succeed where there is memory.
 
 use rt_base::{
-    Addr, BLOB_PAGE_SIZE, BlobLayout, BlobVersion, Choice, DEFAULT_BLOB_LAYOUT,
+    Addr, BLOB_PAGE_SIZE, BlobLayout, BlobVersion, Cell, Choice, DEFAULT_BLOB_LAYOUT,
     DEFAULT_BLOB_VERSION, Env, Error, Event, Execution, Failed, IoKind, Ip, Items, ListSink,
     ListSource, MAX_TIME, MetricError, Name, NoEnv, NoMemory, Poll, ReadOptions, Refused, SafeSink,
     SafeSource, Sink8, Source, StdSink, StdSource, Text, Unread, WriteOptions, add_attribute,
-    child_label, prefixed_name, read_retried, read_whole, validate_label, write_retried,
-    write_whole,
+    child_label, prefixed_name, read_retried, read_whole, spawn_cell, validate_label,
+    write_retried, write_whole,
 };
 use std::alloc::Global;
 use std::io;
@@ -416,4 +416,45 @@ fn refused_labels(rt: HostRuntime) {
             Ok(_) => panic!(rt; "at {label}"),
         }
     }
+}
+
+/// What stands for a context: it is spawned on by its number, and the new one has the next.
+struct Numbered(u8);
+
+impl Numbered {
+    fn spawn<R, F: FnOnce(Numbered) -> R>(self, spawned: &mut u8, make: F) -> R
+        requires { F.IsAlwaysCallable make }
+    {
+        let Numbered(number) = self;
+        *spawned = number;
+        make(Numbered(number.wrapping_add(1)))
+    }
+}
+
+/// The number of a context that is there.
+fn number_of(cell: Cell<Numbered>) -> Option<u8> {
+    match cell {
+        Cell::Present(Numbered(number)) => Some(number),
+        Cell::Missing => None,
+    }
+}
+
+#[test]
+fn cells(rt: HostRuntime) {
+    let mut cell = Cell::new(7u8);
+    assert!(rt; cell.is_present() && !cell.is_missing() && *cell.as_present() == 7);
+    *cell.as_present_mut() = 8;
+    assert!(rt; cell.take() == 8);
+    assert!(rt; cell.is_missing() && !cell.is_present());
+    cell.restore(9);
+    assert!(rt; cell.into_present() == 9);
+}
+
+#[test]
+fn a_cell_is_spawned_on(rt: HostRuntime) {
+    let mut cell = Cell::new(Numbered(3));
+    let mut spawned = 0;
+    let own = spawn_cell!(cell, &mut spawned, |fresh| number_of(fresh));
+    assert!(rt; spawned == 3 && own == Some(4));
+    assert!(rt; number_of(cell).is_none());
 }
