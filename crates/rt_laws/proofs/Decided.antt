@@ -1,7 +1,8 @@
 -- That the entries of a run may come where they stand, found out by computing: a proof for an example, or none, which says nothing.
-use Rattle.std.proofs.Common.{◌≡◌, ◌≢◌, ◌⊎◌, inl, inr, ℕ, ℤ, pos, negsuc, ◌≤◌, ◌<◌, ◌+◌, ◌-◌, ◌^◌, List, [], ◌∷◌, drop, Option, Some, None, Result, Ok, Err, is_some, option_map, Bool, true, false, not, eqb, ltb, leb, refl, arith}
+use Rattle.std.proofs.Common.{◌≡◌, ◌≢◌, ◌⊎◌, inl, inr, ℕ, ℤ, pos, negsuc, ◌≤◌, ◌<◌, ◌+◌, ◌-◌, ◌^◌, List, [], ◌∷◌, ◌++◌, drop, get_or, Option, Some, None, Result, Ok, Err, is_some, option_map, Bool, true, false, not, eqb, ltb, leb, refl, arith}
 use Rattle.std.specs.List.Sorted.{IsPermutation}
-use Rattle.std.specs.Option.{option_zip}
+use Rattle.std.specs.Int.{w32, cast_signed, from_be_bytes}
+use Rattle.std.specs.Option.{option_zip, option_or}
 use Rattle.std.proofs.lemmas.Bool.{eqb-true, ltb-true, leb-true}
 use Rattle.std.proofs.lemmas.List.Sorted.{IsPermutation-refl}
 use Rattle.rt_base.specs.declared.error.Error.{Error}
@@ -33,7 +34,7 @@ use Rattle.rt_model.specs.State.{Phase, Blank, Making, Between, Visiting, Entere
 use Rattle.rt_model.specs.Alarms.{is_set, skip_to, fires}
 use Rattle.rt_model.specs.Causes.{is_late, from_running, ends_next}
 use Rattle.rt_model.specs.Effects.{left_of, label_at, task_label, after}
-use Rattle.rt_model.specs.Events.{process_task, task_fields, announced_by}
+use Rattle.rt_model.specs.Events.{process_task, task_fields, announced_by, IsOfCall}
 use Rattle.rt_model.specs.Rules.{WasGiven, IsRefusal, OutcomeAnswers, is_free, label_refusal, ChildAnswers, SpawnAnswers, Unless, JoinAnswers, IsSent, SlotAnswers, ReceiveAnswers, ShownAs, Answers, IsEndedNext, CallsAt, MayEvent, MayEnd, MayAnswer, MayRound, MayClose, MayCrash, MayFinish, MayEndNode, MayFree, May, IsLawful}
 
 unwrapped : {P : Type 0} (o : Option P) → is_some o ≡ true → P
@@ -236,6 +237,7 @@ same_reply (SignalAt n) (SignalAt m) = so_at (λ n. SignalAt n) n m (same n m)
 same_reply (Value v) (Value w) = so_valued (λ v. Value v) v w (same_value_of v w)
 same_reply (ClosedWith v) (ClosedWith w) = so_valued (λ v. ClosedWith v) v w (same_value_of v w)
 same_reply StillPending StillPending = Some refl
+same_reply Done Done = Some refl
 same_reply IsReady IsReady = Some refl
 same_reply _ _ = None
 
@@ -373,16 +375,6 @@ ends_by None None = Some (None, (refl, refl))
 ends_by (Some task) None = None
 ends_by root (Some task) = Some (Some task, refl)
 
--- an event of a visit, or one of a call that comes here
-abbrev event : (p : Phase) (s : State) (label : List ℕ) (fields : List (List ℕ)) → Option (MayEvent p s label fields)
-event (Entered task left) s label fields =
-    option_zip (same_list same label process_task) (same_list (same_list same) fields (task_fields task (task_label s task)))
-event Making s label fields = Some (None, refl)
-event (Polling task left) s label fields = Some (Some task, refl)
-event (Ending task result left) s label fields = Some (Some task, refl)
-event (Closing of) s label fields = ends_by s.root (ends_next s.running s.root)
-event _ s label fields = None
-
 pub announced_so : (x y : Announced) → x.label ≡ y.label → x.fields ≡ y.fields → x ≡ y
 announced_so x y e f = rw (e, f) refl
 
@@ -392,6 +384,36 @@ so_announced x y _ _ = None
 
 abbrev same_event : (x y : Announced) → Option (x ≡ y)
 same_event x y = so_announced x y (same_list same x.label y.label) (same_list (same_list same) x.fields y.fields)
+
+-- behind these events this one is the next of this call, whose reply doesn't matter
+abbrev event_by : (announced : List Announced) (label : List ℕ) (fields : List (List ℕ)) (call : Call) → Option (IsOfCall announced label fields)
+event_by announced label fields call =
+    option_map
+    (λ (h : announced_by call Done ≡ announced ++ record { label = label; fields = fields } ∷ []). (call, Done, h))
+    (same_list same_event (announced_by call Done) (announced ++ record { label = label; fields = fields } ∷ []))
+
+-- the value of a stop whose event has these fields
+abbrev stop_told : List (List ℕ) → ℤ
+stop_told fields = cast_signed w32 (from_be_bytes w32 (get_or fields 0 []))
+
+abbrev event_of : (announced : List Announced) (label : List ℕ) (fields : List (List ℕ)) → Option (IsOfCall announced label fields)
+event_of announced label fields =
+    option_or (event_by announced label fields (Stop (stop_told fields))) (event_by announced label fields StoppedCall)
+
+-- an event of a visit, or one of a call that comes here
+abbrev event : (p : Phase) (s : State) (label : List ℕ) (fields : List (List ℕ)) → Option (MayEvent p s label fields)
+event (Entered task left) s label fields =
+    option_zip (same_list same label process_task) (same_list (same_list same) fields (task_fields task (task_label s task)))
+event Making s label fields = option_map (λ (o : IsOfCall s.announced label fields). (None, refl, o)) (event_of s.announced label fields)
+event (Polling task left) s label fields =
+    option_map (λ (o : IsOfCall s.announced label fields). (Some task, refl, o)) (event_of s.announced label fields)
+event (Ending task result left) s label fields =
+    option_map (λ (o : IsOfCall s.announced label fields). (Some task, refl, o)) (event_of s.announced label fields)
+event (Closing of) s label fields =
+    option_map
+    (λ (p : ((by : Option ℕ) × IsEndedNext s.root (ends_next s.running s.root) by) × IsOfCall s.announced label fields). (p.0.0, p.0.1, p.1))
+    (option_zip (ends_by s.root (ends_next s.running s.root)) (event_of s.announced label fields))
+event _ s label fields = None
 
 -- entries
 

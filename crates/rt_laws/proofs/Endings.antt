@@ -19,7 +19,7 @@ use Rattle.rt_model.specs.Lists.{find, those}
 use Rattle.rt_model.specs.State.{State, Phase, Between, Turning, Entered, Ending, Leaving, Cleaning, Closing, Crashed, Finished, Stood, stood_in, begun}
 use Rattle.rt_model.specs.Causes.{reached, ends_next}
 use Rattle.rt_model.specs.Effects.{after, after_all, is_closing, is_settled, due_called, due_answered, due_node, due_panic, due_ended, ends_in_panic, cause_of, answered, node_ended, cleans, entered, ended}
-use Rattle.rt_model.specs.Rules.{May, CallsAt, MayAnswer, MayEndNode, MayRound, MayClose, MayCrash, MayFinish, IsLawful}
+use Rattle.rt_model.specs.Rules.{May, CallsAt, MayAnswer, MayEvent, MayEndNode, MayRound, MayClose, MayCrash, MayFinish, IsLawful}
 use Rattle.rt_model.proofs.Append.{after_all-append}
 use Rattle.rt_laws.specs.Cleanup.{IsOfCleanup}
 use Rattle.rt_laws.proofs.Clock.{lawful-tail}
@@ -119,11 +119,15 @@ module _ (cause : Option FinishCause) where
   event-ends s (Entered task left) k = absurd k
   event-ends s _ k = k
 
+  event-of : (s : State) (p : Phase) (label : List ℕ) (fields : List (List ℕ)) → EndsFor cause p → MayEvent p s label fields → IsOfCleanup (Event label fields)
+  event-of s (Entered task left) label fields k m = absurd k
+  event-of s _ label fields k m = (s.announced, m.2)
+
   pub ends-entry : (s : State) (e : Entry) → s.owed ≡ [] → EndsFor cause s.phase → May s e → IsOfCleanup e × ((after s e).owed ≡ []) × EndsFor cause (after s e).phase
   unfolding after
   ends-entry s (Start next now deadline cycle) o k m = absurd (rw m.1.0 at k)
   ends-entry s (CallEntry by call reply) o k m = (tt, owes-called (is_closing s.phase) s.marks (stood_in s) call reply (call-closing s.phase s.root (ends_next s.running s.root) by k m.1.0), k)
-  ends-entry s (Event label fields) o k m = (tt, refl, event-ends s s.phase k)
+  ends-entry s (Event label fields) o k m = (event-of s s.phase label fields k m.1, refl, event-ends s s.phase k)
   ends-entry s (Wake task) o k m = absurd (cc)
   ends-entry s (Draw value) o k m = absurd (no-round s.phase s k m.1)
   ends-entry s (Root task) o k m = absurd (rw m.1.0 at k)

@@ -4,6 +4,7 @@ pub mod Completing
 pub mod Cut
 pub mod Decided
 pub mod Each
+pub mod FirstStop
 pub mod Flags
 pub mod Doubled
 pub mod Followed

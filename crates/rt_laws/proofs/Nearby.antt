@@ -37,9 +37,9 @@ no_second_join l = (tail (aborter_joined ++ aborts_itself ++ aborter_ends ++ vis
 abbrev left_alone : List Entry
 left_alone = aborter_joined ++ aborts_itself ++ aborter_stops
 
-pub no_missing_wakes : IsLawful (begun small_begin) (waking []) → ⊥
+pub no_missing_own_wake : IsLawful (begun small_begin) (waking (Wake 0 ∷ [])) → ⊥
 unfolding begun after
-no_missing_wakes l = let h = (tail left_alone (Advance 2000000 ∷ []) l).0.0 in cc
+no_missing_own_wake l = let h = (tail left_alone (Wake 0 ∷ Advance 2000000 ∷ []) l).0 in cc
 
 pub no_missing_wake : IsLawful (begun small_begin) (waking (Wake 1 ∷ [])) → ⊥
 unfolding begun after

@@ -21,7 +21,7 @@ use Rattle.rt_laws.proofs.Values.{same_value}
 use Rattle.rt_laws.proofs.Decided.{lawful}
 use Rattle.rt_laws.proofs.Followed.{tied}
 
-reported-lawful : IsLawful (begun (begin_catching false)) reported_journal
+pub reported-lawful : IsLawful (begun (begin_catching false)) reported_journal
 unfolding begun after
 reported-lawful = lawful (begin_catching false) reported_journal refl
 
@@ -76,10 +76,10 @@ no_poll l =
     let h = (tail false kept_panic (Answered 0 Pending ∷ Cleanup ∷ NodeEnd 0 ∷ Call (Some 0) (GiveUp 1) Done ∷ Call (Some 0) (CloseNode 0) Done ∷ Answered 0 Ended ∷ finishing TaskPanicked) l).0.1 in
     cc
 
-pub no_missing_wake : IsLawful (begun (begin_catching false)) (wakes_behind (Wake 0 ∷ []) (0 ∷ [])) → ⊥
+pub no_missing_wake : IsLawful (begun (begin_catching false)) (wakes_behind (Wake 0 ∷ []) (0 ∷ 0 ∷ [])) → ⊥
 unfolding begun after
 no_missing_wake l =
-    let h = (tail false (aborter_joined ++ raises ++ (Wake 0 ∷ [])) (NodeEnd 1 ∷ Advance 2000000 ∷ Round (0 ∷ []) ∷ []) l).0.0 in
+    let h = (tail false (aborter_joined ++ raises ++ (Wake 0 ∷ [])) (NodeEnd 1 ∷ Advance 2000000 ∷ Round (0 ∷ 0 ∷ []) ∷ []) l).0.0 in
     cc
 
 pub no_round_of_one : IsLawful (begun (begin_catching false)) (wakes_behind both_wakes (0 ∷ [])) → ⊥
@@ -89,12 +89,26 @@ no_round_of_one l =
     let e = length_permutation (0 ∷ 0 ∷ []) (0 ∷ []) m in
     omega arith
 
-pub no_second_wake : IsLawful (begun (begin_catching true)) (wakes_behind both_wakes (0 ∷ 0 ∷ [])) → ⊥
+pub no_second_wake : IsLawful (begun (begin_catching true)) (wakes_behind both_wakes (0 ∷ [])) → ⊥
 unfolding begun after
 no_second_wake l =
-    let h = (tail true (aborter_joined ++ raises ++ (Wake 0 ∷ [])) (Wake 0 ∷ NodeEnd 1 ∷ Advance 2000000 ∷ Round (0 ∷ 0 ∷ []) ∷ []) l).0 in
+    let h = (tail true (aborter_joined ++ raises ++ (Wake 0 ∷ [])) (Wake 0 ∷ NodeEnd 1 ∷ Advance 2000000 ∷ Round (0 ∷ []) ∷ []) l).0 in
     cc
 
 pub no_stop : IsLawful (begun (begin_catching true)) (answered_caught Stopped) → ⊥
 unfolding begun after
 no_stop l = let h = (tail true caught_panic (Answered 0 Stopped ∷ []) l).0.1 in cc
+
+-- what each of these differs from
+
+pub both_come : IsLawful (begun (begin_catching false)) (wakes_behind both_wakes (0 ∷ 0 ∷ []))
+unfolding begun after
+both_come = lawful (begin_catching false) (wakes_behind both_wakes (0 ∷ 0 ∷ [])) refl
+
+pub one_comes : IsLawful (begun (begin_catching true)) (wakes_behind (Wake 0 ∷ []) (0 ∷ []))
+unfolding begun after
+one_comes = lawful (begin_catching true) (wakes_behind (Wake 0 ∷ []) (0 ∷ [])) refl
+
+pub goes_on : IsLawful (begun (begin_catching true)) (answered_caught Pending)
+unfolding begun after
+goes_on = lawful (begin_catching true) (answered_caught Pending) refl

@@ -3,7 +3,7 @@ use Rattle.std.proofs.Common.{◌≡◌, ℕ, pos, List, [], ◌∷◌, ◌++◌
 use Rattle.rt_audit.specs.declared.call.Call.{Call as CallOf}
 use Rattle.rt_audit.specs.declared.call.Call.TheVariants.{SignalPoll, CompletionPoll, SignalClose, Signal, Stop, Stopped}
 use Rattle.rt_audit.specs.declared.reply.CallReply.{CallReply}
-use Rattle.rt_audit.specs.declared.reply.CallReply.TheVariants.{Done, CompletionAt, SignalAt, Value as Shows, Pending as StillPending, Ready as IsMet}
+use Rattle.rt_audit.specs.declared.reply.CallReply.TheVariants.{Done, CompletionAt, SignalAt, Value as Shows, Pending as StillPending}
 use Rattle.rt_audit.specs.declared.finish.FinishCause.TheVariants.{Completed}
 use Rattle.rt_audit.specs.declared.entry.Entry.{Entry}
 use Rattle.rt_audit.specs.declared.entry.Entry.TheVariants.{Call, Wake, Round, Answer as Answered, Advance}
@@ -57,10 +57,10 @@ no_other_value l =
     let h = told (signal_given (Wake 0 ∷ []) ++ (Round (0 ∷ []) ∷ []) ++ visiting_root) (SignalPoll 2) (Shows (pos 6)) l in
     cc
 
-pub no_early_completion : IsLawful (begun small_begin) (completion_polled IsMet) → ⊥
+pub no_early_completion : IsLawful (begun small_begin) (completion_polled Done) → ⊥
 unfolding begun after
 no_early_completion l =
-    let h = told (signal_shown (Shows (pos 5)) ++ (Call (Some 0) (CompletionPoll 1) StillPending ∷ Call (Some 0) (SignalClose 1) Done ∷ [])) (CompletionPoll 1) IsMet l in
+    let h = told (signal_shown (Shows (pos 5)) ++ (Call (Some 0) (CompletionPoll 1) StillPending ∷ Call (Some 0) (SignalClose 1) Done ∷ [])) (CompletionPoll 1) Done l in
     cc
 
 pub no_value_of_the_second_stop : IsLawful (begun small_begin) (stop_shown (Shows (pos 7))) → ⊥

@@ -78,7 +78,7 @@ caught_panic = aborter_joined ++ raises ++ woken_in (Wake 0 ∷ []) (0 ∷ []) +
 abbrev pub caught_journal : List Entry
 caught_journal = caught_panic ++ (Call (Some 0) (Join 1) (Refused Exited) ∷ []) ++ parent_ends
 
--- near misses
+-- near misses, each beside a journal that differs in this one place and is lawful
 
 -- behind the panic come these wakes, and the next round in this order
 abbrev pub wakes_behind : List Entry → List ℕ → List Entry

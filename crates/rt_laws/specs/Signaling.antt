@@ -3,7 +3,7 @@ use Rattle.std.specs.Prelude.{ℕ, ℤ, pos, List, [], ◌∷◌, ◌++◌, Some
 use Rattle.std.specs.Int.{w32, cast_unsigned, to_be_bytes}
 use Rattle.rt_audit.specs.declared.call.Call.TheVariants.{Signaler, CloneSignal, Signal, SignalPoll, SignalClose, CompletionPoll, CompletionClose, Stop, Stopped}
 use Rattle.rt_audit.specs.declared.reply.CallReply.{CallReply}
-use Rattle.rt_audit.specs.declared.reply.CallReply.TheVariants.{Done, SignalAt, CompletionAt, Value as Shows, ClosedWith, Pending as StillPending, Ready as IsMet}
+use Rattle.rt_audit.specs.declared.reply.CallReply.TheVariants.{Done, SignalAt, CompletionAt, Value as Shows, ClosedWith, Pending as StillPending}
 use Rattle.rt_audit.specs.declared.answer.AnswerKind.TheVariants.{Pending as AnswersPending, Ready as AnswersReady}
 use Rattle.rt_audit.specs.declared.finish.FinishCause.TheVariants.{Completed}
 use Rattle.rt_audit.specs.declared.entry.Entry.{Entry}
@@ -79,7 +79,7 @@ abbrev pub signaling_journal : List Entry
 signaling_journal =
     signal_shown (Shows (pos 5))
     ++ (Call (Some 0) (CompletionPoll 1) StillPending ∷ Call (Some 0) (SignalClose 1) Done ∷ [])
-    ++ (Call (Some 0) (SignalClose 2) Done ∷ Wake 0 ∷ Call (Some 0) (CompletionPoll 1) IsMet ∷ Call (Some 0) (CompletionClose 1) Done ∷ Answered 0 AnswersReady ∷ [])
+    ++ (Call (Some 0) (SignalClose 2) Done ∷ Wake 0 ∷ Call (Some 0) (CompletionPoll 1) Done ∷ Call (Some 0) (CompletionClose 1) Done ∷ Answered 0 AnswersReady ∷ [])
     ++ root_ends
     ++ finishing Completed
 

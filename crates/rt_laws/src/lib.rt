@@ -55,12 +55,13 @@ pub use kin::{
 };
 pub use panics::{
     a_caught_panic_has_its_run, a_panic_of_the_root_has_its_run, a_reported_panic_has_its_run,
-    near_misses_of_panics_are_not_lawful,
+    near_misses_of_panics_are_lawful_but_for_one_place, near_misses_of_panics_are_not_lawful,
 };
 pub use refusals::{calls_are_refused_for_their_cause, near_misses_of_refusals_are_not_lawful};
 pub use signaling::{
-    a_signal_shows_its_value, near_misses_of_signals_are_lawful_but_for_one_place,
-    near_misses_of_signals_are_not_lawful, the_first_stop_decides,
+    a_root_that_stops_has_its_run, a_signal_shows_its_value,
+    each_signal_of_the_shutdown_shows_the_first_value,
+    near_misses_of_signals_are_lawful_but_for_one_place, near_misses_of_signals_are_not_lawful,
 };
 pub use slotting::{
     near_misses_of_slots_are_lawful_but_for_one_place, near_misses_of_slots_are_not_lawful,

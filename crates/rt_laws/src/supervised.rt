@@ -42,7 +42,7 @@ pub fn near_misses_of_tasks_are_not_lawful()
     ensures nobodys_call { IsLawful (begun small_begin) (closed_by None) → ⊥ }
     ensures early_join { IsLawful (begun small_begin) (early_join IsReady) → ⊥ }
     ensures second_join { IsLawful (begun small_begin) (second_join IsReady) → ⊥ }
-    ensures missing_wakes { IsLawful (begun small_begin) (waking []) → ⊥ }
+    ensures missing_own_wake { IsLawful (begun small_begin) (waking (Wake 0 ∷ [])) → ⊥ }
     ensures missing_wake { IsLawful (begun small_begin) (waking (Wake 1 ∷ [])) → ⊥ }
     ensures number_again { IsLawful (begun small_begin) (second_number 1) → ⊥ }
     ensures root_first { IsLawful (begun small_begin) (first_ended 0) → ⊥ }

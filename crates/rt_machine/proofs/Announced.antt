@@ -1,13 +1,15 @@
 -- An event where calls are made.
-use Rattle.std.proofs.Common.{◌≡◌, ℕ, ℤ, List, [], ◌∷◌, ◌++◌, refl, ap, Option}
+use Rattle.std.proofs.Common.{◌≡◌, ℕ, ℤ, List, [], ◌∷◌, ◌++◌, codes, refl, ap, Option}
+use Rattle.std.specs.Int.{w32, cast_unsigned, to_be_bytes}
 use Rattle.rt_audit.specs.declared.entry.Entry.TheVariants.{Call as CallEntry, Event}
-use Rattle.rt_audit.specs.declared.call.Call.TheVariants.{Stop}
-use Rattle.rt_audit.specs.declared.reply.CallReply.TheVariants.{CompletionAt}
+use Rattle.rt_audit.specs.declared.call.Call.TheVariants.{Stop, Stopped}
+use Rattle.rt_audit.specs.declared.reply.CallReply.TheVariants.{CompletionAt, Done}
 use Rattle.rt_super.specs.Signals.{stop_after, with_stop}
 use Rattle.rt_model.specs.State.{State, Phase, Blank, Making, Between, Visiting, Entered, Polling, Halted, Ending, Leaving, Turning, Over, Cleaning, Closing, Crashed, Finished, Announced, stood_in}
 use Rattle.rt_model.specs.Causes.{ends_next}
 use Rattle.rt_model.specs.Effects.{after, announces, due_called, entered, is_closing}
-use Rattle.rt_model.specs.Rules.{CallsAt, MayCall}
+use Rattle.rt_model.specs.Events.{IsOfCall}
+use Rattle.rt_model.specs.Rules.{CallsAt, May, MayCall, MayEvent}
 use Rattle.rt_machine.specs.Calls.{turn_in}
 
 entered-same : (s : State) (p : Phase) (root next by : Option ℕ) → CallsAt p root next by → entered s p ≡ p
@@ -54,5 +56,16 @@ after-event s by label fields may =
 pub after-stop : (s : State) (by : Option ℕ) (value : ℤ) (number : ℕ) (label : List ℕ) (fields : List (List ℕ)) → MayCall s by → after (after s (Event label fields)) (CallEntry by (Stop value) (CompletionAt number)) ≡ record s { signals = stop_after s.signals s.stop value; stop = with_stop s.stop value; announced = []; owed = due_called (is_closing s.phase) s.marks (stood_in s) (Stop value) (CompletionAt number); turns = s.turns ++ turn_in s (Stop value) (CompletionAt number) ∷ [] }
 unfolding after
 after-stop s by value number label fields may = ap (λ u. after u (CallEntry by (Stop value) (CompletionAt number))) (after-event s by label fields may)
+
+-- where nothing is announced an event of a call may come
+may-event : (s : State) (by : Option ℕ) (label : List ℕ) (fields : List (List ℕ)) (p : Phase) → CallsAt p s.root (ends_next s.running s.root) by → IsOfCall s.announced label fields → MayEvent p s label fields
+may-event s by label fields (Entered task left) may of = absurd may
+may-event s by label fields _ may of = (by, may, of)
+
+pub may-stop : (s : State) (by : Option ℕ) (value : ℤ) → MayCall s by → s.owed ≡ [] → s.announced ≡ [] → May s (Event (codes "stop") (to_be_bytes w32 (cast_unsigned w32 value) ∷ []))
+may-stop s by value may owes none = (owes, may-event s by _ _ s.phase may (Stop value, Done, rw none refl))
+
+pub may-stopped : (s : State) (by : Option ℕ) → MayCall s by → s.owed ≡ [] → s.announced ≡ [] → May s (Event (codes "stopped") [])
+may-stopped s by may owes none = (owes, may-event s by _ _ s.phase may (Stopped, Done, rw none refl))
 
 pub ruleset event_laws = (after-event)

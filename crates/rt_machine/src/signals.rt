@@ -221,7 +221,7 @@ impl Machine {
     fn note_met(&mut self, by: Option<u64>, completion: u64) -> Result<Poll<()>, Error>
         requires calling { MayCall self.old.told.state by }
         requires met { completion_answer self.old.told.state.signals completion ≡ Ok (Poll.Ready tt) }
-        ensures ok { IfOk result (λ met. (met ≡ Poll.Ready tt) × Noted by self.old self.new (Call.CompletionPoll completion) CallReply.Ready) }
+        ensures ok { IfOk result (λ met. (met ≡ Poll.Ready tt) × Noted by self.old self.new (Call.CompletionPoll completion) CallReply.Done) }
         ensures err { IfErr result (λ e. (e ≡ Error.NoMemory) × (self.new ≡ lacking self.old)) }
     {
         let Ok(()) = take_places(&mut self.journal, &mut self.ready, self.promised, 1) else {
@@ -231,7 +231,7 @@ impl Machine {
         self.journal.note(Entry::Call {
             by,
             call: Call::CompletionPoll { completion },
-            reply: CallReply::Ready,
+            reply: CallReply::Done,
         });
         Ok(Poll::Ready(()))
     }

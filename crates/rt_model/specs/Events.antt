@@ -1,5 +1,5 @@
 -- The events that an auditor digests.
-use Rattle.std.specs.Prelude.{ℕ, List, [], ◌∷◌, codes}
+use Rattle.std.specs.Prelude.{◌≡◌, ℕ, List, [], ◌∷◌, ◌++◌, codes}
 use Rattle.std.specs.Int.{w32, w128, cast_unsigned, to_be_bytes}
 use Rattle.rt_audit.specs.declared.call.Call.{Call}
 use Rattle.rt_audit.specs.declared.call.Call.TheVariants.{Stop, Stopped}
@@ -18,3 +18,8 @@ abbrev pub announced_by : Call → CallReply → List Announced
 announced_by (Stop value) reply = record { label = codes "stop"; fields = to_be_bytes w32 (cast_unsigned w32 value) ∷ [] } ∷ []
 announced_by Stopped reply = record { label = codes "stopped"; fields = [] } ∷ []
 announced_by _ reply = []
+
+-- behind these events this one is the next of a call
+abbrev pub IsOfCall : List Announced → List ℕ → List (List ℕ) → Type 0
+IsOfCall announced label fields =
+    (call : Call) × (reply : CallReply) × (announced_by call reply ≡ announced ++ record { label = label; fields = fields } ∷ [])

@@ -31,7 +31,7 @@ use Rattle.rt_model.specs.Alarms.{is_set, skip_to, fires}
 use Rattle.rt_model.specs.Causes.{is_late, from_running, ends_next}
 use Rattle.rt_model.specs.Draws.{shuffled}
 use Rattle.rt_model.specs.Effects.{left_of, visited, label_at, task_label, after}
-use Rattle.rt_model.specs.Events.{process_task, task_fields, announced_by}
+use Rattle.rt_model.specs.Events.{process_task, task_fields, announced_by, IsOfCall}
 
 -- this number was given to a task of this run
 abbrev pub WasGiven : Numbers → ℕ → Type 0
@@ -156,10 +156,10 @@ CallsAt _ root next by = ⊥
 abbrev pub MayCall : State → Option ℕ → Type 0
 MayCall s by = CallsAt s.phase s.root (ends_next s.running s.root) by
 
--- an event may come here: that of a visit at its beginning, and where calls are made those of a call, which decides of them
+-- an event may come here: that of a visit at its beginning, and where calls are made those of a call
 abbrev pub MayEvent : Phase → State → List ℕ → List (List ℕ) → Type 0
 MayEvent (Entered task left) s label fields = (label ≡ process_task) × (fields ≡ task_fields task (task_label s task))
-MayEvent p s label fields = (by : Option ℕ) × CallsAt p s.root (ends_next s.running s.root) by
+MayEvent p s label fields = (by : Option ℕ) × CallsAt p s.root (ends_next s.running s.root) by × IsOfCall s.announced label fields
 
 -- this task's end may be over
 abbrev pub MayEnd : Phase → Option ℕ → ℕ → Type 0

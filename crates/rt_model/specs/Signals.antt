@@ -4,7 +4,7 @@ use Rattle.rt_base.specs.declared.poll.Poll.{Poll}
 use Rattle.rt_base.specs.declared.poll.Poll.TheVariants.{Ready, Pending}
 use Rattle.rt_base.specs.declared.error.Error.{Error}
 use Rattle.rt_audit.specs.declared.reply.CallReply.{CallReply}
-use Rattle.rt_audit.specs.declared.reply.CallReply.TheVariants.{SignalAt, Value, ClosedWith, Pending as StillPending, Ready as IsReady}
+use Rattle.rt_audit.specs.declared.reply.CallReply.TheVariants.{Done, SignalAt, Value, ClosedWith, Pending as StillPending}
 use Rattle.rt_super.specs.Signals.{SignalRecord, StopRecord, new_group, is_alive}
 use Rattle.rt_super.specs.declared.stopper.Stopped.{Stopped}
 use Rattle.rt_super.specs.declared.stopper.Stopped.TheVariants.{Waiting, Resolved}
@@ -28,7 +28,7 @@ shown_reply Pending = StillPending
 
 -- and of a completion
 abbrev pub met_reply : Poll Unit → CallReply
-met_reply (Ready u) = IsReady
+met_reply (Ready u) = Done
 met_reply Pending = StillPending
 
 -- a signal of the shutdown, or the value of the stop that came before

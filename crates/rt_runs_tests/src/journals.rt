@@ -98,6 +98,181 @@ crash
 finish ok
 ";
 
+/// A group of signals: a value wakes who waits for it, each signal shows it, and its completion is met once each of them was given
+/// up. A signaler that is given up closes its signals. What is spent is spent.
+const SIGNALS: &str = "start 0 - 1000000 0
+root 0
+round 0
+visit 0
+event process_task 0 -
+call 0 signaler -> signal 1
+call 0 clone-signal 1 -> signal 2
+call 0 clone-signal 9 -> err 12
+call 0 child 0 h -> node 1
+call 0 spawn 1 -> task 1 node 2
+call 0 signal-poll 2 -> pending
+call 0 completion-poll 1 -> pending
+answer 0 pending
+advance 1000000
+round 1
+visit 1
+event process_task 1 h
+call 1 signal-poll 1 -> pending
+call 1 signal 1 -5 -> ok
+wake 1
+wake 0
+silent call 1 signal 1 6
+silent call 1 signaler-close 1
+call 1 signal-poll 1 -> ok -5
+call 1 completion-poll 1 -> pending
+call 1 signal-close 2 -> ok
+silent call 1 signal-close 2
+call 1 signal-close 1 -> ok
+wake 1
+call 1 completion-poll 1 -> ok
+call 1 completion-close 1 -> ok
+silent call 1 completion-close 1
+call 1 completion-poll 1 -> err 12
+call 1 signal-poll 1 -> err 12
+call 1 signaler -> signal 3
+call 1 signal-poll 3 -> pending
+call 1 signaler-close 3 -> ok
+wake 1
+call 1 signal-poll 3 -> err 2
+answer 1 ready
+call 1 close-node 2 -> ok
+answer 1 ended
+nodeend 1
+advance 2000000
+round 1 0 1 1
+visit 0
+event process_task 0 -
+call 0 signal-poll 2 -> err 12
+answer 0 ready
+cleanup
+nodeend 0
+call 0 signal-close 3 -> ok
+call 0 close-node 0 -> ok
+answer 0 ended
+crash
+finish ok
+";
+
+/// The first stop decides the value, wakes who waits for it, and its event stands before it. Each completion is met once the
+/// signals of the shutdown were given up.
+const SHUTDOWN: &str = "start 0 - 1000000 0
+root 0
+round 0
+visit 0
+event process_task 0 -
+event stopped
+call 0 stopped -> signal 1
+call 0 child 0 h -> node 1
+call 0 spawn 1 -> task 1 node 2
+call 0 signal-poll 1 -> pending
+answer 0 pending
+advance 1000000
+round 1
+visit 1
+event process_task 1 h
+event stop 00000009
+call 1 stop 9 -> completion 2
+wake 0
+event stop fffffff9
+call 1 stop -7 -> completion 3
+event stopped
+call 1 stopped -> closed 9
+call 1 completion-poll 2 -> pending
+call 1 completion-poll 3 -> pending
+answer 1 pending
+advance 2000000
+round 0
+visit 0
+event process_task 0 -
+call 0 signal-poll 1 -> ok 9
+call 0 signal-close 1 -> ok
+wake 1
+wake 1
+answer 0 pending
+advance 3000000
+round 1 1
+visit 1
+event process_task 1 h
+call 1 completion-poll 2 -> ok
+call 1 completion-close 2 -> ok
+call 1 completion-poll 3 -> ok
+call 1 completion-close 3 -> ok
+call 1 wake 0 -> ok
+wake 0
+answer 1 ready
+call 1 close-node 2 -> ok
+answer 1 ended
+nodeend 1
+wake 1
+advance 4000000
+round 0 1
+visit 0
+event process_task 0 -
+answer 0 ready
+cleanup
+nodeend 0
+call 0 close-node 0 -> ok
+answer 0 ended
+crash
+finish ok
+";
+
+/// Who waits for a signal isn't woken any more in a cleanup, whatever the tasks that end do.
+const LATE_SIGNALS: &str = "start 0 - 1000000 0
+root 0
+round 0
+visit 0
+event process_task 0 -
+call 0 signaler -> signal 1
+call 0 clone-signal 1 -> signal 2
+call 0 child 0 a -> node 1
+call 0 spawn 1 -> task 1 node 2
+call 0 child 0 b -> node 3
+call 0 spawn 3 -> task 2 node 4
+call 0 wake 0 -> ok
+wake 0
+answer 0 pending
+advance 1000000
+round 1 2 0
+visit 1
+event process_task 1 a
+call 1 signal-poll 1 -> pending
+answer 1 pending
+visit 2
+event process_task 2 b
+call 2 signal-poll 2 -> pending
+event stopped
+call 2 stopped -> signal 3
+call 2 signal-poll 3 -> pending
+call 2 completion-poll 1 -> pending
+answer 2 pending
+visit 0
+event process_task 0 -
+answer 0 ready
+cleanup
+nodeend 0
+call 1 signal 1 4 -> ok
+event stop 00000001
+call 1 stop 1 -> completion 4
+call 1 close-node 2 -> ok
+answer 1 ended
+call 2 signal-close 2 -> ok
+call 2 signal-close 3 -> ok
+call 2 close-node 4 -> ok
+answer 2 ended
+call 0 signal-close 1 -> ok
+call 0 completion-close 1 -> ok
+call 0 close-node 0 -> ok
+answer 0 ended
+crash
+finish ok
+";
+
 /// A task aborts itself and finishes all the same.
 const ABORTS: &str = "start 0 - 1000000 0
 root 0
@@ -791,9 +966,12 @@ finish tasks
 ";
 
 /// How each run begins, and its journal. A line that begins with `silent` is a call that writes nothing.
-pub const JOURNALS: [(Begin, &str); 21] = [
+pub const JOURNALS: [(Begin, &str); 24] = [
     (BEGIN, MADE),
     (BEGIN, SLOTS),
+    (BEGIN, SIGNALS),
+    (BEGIN, SHUTDOWN),
+    (BEGIN, LATE_SIGNALS),
     (BEGIN, ABORTS),
     (BEGIN, STOPS),
     (BEGIN, ABORTED),

@@ -105,6 +105,42 @@ fn many_alarms(alloc: Global, alarms: u64) -> Result<usize, NoMemory> {
     count(alloc, said.as_slice())
 }
 
+/// So many tasks wait for one value, which the root gives at its second visit, and for whose completion it waits then.
+fn many_waiters(alloc: Global, tasks: u64) -> Result<usize, NoMemory> {
+    let mut said = made(alloc)?;
+    said.push(Said::Signaler)?;
+    let mut node = 1u64;
+    for _ in 0..tasks {
+        said.push(Said::CloneSignal(1))?;
+        said.push(Said::Child(0, "t"))?;
+        said.push(Said::Spawn(node))?;
+        node = node.wrapping_add(2);
+    }
+    said.push(Said::Wake(0))?;
+    said.push(Said::Answer(AnswerKind::Pending))?;
+    for task in 0..tasks {
+        said.push(Said::SignalPoll(task.wrapping_add(2)))?;
+        said.push(Said::Answer(AnswerKind::Pending))?;
+    }
+    said.push(Said::Signal(1, 5))?;
+    said.push(Said::CompletionPoll(1))?;
+    said.push(Said::SignalClose(1))?;
+    said.push(Said::Answer(AnswerKind::Pending))?;
+    node = 2;
+    for task in 0..tasks {
+        let signal = task.wrapping_add(2);
+        said.push(Said::SignalPoll(signal))?;
+        said.push(Said::Answer(AnswerKind::Ready))?;
+        said.push(Said::SignalClose(signal))?;
+        said.push(Said::CloseNode(node))?;
+        said.push(Said::Answer(AnswerKind::Ended))?;
+        node = node.wrapping_add(2);
+    }
+    said.push(Said::CompletionPoll(1))?;
+    said.push(Said::Answer(AnswerKind::Ready))?;
+    count(alloc, said.as_slice())
+}
+
 /// The root makes a chain of so many nodes, and closes them.
 fn many_nodes(alloc: Global, nodes: u64) -> Result<usize, NoMemory> {
     let mut said = made(alloc)?;
@@ -127,6 +163,8 @@ fn many_of_each(rt: HostRuntime) -> Result<(), Fail> {
     assert!(rt; many_alarms(alloc, 1)? == 21);
     assert!(rt; many_alarms(alloc, 3000)? == 18_015);
     assert!(rt; many_nodes(alloc, 3000)? == 6_012);
+    assert!(rt; many_waiters(alloc, 1)? == 48);
+    assert!(rt; many_waiters(alloc, 3000)? == 51_031);
     Ok(())
 }
 

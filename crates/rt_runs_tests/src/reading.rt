@@ -54,6 +54,13 @@ fn call_in<'a>(words: &[&'a str]) -> Option<Said<'a>> {
         ["call", _, "spawn", node, ..] => Said::Spawn(number(node)?),
         ["call", _, "slot", ..] => Said::Slot,
         ["call", _, "slot-poll", slot, "->", "err", "7"] => Said::SlotPoll(number(slot)?, false),
+        ["call", _, "signaler", ..] => Said::Signaler,
+        ["call", _, "signal", signaler, value, ..] => Said::Signal(
+            number(signaler)?,
+            signed(value)?,
+        ),
+        ["call", _, "stop", value, ..] => Said::Stop(signed(value)?),
+        ["call", _, "stopped", ..] => Said::Stopped,
         ["call", _, word, task, ..] => return call_on_task(word, number(task)?),
         _ => return None,
     })
@@ -77,8 +84,24 @@ fn call_on_slot<'a>(word: &str, slot: u64) -> Option<Said<'a>> {
         "slot-poll" => Said::SlotPoll(slot, true),
         "slot-give-up" => Said::SlotGiveUp(slot),
         "abort-wait" => Said::AbortWait(slot),
+        word => return call_on_signal(word, slot),
+    })
+}
+
+fn call_on_signal<'a>(word: &str, signal: u64) -> Option<Said<'a>> {
+    Some(match word {
+        "clone-signal" => Said::CloneSignal(signal),
+        "signal-poll" => Said::SignalPoll(signal),
+        "signal-close" => Said::SignalClose(signal),
+        "signaler-close" => Said::SignalerClose(signal),
+        "completion-poll" => Said::CompletionPoll(signal),
+        "completion-close" => Said::CompletionClose(signal),
         _ => return None,
     })
+}
+
+fn signed(word: &str) -> Option<i32> {
+    word.parse::<i32>().ok()
 }
 
 fn number(word: &str) -> Option<u64> {
@@ -99,9 +122,8 @@ fn kind_of(word: &str) -> AnswerKind {
 pub fn line_of(alloc: Global, entry: &Entry) -> Result<String, NoMemory> {
     let mut line = String::new(alloc);
     match entry {
-        Entry::Event { label, fields } => {
-            line.push_str("event ")?;
-            line.push_str(label.as_str())?;
+        Entry::Event { label, fields } if label.as_str() == "process_task" => {
+            line.push_str("event process_task")?;
             add_fields(alloc, &mut line, fields)?;
         }
         entry => entry.add_to(alloc, &mut line)?,

@@ -38,6 +38,16 @@ pub enum Said<'a> {
     SlotPoll(u64, bool),
     SlotGiveUp(u64),
     AbortWait(u64),
+    Signaler,
+    CloneSignal(u64),
+    Signal(u64, i32),
+    SignalPoll(u64),
+    SignalClose(u64),
+    SignalerClose(u64),
+    CompletionPoll(u64),
+    CompletionClose(u64),
+    Stop(i32),
+    Stopped,
     Answer(AnswerKind),
 }
 
@@ -179,6 +189,77 @@ impl<'a> Replay<'a> {
             }
             Said::AbortWait(slot) => {
                 self.machine.abort_wait(by, slot);
+                Ok(())
+            }
+            said => self.call_on_signal(by, said),
+        }
+    }
+
+    /// Makes a call on a signal or its signaler.
+    fn call_on_signal(&mut self, by: Option<u64>, said: Said<'a>) -> Result<(), NoMemory>
+        requires calling { MayCall self.old.told.state by }
+        requires runs { IfSome by (λ task. has_number task self.old.told.state.running ≡ true) }
+        ensures phase { self.new.told.state.phase ≡ self.old.told.state.phase }
+        ensures root { self.new.told.state.root ≡ self.old.told.state.root }
+        ensures calling { MayCall self.new.told.state by }
+        ensures runs { IfSome by (λ task. has_number task self.new.told.state.running ≡ true) }
+    {
+        match said {
+            Said::Signaler => {
+                let _ = self.machine.signaler(by)?;
+                Ok(())
+            }
+            Said::CloneSignal(signal) => told(self.machine.clone_signal(by, signal)),
+            Said::Signal(signaler, value) => {
+                self.give(by, signaler, value);
+                Ok(())
+            }
+            Said::SignalPoll(signal) => told(self.machine.poll_signal(by, signal)),
+            Said::SignalClose(signal) => {
+                self.machine.close_signal(by, signal);
+                Ok(())
+            }
+            Said::SignalerClose(signaler) => {
+                self.machine.close_signaler(by, signaler);
+                Ok(())
+            }
+            said => self.call_on_completion(by, said),
+        }
+    }
+
+    /// Gives a group its value.
+    fn give(&mut self, by: Option<u64>, signaler: u64, value: i32)
+        requires calling { MayCall self.old.told.state by }
+        requires runs { IfSome by (λ task. has_number task self.old.told.state.running ≡ true) }
+        ensures phase { self.new.told.state.phase ≡ self.old.told.state.phase }
+        ensures root { self.new.told.state.root ≡ self.old.told.state.root }
+        ensures calling { MayCall self.new.told.state by }
+        ensures runs { IfSome by (λ task. has_number task self.new.told.state.running ≡ true) }
+    {
+        self.machine.signal(by, signaler, value)
+    }
+
+    /// Makes a call on a completion or on the shutdown.
+    fn call_on_completion(&mut self, by: Option<u64>, said: Said<'a>) -> Result<(), NoMemory>
+        requires calling { MayCall self.old.told.state by }
+        requires runs { IfSome by (λ task. has_number task self.old.told.state.running ≡ true) }
+        ensures phase { self.new.told.state.phase ≡ self.old.told.state.phase }
+        ensures root { self.new.told.state.root ≡ self.old.told.state.root }
+        ensures calling { MayCall self.new.told.state by }
+        ensures runs { IfSome by (λ task. has_number task self.new.told.state.running ≡ true) }
+    {
+        match said {
+            Said::CompletionPoll(completion) => told(self.machine.poll_completion(by, completion)),
+            Said::CompletionClose(completion) => {
+                self.machine.close_completion(by, completion);
+                Ok(())
+            }
+            Said::Stop(value) => {
+                let _ = self.machine.stop(by, value)?;
+                Ok(())
+            }
+            Said::Stopped => {
+                let _ = self.machine.stopped(by)?;
                 Ok(())
             }
             _ => Err(NoMemory),

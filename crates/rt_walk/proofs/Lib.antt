@@ -10,3 +10,4 @@ pub mod Families
 pub mod Placed
 pub mod Rows
 pub mod Rising
+pub mod OfCall

@@ -1,8 +1,8 @@
 //! The events that stand before a call.
 
-ghost use Rattle.std.specs.Prelude.{◌≡◌, ◌∷◌, [], ◌↔◌, IfOk, IsTrue, codes};
+ghost use Rattle.std.specs.Prelude.{◌≡◌, ◌≢◌, ◌∷◌, [], ◌↔◌, IfOk, IfNone, IfSome, IsTrue, codes, length, ℤ};
 ghost use Rattle.std.specs.Int.{cast_unsigned, to_be_bytes, w32};
-ghost use Rattle.rt_model.specs.Events.{announced_by};
+ghost use Rattle.rt_model.specs.Events.{announced_by, IsOfCall};
 
 use rt_audit::{Call, CallReply, EventFields, EventLabel};
 use rt_base::{Items, NoMemory, Text};
@@ -96,6 +96,39 @@ fn is_stopped(event: &Announced) -> bool
     ensures { IsTrue result ↔ (event.now ≡ record { label = codes "stopped"; fields = [] }) }
 {
     event.is_named("stopped") && event.has_none()
+}
+
+/// Whether this event is the next of a call, behind these.
+pub fn is_of_call(announced: &[Announced], label: &EventLabel, fields: &EventFields) -> bool
+    ensures { IsTrue result ↔ IsOfCall announced.now label.now fields.now }
+{
+    announced.is_empty()
+        && match label.as_str() {
+            "stop" => is_a_value(fields),
+            "stopped" => fields.is_empty(),
+            _ => false,
+        }
+}
+
+/// Whether these fields are a value alone.
+fn is_a_value(fields: &EventFields) -> bool
+    ensures { IsTrue result ↔ ((value : ℤ) × (fields.now ≡ to_be_bytes w32 (cast_unsigned w32 value) ∷ [])) }
+{
+    match fields.get(0) {
+        Some(field) => fields.len() == 1 && value_of(field).is_some(),
+        None => false,
+    }
+}
+
+/// The value of four bytes, the highest first.
+fn value_of(field: &[u8]) -> Option<i32>
+    ensures some { IfSome result (λ value. to_be_bytes w32 (cast_unsigned w32 value) ≡ field.now) }
+    ensures none { IfNone result (length field.now ≢ 4) }
+{
+    match field {
+        [a, b, c, d] => Some(i32::from_be_bytes([*a, *b, *c, *d])),
+        _ => None,
+    }
 }
 
 /// Whether these are the events of a call with this reply.

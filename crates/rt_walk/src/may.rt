@@ -10,7 +10,7 @@ ghost use Rattle.rt_walk.specs.Quiet.{quiet};
 ghost use Rattle.rt_walk.specs.Memory.{TakesMemory};
 
 use crate::Walker;
-use crate::announced::are_of;
+use crate::announced::{are_of, is_of_call};
 use crate::numbers::is_permutation;
 use crate::stage::Stage;
 use rt_audit::{AnswerKind, Entry, EventFields, EventLabel, FinishCause};
@@ -110,7 +110,7 @@ impl Walker {
         self.running.ends_next(self.root)
     }
 
-    /// Whether the event of a visit comes here as it is, or any event of a call.
+    /// Whether the event of a visit comes here as it is, or one of a call.
     fn may_event(&self, label: &EventLabel, fields: &EventFields) -> bool
         ensures { IsTrue result ↔ MayFree self.now (Event label.now fields.now) }
     {
@@ -119,7 +119,7 @@ impl Walker {
                 label.as_str() == "process_task"
                     && fields.are_of_task(*task, self.task_label(*task))
             }
-            _ => self.are_calls_made(),
+            _ => { self.are_calls_made() && is_of_call(self.announced.as_slice(), label, fields) }
         }
     }
 

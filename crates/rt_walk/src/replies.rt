@@ -1,6 +1,6 @@
 //! What a call may be answered.
 
-ghost use Rattle.std.specs.Prelude.{◌≡◌, ◌↔◌, ◌⊎◌, IfErr, IfOk, OnErr, IsTrue, option_map};
+ghost use Rattle.std.specs.Prelude.{◌≡◌, ◌↔◌, ◌⊎◌, IfErr, IfOk, IfSome, OnErr, IsTrue, option_map};
 ghost use Rattle.rt_base.specs.declared.error.Error.TheVariants.{UnknownToken, Metric};
 ghost use Rattle.rt_audit.specs.declared.call.Call.TheVariants.{Abort, AbortTask, Child, CloneSignal, CloseNode, GiveUp, SleepPoll, Slot, Spawn, Wake};
 ghost use Rattle.rt_model.specs.Signals.{met_reply, shown_reply, stopped_reply};
@@ -240,7 +240,7 @@ fn is_met(met: Result<Poll<()>, Error>, reply: &CallReply) -> bool
     ensures { IsTrue result ↔ ShownAs met_reply met reply.now }
 {
     match met {
-        Ok(Poll::Ready(())) => is_ready(reply),
+        Ok(Poll::Ready(())) => is_done(reply),
         Ok(Poll::Pending) => is_pending(reply),
         Err(error) => {
             drop(error);
@@ -262,12 +262,6 @@ fn is_pending(reply: &CallReply) -> bool
     ensures { IsTrue result ↔ (reply.now ≡ CallReply.Pending) }
 {
     matches!(reply, CallReply::Pending)
-}
-
-fn is_ready(reply: &CallReply) -> bool
-    ensures { IsTrue result ↔ (reply.now ≡ CallReply.Ready) }
-{
-    matches!(reply, CallReply::Ready)
 }
 
 /// Whether `stopped` is answered so.
@@ -336,13 +330,13 @@ fn is_metric(error: &Error, kind: MetricError) -> bool
     }
 }
 
-/// Why a label is refused, where that is why.
-fn metric_error(error: &Error) -> Result<Option<MetricError>, NoMemory>
-    ensures { IfOk result (λ refusal. (kind : MetricError) × (refusal ≡ Some kind) × (error.now ≡ Error.Metric kind)) }
+/// The kind of a metric's error.
+fn metric_error(error: &Error) -> Option<MetricError>
+    ensures { IfSome result (λ kind. error.now ≡ Error.Metric kind) }
 {
     match error {
-        Error::Metric(kind) => Ok(Some(*kind)),
-        _ => Err(NoMemory),
+        Error::Metric(kind) => Some(*kind),
+        _ => None,
     }
 }
 
@@ -356,9 +350,12 @@ fn refusal_of(alloc: Global, prefix: &str, label: &str) -> Result<Option<MetricE
             Ok(None)
         }
         Err(error) => {
-            let refusal = metric_error(&error);
+            let kind = metric_error(&error);
             drop(error);
-            refusal
+            match kind {
+                Some(kind) => Ok(Some(kind)),
+                None => Err(NoMemory),
+            }
         }
     }
 }

@@ -59,11 +59,11 @@ impl Walker {
     fn start(&mut self)
         ensures { (next now : ℕ) (deadline : Option ℕ) (cycle : ℕ) → self.new ≡ quiet (after self.old (Start next now deadline cycle)) }
     {
-        self.turn_to(Stage::Making);
+        self.stand_at(Stage::Making);
     }
 
     /// The run stands so from here on, and nobody is to be woken.
-    fn turn_to(&mut self, stage: Stage)
+    fn stand_at(&mut self, stage: Stage)
         ensures { self.new ≡ record self.old { phase = phase_of stage; owed = []; announced = []; turns = [] } }
     {
         drop(mem::replace(&mut self.stage, stage));
@@ -162,7 +162,7 @@ impl Walker {
         self.ready.push(task)?;
         self.next = task as u128 + 1;
         self.root = Some(task);
-        self.turn_to(Stage::Between);
+        self.stand_at(Stage::Between);
         Ok(())
     }
 
@@ -172,7 +172,7 @@ impl Walker {
         let left = Left::of(self.allocator(), order)?;
         self.ready.clear();
         self.draws.clear();
-        self.turn_to(Stage::Visiting { left });
+        self.stand_at(Stage::Visiting { left });
         Ok(())
     }
 
@@ -189,7 +189,7 @@ impl Walker {
         leave_result(&self.stage, &mut self.results);
         remove_left(&mut self.marks, self.stage.leaving());
         let stage = mem::replace(&mut self.stage, Stage::Blank).into_node_ended();
-        self.turn_to(stage);
+        self.stand_at(stage);
         self.owed = Left::from_vec(due);
         Ok(())
     }
@@ -228,7 +228,7 @@ impl Walker {
     {
         let mut left = self.take_left();
         left.pass(&self.running);
-        self.turn_to(Stage::Entered { task, left });
+        self.stand_at(Stage::Entered { task, left });
     }
 
     /// Takes what is left of the round under way out.
@@ -264,7 +264,7 @@ impl Walker {
         let flagged = is_flagged(&self.marks, task);
         marks::leave(&mut self.marks, task);
         let left = self.take_left();
-        self.turn_to(Stage::after_pending(flagged, task, left));
+        self.stand_at(Stage::after_pending(flagged, task, left));
     }
 
     /// A task has finished so.
@@ -273,14 +273,14 @@ impl Walker {
     {
         let left = self.take_left();
         let stage = Stage::after_last(self.root == Some(task), cause, outcome, task, left);
-        self.turn_to(stage);
+        self.stand_at(stage);
     }
 
     /// The rounds end for this cause.
     fn go_over(&mut self, cause: FinishCause)
         ensures { self.new ≡ record self.old { phase = Over cause; owed = []; announced = []; turns = [] } }
     {
-        self.turn_to(Stage::Over { cause });
+        self.stand_at(Stage::Over { cause });
     }
 
     /// The state of a task is ended.
@@ -295,7 +295,7 @@ impl Walker {
         remove_if(settles, &mut self.marks, task);
         end_result(&self.stage, settles, &mut self.results, task);
         let stage = mem::replace(&mut self.stage, Stage::Blank).into_ended(settles);
-        self.turn_to(stage);
+        self.stand_at(stage);
         self.owed = Left::from_vec(due);
         Ok(())
     }
@@ -334,7 +334,7 @@ impl Walker {
         ensures { self.new ≡ quiet (after self.old (Advance now)) }
     {
         self.time = now;
-        self.turn_to(Stage::Turning);
+        self.stand_at(Stage::Turning);
     }
 
     fn skip(&mut self, now: Nanos)
@@ -356,7 +356,7 @@ impl Walker {
         ensures { self.new ≡ quiet (after self.old Cleanup) }
     {
         let stage = Stage::cleaned(self.nodes.is_ended(0), self.reached());
-        self.turn_to(stage);
+        self.stand_at(stage);
         self.ready.clear();
         self.alarms.clear();
     }
@@ -365,12 +365,12 @@ impl Walker {
         ensures { (choices : List Choice) → self.new ≡ quiet (after self.old (Crash choices)) }
     {
         let cause = self.stage.kept_cause();
-        self.turn_to(Stage::Crashed { cause });
+        self.stand_at(Stage::Crashed { cause });
     }
 
     fn finish(&mut self, cause: FinishCause)
         ensures { self.new ≡ quiet (after self.old (Finish cause)) }
     {
-        self.turn_to(Stage::Finished { cause });
+        self.stand_at(Stage::Finished { cause });
     }
 }

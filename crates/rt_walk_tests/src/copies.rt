@@ -33,6 +33,7 @@ pub const VISITS: &[Copied] = &[
     ("a round with another number", 2, Instead("round 1")),
     ("a visit of another task", 3, Instead("visit 1")),
     ("a visit without its event", 4, Missing),
+    ("two events of a visit", 5, Before("event process_task 0 -")),
     (
         "the event of another task",
         4,
@@ -847,5 +848,170 @@ pub const SLOT_SENDS: &[Copied] = &[
         "a second giving up",
         46,
         Before("call 0 slot-give-up 4 -> ok"),
+    ),
+];
+
+/// Over a group of signals.
+pub const OF_SIGNALS: &[Copied] = &[
+    (
+        "a signaler of another number",
+        5,
+        Instead("call 0 signaler -> signal 2"),
+    ),
+    (
+        "a further signal of one that isn't there",
+        6,
+        Instead("call 0 clone-signal 3 -> signal 2"),
+    ),
+    (
+        "a refused one of one that is there",
+        6,
+        Instead("call 0 clone-signal 1 -> err 12"),
+    ),
+    (
+        "a value before it was given",
+        9,
+        Instead("call 0 signal-poll 2 -> ok 5"),
+    ),
+    (
+        "a completion that is met before",
+        16,
+        Instead("call 1 completion-poll 1 -> ok"),
+    ),
+    (
+        "a value by a signaler that isn't there",
+        17,
+        Instead("call 1 signal 2 5 -> ok"),
+    ),
+    ("one who waits isn't woken by the value", 18, Missing),
+    ("the wakes in the other order", 18, Instead("wake 0")),
+    (
+        "the completion's wait is met by the value",
+        20,
+        Before("wake 1"),
+    ),
+    ("a second value", 20, Before("call 1 signal 1 6 -> ok")),
+    (
+        "a signaler that is given up behind its value",
+        20,
+        Before("call 1 signaler-close 1 -> ok"),
+    ),
+    ("another value", 20, Instead("call 1 signal-poll 1 -> ok 6")),
+    (
+        "pending behind the value",
+        20,
+        Instead("call 1 signal-poll 1 -> pending"),
+    ),
+    (
+        "a value of a closed group",
+        23,
+        Instead("call 1 signal-poll 3 -> ok 5"),
+    ),
+    (
+        "pending in a closed group",
+        23,
+        Instead("call 1 signal-poll 3 -> pending"),
+    ),
+    (
+        "a completion of a closed group",
+        24,
+        Before("call 1 completion-close 3 -> ok"),
+    ),
+    (
+        "a completion that is met with an open signal",
+        25,
+        Instead("call 1 completion-poll 1 -> ok"),
+    ),
+    (
+        "a completion that is told ready",
+        28,
+        Instead("call 1 completion-poll 1 -> ready"),
+    ),
+    ("one who waits isn't woken by the last signal", 27, Missing),
+    (
+        "a second giving up of a signal",
+        28,
+        Before("call 1 signal-close 2 -> ok"),
+    ),
+    (
+        "a poll of a signal that was given up",
+        28,
+        Before("call 1 signal-poll 2 -> ok 5"),
+    ),
+    (
+        "a second giving up of a completion",
+        30,
+        Before("call 1 completion-close 1 -> ok"),
+    ),
+];
+
+/// Over a shutdown.
+pub const OF_THE_SHUTDOWN: &[Copied] = &[
+    ("a signal of the shutdown without its event", 5, Missing),
+    (
+        "the event of another call",
+        6,
+        Instead("call 0 stop 9 -> completion 1"),
+    ),
+    (
+        "a signal of another number",
+        6,
+        Instead("call 0 stopped -> signal 0"),
+    ),
+    (
+        "a value before the stop",
+        6,
+        Instead("call 0 stopped -> closed 9"),
+    ),
+    (
+        "a signaler of the shutdown",
+        9,
+        Before("call 0 signal 0 9 -> ok"),
+    ),
+    ("two events before a call", 6, Before("event stopped")),
+    (
+        "an event of another value",
+        16,
+        Instead("call 1 stop 8 -> completion 2"),
+    ),
+    (
+        "a completion of another number",
+        16,
+        Instead("call 1 stop 9 -> completion 3"),
+    ),
+    ("one who waits isn't woken by the stop", 17, Missing),
+    ("a wake by the second stop", 20, Before("wake 0")),
+    (
+        "another signal behind the stop",
+        21,
+        Instead("call 1 stopped -> signal 4"),
+    ),
+    (
+        "the value of the second stop",
+        21,
+        Instead("call 1 stopped -> closed -7"),
+    ),
+    (
+        "a completion that is met with an open signal",
+        22,
+        Instead("call 1 completion-poll 2 -> ok"),
+    ),
+    (
+        "the second stop's value is shown",
+        29,
+        Instead("call 0 signal-poll 1 -> ok -7"),
+    ),
+    ("one wake for two completions", 32, Missing),
+    ("a stop in the cleanup without its event", 37, Missing),
+];
+
+/// Over a value that is given in a cleanup.
+pub const LATE_ONES: &[Copied] = &[
+    ("a wake in the cleanup", 13, Before("wake 0")),
+    ("a second value", 13, Before("call 1 signal 1 5 -> ok")),
+    (
+        "an event of a visit in the cleanup",
+        12,
+        Before("event process_task 1 h"),
     ),
 ];

@@ -545,6 +545,126 @@ crash
 finish ok
 ";
 
+/// A task gives its group a value, for which the root waits, and closes another one. The completion is met once both signals were given
+/// up.
+pub const SIGNALS: &str = "start 0 - 1000000 0
+root 0
+round 0
+visit 0
+event process_task 0 -
+call 0 signaler -> signal 1
+call 0 clone-signal 1 -> signal 2
+call 0 child 0 h -> node 1
+call 0 spawn 1 -> task 1 node 2
+call 0 signal-poll 2 -> pending
+answer 0 pending
+advance 1000000
+round 1
+visit 1
+event process_task 1 h
+call 1 signal-poll 1 -> pending
+call 1 completion-poll 1 -> pending
+call 1 signal 1 5 -> ok
+wake 1
+wake 0
+call 1 signal-poll 1 -> ok 5
+call 1 signaler -> signal 3
+call 1 signaler-close 3 -> ok
+call 1 signal-poll 3 -> err 2
+call 1 signal-close 1 -> ok
+call 1 completion-poll 1 -> pending
+call 1 signal-close 2 -> ok
+wake 1
+call 1 completion-poll 1 -> ok
+call 1 completion-close 1 -> ok
+answer 1 ready
+call 1 close-node 2 -> ok
+answer 1 ended
+nodeend 1
+advance 2000000
+round 1 0 1
+visit 0
+event process_task 0 -
+answer 0 ready
+cleanup
+nodeend 0
+call 0 close-node 0 -> ok
+answer 0 ended
+crash
+finish ok
+";
+
+/// The root waits for the shutdown, which a task begins, and that waits for its end.
+pub const SHUTDOWN: &str = "start 0 - 1000000 0
+root 0
+round 0
+visit 0
+event process_task 0 -
+event stopped
+call 0 stopped -> signal 1
+call 0 child 0 h -> node 1
+call 0 spawn 1 -> task 1 node 2
+call 0 signal-poll 1 -> pending
+answer 0 pending
+advance 1000000
+round 1
+visit 1
+event process_task 1 h
+event stop 9
+call 1 stop 9 -> completion 2
+wake 0
+event stop -7
+call 1 stop -7 -> completion 3
+event stopped
+call 1 stopped -> closed 9
+call 1 completion-poll 2 -> pending
+call 1 completion-poll 3 -> pending
+answer 1 pending
+advance 2000000
+round 0
+visit 0
+event process_task 0 -
+call 0 signal-poll 1 -> ok 9
+call 0 signal-close 1 -> ok
+wake 1
+wake 1
+answer 0 ready
+cleanup
+nodeend 0
+call 1 completion-close 2 -> ok
+event stop 1
+call 1 stop 1 -> completion 4
+call 1 close-node 2 -> ok
+answer 1 ended
+call 0 close-node 0 -> ok
+answer 0 ended
+crash
+finish ok
+";
+
+/// A task that ends in the cleanup gives the value for which the root waits, and nobody is woken.
+pub const LATE_SIGNAL: &str = "start 0 - 1000000 0
+root 0
+round 0
+visit 0
+event process_task 0 -
+call 0 signaler -> signal 1
+call 0 child 0 h -> node 1
+call 0 spawn 1 -> task 1 node 2
+call 0 signal-poll 1 -> pending
+answer 0 ready
+cleanup
+nodeend 0
+call 1 signal 1 4 -> ok
+call 1 close-node 2 -> ok
+answer 1 ended
+call 0 signal-close 1 -> ok
+call 0 close-node 0 -> ok
+answer 0 ended
+crash
+finish ok
+";
+
 /// A task sends to the root by slots: a value and an error, one slot is closed, one was given up, and the wait for one is
 /// aborted. Each that the root waits for wakes it.
 pub const SLOTS: &str = "start 0 - 1000000 0

@@ -42,6 +42,7 @@ fn entry(alloc: Global, line: &str) -> Result<Option<Entry>, NoMemory> {
     match words.as_slice() {
         ["call", by, rest @ ..] => called(alloc, by, rest),
         ["event", "process_task", task, label] => event(alloc, task, label),
+        ["event", label, values @ ..] => call_event(alloc, label, values),
         ["round", order @ ..] => round(alloc, order),
         ["crash", "k"] => Ok(Some(crash(vec![in alloc; Choice::Kept]?))),
         words => Ok(plain_entry(alloc, words)),
@@ -101,6 +102,10 @@ fn number(word: &str) -> Option<u64> {
     word.parse::<u64>().ok()
 }
 
+fn signed(word: &str) -> Option<i32> {
+    word.parse::<i32>().ok()
+}
+
 fn moment(word: &str) -> Option<Nanos> {
     word.parse::<Nanos>().ok()
 }
@@ -154,6 +159,21 @@ fn event(alloc: Global, task: &str, label: &str) -> Result<Option<Entry>, NoMemo
     }))
 }
 
+/// An event of a call. Its values are written as numbers here.
+fn call_event(alloc: Global, label: &str, values: &[&str]) -> Result<Option<Entry>, NoMemory> {
+    let mut fields = Vec::new(alloc);
+    for value in values {
+        match signed(value) {
+            Some(value) => fields.push(Items::of(value.to_be_bytes().to_vec(alloc)?))?,
+            None => return Ok(None),
+        }
+    }
+    Ok(Some(Entry::Event {
+        label: EventLabel::named(alloc, Text::of(label.to_owned(alloc)?))?,
+        fields: EventFields::listed(Items::of(fields)),
+    }))
+}
+
 fn round(alloc: Global, words: &[&str]) -> Result<Option<Entry>, NoMemory> {
     let mut order = Vec::new(alloc);
     for word in words {
@@ -169,17 +189,58 @@ fn round(alloc: Global, words: &[&str]) -> Result<Option<Entry>, NoMemory> {
 
 /// A call with its reply. `-` calls for the maker.
 fn called(alloc: Global, by: &str, words: &[&str]) -> Result<Option<Entry>, NoMemory> {
-    let by = number(by);
-    let (call, told) = match words {
-        ["child", node, label, "->", told @ ..] => (child(alloc, node, label)?, told),
-        ["slot", "->", told @ ..] => (Some(Call::Slot), told),
-        [word, of, "->", told @ ..] => (call(word, of), told),
-        _ => return Ok(None),
+    let (asked, told) = halves(words);
+    let Some(call) = call_in(alloc, asked)? else {
+        return Ok(None);
     };
-    let reply = reply(alloc, told)?;
-    Ok(match (call, reply) {
-        (Some(call), Some(reply)) => Some(Entry::Call { by, call, reply }),
-        _ => None,
+    with_reply(alloc, number(by), call, told)
+}
+
+/// What stands before the arrow, and what behind it.
+fn halves<'a>(words: &'a [&'a str]) -> (&'a [&'a str], &'a [&'a str]) {
+    for place in 0..words.len() {
+        if let (asked, ["->", told @ ..]) = words.split_at(place) {
+            return (asked, told);
+        }
+    }
+    (words, &[])
+}
+
+fn with_reply(
+    alloc: Global,
+    by: Option<u64>,
+    call: Call,
+    told: &[&str],
+) -> Result<Option<Entry>, NoMemory> {
+    match reply(alloc, told) {
+        Ok(Some(reply)) => Ok(Some(Entry::Call { by, call, reply })),
+        Ok(None) => {
+            drop(call);
+            Ok(None)
+        }
+        Err(NoMemory) => {
+            drop(call);
+            Err(NoMemory)
+        }
+    }
+}
+
+fn call_in(alloc: Global, words: &[&str]) -> Result<Option<Call>, NoMemory> {
+    match words {
+        ["child", node, label] => child(alloc, node, label),
+        [word] => Ok(call_alone(word)),
+        [word, of] => Ok(call(word, of)),
+        ["signal", of, value] => Ok(signal(of, value)),
+        _ => Ok(None),
+    }
+}
+
+fn call_alone(word: &str) -> Option<Call> {
+    Some(match word {
+        "slot" => Call::Slot,
+        "signaler" => Call::Signaler,
+        "stopped" => Call::Stopped,
+        _ => return None,
     })
 }
 
@@ -191,7 +252,23 @@ fn child(alloc: Global, node: &str, label: &str) -> Result<Option<Call>, NoMemor
     })
 }
 
+fn stop(value: &str) -> Option<Call> {
+    Some(Call::Stop {
+        value: signed(value)?,
+    })
+}
+
+fn signal(signaler: &str, value: &str) -> Option<Call> {
+    Some(Call::Signal {
+        signaler: number(signaler)?,
+        value: signed(value)?,
+    })
+}
+
 fn call(word: &str, of: &str) -> Option<Call> {
+    if word == "stop" {
+        return stop(of);
+    }
     if word == "sleep-poll" {
         return Some(Call::SleepPoll {
             due: Moment::new(moment(of)?),
@@ -211,6 +288,12 @@ fn call(word: &str, of: &str) -> Option<Call> {
         "slot-poll" => Call::SlotPoll { slot: of },
         "slot-give-up" => Call::SlotGiveUp { slot: of },
         "abort-wait" => Call::AbortWait { slot: of },
+        "clone-signal" => Call::CloneSignal { signal: of },
+        "signal-poll" => Call::SignalPoll { signal: of },
+        "signal-close" => Call::SignalClose { signal: of },
+        "signaler-close" => Call::SignalerClose { signaler: of },
+        "completion-poll" => Call::CompletionPoll { completion: of },
+        "completion-close" => Call::CompletionClose { completion: of },
         _ => return None,
     })
 }
@@ -225,6 +308,18 @@ fn reply(alloc: Global, words: &[&str]) -> Result<Option<CallReply>, NoMemory> {
 fn plain_reply(words: &[&str]) -> Option<CallReply> {
     Some(match words {
         ["ok"] => CallReply::Done,
+        ["ok", value] => CallReply::Value {
+            value: signed(value)?,
+        },
+        ["closed", value] => CallReply::ClosedWith {
+            value: signed(value)?,
+        },
+        ["signal", signal] => CallReply::SignalAt {
+            signal: number(signal)?,
+        },
+        ["completion", completion] => CallReply::CompletionAt {
+            completion: number(completion)?,
+        },
         ["node", node] => CallReply::NodeAt {
             node: number(node)?,
             ended: false,

@@ -3,14 +3,14 @@
 use crate::copies::Change::{Before, Instead, Missing};
 use crate::copies::{
     ABORTS_OF_ITSELF, CAUGHT_PANICS, CLEANUPS, CUTS, Change, Copied, DEADLINES, FAMILIES, FIRES,
-    LAST_TASKS, NO_ROOTS, NODES, ORDERS, PANICS, REFUSALS, ROOT_PANICS, SLEEPS, SLOT_POLLS,
-    SLOT_SENDS, SPAWNS, SPAWNS_ON_AN_ENDED_NODE, STARTS, STOPS_OF_ITSELF, TWICE_WOKEN, UNMADES,
-    VISITS, VISITS_WITH_AN_END, WAKES,
+    LAST_TASKS, LATE_ONES, NO_ROOTS, NODES, OF_SIGNALS, OF_THE_SHUTDOWN, ORDERS, PANICS, REFUSALS,
+    ROOT_PANICS, SLEEPS, SLOT_POLLS, SLOT_SENDS, SPAWNS, SPAWNS_ON_AN_ENDED_NODE, STARTS,
+    STOPS_OF_ITSELF, TWICE_WOKEN, UNMADES, VISITS, VISITS_WITH_AN_END, WAKES,
 };
 use crate::journals::{
-    ABORTS, BEGIN, CATCHING, CAUGHT, CLEANUP, CUT, FAMILY, LAST_NUMBERS, LATE, MADE, NO_NUMBER,
-    NODE_ENDED, ONE_LEFT, PANIC, READY, REFUSED, ROOT_PANIC, SLEEP, SLOTS, STALL, STOPS, TIMED,
-    TWICE, TWO_LEFT, UNMADE,
+    ABORTS, BEGIN, CATCHING, CAUGHT, CLEANUP, CUT, FAMILY, LAST_NUMBERS, LATE, LATE_SIGNAL, MADE,
+    NO_NUMBER, NODE_ENDED, ONE_LEFT, PANIC, READY, REFUSED, ROOT_PANIC, SHUTDOWN, SIGNALS, SLEEP,
+    SLOTS, STALL, STOPS, TIMED, TWICE, TWO_LEFT, UNMADE,
 };
 use crate::many::{MANY_ALARMS, MANY_TASKS, joined};
 use crate::told_text::{Unread, entries_of};
@@ -87,6 +87,9 @@ const JOURNALS: &[(&str, Begin, &str)] = &[
     ("a cleanup by numbers", BEGIN, CLEANUP),
     ("a node that ended before the cleanup", BEGIN, NODE_ENDED),
     ("slots of a sender and a receiver", BEGIN, SLOTS),
+    ("signals of a task and the root", BEGIN, SIGNALS),
+    ("a shutdown", BEGIN, SHUTDOWN),
+    ("a value that is given in a cleanup", BEGIN, LATE_SIGNAL),
     ("the last numbers", TWO_LEFT, LAST_NUMBERS),
     ("no number for the root", ONE_LEFT, NO_NUMBER),
 ];
@@ -150,6 +153,12 @@ const OF_PANICS_AND_REFUSALS: &[Copies] = &[
 
 const OF_SLOTS: &[Copies] = &[(BEGIN, SLOTS, SLOT_POLLS), (BEGIN, SLOTS, SLOT_SENDS)];
 
+const OF_GROUPS: &[Copies] = &[
+    (BEGIN, SIGNALS, OF_SIGNALS),
+    (BEGIN, SHUTDOWN, OF_THE_SHUTDOWN),
+    (BEGIN, LATE_SIGNAL, LATE_ONES),
+];
+
 /// The first of the copies of a journal that isn't refused at its place.
 fn not_refused(
     alloc: Global,
@@ -207,6 +216,12 @@ fn damaged_copies_of_slots(rt: HostRuntime) -> Result<(), Fail> {
     Ok(())
 }
 
+#[test]
+fn damaged_copies_of_signals(rt: HostRuntime) -> Result<(), Fail> {
+    assert!(rt; first_kept(rt.alloc(), OF_GROUPS)?.is_none());
+    Ok(())
+}
+
 /// Runs that follow one another, with a change, and the line that is refused.
 struct Walk {
     name: &'static str,
@@ -241,7 +256,7 @@ const ELSEWHERE: &[Walk] = &[
         name: "an event in a poll that no call follows",
         begins: (BEGIN, &[]),
         texts: &[READY],
-        change: Some((5, Before("event process_task 0 -"))),
+        change: Some((5, Before("event stop 9"))),
         first: Some(6),
     },
     Walk {

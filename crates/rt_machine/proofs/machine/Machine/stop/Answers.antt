@@ -10,11 +10,15 @@ use Rattle.rt_machine.specs.Calls.{turn_in}
 use Rattle.rt_machine.specs.Groups.{Grouped, grouped}
 use Rattle.rt_machine.specs.Places.{signal_places}
 use Rattle.rt_machine.specs.Told.{Told}
-use Rattle.rt_machine.proofs.Announced.{after-stop}
+use Rattle.rt_machine.proofs.Announced.{after-stop, may-stop}
 use Rattle.rt_machine.proofs.Totals.{owed-fewer}
 use Rattle.rt_machine.proofs.Owed.{due-stop}
 use Rattle.rt_machine.proofs.Fine.{places-most}
 use Rattle.rt_machine.proofs.machine.Machine.stop.Goals as goal
+
+pub note-requires-clause-may : goal.note-requires-clause-may
+note-requires-clause-may c =
+    rw (c.in-Ok.ensures.told, c.in-Ok-stop_event.ensures, to_z-of_z c.ranges.value) (may-stop c.self.inside.journal.told.state c.args.by c.args.value (rw (← c.self.view_is) at c.requires) c.self.invariant.none_owed c.self.invariant.none_announced)
 
 pub invariant_of-self-2 : goal.invariant_of-self-2
 invariant_of-self-2 c =
