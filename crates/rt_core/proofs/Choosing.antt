@@ -1,9 +1,10 @@
 -- A choice walks its handles one after another.
-use Rattle.std.proofs.Common.{◌≡◌, ◌≤◌, ◌<◌, ◌+◌, ◌∷◌, ◌++◌, [], ℕ, zero, suc, List, Option, Some, None, Result, refl, ap, ◌∙◌, arith, add-one, get_or, take, drop, map, length}
-use Rattle.std.proofs.lemmas.List.{take_all, drop_all, take_more_set, drop-set-lt, set_split}
+use Rattle.std.proofs.Common.{◌≡◌, ◌≤◌, ◌<◌, ◌+◌, ◌∷◌, ◌++◌, [], ℕ, zero, suc, List, Option, Some, None, Result, Err, refl, ap, ◌∙◌, arith, add-one, get_or, take, drop, map, length}
+use Rattle.std.proofs.lemmas.List.{take_all, drop_all, take_more_set, take-append-le, drop-set-lt, set_split}
 use Rattle.std.proofs.Math.ListN.{set}
 use Rattle.std.proofs.Math.Seq.{drop-cons}
 use Rattle.rt_base.specs.declared.error.Error.{Error}
+use Rattle.rt_base.specs.declared.error.Error.TheVariants.{NoMemory}
 use Rattle.rt_base.specs.declared.poll.Poll.{Poll}
 use Rattle.rt_base.specs.declared.poll.Poll.TheVariants.{Ready, Pending}
 use Rattle.rt_model.specs.State.{Turn}
@@ -62,6 +63,10 @@ changed-rest f n xs x h e =
     let k = e ∙ changed-get f n xs x in
     drop-cons xs n x h ∙ rw (add-one, ← k) refl
 
+-- a slice that was borrowed from a list is written back
+pub written-back : {X : Type 0} (n : ℕ) (ws xs : List X) → n ≡ length ws → take n (ws ++ drop (length ws) xs) ≡ ws
+written-back n ws xs e = take-append-le n ws (drop (length ws) xs) (omega (arith, e)) ∙ take_all n ws (omega (arith, e))
+
 -- one more of them is done
 module _ {A O H G : Type 0} (does : H → Last A O) (all : List H) (start : World A O G) where
   pub each-more : (hs rest : List H) (h : H) (old mid : World A O G) → hs ≡ h ∷ rest → Spends (does h) old mid → ((end : World A O G) → Spent (each does hs) old end → Spent (each does all) start end) → (end : World A O G) → Spent (each does rest) mid end → Spent (each does all) start end
@@ -98,13 +103,16 @@ pub undecided-some : {O P : Type 0} (pending : List (Kind O P)) → 0 < length p
 undecided-some [] h = absurd (omega (arith, h))
 undecided-some (k ∷ pending) h = refl
 
--- what is pending lacked no memory
-lacks-none : {A O G V : Type 0} (old new : World A O G) (answer : Poll (Result V Error)) (there : Option (List Turn)) → new.lacked ≡ there → SaysLack old new answer → answer ≡ Pending → old.lacked ≡ None → new.lacked ≡ None
-lacks-none old new answer None e says is o = e
-lacks-none old new answer (Some made) e says is o = let k = says o (rw e refl) in absurd (cc)
+-- what answered anything but the lack of memory lacked none
+lacks-none : {A O G V : Type 0} (old new : World A O G) (answer : Poll (Result V Error)) (there : Option (List Turn)) → new.lacked ≡ there → SaysLack old new answer → (answer ≡ Ready (Err NoMemory) → ⊥) → old.lacked ≡ None → new.lacked ≡ None
+lacks-none old new answer None e says other o = e
+lacks-none old new answer (Some made) e says other o = absurd (other (says o (rw e refl)))
+
+pub long-unless : {A O G V : Type 0} (old new : World A O G) (answer : Poll (Result V Error)) → SaysLack old new answer → (answer ≡ Ready (Err NoMemory) → ⊥) → old.lacked ≡ None → new.lacked ≡ None
+long-unless old new answer says other o = lacks-none old new answer new.lacked refl says other o
 
 pub still-long : {A O G V : Type 0} (old new : World A O G) (answer : Poll (Result V Error)) → SaysLack old new answer → answer ≡ Pending → old.lacked ≡ None → new.lacked ≡ None
-still-long old new answer says is o = lacks-none old new answer new.lacked refl says is o
+still-long old new answer says is o = long-unless old new answer says (λ lack. cc) o
 
 -- who polls goes on polling
 pub still-polling : {A O G : Type 0} (old new : World A O G) (task : ℕ) → Kept old new → IsPolling old task → IsPolling new task

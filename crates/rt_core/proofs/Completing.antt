@@ -32,8 +32,8 @@ module _ {A O P G : Type 0} (polls : Polls A O P O) (c : Completion O P) where
   polled-goes old new state after answer left is from leaves one =
       rw (is, from, leaves) (goes-on _ _ _ _ _ (walked-then old new new _ _ answer after _ _ one.walked (walked-gives _ _ _)))
 
--- a handle of what was polled so
-module _ {A L O P G : Type 0} (inner : Step A L O (Poll (Result O Error))) (wrap : L → Kind O P) (old new : World A O G) where
-  pub handle-goes : (answer : Poll (Result O Error)) (left : L) → Goes inner old new answer left → Goes (then inner (λ answer left. Gives answer (wrap left))) old new answer (wrap left)
-  handle-goes answer left one =
+-- what keeps the state that was polled so
+module _ {A L M O R G : Type 0} (inner : Step A L O R) (wrap : L → M) (old new : World A O G) where
+  pub wrapped-goes : (answer : R) (left : L) → Goes inner old new answer left → Goes (then inner (λ answer left. Gives answer (wrap left))) old new answer (wrap left)
+  wrapped-goes answer left one =
       goes-on _ _ _ _ _ (walked-then old new new _ _ answer left _ _ one.walked (walked-gives _ _ _))

@@ -9,4 +9,6 @@ pub mod Starting
 pub mod Outcome
 pub mod Given
 pub mod Select
+pub mod Joins
 pub mod Signals
+pub mod Stopping

@@ -1,14 +1,16 @@
 -- What signals, their signalers and completions do next.
-use Rattle.std.specs.Prelude.{ℕ, ℤ, Result, Ok, Err}
+use Rattle.std.specs.Prelude.{◌≡◌, ℕ, ℤ, Result, Ok, Err}
 use Rattle.rt_base.specs.declared.error.Error.{Error}
 use Rattle.rt_base.specs.declared.error.Error.TheVariants.{NoMemory}
 use Rattle.rt_base.specs.declared.poll.Poll.{Poll}
 use Rattle.rt_base.specs.declared.poll.Poll.TheVariants.{Ready, Pending}
 use Rattle.rt_audit.specs.declared.call.Call.TheVariants.{Signaler, CloneSignal, SignalPoll, SignalClose, CompletionPoll, CompletionClose, Stopped}
 use Rattle.rt_audit.specs.declared.reply.CallReply.{CallReply}
-use Rattle.rt_audit.specs.declared.reply.CallReply.TheVariants.{SignalAt, Value, ClosedWith, Pending as StillPending, Ready as IsReady, Refused}
+use Rattle.rt_audit.specs.declared.reply.CallReply.TheVariants.{Done, SignalAt, Value, ClosedWith, Pending as StillPending, Refused}
 use Rattle.rt_model.specs.Turns.{Plainly, Heard, Plain, Handed}
 use Rattle.rt_model.specs.Walk.{Step, Last, Does, Spends, Gives}
+use Rattle.rt_world.specs.World.{World}
+use Rattle.rt_world.specs.Calls.{IsRefused, Made}
 use Rattle.rt_world.specs.Walked.{tells}
 use Rattle.rt_core.specs.declared.signals.SignalKind.{SignalKind}
 use Rattle.rt_core.specs.declared.signals.SignalKind.TheVariants.{Open, Resolved}
@@ -43,6 +45,17 @@ group_heard (Handed value) = Err NoMemory
 unfoldable pub makes_group : {A O : Type 0} → Step A (Unit {0}) O (Result (ℕ × SignalKind) Error)
 makes_group = tells (Plainly Signaler) group_heard
 
+-- the reply that tells of a signal that is kept so
+abbrev pub kind_reply : SignalKind → CallReply
+kind_reply (Open signal) = SignalAt signal
+kind_reply (Resolved value) = ClosedWith value
+
+-- a further signal of an open one was made, or refused. One that holds its value is copied without a call
+abbrev pub IsCloned : {A O G : Type 0} → SignalKind → World A O G → World A O G → Result SignalKind Error → Type 0
+IsCloned (Open signal) old new (Ok kind) = Made old new (Plainly (CloneSignal signal)) (kind_reply kind)
+IsCloned (Open signal) old new (Err error) = IsRefused old new (Plainly (CloneSignal signal)) error
+IsCloned (Resolved value) old new result = (result ≡ Ok (Resolved value)) × (new ≡ old)
+
 -- a further signal of the same group. That of a shutdown that began has no number, and is copied without a call
 unfoldable pub clones : {A O : Type 0} → SignalKind → Step A (Unit {0}) O (Result SignalKind Error)
 clones (Open signal) = tells (Plainly (CloneSignal signal)) signal_heard
@@ -74,7 +87,7 @@ signal_spends (Resolved value) = Gives tt tt
 
 -- a completion was polled, and this was heard of it
 abbrev pub met_replied : {A L O : Type 0} → L → CallReply → Step A L O (Poll (Result (Unit {0}) Error))
-met_replied state IsReady = Gives (Ready (Ok tt)) state
+met_replied state Done = Gives (Ready (Ok tt)) state
 met_replied state StillPending = Gives Pending state
 met_replied state (Refused error) = Gives (Ready (Err error)) state
 met_replied state _ = Gives (Ready (Err NoMemory)) state

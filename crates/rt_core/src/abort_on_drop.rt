@@ -16,7 +16,7 @@ use rt_world::{Outcome, Poller, World};
 pub type AbortOnDrop<T, P = NoPoller> = AbortOnDropOf<<T as Outcome>::Output, P>;
 
 /// A guard over the handle of a task with this output. It is a token: it must be spent by [`join`](Self::join), by
-/// [`abort`](Self::abort), or by [`give_up`](Self::give_up), which aborts the task first.
+/// [`abort`](Self::abort), by [`join_all`](Self::join_all), or by [`give_up`](Self::give_up), which aborts the task first.
 pub struct AbortOnDropOf<O, P> {
     pub(crate) handle: HandleOf<O, P>,
 }

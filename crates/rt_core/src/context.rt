@@ -4,22 +4,24 @@ ghost use Rattle.std.specs.Prelude.{◌≡◌, ◌≤◌, Bool, true, None, IfOk
 ghost use Rattle.rt_base.specs.Attributes.{with_attribute};
 ghost use Rattle.rt_base.specs.Label.{is_label};
 ghost use Rattle.rt_base.specs.declared.execution.Execution.TheVariants.{Shared, Dedicated as IsDedicated};
-ghost use Rattle.rt_audit.specs.declared.call.Call.TheVariants.{Child, CloseNode};
+ghost use Rattle.rt_audit.specs.declared.call.Call.TheVariants.{Child, CloseNode, Stopped as StoppedCall};
 ghost use Rattle.rt_audit.specs.declared.reply.CallReply.TheVariants.{NodeAt};
 ghost use Rattle.rt_model.specs.Rules.{MayCall};
 ghost use Rattle.rt_model.specs.Turns.{Plainly};
 ghost use Rattle.rt_model.specs.Walk.{Step, then};
 ghost use Rattle.rt_model.specs.declared.answer.Answer.{Answer};
-ghost use Rattle.rt_world.specs.Calls.{IsRefused, Kept, Made};
+ghost use Rattle.rt_world.specs.Calls.{IsRefused, Kept, Made, lacking};
 ghost use Rattle.rt_world.specs.Walked.{Closes, Goes, Polled, Rooted};
 ghost use Rattle.rt_core.specs.Contexts.{IsMakerOf, IsRefusedKey, IsSpawned, IsSpawnedBy, child_name, childs, context_on, root_context, spawn_told, spawning, spawns};
 ghost use Rattle.rt_core.specs.Handles.{TaskHandle};
 ghost use Rattle.rt_core.specs.Pollers.{sleep_for, sleep_until};
-ghost use Rattle.rt_core.specs.Signals.{asks_stopped};
+ghost use Rattle.rt_core.specs.Signals.{asks_stopped, kind_reply};
+ghost use Rattle.rt_core.specs.declared.stop.Stopping.TheVariants.{Begins};
 
 use crate::handle::HandleOf;
 use crate::signals::SignalKind;
-use crate::{NoPoller, Signal, Sleep, Timeout};
+use crate::stop::Stopping;
+use crate::{NoPoller, Signal, Sleep, Stop, Timeout};
 use rt_base::{
     Error, Execution, Items, MAX_TIME, MetricError, Name, Nanos, NoMemory, Refused, Text,
     add_attribute, clone_attributes, prefixed_name, validate_label,
@@ -268,6 +270,8 @@ impl Context {
     pub fn stopped<T, O, G>(&self, world: &mut World<T, O, G>) -> Result<Signal, Error>
         requires { MayCall world.old.told.state world.old.out }
         ensures kept { Kept world.old world.new }
+        ensures ok { IfOk result (λ signal. Made world.old world.new (Plainly StoppedCall) (kind_reply signal)) }
+        ensures err { IfErr result (λ e. (e ≡ Error.NoMemory) × (world.new ≡ lacking world.old)) }
         ensures steps { Goes asks_stopped world.old world.new result tt }
     {
         let _ = &self.node;
@@ -275,6 +279,19 @@ impl Context {
             Ok(Stopped::Waiting(signal)) => Ok(Signal::open(signal)),
             Ok(Stopped::Resolved(value)) => Ok(Signal::of(SignalKind::Resolved(value))),
             Err(NoMemory) => Err(Error::NoMemory),
+        }
+    }
+
+    /// What stops the run with this value at its first poll, and is then ready once each signal of the shutdown was given up;
+    /// where a limit is given, for at most so many nanoseconds.
+    pub fn stop(self, value: i32, timeout: Option<Nanos>) -> Stop
+        ensures { result ≡ record { context = self; value = value; timeout = timeout; stage = Begins } }
+    {
+        Stop {
+            context: self,
+            value,
+            timeout,
+            stage: Stopping::Begins,
         }
     }
 

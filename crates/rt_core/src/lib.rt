@@ -7,13 +7,19 @@ mod completion;
 mod config;
 mod context;
 mod handle;
+mod join_all;
+#[cfg(test)]
+mod join_all_tests;
 mod maker;
 mod run_error;
 mod runner;
 mod running;
 mod select;
+#[cfg(test)]
+mod signal_tests;
 mod signals;
 mod sleep;
+mod stop;
 #[cfg(test)]
 mod tests;
 mod timeout;
@@ -25,14 +31,16 @@ pub use checkpoint::{Checkpoint, Failure, Finished};
 pub use config::{Config, ConfigError};
 pub use context::Context;
 pub use handle::{Handle, HandleOf, NoPoller};
+pub use join_all::{Convert, JoinAll, JoinAllOf};
 pub use maker::RootMaker;
 pub use rand_core::Rng;
-pub use rt_base::{Error, Execution, MAX_TIME, Name, Nanos, NoMemory, Poll, Refused, Text};
+pub use rt_base::{Error, Execution, Items, MAX_TIME, Name, Nanos, NoMemory, Poll, Refused, Text};
 pub use rt_world::{Answer, Cx, Outcome, Poller, ResultReceiver, ResultSender, Task, World};
 pub use run_error::RunError;
 pub use runner::Runner;
 pub use select::{Select, SelectOf};
 pub use signals::{CompletionWait, Signal, Signaler};
 pub use sleep::Sleep;
+pub use stop::Stop;
 pub use timeout::Timeout;
 pub use yields::Reschedule;

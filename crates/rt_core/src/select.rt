@@ -84,7 +84,7 @@ impl<T: Outcome, P: Poller<T, T::Output>> Poller<T, T::Output> for SelectOf<T::O
 
 /// Aborts all handles, and then gives all up.
 #[tactic(auto, using(rt_world::proofs::Walked::loop_laws))]
-fn let_go<T: Outcome, P: Poller<T, T::Output>, G: Rng>(
+pub(crate) fn let_go<T: Outcome, P: Poller<T, T::Output>, G: Rng>(
     world: &mut World<T, T::Output, G>,
     handles: Vec<HandleOf<T::Output, P>>,
 )
@@ -94,18 +94,21 @@ fn let_go<T: Outcome, P: Poller<T, T::Output>, G: Rng>(
     ensures steps { Spends (lets_go P.spends handles.items) world.old world.new }
 {
     let mut handles = handles;
-    abort_all(world, &mut handles);
+    abort_all(world, handles.as_mut_slice());
     give_all_up(world, handles);
 }
 
 /// Aborts all handles, in their order.
 #[tactic(auto, using(rt_world::proofs::Walked::loop_laws))]
-fn abort_all<T, O: Drop, P, G>(world: &mut World<T, O, G>, handles: &mut Vec<HandleOf<O, P>>)
+pub(crate) fn abort_all<T, O: Drop, P, G>(
+    world: &mut World<T, O, G>,
+    handles: &mut [HandleOf<O, P>],
+)
     requires { MayCall world.old.told.state world.old.out }
-    ensures handles { handles.new.items ≡ map aborted handles.old.items }
+    ensures handles { handles.new ≡ map aborted handles.old }
     ensures kept { Kept world.old world.new }
     ensures lacked { world.new.lacked ≡ world.old.lacked }
-    ensures steps { Spends (each handle_aborts handles.old.items) world.old world.new }
+    ensures steps { Spends (each handle_aborts handles.old) world.old world.new }
 {
     let mut place = 0;
     while place < handles.len() {
@@ -116,7 +119,7 @@ fn abort_all<T, O: Drop, P, G>(world: &mut World<T, O, G>, handles: &mut Vec<Han
 
 /// Gives all handles up, in their order.
 #[tactic(auto, using(rt_world::proofs::Walked::loop_laws))]
-fn give_all_up<T: Outcome, P: Poller<T, T::Output>, G: Rng>(
+pub(crate) fn give_all_up<T: Outcome, P: Poller<T, T::Output>, G: Rng>(
     world: &mut World<T, T::Output, G>,
     handles: Vec<HandleOf<T::Output, P>>,
 )

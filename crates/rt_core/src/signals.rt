@@ -7,7 +7,7 @@ ghost use Rattle.rt_model.specs.Rules.{MayCall};
 ghost use Rattle.rt_model.specs.Turns.{Plainly};
 ghost use Rattle.rt_world.specs.Calls.{Kept, Made, lacking};
 ghost use Rattle.rt_world.specs.Walked.{Closes, Goes};
-ghost use Rattle.rt_core.specs.Signals.{clones, makes_group, polled};
+ghost use Rattle.rt_core.specs.Signals.{IsCloned, clones, makes_group, polled};
 ghost use Rattle.rt_core.specs.declared.signals.SignalKind.TheVariants.{Open};
 
 use rand_core::Rng;
@@ -150,6 +150,7 @@ impl Signal {
     pub fn clone_signal<T, O, G>(&self, world: &mut World<T, O, G>) -> Result<Signal, Error>
         requires { MayCall world.old.told.state world.old.out }
         ensures kept { Kept world.old world.new }
+        ensures cloned { IsCloned self.now world.old world.new result }
         ensures steps { Goes (clones self.now) world.old world.new result tt }
     {
         match self.kind {
@@ -191,6 +192,13 @@ impl<T: Outcome> Poller<T, i32> for Signal {
 }
 
 impl CompletionWait {
+    /// The completion of this number.
+    pub(crate) fn of(number: u64) -> CompletionWait
+        ensures { result ≡ number }
+    {
+        CompletionWait { number }
+    }
+
     /// Its number.
     fn into_number(self) -> u64
         ensures { result ≡ self }

@@ -20,7 +20,7 @@ use std::alloc::Global;
 use std::test::Fail;
 
 /// A task that is ready at once, or polls a sleep and a turn of the others and breaks off then.
-struct Probe {
+pub(crate) struct Probe {
     context: Context,
     calls: bool,
 }
@@ -214,7 +214,7 @@ impl RootMaker<Hasty> for RootHasty {
 }
 
 /// The lines of a journal.
-fn lines(alloc: Global, journal: &Journal) -> Result<String, NoMemory> {
+pub(crate) fn lines(alloc: Global, journal: &Journal) -> Result<String, NoMemory> {
     let mut text = String::new(alloc);
     for entry in journal.entries() {
         entry.add_to(alloc, &mut text)?;
@@ -412,7 +412,7 @@ fn keeps_settings() -> bool {
 }
 
 /// The world of a run whose maker is under way.
-type Making = WorldOf<Probe, ChaCha12Rng>;
+pub(crate) type Making = WorldOf<Probe, ChaCha12Rng>;
 
 /// The context with this attribute, or as it was, and whether the key was refused as a bad label.
 fn tagged(context: Context, key: &str, value: &str) -> (Context, bool) {

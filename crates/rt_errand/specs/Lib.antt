@@ -4,3 +4,4 @@ pub mod Heir
 pub mod Retry
 pub mod Chief
 pub mod Courier
+pub mod Keeper

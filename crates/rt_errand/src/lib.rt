@@ -1,6 +1,7 @@
 //! Small task types of one's own, from their definitions to their runs: an errand, a retry that pauses longer each time,
 //! a crew, whose first task spawns another and waits for it, a chief, which waits with a limit or a choice, a courier, which
-//! passes a parcel through a slot, and an heir, which spawns below a node that has ended.
+//! passes a parcel through a slot, an heir, which spawns below a node that has ended, and a keeper, which serves until its run is
+//! stopped.
 #![tactic(auto)]
 
 mod chief;
@@ -8,6 +9,7 @@ mod courier;
 mod crew;
 mod errand;
 mod heir;
+mod keeper;
 mod maker;
 mod retry;
 
@@ -16,5 +18,6 @@ pub use courier::{Courier, Parcel, RootCourier};
 pub use crew::{Crew, RootCrew, RootPair};
 pub use errand::{Errand, Stage};
 pub use heir::{Heir, RootHeir};
+pub use keeper::{Keeper, RootKeeper};
 pub use maker::RootErrand;
 pub use retry::{Retry, RootRetry};

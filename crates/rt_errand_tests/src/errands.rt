@@ -24,17 +24,17 @@ fn lines(alloc: Global, journal: &Journal) -> Result<String, NoMemory> {
 
 /// What comes of a run.
 #[derive(Drop)]
-pub(crate) struct Expected<'a> {
-    pub(crate) ending: Result<Result<u64, Error>, RunError>,
+pub(crate) struct Expected<'a, O = Result<u64, Error>> {
+    pub(crate) ending: Result<O, RunError>,
     pub(crate) time: Nanos,
     pub(crate) lines: &'a str,
 }
 
 /// Whether a run came to this end, with these lines.
-pub(crate) fn is_as_expected(
+pub(crate) fn is_as_expected<O: PartialEq + Drop>(
     alloc: Global,
-    run: Result<Finished<Result<u64, Error>, ChaCha12Rng>, Failure>,
-    expected: Expected<'_>,
+    run: Result<Finished<O, ChaCha12Rng>, Failure>,
+    expected: Expected<'_, O>,
 ) -> Result<bool, NoMemory> {
     let (ended, journal) = match run {
         Ok(finished) => {

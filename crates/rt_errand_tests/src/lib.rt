@@ -7,3 +7,5 @@ mod chief;
 mod courier;
 #[cfg(test)]
 mod errands;
+#[cfg(test)]
+mod keeper;

@@ -1,4 +1,4 @@
-use Rattle.std.proofs.Common.{◌≡◌, ◌-◌, vec_len, drop}
+use Rattle.std.proofs.Common.{◌≡◌, ◌-◌, length, drop}
 use Rattle.rt_model.specs.Rules.{MayCall}
 use Rattle.rt_world.specs.World.{World}
 use Rattle.rt_world.specs.Calls.{Kept}
@@ -10,12 +10,12 @@ use Rattle.rt_core.proofs.select.abort_all.Given as goal
 
 abbrev pub invariant-loop-place : goal.invariant-loop-place
 invariant-loop-place g l = record {
-  handles : l.handles.items ≡ changed aborted l.place l.fn.handles.items;
+  handles : l.handles ≡ changed aborted l.place l.fn.handles;
   calling : MayCall l.world.told.state l.world.out;
   kept : Kept l.fn.world l.world;
   lacked : l.world.lacked ≡ l.fn.world.lacked;
-  goes : (end : World g.row.T.Denot g.row.O.Denot g.row.G.Denot) → Spent (each handle_aborts (drop l.place l.fn.handles.items)) l.world end → Spent (each handle_aborts l.fn.handles.items) l.fn.world end;
+  goes : (end : World g.row.T.Denot g.row.O.Denot g.row.G.Denot) → Spent (each handle_aborts (drop l.place l.fn.handles)) l.world end → Spent (each handle_aborts l.fn.handles) l.fn.world end;
 }
 
 abbrev pub decreases-loop-place : goal.decreases-loop-place
-decreases-loop-place g l = vec_len l.handles - l.place
+decreases-loop-place g l = length l.handles - l.place

@@ -2,7 +2,7 @@ use Rattle.rt_core.specs.Handles.{handle_polls}
 use Rattle.rt_core.specs.declared.handle.Kind.TheVariants.{Received, Completion}
 use Rattle.rt_world.proofs.Walked.{goes-on}
 use Rattle.rt_core.proofs.Joining.{walked-joined}
-use Rattle.rt_core.proofs.Completing.{handle-goes}
+use Rattle.rt_core.proofs.Completing.{wrapped-goes}
 use Rattle.rt_core.proofs.handle.HandleOfOutputPollerOutput.poll.Goals as goal
 
 pub returns-in-Task-clause-steps : goal.returns-in-Task-clause-steps
@@ -12,8 +12,8 @@ returns-in-Task-clause-steps g c =
 
 pub returns-in-Received-clause-steps : goal.returns-in-Received-clause-steps
 unfolding handle_polls
-returns-in-Received-clause-steps g c = rw (← c.self.view_is, c.in-Received.is) (handle-goes _ (λ slot. Received (record c.in-Received.receipt { receiver = slot })) _ _ _ _ c.poll.ensures.steps)
+returns-in-Received-clause-steps g c = rw (← c.self.view_is, c.in-Received.is) (wrapped-goes _ (λ slot. Received (record c.in-Received.receipt { receiver = slot })) _ _ _ _ c.poll.ensures.steps)
 
 pub returns-clause-steps : goal.returns-clause-steps
 unfolding handle_polls
-returns-clause-steps g c = rw (← c.self.view_is, c.in-Completion.is) (handle-goes _ (λ x. Completion x) _ _ _ _ c.poll-2.ensures.steps)
+returns-clause-steps g c = rw (← c.self.view_is, c.in-Completion.is) (wrapped-goes _ (λ x. Completion x) _ _ _ _ c.poll-2.ensures.steps)

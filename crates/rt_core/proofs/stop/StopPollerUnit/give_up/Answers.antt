@@ -1,0 +1,10 @@
+use Rattle.rt_model.specs.Walk.{Gives}
+use Rattle.rt_world.proofs.Walked.{spent-nothing, spends-on}
+use Rattle.rt_core.specs.Pollers.{closes}
+use Rattle.rt_core.specs.Stopping.{stop_spends}
+use Rattle.rt_core.proofs.stop.StopPollerUnit.give_up.Goals as goal
+
+pub returns-clause-steps : goal.returns-clause-steps
+unfolding stop_spends
+returns-clause-steps g c =
+    spends-on _ _ _ (c.give_up.ensures.steps.ends (closes c.args.self.context.node) _ (c.close.ensures.closed.ends (Gives tt tt) _ (spent-nothing _)))

@@ -1,0 +1,7 @@
+use Rattle.rt_world.proofs.Walked.{spent-nothing, spends-on}
+use Rattle.rt_core.specs.Stopping.{stage_spends}
+use Rattle.rt_core.proofs.stop.Stopping.give_up.Goals as goal
+
+pub returns-in-Begins-clause-steps : goal.returns-in-Begins-clause-steps
+unfolding stage_spends
+returns-in-Begins-clause-steps g c = rw c.in-Begins.is (spends-on _ _ _ (spent-nothing _))
