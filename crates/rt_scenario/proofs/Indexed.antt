@@ -8,7 +8,7 @@ use Rattle.rt_scenario.specs.Indexed.{HasIndex, in_order, named_by, placed_at, w
 use Rattle.rt_scenario.specs.Scripts.{handle_of, handles_of, place_of, placed, with_handle, with_handles}
 use Rattle.rt_scenario.specs.declared.line.Line.TheVariants as step
 use Rattle.rt_scenario.specs.declared.named_line.NamedLine.{NamedLine}
-use Rattle.rt_scenario.specs.declared.named_line.NamedLine.TheVariants.{Plain, Spawn, Abort, Drop, Join, Within}
+use Rattle.rt_scenario.specs.declared.named_line.NamedLine.TheVariants.{Plain, Spawn, Abort, Drop, Join, Within, Stopped, Wait}
 use Rattle.rt_scenario.proofs.FirstUse.{in_order_more}
 
 -- the names that were there keep their indices
@@ -35,6 +35,8 @@ named_same names more h (Abort index) inside = ap Abort (h index inside)
 named_same names more h (Drop index) inside = ap Drop (h index inside)
 named_same names more h (Join index) inside = ap Join (h index inside)
 named_same names more h (Within index limit) inside = ap (λ n. Within n limit) (h index inside)
+named_same names more h (Stopped index) inside = ap Stopped (h index inside)
+named_same names more h (Wait index) inside = ap Wait (h index inside)
 
 -- the lines so far stay where a name more is taken in
 named_kept : (names : List (List ℕ)) (o : Option (List ℕ)) (lines : List (NamedLine ℕ)) → All (HasIndex (length names)) lines → map (named_by (with_name names o)) lines ≡ map (named_by names) lines
@@ -51,6 +53,8 @@ index_more n m (Abort index) h inside = omega (arith, h, inside)
 index_more n m (Drop index) h inside = omega (arith, h, inside)
 index_more n m (Join index) h inside = omega (arith, h, inside)
 index_more n m (Within index limit) h inside = omega (arith, h, inside)
+index_more n m (Stopped index) h inside = omega (arith, h, inside)
+index_more n m (Wait index) h inside = omega (arith, h, inside)
 
 indices_more : (n m : ℕ) (lines : List (NamedLine ℕ)) → n ≤ m → All (HasIndex n) lines → All (HasIndex m) lines
 indices_more n m lines h inside = λ k d low. index_more n m (get_or lines k d) h (inside k d low)
@@ -90,6 +94,8 @@ placed_one names order (Abort index) inside = ap step.Abort (get_or-map (place_o
 placed_one names order (Drop index) inside = ap step.Drop (get_or-map (place_of order) names index [] 0 inside)
 placed_one names order (Join index) inside = ap step.Join (get_or-map (place_of order) names index [] 0 inside)
 placed_one names order (Within index limit) inside = ap (λ p. step.Within p limit) (get_or-map (place_of order) names index [] 0 inside)
+placed_one names order (Stopped index) inside = ap step.Stopped (get_or-map (place_of order) names index [] 0 inside)
+placed_one names order (Wait index) inside = ap step.Wait (get_or-map (place_of order) names index [] 0 inside)
 
 -- the places of the names give the lines their places
 pub placed_named : (names order : List (List ℕ)) (lines : List (NamedLine ℕ)) → All (HasIndex (length names)) lines → map (placed_at (map (place_of order) names)) lines ≡ map (placed order) (map (named_by names) lines)

@@ -16,7 +16,7 @@ use Rattle.rt_scenario.specs.Within.{IsWithin, HasPlaces, HavePlaces, IsFree, Is
 use Rattle.rt_scenario.specs.declared.line.Line.{Line}
 use Rattle.rt_scenario.specs.declared.line.Line.TheVariants as step
 use Rattle.rt_scenario.specs.declared.named_line.NamedLine.{NamedLine}
-use Rattle.rt_scenario.specs.declared.named_line.NamedLine.TheVariants.{Plain, Spawn, Abort, Drop, Join, Within}
+use Rattle.rt_scenario.specs.declared.named_line.NamedLine.TheVariants.{Plain, Spawn, Abort, Drop, Join, Within, Stopped, Wait}
 use Rattle.rt_scenario.specs.declared.scenario.ScriptText.{ScriptText}
 
 abbrev Lies : List (List ℕ) → List ℕ → Type 0
@@ -102,18 +102,23 @@ placed_one scripts s (Plain (step.Abort handle)) named lies = absurd named
 placed_one scripts s (Plain (step.Drop handle)) named lies = absurd named
 placed_one scripts s (Plain (step.Join handle)) named lies = absurd named
 placed_one scripts s (Plain (step.Within handle limit)) named lies = absurd named
+placed_one scripts s (Plain (step.Stopped signal)) named lies = absurd named
+placed_one scripts s (Plain (step.Wait signal)) named lies = absurd named
 placed_one scripts s (Plain (step.Sleep n)) named lies = tt
 placed_one scripts s (Plain (step.Until n)) named lies = tt
 placed_one scripts s (Plain step.Yield) named lies = tt
 placed_one scripts s (Plain step.Pend) named lies = tt
 placed_one scripts s (Plain (step.End v)) named lies = tt
 placed_one scripts s (Plain step.EndLast) named lies = tt
+placed_one scripts s (Plain (step.Stop v limit)) named lies = tt
 placed_one scripts s (Plain step.AbortSelf) named lies = tt
 placed_one scripts s (Spawn handle script) named lies = (lies, named)
 placed_one scripts s (Abort handle) named lies = lies
 placed_one scripts s (Drop handle) named lies = lies
 placed_one scripts s (Join handle) named lies = lies
 placed_one scripts s (Within handle limit) named lies = lies
+placed_one scripts s (Stopped signal) named lies = lies
+placed_one scripts s (Wait signal) named lies = lies
 
 -- a script that is closed has the places that its lines hold
 pub closed_has : (scripts : ℕ) (s : Begun) → IsBegun scripts s → HasPlaces scripts (closed_script s)
@@ -129,12 +134,15 @@ within_more n s (step.Abort handle) h = h
 within_more n s (step.Drop handle) h = h
 within_more n s (step.Join handle) h = h
 within_more n s (step.Within handle limit) h = h
+within_more n s (step.Stopped signal) h = h
+within_more n s (step.Wait signal) h = h
 within_more n s (step.Sleep d) h = tt
 within_more n s (step.Until d) h = tt
 within_more n s step.Yield h = tt
 within_more n s step.Pend h = tt
 within_more n s (step.End v) h = tt
 within_more n s step.EndLast h = tt
+within_more n s (step.Stop v limit) h = tt
 within_more n s step.AbortSelf h = tt
 
 has_more : (n : ℕ) (s : ScriptText) → HasPlaces n s → HasPlaces (n + 1) s
@@ -153,18 +161,23 @@ free_named scripts words (Plain (step.Abort handle)) h = absurd h
 free_named scripts words (Plain (step.Drop handle)) h = absurd h
 free_named scripts words (Plain (step.Join handle)) h = absurd h
 free_named scripts words (Plain (step.Within handle limit)) h = absurd h
+free_named scripts words (Plain (step.Stopped signal)) h = absurd h
+free_named scripts words (Plain (step.Wait signal)) h = absurd h
 free_named scripts words (Plain (step.Sleep n)) h = tt
 free_named scripts words (Plain (step.Until n)) h = tt
 free_named scripts words (Plain step.Yield) h = tt
 free_named scripts words (Plain step.Pend) h = tt
 free_named scripts words (Plain (step.End v)) h = tt
 free_named scripts words (Plain step.EndLast) h = tt
+free_named scripts words (Plain (step.Stop v limit)) h = tt
 free_named scripts words (Plain step.AbortSelf) h = tt
 free_named scripts words (Spawn handle script) h = h
 free_named scripts words (Abort handle) h = tt
 free_named scripts words (Drop handle) h = tt
 free_named scripts words (Join handle) h = tt
 free_named scripts words (Within handle limit) h = tt
+free_named scripts words (Stopped signal) h = tt
+free_named scripts words (Wait signal) h = tt
 
 -- a line more
 pub begun_line : (scripts : ℕ) (s : Begun) (line : NamedLine (List ℕ)) → IsBegun scripts s → IsFree scripts line → IsBegun scripts (with_line line s)
@@ -177,18 +190,23 @@ named_more scripts words (Plain (step.Abort handle)) h = absurd h
 named_more scripts words (Plain (step.Drop handle)) h = absurd h
 named_more scripts words (Plain (step.Join handle)) h = absurd h
 named_more scripts words (Plain (step.Within handle limit)) h = absurd h
+named_more scripts words (Plain (step.Stopped signal)) h = absurd h
+named_more scripts words (Plain (step.Wait signal)) h = absurd h
 named_more scripts words (Plain (step.Sleep n)) h = tt
 named_more scripts words (Plain (step.Until n)) h = tt
 named_more scripts words (Plain step.Yield) h = tt
 named_more scripts words (Plain step.Pend) h = tt
 named_more scripts words (Plain (step.End v)) h = tt
 named_more scripts words (Plain step.EndLast) h = tt
+named_more scripts words (Plain (step.Stop v limit)) h = tt
 named_more scripts words (Plain step.AbortSelf) h = tt
 named_more scripts words (Spawn handle script) h = h
 named_more scripts words (Abort handle) h = tt
 named_more scripts words (Drop handle) h = tt
 named_more scripts words (Join handle) h = tt
 named_more scripts words (Within handle limit) h = tt
+named_more scripts words (Stopped signal) h = tt
+named_more scripts words (Wait signal) h = tt
 
 -- a panic more, and its word
 pub begun_panic : (scripts : ℕ) (s : Begun) (word : List ℕ) → IsBegun scripts s → IsBegun scripts (with_panic word s)

@@ -11,7 +11,7 @@ use Rattle.rt_scenario.specs.Answers.{IsBare}
 use Rattle.rt_scenario.specs.declared.kind.Kind.TheVariants as kind
 use Rattle.rt_scenario.specs.declared.scenario.ScriptText.{ScriptText}
 use Rattle.rt_scenario.specs.declared.word.Word.{Word}
-use Rattle.rt_scenario.specs.declared.word.Word.TheVariants.{Timeout, Catch, Script, Sleep, Until, Yield, Pend, End, Panic, Spawn, Abort, Drop, Join, Within, Done, Run}
+use Rattle.rt_scenario.specs.declared.word.Word.TheVariants.{Timeout, Catch, Script, Sleep, Until, Yield, Pend, End, Panic, Spawn, Abort, Drop, Join, Within, Stopped, Wait, Stop, Done, Run}
 
 -- the first place, or else the second
 abbrev pub place_or : Option ℕ → Option ℕ → Option ℕ
@@ -54,6 +54,9 @@ bare_count d Abort (w ∷ ws) bare some = absurd bare
 bare_count d Drop (w ∷ ws) bare some = absurd bare
 bare_count d Join (w ∷ ws) bare some = absurd bare
 bare_count d Within (w ∷ ws) bare some = absurd bare
+bare_count d Stopped (w ∷ ws) bare some = absurd bare
+bare_count d Wait (w ∷ ws) bare some = absurd bare
+bare_count d Stop (w ∷ ws) bare some = absurd bare
 bare_count d Run (w ∷ ws) bare some = absurd bare
 
 place_or_none : (o : Option ℕ) → place_or o None ≡ o

@@ -1,5 +1,5 @@
--- Lines as they are kept while a script is open: for a handle stands the index of its name among the names,
--- each of which stands there once.
+-- Lines as they are kept while a script is open: for a handle or a signal stands the index of its name among the
+-- names, each of which stands there once.
 use Rattle.std.specs.Prelude.{ℕ, ◌+◌, ◌<◌, List, [], ◌∷◌, fold, slice_index, slice_index_or, Option, Some, None}
 use Rattle.std.specs.Borrow.{Bor}
 use Rattle.std.specs.BTreeSet.{insert_key}
@@ -9,9 +9,9 @@ use Rattle.rt_base.specs.Attributes.{text_cmp}
 use Rattle.rt_scenario.specs.declared.line.Line.{Line}
 use Rattle.rt_scenario.specs.declared.line.Line.TheVariants as step
 use Rattle.rt_scenario.specs.declared.named_line.NamedLine.{NamedLine}
-use Rattle.rt_scenario.specs.declared.named_line.NamedLine.TheVariants.{Plain, Spawn, Abort, Drop, Join, Within}
+use Rattle.rt_scenario.specs.declared.named_line.NamedLine.TheVariants.{Plain, Spawn, Abort, Drop, Join, Within, Stopped, Wait}
 
--- the line with f of what stands for its handle
+-- the line with f of what stands for its handle or signal
 abbrev pub map_handle : {M N : Type 0} → (M → N) → NamedLine M → NamedLine N
 map_handle f (Plain line) = Plain line
 map_handle f (Spawn handle script) = Spawn (f handle) script
@@ -19,12 +19,14 @@ map_handle f (Abort handle) = Abort (f handle)
 map_handle f (Drop handle) = Drop (f handle)
 map_handle f (Join handle) = Join (f handle)
 map_handle f (Within handle limit) = Within (f handle) limit
+map_handle f (Stopped signal) = Stopped (f signal)
+map_handle f (Wait signal) = Wait (f signal)
 
--- the line with its handle's name, which the text lends
+-- the line with its name, which the text lends
 abbrev pub read : NamedLine (Bor (List ℕ)) → NamedLine (List ℕ)
 read = map_handle (λ name. name.now)
 
--- the line with its handle's name, by the names
+-- the line with its name, by the names
 abbrev pub named_by : List (List ℕ) → NamedLine ℕ → NamedLine (List ℕ)
 named_by names = map_handle (λ index. slice_index_or names index [])
 
@@ -36,6 +38,8 @@ HasIndex names (Abort index) = index < names
 HasIndex names (Drop index) = index < names
 HasIndex names (Join index) = index < names
 HasIndex names (Within index limit) = index < names
+HasIndex names (Stopped index) = index < names
+HasIndex names (Wait index) = index < names
 
 -- a name goes behind the others, unless it is there
 abbrev pub with_name : List (List ℕ) → Option (List ℕ) → List (List ℕ)
@@ -51,7 +55,7 @@ abbrev pub numbered_from : ℕ → List (List ℕ) → List (List ℕ × ℕ)
 numbered_from n [] = []
 numbered_from n (name ∷ names) = (name, n) ∷ numbered_from (n + 1) names
 
--- the line with the place of its handle, by the places of the names
+-- the line with the place of its name, by the places of the names
 abbrev pub placed_at : List ℕ → NamedLine ℕ → Line
 placed_at places (Plain line) = line
 placed_at places (Spawn index script) = step.Spawn (slice_index places index) script
@@ -59,3 +63,5 @@ placed_at places (Abort index) = step.Abort (slice_index places index)
 placed_at places (Drop index) = step.Drop (slice_index places index)
 placed_at places (Join index) = step.Join (slice_index places index)
 placed_at places (Within index limit) = step.Within (slice_index places index) limit
+placed_at places (Stopped index) = step.Stopped (slice_index places index)
+placed_at places (Wait index) = step.Wait (slice_index places index)

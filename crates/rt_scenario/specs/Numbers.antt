@@ -1,6 +1,6 @@
--- Numbers: decimal, without sign or leading zero, below 2^128; and values: an i64, where a minus
--- sign may stand before a number other than 0.
-use Rattle.std.specs.Prelude.{ℕ, ◌^◌, ◌==◌, ◌&&◌, ◌||◌, not, nat_lt, nat_le, Bool, false, if◌then◌else◌, List, [], ◌∷◌, length, Option, Some, None, ℤ, pos, neg_ℤ}
+-- Numbers: decimal, without sign or leading zero, below 2^128; and values: an i64, or an i32 for a shutdown, where a
+-- minus sign may stand before a number other than 0.
+use Rattle.std.specs.Prelude.{ℕ, ◌^◌, ◌==◌, ◌&&◌, ◌||◌, not, nat_lt, nat_le, Bool, false, if◌then◌else◌, List, [], ◌∷◌, length, Option, Some, None, ℤ, pos, neg_ℤ, int_lt}
 use Rattle.std.specs.List.{list_all}
 use Rattle.std.specs.Char.{is_ascii_digit}
 use Rattle.std.specs.Str.Parse.{digits_value}
@@ -27,3 +27,12 @@ plus (Some n) = if nat_lt n (2 ^ 63) then Some (pos n) else None
 abbrev pub value_of : List ℕ → Option ℤ
 value_of [] = None
 value_of (b ∷ bs) = if b == 45 then minus (number_of bs) else plus (number_of (b ∷ bs))
+
+-- the value, where it is from -2^31 on and below 2^31
+abbrev pub narrow : Option ℤ → Option ℤ
+narrow None = None
+narrow (Some v) = if not (int_lt v (neg_ℤ (pos (2 ^ 31)))) && int_lt v (pos (2 ^ 31)) then Some v else None
+
+-- a value within an i32
+abbrev pub small_value_of : List ℕ → Option ℤ
+small_value_of text = narrow (value_of text)

@@ -5,18 +5,18 @@ use Rattle.std.specs.List.{list_all, list_any}
 use Rattle.rt_base.specs.Label.{is_label}
 use Rattle.rt_base.specs.declared.time.TheConstants.{MAX_TIME}
 use Rattle.rt_scenario.specs.Lines.{lines_of, words_of}
-use Rattle.rt_scenario.specs.Numbers.{number_of, value_of}
+use Rattle.rt_scenario.specs.Numbers.{number_of, small_value_of, value_of}
 use Rattle.rt_scenario.specs.Scripts.{Begun, closed_script, tasks_at, tasks_of}
 use Rattle.rt_scenario.specs.Words.{is_text, switch_of, word_of}
 use Rattle.rt_scenario.specs.declared.kind.Kind.{Kind}
 use Rattle.rt_scenario.specs.declared.kind.Kind.TheVariants as kind
 use Rattle.rt_scenario.specs.declared.line.Line.TheVariants as step
 use Rattle.rt_scenario.specs.declared.named_line.NamedLine.{NamedLine}
-use Rattle.rt_scenario.specs.declared.named_line.NamedLine.TheVariants.{Plain, Spawn, Abort, Drop, Join, Within}
+use Rattle.rt_scenario.specs.declared.named_line.NamedLine.TheVariants.{Plain, Spawn, Abort, Drop, Join, Within, Stopped, Wait}
 use Rattle.rt_scenario.specs.declared.scenario.Scenario.{Scenario}
 use Rattle.rt_scenario.specs.declared.scenario.ScriptText.{ScriptText}
 use Rattle.rt_scenario.specs.declared.word.Word.{Word}
-use Rattle.rt_scenario.specs.declared.word.Word.TheVariants.{Timeout, Catch, Script, Sleep, Until, Yield, Pend, End, Panic, Spawn as SpawnWord, Abort as AbortWord, Drop as DropWord, Join as JoinWord, Within as WithinWord, Done, Run}
+use Rattle.rt_scenario.specs.declared.word.Word.TheVariants.{Timeout, Catch, Script, Sleep, Until, Yield, Pend, End, Panic, Spawn as SpawnWord, Abort as AbortWord, Drop as DropWord, Join as JoinWord, Within as WithinWord, Stopped as StoppedWord, Wait as WaitWord, Stop as StopWord, Done, Run}
 
 -- what the lines so far say: the settings, the scripts, the one whose `done` hasn't come, and the places
 -- of the scripts that are run, the root first
@@ -111,7 +111,7 @@ spawned_row d handle (Some place) = step_row d (Spawn handle place)
 abbrev pub spawn_row : Draft → List ℕ → List ℕ → Result Draft Kind
 spawn_row d handle name = if not (is_name handle && is_name name) then Err kind.Name else spawned_row d handle (script_at d.scripts name)
 
--- a step with a handle
+-- a step with a handle or a signal
 abbrev pub handle_row : Draft → (List ℕ → NamedLine (List ℕ)) → List ℕ → Result Draft Kind
 handle_row d line handle = if not (is_name handle) then Err kind.Name else step_row d (line handle)
 
@@ -125,6 +125,17 @@ within_row d limit handle = if not (is_name handle) then Err kind.Name else limi
 
 abbrev pub abort_row : Draft → List ℕ → Result Draft Kind
 abort_row d word = if is_text word (codes "self") then step_row d (Plain step.AbortSelf) else handle_row d Abort word
+
+-- a shutdown that is waited for to its end
+abbrev pub stop_row : Draft → Option ℤ → Result Draft Kind
+stop_row d None = Err kind.Number
+stop_row d (Some v) = step_row d (Plain (step.Stop v None))
+
+-- a shutdown that is waited for at most so long
+abbrev pub limited_stop_row : Draft → Option ℤ → Option ℕ → Result Draft Kind
+limited_stop_row d None limit = Err kind.Number
+limited_stop_row d (Some v) None = Err kind.Number
+limited_stop_row d (Some v) (Some limit) = step_row d (Plain (step.Stop v (Some limit)))
 
 abbrev pub with_closed : Draft → Option Begun → Draft
 with_closed d None = d
@@ -175,6 +186,10 @@ row d AbortWord (w ∷ []) = abort_row d w
 row d DropWord (h ∷ []) = handle_row d Drop h
 row d JoinWord (h ∷ []) = handle_row d Join h
 row d WithinWord (w ∷ h ∷ []) = within_row d (number_of w) h
+row d StoppedWord (g ∷ []) = handle_row d Stopped g
+row d WaitWord (g ∷ []) = handle_row d Wait g
+row d StopWord (v ∷ []) = stop_row d (small_value_of v)
+row d StopWord (v ∷ w ∷ []) = limited_stop_row d (small_value_of v) (number_of w)
 row d Done [] = done_row d
 row d Run ws = run_row d (names_run ws)
 row d word args = Err kind.Count

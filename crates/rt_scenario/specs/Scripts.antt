@@ -7,15 +7,16 @@ use Rattle.rt_base.specs.Attributes.{text_cmp}
 use Rattle.rt_scenario.specs.declared.line.Line.{Line}
 use Rattle.rt_scenario.specs.declared.line.Line.TheVariants as step
 use Rattle.rt_scenario.specs.declared.named_line.NamedLine.{NamedLine}
-use Rattle.rt_scenario.specs.declared.named_line.NamedLine.TheVariants.{Plain, Spawn, Abort, Drop, Join, Within}
+use Rattle.rt_scenario.specs.declared.named_line.NamedLine.TheVariants.{Plain, Spawn, Abort, Drop, Join, Within, Stopped, Wait}
 use Rattle.rt_scenario.specs.declared.scenario.ScriptText.{ScriptText}
 
--- a script without its `done`; handles stand in its lines by their names
+-- a script without its `done`; handles and signals stand in its lines by their names
 pub record Begun : Type 0 where
   pub name : List ℕ
   pub lines : List (NamedLine (List ℕ))
   pub words : List (List ℕ)
 
+-- the name of the handle or signal of a line
 abbrev pub handle_of : NamedLine (List ℕ) → Option (List ℕ)
 handle_of (Plain line) = None
 handle_of (Spawn handle script) = Some handle
@@ -23,6 +24,8 @@ handle_of (Abort handle) = Some handle
 handle_of (Drop handle) = Some handle
 handle_of (Join handle) = Some handle
 handle_of (Within handle limit) = Some handle
+handle_of (Stopped signal) = Some signal
+handle_of (Wait signal) = Some signal
 
 -- a name goes to its place in byte order, unless it is there
 abbrev pub with_handle : List (List ℕ) → Option (List ℕ) → List (List ℕ)
@@ -33,7 +36,7 @@ abbrev pub with_handles : List (List ℕ) → List (NamedLine (List ℕ)) → Li
 with_handles names [] = names
 with_handles names (line ∷ lines) = with_handles (with_handle names (handle_of line)) lines
 
--- the handles of the lines, each once, in byte order
+-- the names of what the lines hold, each once, in byte order
 abbrev pub handles_of : List (NamedLine (List ℕ)) → List (List ℕ)
 handles_of lines = with_handles [] lines
 
@@ -41,7 +44,7 @@ handles_of lines = with_handles [] lines
 abbrev pub place_of : List (List ℕ) → List ℕ → ℕ
 place_of names name = length (filter (λ other. is_lt (text_cmp other name)) names)
 
--- the line with the place of its handle among these
+-- the line with the place of its name among these
 abbrev pub placed : List (List ℕ) → NamedLine (List ℕ) → Line
 placed names (Plain line) = line
 placed names (Spawn handle script) = step.Spawn (place_of names handle) script
@@ -49,6 +52,8 @@ placed names (Abort handle) = step.Abort (place_of names handle)
 placed names (Drop handle) = step.Drop (place_of names handle)
 placed names (Join handle) = step.Join (place_of names handle)
 placed names (Within handle limit) = step.Within (place_of names handle) limit
+placed names (Stopped signal) = step.Stopped (place_of names signal)
+placed names (Wait signal) = step.Wait (place_of names signal)
 
 abbrev pub closed_script : Begun → ScriptText
 closed_script s = record { name = s.name; lines = map (placed (handles_of s.lines)) s.lines; handles = handles_of s.lines; words = s.words }

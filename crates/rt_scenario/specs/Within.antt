@@ -8,7 +8,7 @@ use Rattle.rt_scenario.specs.declared.named_line.NamedLine.{NamedLine}
 use Rattle.rt_scenario.specs.declared.named_line.NamedLine.TheVariants.{Plain, Spawn}
 use Rattle.rt_scenario.specs.declared.scenario.ScriptText.{ScriptText}
 
--- a handle's place and a word's lie among those of the script, and a script's among so many
+-- a name's place and a word's lie among those of the script, and a script's among so many
 abbrev pub IsWithin : ℕ → ScriptText → Line → Type 0
 IsWithin scripts s (step.Panic word) = word < length s.words
 IsWithin scripts s (step.Spawn handle script) = (handle < length s.handles) × (script < scripts)
@@ -16,6 +16,8 @@ IsWithin scripts s (step.Abort handle) = handle < length s.handles
 IsWithin scripts s (step.Drop handle) = handle < length s.handles
 IsWithin scripts s (step.Join handle) = handle < length s.handles
 IsWithin scripts s (step.Within handle limit) = handle < length s.handles
+IsWithin scripts s (step.Stopped signal) = signal < length s.handles
+IsWithin scripts s (step.Wait signal) = signal < length s.handles
 IsWithin scripts s line = Unit {0}
 
 abbrev pub HasPlaces : ℕ → ScriptText → Type 0
@@ -25,7 +27,7 @@ HasPlaces scripts s = All (IsWithin scripts s) s.lines
 abbrev pub HavePlaces : List ScriptText → Type 0
 HavePlaces scripts = All (HasPlaces (length scripts)) scripts
 
--- a line without a word, whose handle is a name, and whose script is among so many
+-- a line without a word, whose name has no place yet, and whose script is among so many
 abbrev pub IsFree : ℕ → NamedLine (List ℕ) → Type 0
 IsFree scripts (Plain (step.Panic word)) = ⊥
 IsFree scripts (Plain (step.Spawn handle script)) = ⊥
@@ -33,6 +35,8 @@ IsFree scripts (Plain (step.Abort handle)) = ⊥
 IsFree scripts (Plain (step.Drop handle)) = ⊥
 IsFree scripts (Plain (step.Join handle)) = ⊥
 IsFree scripts (Plain (step.Within handle limit)) = ⊥
+IsFree scripts (Plain (step.Stopped signal)) = ⊥
+IsFree scripts (Plain (step.Wait signal)) = ⊥
 IsFree scripts (Spawn handle script) = script < scripts
 IsFree scripts line = Unit {0}
 

@@ -3,14 +3,15 @@ ghost use Rattle.std.specs.Prelude.{◌≡◌, true, false, ◌<◌, ◌==◌, n
 ghost use Rattle.std.specs.Option.{option_map};
 ghost use Rattle.std.specs.List.{All, list_all};
 ghost use Rattle.rt_scenario.specs.Lines.{words_of, words_in};
-ghost use Rattle.rt_scenario.specs.Numbers.{number_of, value_of};
+ghost use Rattle.rt_scenario.specs.Numbers.{number_of, small_value_of, value_of};
 ghost use Rattle.rt_scenario.specs.Words.{switch_of};
-ghost use Rattle.rt_scenario.specs.Scenario.{Draft, blank, CanRun, is_between, is_name, is_placed, is_printable, names_run, row, after_line, after_text, after_words, timeout_row, catch_row, script_row, step_row, sleep_row, until_row, end_row, panic_row, spawn_row, spawned_row, abort_row, handle_row, within_row, done_row, found_row, run_row, script_at, scripts_at};
+ghost use Rattle.rt_scenario.specs.Scenario.{Draft, blank, CanRun, is_between, is_name, is_placed, is_printable, names_run, row, after_line, after_text, after_words, timeout_row, catch_row, script_row, step_row, sleep_row, until_row, end_row, panic_row, spawn_row, spawned_row, abort_row, handle_row, within_row, stop_row, limited_stop_row, done_row, found_row, run_row, script_at, scripts_at};
 ghost use Rattle.rt_scenario.specs.Answers.{Answers, Finishes, IsBare, Lacks, found_at, or_missing};
 ghost use Rattle.rt_scenario.specs.Indexed.{read};
 ghost use Rattle.rt_scenario.specs.Scripts.{tasks_of, tasks_at as total_at};
 ghost use Rattle.rt_scenario.specs.Within.{HasPlaces, HavePlaces, IsFree};
 ghost use Rattle.rt_scenario.specs.declared.named_line.NamedLine.TheVariants as named_line;
+ghost use Rattle.rt_scenario.specs.declared.word.Word.TheVariants as word;
 
 use crate::common::{common_line, joined, spawned};
 use crate::kind::Kind;
@@ -213,6 +214,9 @@ impl Draft {
                 let (limit, handle) = two(args)?;
                 self.within(limit, handle)
             }
+            Word::Stopped => self.stopped(one(args)?),
+            Word::Wait => self.wait(one(args)?),
+            Word::Stop => self.shut_down(args),
             Word::Run => self.run(args),
         }
     }
@@ -287,7 +291,7 @@ impl Draft {
         Ok(())
     }
 
-    /// Takes a line without a handle.
+    /// Takes a line without a name.
     fn push_plain(&mut self, line: Line) -> Result<(), Stop>
         requires open { is_some self.old.current ≡ true }
         requires free { IsFree (length self.old.scripts) (named_line.Plain line) }
@@ -395,6 +399,55 @@ impl Draft {
         match numbers::number_of(limit) {
             Some(limit) => self.push(NamedLine::Within(handle, limit)),
             None => Err(Stop::Breaks(Kind::Number)),
+        }
+    }
+
+    fn stopped(&mut self, word: &[u8]) -> Result<(), Stop>
+        requires { is_some self.old.current ≡ true }
+        ensures { Answers (handle_row self.old named_line.Stopped word.now) result self.new }
+    {
+        let signal = named(word)?;
+        self.push(NamedLine::Stopped(signal))
+    }
+
+    fn wait(&mut self, word: &[u8]) -> Result<(), Stop>
+        requires { is_some self.old.current ≡ true }
+        ensures { Answers (handle_row self.old named_line.Wait word.now) result self.new }
+    {
+        let signal = named(word)?;
+        self.push(NamedLine::Wait(signal))
+    }
+
+    /// Takes a shutdown in, with its value and the limit that may stand behind it.
+    fn shut_down(&mut self, args: Option<&[u8]>) -> Result<(), Stop>
+        requires { is_some self.old.current ≡ true }
+        ensures { Answers (row self.old word.Stop (words_in args.entry)) result self.new }
+    {
+        match two_words(args) {
+            Some((value, limit)) => self.stop_within(value, limit),
+            None => self.stop_whole(one(args)?),
+        }
+    }
+
+    /// Takes a shutdown in that is waited for to its end.
+    fn stop_whole(&mut self, value: &[u8]) -> Result<(), Stop>
+        requires { is_some self.old.current ≡ true }
+        ensures { Answers (stop_row self.old (small_value_of value.now)) result self.new }
+    {
+        match numbers::small_value_of(value) {
+            Some(value) => self.push_plain(Line::Stop(value, None)),
+            None => Err(Stop::Breaks(Kind::Number)),
+        }
+    }
+
+    /// Takes a shutdown in that is waited for at most so long.
+    fn stop_within(&mut self, value: &[u8], limit: &[u8]) -> Result<(), Stop>
+        requires { is_some self.old.current ≡ true }
+        ensures { Answers (limited_stop_row self.old (small_value_of value.now) (number_of limit.now)) result self.new }
+    {
+        match (numbers::small_value_of(value), numbers::number_of(limit)) {
+            (Some(value), Some(limit)) => self.push_plain(Line::Stop(value, Some(limit))),
+            _ => Err(Stop::Breaks(Kind::Number)),
         }
     }
 

@@ -1,4 +1,4 @@
-// The names of the handles of a script.
+// The names of what a script holds: of its handles and signals.
 ghost use Rattle.std.specs.Prelude.{◌≡◌, ◌<◌, ℕ, List, [], Some, IfOk, OnOk, OnErr, length, map, slice_index_or};
 ghost use Rattle.std.specs.List.{All, IsDistinct};
 ghost use Rattle.std.specs.List.Sorted.{IsPermutation, IsStrictlySortedBy};

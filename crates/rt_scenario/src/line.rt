@@ -4,8 +4,8 @@ use rt_base::Nanos;
 
 /// What a task of the script does at one line.
 ///
-/// A handle's place is its place among the script's `handles`, a word's that among its `words`, and a script's that
-/// among those of the scenario.
+/// A handle's or a signal's place is that of its name among the script's `handles`, a word's that among its `words`, and
+/// a script's that among those of the scenario.
 #[derive(Clone, Copy, Debug, PartialEq, Eq)]
 pub enum Line {
     /// Sleeps so long.
@@ -34,4 +34,10 @@ pub enum Line {
     Join(usize),
     /// Waits for the task of this handle for at most so long.
     Within(usize, Nanos),
+    /// Makes a signal of the run's shutdown, and keeps it at this place.
+    Stopped(usize),
+    /// Waits for this signal.
+    Wait(usize),
+    /// Begins the run's shutdown with this value, and waits for its end; for at most so long where there is a limit.
+    Stop(i32, Option<Nanos>),
 }

@@ -1,4 +1,4 @@
-// Names of scripts and handles, and words of panics.
+// Names of scripts and of what they hold, and words of panics.
 ghost use Rattle.std.specs.Prelude.{◌≡◌, true, false, MatchOption, IfOk};
 ghost use Rattle.std.specs.List.{list_all};
 ghost use Rattle.rt_scenario.specs.Answers.{Named};

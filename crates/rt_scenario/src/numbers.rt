@@ -3,7 +3,7 @@ ghost use Rattle.std.specs.Prelude.{◌≡◌, ◌+◌, ◌*◌, ◌<◌, ◌≤
 ghost use Rattle.std.specs.List.{list_all};
 ghost use Rattle.std.specs.Char.{is_ascii_digit, digit_value};
 ghost use Rattle.std.specs.Str.Parse.{digits_value, digits_value_after};
-ghost use Rattle.rt_scenario.specs.Numbers.{number_of, value_of, is_decimal, minus, below};
+ghost use Rattle.rt_scenario.specs.Numbers.{number_of, value_of, small_value_of, is_decimal, minus, narrow, below};
 
 /// A decimal number without sign or leading zero, below `2^128`.
 pub fn number_of(text: &[u8]) -> Option<u128>
@@ -72,6 +72,19 @@ pub fn value_of(text: &[u8]) -> Option<i64>
         [b'-', rest @ ..] => negative_of(number_of(rest)?),
         _ => i64::try_from(number_of(text)?).ok(),
     }
+}
+
+/// Such a value within an `i32`.
+pub fn small_value_of(text: &[u8]) -> Option<i32>
+    ensures { result ≡ small_value_of text.now }
+{
+    narrow(value_of(text)?)
+}
+
+fn narrow(value: i64) -> Option<i32>
+    ensures { result ≡ narrow (Some value) }
+{
+    i32::try_from(value).ok()
 }
 
 fn is_decimal(text: &[u8]) -> bool

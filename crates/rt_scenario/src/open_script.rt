@@ -12,7 +12,7 @@ use rt_base::{Items, NoMemory, Text};
 use std::alloc::Global;
 use std::marker::Model;
 
-/// The lines of a script so far, the names of their handles, and the words of its panics.
+/// The lines of a script so far, the names of what they hold, and the words of its panics.
 #[derive(Drop)]
 pub struct OpenScript {
     name: Text,
@@ -70,7 +70,7 @@ impl OpenScript {
         Ok(())
     }
 
-    /// The script as it stands, with the places of its handles; and the room of its lines.
+    /// The script as it stands, with the places of its names; and the room of its lines.
     pub fn close(self) -> Result<(ScriptText, Vec<NamedLine<usize>>), NoMemory>
         ensures { IfOk result (λ closed. closed.0 ≡ closed_script self) }
     {

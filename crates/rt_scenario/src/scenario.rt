@@ -23,7 +23,7 @@ pub struct Scenario {
 pub struct ScriptText {
     pub name: Text,
     pub lines: Items<Line>,
-    /// The names of handles that stand in its lines, each once, in byte order.
+    /// The names of the handles and signals that its lines hold, each once, in byte order.
     pub handles: Items<Text>,
     /// The words of its panics, in order of the lines.
     pub words: Items<Text>,

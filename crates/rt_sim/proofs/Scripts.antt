@@ -8,14 +8,14 @@ use Rattle.rt_model.specs.declared.answer.Answer.TheVariants.{Ready, NoMemory}
 use Rattle.rt_model.specs.Lists.{find, without}
 use Rattle.rt_model.specs.Causes.{ends_next}
 use Rattle.rt_model.specs.Walk.{Gives, Last}
-use Rattle.rt_core.specs.Handles.{TaskHandle, task_spends}
 use Rattle.rt_world.specs.Seats.{numbers_of}
 use Rattle.rt_world.specs.World.{World}
 use Rattle.rt_world.specs.Walked.{Advanced, Leads, Polled, Spends, Spent}
 use Rattle.rt_world.proofs.Walked.{leads-same, polled-gives, polled-lacks}
 use Rattle.rt_scenario.specs.declared.line.Line.{Line}
 use Rattle.rt_sim.specs.Program.{line_at}
-use Rattle.rt_sim.specs.Script.{Next, Script, goes_on, lines_from, passed, polled, refused, releases_all, value_of}
+use Rattle.rt_sim.specs.Script.{Next, Script, goes_on, held_spends, lines_from, passed, polled, refused, releases_all, value_of}
+use Rattle.rt_sim.specs.declared.held.Held.{Held}
 
 module _ {G : Type 0} (s mid new : Script) (time task : ℕ) (old world end : World Script ℤ G) where
   -- a line more
@@ -79,40 +79,40 @@ pub without-none : {V : Type 0} (k : ℕ) (xs : List (ℕ × V)) → find k xs �
 without-none k [] h = refl
 without-none k (x ∷ xs) h = grind (arith, without-none k xs)
 
-first_found : (h : ℕ × TaskHandle ℤ) (hs : List (ℕ × TaskHandle ℤ)) → find h.0 (h ∷ hs) ≡ Some h.1
+first_found : (h : ℕ × Held) (hs : List (ℕ × Held)) → find h.0 (h ∷ hs) ≡ Some h.1
 first_found h hs = grind arith
 
-first_taken : (h : ℕ × TaskHandle ℤ) (hs : List (ℕ × TaskHandle ℤ)) → without h.0 (h ∷ hs) ≡ hs
+first_taken : (h : ℕ × Held) (hs : List (ℕ × Held)) → without h.0 (h ∷ hs) ≡ hs
 first_taken h hs = grind arith
 
--- the number that is next has a handle, the first
-pub next_held : (hs : List (ℕ × TaskHandle ℤ)) (at : ℕ) → ends_next (numbers_of hs) None ≡ Some at → find at hs ≡ None → ⊥
+-- the number that is next holds something, the first
+pub next_held : (hs : List (ℕ × Held)) (at : ℕ) → ends_next (numbers_of hs) None ≡ Some at → find at hs ≡ None → ⊥
 next_held [] at e none = absurd (cc)
 next_held (h ∷ hs) at e none = let same : h.0 ≡ at = cc in let found = first_found h hs in absurd (cc)
 
-pub next_first : (hs : List (ℕ × TaskHandle ℤ)) (at : ℕ) (handle : TaskHandle ℤ) → ends_next (numbers_of hs) None ≡ Some at → find at hs ≡ Some handle → hs ≡ (at, handle) ∷ without at hs
-next_first [] at handle e found = absurd (cc)
-next_first (h ∷ hs) at handle e found =
+pub next_first : (hs : List (ℕ × Held)) (at : ℕ) (held : Held) → ends_next (numbers_of hs) None ≡ Some at → find at hs ≡ Some held → hs ≡ (at, held) ∷ without at hs
+next_first [] at held e found = absurd (cc)
+next_first (h ∷ hs) at held e found =
     let same : h.0 ≡ at = cc in
     let first = first_found h hs in
-    let own : h.1 ≡ handle = cc in
-    subst (λ k. h ∷ hs ≡ (k, handle) ∷ without k (h ∷ hs)) same (ap (λ x. (h.0, x) ∷ hs) own ∙ ap (λ l. (h.0, handle) ∷ l) (sym (first_taken h hs)))
+    let own : h.1 ≡ held = cc in
+    subst (λ k. h ∷ hs ≡ (k, held) ∷ without k (h ∷ hs)) same (ap (λ x. (h.0, x) ∷ hs) own ∙ ap (λ l. (h.0, held) ∷ l) (sym (first_taken h hs)))
 
-pub next_none : (hs : List (ℕ × TaskHandle ℤ)) → ends_next (numbers_of hs) None ≡ None → hs ≡ []
+pub next_none : (hs : List (ℕ × Held)) → ends_next (numbers_of hs) None ≡ None → hs ≡ []
 next_none [] e = refl
 next_none (h ∷ hs) e = absurd (cc)
 
--- whoever gives up these handles from here on has given up all
-abbrev pub Releases : {G : Type 0} → List (ℕ × TaskHandle ℤ) → List (ℕ × TaskHandle ℤ) → World Script ℤ G → World Script ℤ G → Type 0
+-- whoever gives up all these from here on has given up all
+abbrev pub Releases : {G : Type 0} → List (ℕ × Held) → List (ℕ × Held) → World Script ℤ G → World Script ℤ G → Type 0
 Releases {G = G} all rest old new = (next : Last Script ℤ) (end : World Script ℤ G) → Spent (releases_all rest next) new end → Spent (releases_all all next) old end
 
--- a handle more
-pub releases-more : {G : Type 0} (all hs : List (ℕ × TaskHandle ℤ)) (at : ℕ) (handle : TaskHandle ℤ) (old mid new : World Script ℤ G) → hs ≡ (at, handle) ∷ without at hs → Releases all hs old mid → Spends (task_spends handle) mid new → Releases all (without at hs) old new
+-- one more
+pub releases-more : {G : Type 0} (all hs : List (ℕ × Held)) (at : ℕ) (held : Held) (old mid new : World Script ℤ G) → hs ≡ (at, held) ∷ without at hs → Releases all hs old mid → Spends (held_spends held) mid new → Releases all (without at hs) old new
 unfolding releases_all
-releases-more all hs at handle old mid new whole first spends next end spent =
+releases-more all hs at held old mid new whole first spends next end spent =
     first next end (subst (λ l. Spent (releases_all l next) mid end) (sym whole) (spends.ends (releases_all (without at hs) next) end spent))
 
 -- none is left
-pub releases-none : {G : Type 0} (all hs : List (ℕ × TaskHandle ℤ)) (old new : World Script ℤ G) → hs ≡ [] → Releases all hs old new → (next : Last Script ℤ) (end : World Script ℤ G) → Spent next new end → Spent (releases_all all next) old end
+pub releases-none : {G : Type 0} (all hs : List (ℕ × Held)) (old new : World Script ℤ G) → hs ≡ [] → Releases all hs old new → (next : Last Script ℤ) (end : World Script ℤ G) → Spent next new end → Spent (releases_all all next) old end
 unfolding releases_all
 releases-none all hs old new none first next end spent = first next end (subst (λ l. Spent (releases_all l next) new end) (sym none) spent)

@@ -1,5 +1,5 @@
 -- What a script does, line by line.
-use Rattle.std.specs.Prelude.{ℕ, ◌+◌, max, List, [], ◌∷◌, drop, Option, Some, None, Result, Ok, Err, ℤ, pos, negsuc}
+use Rattle.std.specs.Prelude.{ℕ, ◌+◌, max, List, [], ◌∷◌, codes, drop, Option, Some, None, Result, Ok, Err, ℤ, pos, negsuc}
 use Rattle.rt_base.specs.declared.error.Error.{Error}
 use Rattle.rt_base.specs.declared.error.Error.TheVariants.{Exited, Closed as IsClosed, Aborted, Timeout, ClockOverflow, UnknownToken, TooManyTasks, Metric, NoMemory as LacksMemory}
 use Rattle.rt_base.specs.declared.poll.Poll.{Poll}
@@ -16,23 +16,31 @@ use Rattle.rt_core.specs.Contexts.{Context, childs, spawns as spawns_on}
 use Rattle.rt_core.specs.Handles.{TaskHandle, task_polls, task_spends, handle_aborts, aborted}
 use Rattle.rt_core.specs.Sleeper.{Sleeper}
 use Rattle.rt_core.specs.Pollers.{sleep_for, sleep_until, sleep_polls, sleep_spends, reschedule_polls, reschedule_spends, unqueued, closes}
+use Rattle.rt_core.specs.Signals.{asks_stopped, signal_polls, signal_spends}
+use Rattle.rt_core.specs.Stopping.{stop_polls, stop_spends}
+use Rattle.rt_core.specs.declared.signals.SignalKind.{SignalKind}
+use Rattle.rt_core.specs.declared.stop.Stop.{Stop}
+use Rattle.rt_core.specs.declared.stop.Stopping.TheVariants.{Begins}
 use Rattle.rt_core.specs.declared.yields.Reschedule.{Reschedule}
 use Rattle.rt_scenario.specs.declared.line.Line.{Line}
-use Rattle.rt_scenario.specs.declared.line.Line.TheVariants.{Sleep, Until, Yield, Pend, End, EndLast, Panic, Spawn, Abort, AbortSelf, Drop, Join, Within}
+use Rattle.rt_scenario.specs.declared.line.Line.TheVariants.{Sleep, Until, Yield, Pend, End, EndLast, Panic, Spawn, Abort, AbortSelf, Drop, Join, Within, Stopped, Wait, Stop as Shutdown}
 use Rattle.rt_scenario.specs.declared.scenario.ScriptText.{ScriptText}
 use Rattle.rt_sim.specs.Program.{text_at, name_at, word_at}
+use Rattle.rt_sim.specs.declared.held.Held.{Held}
+use Rattle.rt_sim.specs.declared.held.Held.TheVariants.{Handle, Signal}
 use Rattle.rt_sim.specs.declared.script.Waits.{Waits}
 use Rattle.rt_sim.specs.declared.script.Waits.TheVariants.{Nothing, Sleeps, Yields, Limits}
 
--- a script that runs: all scripts, its own text, the place of its line, the value of the one before, what it waits for, the handles that
--- it holds by the places of their names, for how many names it has places, and its context
+-- a script that runs: all scripts, its own text, the place of its line, the value of the one before, what it waits for, the stop of its
+-- run that is under way, what it holds by the places of the names, for how many names it has places, and its context
 pub record Script : Type 0 where
   pub program : List ScriptText
   pub text : ScriptText
   pub place : ℕ
   pub last : ℤ
   pub waits : Waits
-  pub handles : List (ℕ × TaskHandle ℤ)
+  pub stop : Option Stop
+  pub held : List (ℕ × Held)
   pub places : ℕ
   pub context : Context
 
@@ -44,7 +52,7 @@ Polled = Poll (Result (Unit {0}) Error)
 
 -- at its first line
 abbrev pub started : List ScriptText → ℕ → Context → Script
-started program script context = record { program = program; text = text_at program script; place = 0; last = pos 0; waits = Nothing; handles = []; places = 0; context = context }
+started program script context = record { program = program; text = text_at program script; place = 0; last = pos 0; waits = Nothing; stop = None; held = []; places = 0; context = context }
 
 abbrev pub waiting : Script → Waits → Script
 waiting s waits = record s { waits = waits }
@@ -53,16 +61,31 @@ waiting s waits = record s { waits = waits }
 abbrev pub passed : Script → ℤ → Script
 passed s value = record s { place = s.place + 1; last = value; waits = Nothing }
 
--- without a handle, and with one in its place
+-- without what a name held, and with this under a name that holds nothing
 abbrev pub loosed : Script → ℕ → Script
-loosed s at = record s { handles = without at s.handles }
+loosed s at = record s { held = without at s.held }
 
-abbrev pub bound : Script → ℕ → TaskHandle ℤ → Script
-bound s at handle = record s { handles = with_task at handle (without at s.handles) }
+abbrev pub put_back : Script → ℕ → Held → Script
+put_back s at held = record s { held = with_task at held s.held }
 
--- with a handle that was taken out
-abbrev pub put_back : Script → ℕ → TaskHandle ℤ → Script
-put_back s at handle = record s { handles = with_task at handle s.handles }
+-- with this in place of what a name held
+abbrev pub bound : Script → ℕ → Held → Script
+bound s at held = put_back (loosed s at) at held
+
+-- the handle that a name holds, and the signal
+abbrev pub as_handle : Option Held → Option (TaskHandle ℤ)
+as_handle (Some (Handle handle)) = Some handle
+as_handle held = None
+
+abbrev pub handle_at : Script → ℕ → Option (TaskHandle ℤ)
+handle_at s at = as_handle (find at s.held)
+
+abbrev pub as_signal : Option Held → Option SignalKind
+as_signal (Some (Signal signal)) = Some signal
+as_signal held = None
+
+abbrev pub signal_at : Script → ℕ → Option SignalKind
+signal_at s at = as_signal (find at s.held)
 
 -- with a place for this name
 abbrev pub roomed : Script → ℕ → Script
@@ -80,7 +103,7 @@ value_of TooManyTasks = negsuc 12
 value_of (Metric kind) = negsuc 13
 value_of error = negsuc 22
 
--- the value of a name that isn't held
+-- the value of a name that isn't held, or holds another kind
 abbrev pub unheld : ℤ
 unheld = negsuc 98
 
@@ -123,13 +146,17 @@ unfoldable pub yields : Script → (Script → Next) → ℕ → Next
 yields s on task = then (reschedule_polls (turn_in s.waits) task) (yielded s on)
 
 -- what a name holds is given up
-abbrev pub releases : Option (TaskHandle ℤ) → Last Script ℤ
+abbrev pub held_spends : Held → Last Script ℤ
+held_spends (Handle handle) = task_spends handle
+held_spends (Signal signal) = signal_spends signal
+
+abbrev pub releases : Option Held → Last Script ℤ
 releases None = Gives tt tt
-releases (Some handle) = task_spends handle
+releases (Some held) = held_spends held
 
 -- a script was spawned on a context
 abbrev pub spawned : Script → (Script → Next) → ℕ → Context → Result (TaskHandle ℤ) Error → Next
-spawned s on at context (Ok handle) = on (passed (bound s at handle) (pos 0))
+spawned s on at context (Ok handle) = on (passed (bound s at (Handle handle)) (pos 0))
 spawned s on at context (Err error) = Spends (Plainly (CloseNode context.node)) (refused s on error)
 
 -- a child was made for it
@@ -140,12 +167,12 @@ placed s on at script (Err error) = refused s on error
 -- a spawn first gives up what its name holds, also where it is refused then
 unfoldable pub spawns : Script → (Script → Next) → ℕ → ℕ → Next
 spawns s on at script =
-    followed_by (releases (find at s.handles))
+    followed_by (releases (find at s.held))
     (then (childs s.context (name_at s.text at)) (λ made u. placed (roomed (loosed s at) at) on at script made))
 
 -- what a join of this handle was told
 abbrev pub joined : Script → (Script → Next) → ℕ → Poll (Result ℤ Error) → TaskHandle ℤ → Next
-joined s on at IsPending handle = Gives Pending (bound s at handle)
+joined s on at IsPending handle = Gives Pending (bound s at (Handle handle))
 joined s on at (IsReady (Ok value)) handle = followed_by (task_spends handle) (on (passed (loosed s at) value))
 joined s on at (IsReady (Err error)) handle = followed_by (task_spends handle) (refused (loosed s at) on error)
 
@@ -155,13 +182,13 @@ joins_held s on at None = on (passed s unheld)
 joins_held s on at (Some handle) = then (task_polls handle) (joined s on at)
 
 unfoldable pub joins : Script → (Script → Next) → ℕ → Next
-joins s on at = joins_held s on at (find at s.handles)
+joins s on at = joins_held s on at (handle_at s at)
 
 -- a join whose time is over gives its handle up, but doesn't abort
 abbrev pub timed : Script → (Script → Next) → ℕ → TaskHandle ℤ → Polled → Sleeper → Next
-timed s on at handle IsPending sleep = Gives Pending (waiting (put_back s at handle) (Limits at sleep))
+timed s on at handle IsPending sleep = Gives Pending (waiting (put_back s at (Handle handle)) (Limits at sleep))
 timed s on at handle (IsReady (Ok over)) sleep = followed_by (task_spends handle) (refused s on Timeout)
-timed s on at handle (IsReady (Err error)) sleep = Gives NoMemory (put_back s at handle)
+timed s on at handle (IsReady (Err error)) sleep = Gives NoMemory (put_back s at (Handle handle))
 
 -- what it was told of its handle. Its sleep is polled where the handle isn't ready
 abbrev pub limited : Script → (Script → Next) → ℕ → Sleeper → Poll (Result ℤ Error) → TaskHandle ℤ → Next
@@ -187,21 +214,21 @@ limits_held s on at fresh None = on (passed s unheld)
 limits_held s on at fresh (Some handle) = begun_limit (waiting (loosed s at) Nothing) on at handle (limit_in s.waits fresh)
 
 unfoldable pub joins_within : Script → (Script → Next) → ℕ → Result Sleeper Error → Next
-joins_within s on at fresh = limits_held s on at fresh (find at s.handles)
+joins_within s on at fresh = limits_held s on at fresh (handle_at s at)
 
 abbrev pub aborts_held : Script → (Script → Next) → ℕ → Option (TaskHandle ℤ) → Next
 aborts_held s on at None = on (passed s unheld)
-aborts_held s on at (Some handle) = followed_by (handle_aborts handle) (on (passed (bound s at (aborted handle)) (pos 0)))
+aborts_held s on at (Some handle) = followed_by (handle_aborts handle) (on (passed (bound s at (Handle (aborted handle))) (pos 0)))
 
 unfoldable pub aborts : Script → (Script → Next) → ℕ → Next
-aborts s on at = aborts_held s on at (find at s.handles)
+aborts s on at = aborts_held s on at (handle_at s at)
 
 abbrev pub drops_held : Script → (Script → Next) → ℕ → Option (TaskHandle ℤ) → Next
 drops_held s on at None = on (passed s unheld)
 drops_held s on at (Some handle) = followed_by (task_spends handle) (on (passed (loosed s at) (pos 0)))
 
 unfoldable pub drops : Script → (Script → Next) → ℕ → Next
-drops s on at = drops_held s on at (find at s.handles)
+drops s on at = drops_held s on at (handle_at s at)
 
 -- a script that aborts itself goes on in this poll
 abbrev pub self_aborted : Script → (Script → Next) → Heard ℤ → Next
@@ -211,6 +238,54 @@ self_aborted s on heard = Gives NoMemory s
 
 unfoldable pub aborts_itself : Script → (Script → Next) → ℕ → Next
 aborts_itself s on task = Does (Plainly (AbortTask task)) (self_aborted s on)
+
+-- a signal of the shutdown was made
+abbrev pub signaled : Script → (Script → Next) → ℕ → Result SignalKind Error → Next
+signaled s on at (Ok signal) = on (passed (put_back s at (Signal signal)) (pos 0))
+signaled s on at (Err error) = refused s on error
+
+-- what a name holds is given up first
+unfoldable pub asks : Script → (Script → Next) → ℕ → Next
+asks s on at =
+    followed_by (releases (find at s.held)) (then asks_stopped (λ made u. signaled (roomed (loosed s at) at) on at made))
+
+-- what this signal showed. It stays under its name
+abbrev pub shown : Script → (Script → Next) → ℕ → Poll (Result ℤ Error) → SignalKind → Next
+shown s on at IsPending signal = Gives Pending (bound s at (Signal signal))
+shown s on at (IsReady (Ok value)) signal = on (passed (bound s at (Signal signal)) value)
+shown s on at (IsReady (Err error)) signal = refused (bound s at (Signal signal)) on error
+
+abbrev pub awaits_held : Script → (Script → Next) → ℕ → Option SignalKind → Next
+awaits_held s on at None = on (passed s unheld)
+awaits_held s on at (Some signal) = then (signal_polls signal) (shown s on at)
+
+unfoldable pub awaits : Script → (Script → Next) → ℕ → Next
+awaits s on at = awaits_held s on at (signal_at s at)
+
+-- what its stop answered. It is given up then
+abbrev pub stopped : Script → (Script → Next) → Polled → Stop → Next
+stopped s on IsPending stop = Gives Pending (record s { stop = Some stop })
+stopped s on (IsReady (Ok over)) stop = followed_by (stop_spends stop) (on (passed s (pos 0)))
+stopped s on (IsReady (Err error)) stop = followed_by (stop_spends stop) (refused s on error)
+
+-- a stop that was taken out
+unfoldable pub stop_goes : Script → (Script → Next) → ℕ → ℕ → Stop → Next
+stop_goes s on time task stop = then (stop_polls stop time task stop.stage) (stopped s on)
+
+-- one that begins on this context
+abbrev pub begun_stop : Script → (Script → Next) → ℤ → Option ℕ → ℕ → ℕ → Result Context Error → Next
+begun_stop s on value limit time task (Ok context) =
+    stop_goes s on time task (record { context = context; value = value; timeout = limit; stage = Begins })
+begun_stop s on value limit time task (Err error) = refused s on error
+
+-- the stop under way, or a new one on a child
+abbrev pub stops_by : Script → (Script → Next) → ℤ → Option ℕ → ℕ → ℕ → Option Stop → Next
+stops_by s on value limit time task None =
+    then (childs s.context (codes "stop")) (λ made u. begun_stop s on value limit time task made)
+stops_by s on value limit time task (Some stop) = stop_goes s on time task stop
+
+unfoldable pub stops : Script → (Script → Next) → ℤ → Option ℕ → ℕ → ℕ → Next
+stops s on value limit time task = stops_by (record s { stop = None }) on value limit time task s.stop
 
 -- the lines from a place on, at a time and under a number. The end of the lines acts as `end 0`
 unfoldable pub goes_on : List Line → Script → ℕ → ℕ → Next
@@ -228,6 +303,9 @@ goes_on (Within at limit ∷ lines) s time task = joins_within s (λ next. goes_
 goes_on (Abort at ∷ lines) s time task = aborts s (λ next. goes_on lines next time task) at
 goes_on (AbortSelf ∷ lines) s time task = aborts_itself s (λ next. goes_on lines next time task) task
 goes_on (Drop at ∷ lines) s time task = drops s (λ next. goes_on lines next time task) at
+goes_on (Stopped at ∷ lines) s time task = asks s (λ next. goes_on lines next time task) at
+goes_on (Wait at ∷ lines) s time task = awaits s (λ next. goes_on lines next time task) at
+goes_on (Shutdown value limit ∷ lines) s time task = stops s (λ next. goes_on lines next time task) value limit time task
 
 abbrev pub lines_from : Script → List Line
 lines_from s = drop s.place s.text.lines
@@ -236,26 +314,33 @@ lines_from s = drop s.place s.text.lines
 abbrev pub polled : Script → ℕ → ℕ → Next
 polled s time task = goes_on (lines_from s) s time task
 
--- the handles are given up in order of their names
-unfoldable pub releases_all : List (ℕ × TaskHandle ℤ) → Last Script ℤ → Last Script ℤ
+-- what names hold is given up in order of the names
+unfoldable pub releases_all : List (ℕ × Held) → Last Script ℤ → Last Script ℤ
 releases_all [] next = next
-releases_all (h ∷ handles) next = followed_by (task_spends h.1) (releases_all handles next)
+releases_all (h ∷ held) next = followed_by (held_spends h.1) (releases_all held next)
 
 -- what it waits for is given up: of a join with a limit its handle
-abbrev pub stops_waiting : Waits → List (ℕ × TaskHandle ℤ) → Last Script ℤ
-stops_waiting Nothing handles = Gives tt tt
-stops_waiting (Sleeps sleep) handles = sleep_spends sleep
-stops_waiting (Yields turn) handles = reschedule_spends turn
-stops_waiting (Limits at sleep) handles = releases (find at handles)
+abbrev pub stops_waiting : Waits → List (ℕ × Held) → Last Script ℤ
+stops_waiting Nothing held = Gives tt tt
+stops_waiting (Sleeps sleep) held = sleep_spends sleep
+stops_waiting (Yields turn) held = reschedule_spends turn
+stops_waiting (Limits at sleep) held = releases (find at held)
 
--- the handles that are left then
-abbrev pub left_by : Waits → List (ℕ × TaskHandle ℤ) → List (ℕ × TaskHandle ℤ)
-left_by (Limits at sleep) handles = without at handles
-left_by waits handles = handles
+-- what names hold then
+abbrev pub left_by : Waits → List (ℕ × Held) → List (ℕ × Held)
+left_by (Limits at sleep) held = without at held
+left_by waits held = held
 
--- an end gives up what it waits for, then what it holds, and closes the context
+-- so is a stop that is under way
+abbrev pub gives_stop_up : Option Stop → Last Script ℤ
+gives_stop_up None = Gives tt tt
+gives_stop_up (Some stop) = stop_spends stop
+
+-- an end gives up what is under way, then what names hold, and closes the context
 abbrev pub ended : Script → Last Script ℤ
-ended s = followed_by (stops_waiting s.waits s.handles) (releases_all (left_by s.waits s.handles) (closes s.context.node))
+ended s =
+    followed_by (gives_stop_up s.stop)
+    (followed_by (stops_waiting s.waits s.held) (releases_all (left_by s.waits s.held) (closes s.context.node)))
 
 abbrev pub script_steps : TaskSteps Script ℤ
 script_steps = record { next = λ s time task. polled s time task; last = λ s time number. ended s }

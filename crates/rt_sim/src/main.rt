@@ -1,11 +1,15 @@
 //! `rt_sim`: a script runs as the root of a run, and its journal, result, time and rounds are reported.
 #![tactic(auto)]
 
+mod held;
 mod maker;
 mod outcome;
 mod program;
 mod report;
 mod script;
+mod shutdown;
+#[cfg(test)]
+mod shutdown_tests;
 mod simulate;
 #[cfg(test)]
 mod supervised_tests;

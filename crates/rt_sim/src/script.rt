@@ -1,6 +1,6 @@
 //! The task type of a scenario.
 
-ghost use Rattle.std.specs.Prelude.{◌≡◌, ◌≢◌, ◌∷◌, ◌+◌, ◌<◌, List, length, pos, Ok, Err, Result, IfNone, IfSome, IfOk, OnOk, leb, Some, None, ℕ, ℤ};
+ghost use Rattle.std.specs.Prelude.{◌≡◌, ◌≢◌, ◌∷◌, ◌+◌, ◌<◌, List, length, pos, Ok, Err, Result, IfNone, IfSome, IfOk, OnOk, leb, is_some, Some, None, ℕ, ℤ};
 ghost use Rattle.rt_model.specs.Lists.{find};
 ghost use Rattle.rt_model.specs.Rules.{MayCall};
 ghost use Rattle.rt_model.specs.Walk.{Last};
@@ -14,21 +14,22 @@ ghost use Rattle.rt_world.specs.Walked.{Advanced, Leads, Spends, Spent};
 ghost use Rattle.rt_scenario.specs.Within.{IsWithin};
 ghost use Rattle.rt_scenario.specs.declared.line.Line.{Line};
 ghost use Rattle.rt_sim.specs.Program.{line_at, name_at, word_at};
-ghost use Rattle.rt_sim.specs.Script.{Next, Script, started, sleeps, yields, spawns, placed, joins, joins_within, limits, limit_in, left_by, aborts, releases_all, stops_waiting, limited, sleep_in, turn_in, aborts_itself, drops, releases, goes_on, passed, loosed, bound, roomed, refused, value_of};
+ghost use Rattle.rt_sim.specs.Script.{Next, Script, started, sleeps, yields, spawns, placed, joins, joins_within, limits, limit_in, left_by, aborts, releases_all, gives_stop_up, stops_waiting, limited, sleep_in, turn_in, aborts_itself, drops, releases, goes_on, passed, loosed, put_back, handle_at, signal_at, roomed, refused, value_of};
 
 use crate::Program;
+use crate::held::Held;
 use rt_core::utils::reschedule;
 use rt_core::{
     Answer, Context, Cx, Error, Handle, NoMemory, Outcome, Poll, Poller, Refused, Reschedule, Rng,
-    Sleep, Task, World,
+    Signal, Sleep, Stop, Task, World,
 };
 use rt_scenario::Line;
 use rt_world::Tasks;
 use std::marker::Model;
 use std::mem;
 
-/// The value that a name leaves that isn't held.
-const UNHELD: i64 = -99;
+/// The value that a name leaves that isn't held, or holds another kind.
+pub(crate) const UNHELD: i64 = -99;
 
 /// What a script waits for.
 #[derive(Debug, Drop)]
@@ -43,15 +44,17 @@ pub enum Waits {
 /// A script that runs.
 ///
 /// Contracts see all scripts of its scenario, its own text, the place of the line that it is at, the value of the one
-/// before, what it waits for, the handles that it holds by the places of their names, and its context.
+/// before, what it waits for, the stop of its run that is under way, what it holds by the places of the names, and its context.
 pub struct Script {
     program: Program,
     script: usize,
     place: usize,
     last: i64,
     waits: Waits,
-    handles: Tasks<Handle<Script>>,
-    context: Context,
+    // a token, and so apart from `waits`, which each line lets go
+    pub(crate) stop: Option<Stop>,
+    held: Tasks<Held>,
+    pub(crate) context: Context,
 }
 
 impl Model for Script {
@@ -61,9 +64,9 @@ impl Model for Script {
 
     ghost Value = { Script };
 
-    ghost view = { λ s. record { program = s.program; text = text_at s.program s.script; place = s.place; last = s.last; waits = s.waits; handles = s.handles.items; places = s.handles.next; context = s.context } };
+    ghost view = { λ s. record { program = s.program; text = text_at s.program s.script; place = s.place; last = s.last; waits = s.waits; stop = s.stop; held = s.held.items; places = s.held.next; context = s.context } };
 
-    ghost invariant = { λ s. (s.handles.first ≡ 0) × (s.script < length s.program) };
+    ghost invariant = { λ s. (s.held.first ≡ 0) × (s.script < length s.program) };
 }
 
 impl Outcome for Script {
@@ -76,14 +79,15 @@ impl Script {
         requires { script < length program }
         ensures { result ≡ started program script context }
     {
-        let handles = Tasks::new(program.allocator(), 0);
+        let held = Tasks::new(program.allocator(), 0);
         Script {
             program,
             script,
             place: 0,
             last: 0,
             waits: Waits::Nothing,
-            handles,
+            stop: None,
+            held,
             context,
         }
     }
@@ -92,7 +96,7 @@ impl Script {
 #[tactic(auto, using(rt_world::proofs::Walked::task_laws))]
 impl Script {
     /// Goes past a line, which left this value.
-    fn pass(&mut self, value: i64)
+    pub(crate) fn pass(&mut self, value: i64)
         requires { self.old.place < length self.old.text.lines }
         ensures { self.new ≡ passed self.old value }
     {
@@ -104,7 +108,7 @@ impl Script {
     }
 
     /// Goes past a line that was refused. Out of memory it doesn't go on.
-    fn refuse(&mut self, error: Error) -> Option<Answer<i64>>
+    pub(crate) fn refuse(&mut self, error: Error) -> Option<Answer<i64>>
         requires { self.old.place < length self.old.text.lines }
         ensures goes { IfNone result ((error ≢ Error.NoMemory) × (self.new ≡ passed self.old (value_of error))) }
         ensures ends { IfSome result (λ answer. (answer ≡ LacksMemory) × (error ≡ Error.NoMemory) × (self.new ≡ self.old)) }
@@ -187,40 +191,104 @@ impl Script {
     }
 
     /// Gives up what a name holds.
-    fn release<G: Rng>(&mut self, world: &mut World<Script, i64, G>, at: usize)
+    pub(crate) fn release<G: Rng>(&mut self, world: &mut World<Script, i64, G>, at: usize)
         requires { MayCall world.old.told.state world.old.out }
         ensures state { self.new ≡ loosed self.old at }
-        ensures free { find at self.new.handles ≡ None }
+        ensures free { find at self.new.held ≡ None }
         ensures kept { Kept world.old world.new }
         ensures lacked { world.new.lacked ≡ world.old.lacked }
-        ensures steps { Spends (releases (find at self.old.handles)) world.old world.new }
+        ensures steps { Spends (releases (find at self.old.held)) world.old world.new }
     {
-        let Some(handle) = self.handles.take(at as u64) else {
+        let Some(held) = self.held.take(at as u64) else {
             return;
         };
-        handle.give_up(world);
+        held.give_up(world);
     }
 
-    /// Whether a name has no place for a handle.
+    /// Whether a name holds the handle of a task.
+    fn holds_handle(&self, at: usize) -> bool
+        ensures { result ≡ is_some (handle_at self.now at) }
+    {
+        matches!(self.held.get(at as u64), Some(Held::Handle(_)))
+    }
+
+    /// Takes out the handle that a name holds. Anything else stays.
+    fn take_handle(&mut self, at: usize) -> Option<Handle<Script>>
+        ensures handle { result ≡ handle_at self.old at }
+        ensures taken { IfSome result (λ handle. (self.new ≡ loosed self.old at) × (at < self.old.places) × (find at self.new.held ≡ None)) }
+        ensures stays { IfNone result (self.new ≡ self.old) }
+    {
+        if !self.holds_handle(at) {
+            return None;
+        }
+        match self.held.take(at as u64) {
+            Some(Held::Handle(handle)) => Some(handle),
+            Some(Held::Signal(_signal)) => unreachable!(),
+            None => unreachable!(),
+        }
+    }
+
+    /// Whether a name holds a signal.
+    fn holds_signal(&self, at: usize) -> bool
+        ensures { result ≡ is_some (signal_at self.now at) }
+    {
+        matches!(self.held.get(at as u64), Some(Held::Signal(_)))
+    }
+
+    /// Takes out the signal that a name holds. Anything else stays.
+    pub(crate) fn take_signal(&mut self, at: usize) -> Option<Signal>
+        ensures signal { result ≡ signal_at self.old at }
+        ensures taken { IfSome result (λ signal. (self.new ≡ loosed self.old at) × (at < self.old.places) × (find at self.new.held ≡ None)) }
+        ensures stays { IfNone result (self.new ≡ self.old) }
+    {
+        if !self.holds_signal(at) {
+            return None;
+        }
+        match self.held.take(at as u64) {
+            Some(Held::Signal(signal)) => Some(signal),
+            Some(Held::Handle(_handle)) => unreachable!(),
+            None => unreachable!(),
+        }
+    }
+
+    /// Keeps this under a name that holds nothing.
+    pub(crate) fn keep(&mut self, at: usize, held: Held)
+        requires place { at < self.old.places }
+        requires free { find at self.old.held ≡ None }
+        ensures { self.new ≡ put_back self.old at held }
+    {
+        self.held.put(at as u64, held);
+    }
+
+    /// Whether there is no place yet for what a name holds.
     fn has_no_place(&self, at: usize) -> bool
         ensures { result ≡ leb self.now.places at }
     {
-        match self.handles.next() {
+        match self.held.next() {
             Some(next) => next <= at as u64,
             None => false,
         }
     }
 
-    /// Takes a place for a handle of this name, and another owner of the program.
-    fn make_room(&mut self, at: usize) -> Result<Program, NoMemory>
+    /// Takes a place for what a name holds.
+    pub(crate) fn make_room(&mut self, at: usize) -> Result<(), NoMemory>
+        ensures state { OnOk result (self.new ≡ roomed self.old at) }
+        ensures rest { self.new ≡ record self.old { places = self.new.places } }
+    {
+        while self.has_no_place(at) {
+            self.held.reserve(1)?;
+            self.held.skip();
+        }
+        Ok(())
+    }
+
+    /// Takes a place for what a name holds, and another owner of the program.
+    fn make_ready(&mut self, at: usize) -> Result<Program, NoMemory>
         ensures state { OnOk result (self.new ≡ roomed self.old at) }
         ensures rest { self.new ≡ record self.old { places = self.new.places } }
         ensures program { IfOk result (λ program. program ≡ self.old.program) }
     {
-        while self.has_no_place(at) {
-            self.handles.reserve(1)?;
-            self.handles.skip();
-        }
+        self.make_room(at)?;
         self.program.share()
     }
 
@@ -242,7 +310,7 @@ impl Script {
         ensures steps { (on : Script → Next) → Advanced (spawns self.old on at script) (on self.new) world.old world.new result self.new }
     {
         self.release(world, at);
-        let Ok(program) = self.make_room(at) else {
+        let Ok(program) = self.make_ready(at) else {
             world.lack();
             return Some(Answer::NoMemory);
         };
@@ -268,7 +336,7 @@ impl Script {
         requires calling { MayCall world.old.told.state world.old.out }
         requires script { script < length self.old.program }
         requires place { at < self.old.places }
-        requires free { find at self.old.handles ≡ None }
+        requires free { find at self.old.held ≡ None }
         requires program { program ≡ self.old.program }
         ensures kept { Kept world.old world.new }
         ensures place { IfNone result (self.new.place ≡ self.old.place + 1) }
@@ -283,7 +351,7 @@ impl Script {
         );
         match spawned {
             Ok(handle) => {
-                self.handles.put(at as u64, handle);
+                self.keep(at, Held::Handle(handle));
                 self.pass(0);
                 None
             }
@@ -295,7 +363,7 @@ impl Script {
         }
     }
 
-    /// Polls what a name holds. Answers none where the script goes on.
+    /// Polls the handle that a name holds. Answers none where the script goes on.
     #[tactic(auto, using(rt_world::proofs::Walked::task_laws), unfolding(crate::specs::Script::joins))]
     fn join<G: Rng>(
         &mut self,
@@ -310,13 +378,13 @@ impl Script {
         ensures text { self.new.text ≡ self.old.text }
         ensures steps { (on : Script → Next) → Advanced (joins self.old on at) (on self.new) world.old world.new result self.new }
     {
-        let Some(mut handle) = self.handles.take(at as u64) else {
+        let Some(mut handle) = self.take_handle(at) else {
             self.pass(UNHELD);
             return None;
         };
         match handle.poll(world, cx) {
             Poll::Pending => {
-                self.handles.put(at as u64, handle);
+                self.keep(at, Held::Handle(handle));
                 Some(Answer::Pending)
             }
             Poll::Ready(Ok(value)) => {
@@ -331,7 +399,7 @@ impl Script {
         }
     }
 
-    /// Polls what a name holds for at most so long. Answers none where the script goes on.
+    /// Polls the handle that a name holds for at most so long. Answers none where the script goes on.
     #[tactic(auto, using(rt_world::proofs::Walked::task_laws), unfolding(crate::specs::Script::joins_within))]
     fn join_within<G: Rng>(
         &mut self,
@@ -347,7 +415,7 @@ impl Script {
         ensures text { self.new.text ≡ self.old.text }
         ensures steps { (on : Script → Next) → Advanced (joins_within self.old on at fresh) (on self.new) world.old world.new result self.new }
     {
-        let Some(handle) = self.handles.take(at as u64) else {
+        let Some(handle) = self.take_handle(at) else {
             self.pass(UNHELD);
             return None;
         };
@@ -373,7 +441,7 @@ impl Script {
         requires room { self.old.place < length self.old.text.lines }
         requires polling { IsPolling world.old cx.now.task }
         requires place { at < self.old.places }
-        requires free { find at self.old.handles ≡ None }
+        requires free { find at self.old.held ≡ None }
         ensures kept { Kept world.old world.new }
         ensures place { IfNone result (self.new.place ≡ self.old.place + 1) }
         ensures text { self.new.text ≡ self.old.text }
@@ -407,7 +475,7 @@ impl Script {
         requires room { self.old.place < length self.old.text.lines }
         requires polling { IsPolling world.old cx.now.task }
         requires place { at < self.old.places }
-        requires free { find at self.old.handles ≡ None }
+        requires free { find at self.old.held ≡ None }
         ensures kept { Kept world.old world.new }
         ensures place { IfNone result (self.new.place ≡ self.old.place + 1) }
         ensures text { self.new.text ≡ self.old.text }
@@ -416,7 +484,7 @@ impl Script {
         let mut sleep = sleep;
         match sleep.poll(world, cx) {
             Poll::Pending => {
-                self.handles.put(at as u64, handle);
+                self.keep(at, Held::Handle(handle));
                 self.waits = Waits::Limits(at, sleep);
                 Some(Answer::Pending)
             }
@@ -425,13 +493,13 @@ impl Script {
                 self.refuse(Error::Timeout)
             }
             Poll::Ready(Err(_)) => {
-                self.handles.put(at as u64, handle);
+                self.keep(at, Held::Handle(handle));
                 Some(Answer::NoMemory)
             }
         }
     }
 
-    /// Aborts what a name holds. The script goes on.
+    /// Aborts by the handle that a name holds. The script goes on.
     #[tactic(auto, using(rt_world::proofs::Walked::task_laws), unfolding(crate::specs::Script::aborts))]
     fn abort<G: Rng>(&mut self, world: &mut World<Script, i64, G>, at: usize)
         requires room { self.old.place < length self.old.text.lines }
@@ -441,15 +509,15 @@ impl Script {
         ensures text { self.new.text ≡ self.old.text }
         ensures steps { (on : Script → Next) → Leads (aborts self.old on at) (on self.new) world.old world.new }
     {
-        let Some(mut handle) = self.handles.take(at as u64) else {
+        let Some(mut handle) = self.take_handle(at) else {
             return self.pass(UNHELD);
         };
         handle.abort(world);
-        self.handles.put(at as u64, handle);
+        self.keep(at, Held::Handle(handle));
         self.pass(0);
     }
 
-    /// Gives up what a name holds. The script goes on.
+    /// Gives up the handle that a name holds. The script goes on.
     #[tactic(auto, using(rt_world::proofs::Walked::task_laws), unfolding(crate::specs::Script::drops))]
     fn drop_handle<G: Rng>(&mut self, world: &mut World<Script, i64, G>, at: usize)
         requires room { self.old.place < length self.old.text.lines }
@@ -459,7 +527,7 @@ impl Script {
         ensures text { self.new.text ≡ self.old.text }
         ensures steps { (on : Script → Next) → Leads (drops self.old on at) (on self.new) world.old world.new }
     {
-        let Some(handle) = self.handles.take(at as u64) else {
+        let Some(handle) = self.take_handle(at) else {
             return self.pass(UNHELD);
         };
         handle.give_up(world);
@@ -537,6 +605,9 @@ impl Script {
                 self.drop_handle(world, at);
                 None
             }
+            Line::Stopped(at) => self.ask_stopped(world, at),
+            Line::Wait(at) => self.wait(world, cx, at),
+            Line::Stop(value, limit) => self.stop(world, cx, value, limit),
         }
     }
 }
@@ -563,11 +634,13 @@ impl Task for Script {
             place: _,
             last: _,
             waits,
-            handles,
+            stop,
+            held,
             context,
         } = self;
-        let handles = stop_waiting(world, waits, handles);
-        release_all(world, handles);
+        give_stop_up(world, stop);
+        let held = stop_waiting(world, waits, held);
+        release_all(world, held);
         context.close(world);
     }
 }
@@ -602,48 +675,61 @@ fn turn_in(waits: Waits) -> Reschedule
     }
 }
 
-/// Gives up what is under way. Answers the handles that are left.
+/// Gives up the stop that is under way.
+#[tactic(auto, using(rt_world::proofs::Walked::task_laws))]
+fn give_stop_up<G: Rng>(world: &mut World<Script, i64, G>, stop: Option<Stop>)
+    requires { MayCall world.old.told.state world.old.out }
+    ensures kept { Kept world.old world.new }
+    ensures lacked { world.new.lacked ≡ world.old.lacked }
+    ensures steps { Spends (gives_stop_up stop) world.old world.new }
+{
+    if let Some(stop) = stop {
+        stop.give_up(world);
+    }
+}
+
+/// Gives up what it waits for. Answers what is left of what the names hold.
 #[tactic(auto, using(rt_world::proofs::Walked::task_laws))]
 fn stop_waiting<G: Rng>(
     world: &mut World<Script, i64, G>,
     waits: Waits,
-    handles: Tasks<Handle<Script>>,
-) -> Tasks<Handle<Script>>
+    held: Tasks<Held>,
+) -> Tasks<Held>
     requires { MayCall world.old.told.state world.old.out }
-    ensures left { result.items ≡ left_by waits handles.items }
-    ensures first { result.first ≡ handles.first }
+    ensures left { result.items ≡ left_by waits held.items }
+    ensures first { result.first ≡ held.first }
     ensures kept { Kept world.old world.new }
     ensures lacked { world.new.lacked ≡ world.old.lacked }
-    ensures steps { Spends (stops_waiting waits handles.items) world.old world.new }
+    ensures steps { Spends (stops_waiting waits held.items) world.old world.new }
 {
-    let mut handles = handles;
+    let mut held = held;
     match waits {
         Waits::Nothing => {}
         Waits::Sleeps(sleep) => sleep.give_up(world),
         Waits::Yields(turn) => turn.give_up(world),
         Waits::Limits(at, _) => {
-            if let Some(handle) = handles.take(at as u64) {
-                handle.give_up(world);
+            if let Some(one) = held.take(at as u64) {
+                one.give_up(world);
             }
         }
     }
-    handles
+    held
 }
 
-/// Gives up all handles, in order of their names.
+/// Gives up all that names hold, in order of the names.
 #[tactic(auto, using(rt_world::proofs::Walked::loop_laws))]
-fn release_all<G: Rng>(world: &mut World<Script, i64, G>, handles: Tasks<Handle<Script>>)
+fn release_all<G: Rng>(world: &mut World<Script, i64, G>, held: Tasks<Held>)
     requires { MayCall world.old.told.state world.old.out }
     ensures kept { Kept world.old world.new }
     ensures lacked { world.new.lacked ≡ world.old.lacked }
-    ensures steps { (next : Last Script ℤ) (end : AnyWorld Script ℤ G) → Spent next world.new end → Spent (releases_all handles.items next) world.old end }
+    ensures steps { (next : Last Script ℤ) (end : AnyWorld Script ℤ G) → Spent next world.new end → Spent (releases_all held.items next) world.old end }
 {
-    let mut handles = handles;
-    while let Some(at) = handles.ends_next(None) {
-        let Some(handle) = handles.take(at) else {
+    let mut held = held;
+    while let Some(at) = held.ends_next(None) {
+        let Some(one) = held.take(at) else {
             unreachable!();
         };
-        handle.give_up(world);
+        one.give_up(world);
     }
-    handles.destroy_empty();
+    held.destroy_empty();
 }

@@ -6,7 +6,7 @@ use std::process::Abort;
 use std::test::Fail;
 
 /// Without a fault a run of this scenario answers this status, and this is written.
-fn expect_report(
+pub(crate) fn expect_report(
     rt: &impl Abort,
     alloc: Global,
     input: &str,

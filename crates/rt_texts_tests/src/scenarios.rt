@@ -256,6 +256,106 @@ fn refused_lines_of_supervision(rt: HostRuntime) -> Result<(), Fail> {
     Ok(())
 }
 
+#[test]
+fn surface_of_shutdown(rt: HostRuntime) -> Result<(), Fail> {
+    let text =
+        b"script idle\ndone\nscript main\nstopped wait\nspawn g idle\nstopped B\nwait wait\nwait nothing\nstop 2147483647\nstop -2147483648 340282366920938463463374607431768211455\nstop 0 0\nstopped g\njoin wait\ndone\nrun main\n";
+    let scenario = read_scenario(rt.alloc(), text)?;
+    let [_, main] = scenario.scripts.as_slice() else {
+        panic!(rt; "other scripts");
+    };
+    assert!(rt;
+        main.lines.as_slice()
+            == [
+                Line::Stopped(3),
+                Line::Spawn(1, 0),
+                Line::Stopped(0),
+                Line::Wait(3),
+                Line::Wait(2),
+                Line::Stop(i32::MAX, None),
+                Line::Stop(i32::MIN, Some(u128::MAX)),
+                Line::Stop(0, Some(0)),
+                Line::Stopped(1),
+                Line::Join(3)
+            ]
+            .as_slice()
+    );
+    let names = main.handles.as_slice();
+    assert!(rt; names.len() == 4);
+    for (held, name) in names.iter().zip(["B", "g", "nothing", "wait"]) {
+        assert!(rt; held.as_str() == name);
+    }
+    Ok(())
+}
+
+#[test]
+fn read_lines_of_shutdown(rt: HostRuntime) -> Result<(), Fail> {
+    for text in [
+        "script a\nstopped g\nstopped g\nwait g\nwait g\ndone\nrun a\n",
+        "script a\nwait nothing\ndone\nrun a\n",
+        "script stop\nstopped stop\nwait stopped\nstop -1 1\ndone\nscript wait\ndone\nrun stop with wait stop\n",
+        "script a\nstopped abcdefghijklmnopqrstuvwxyzabcdef\ndone\nrun a\n",
+        "script a\nstop 2147483647\nstop -2147483648\nstop 0 18446744073709551616\ndone\nrun a\n",
+    ] {
+        expect_read(&rt, rt.alloc(), text);
+    }
+    Ok(())
+}
+
+#[test]
+fn refused_lines_of_shutdown(rt: HostRuntime) -> Result<(), Fail> {
+    for (text, line, word) in [
+        ("script a\nstop 1", 2u64, "cut"),
+        ("script a\nwait g\t\n", 2, "byte"),
+        ("script a\nstop 1  2\n", 2, "space"),
+        ("script a\nwait g \n", 2, "space"),
+        ("stopped g\n", 1, "place"),
+        ("wait\n", 1, "place"),
+        ("script a\ndone\nstop x\n", 3, "place"),
+        ("script a\nStop 1\n", 2, "unknown"),
+        ("waits g\n", 1, "unknown"),
+        ("script a\nstopped\n", 2, "count"),
+        ("script a\nstopped g h\n", 2, "count"),
+        ("script a\nwait\n", 2, "count"),
+        ("script a\nwait 9 1\n", 2, "count"),
+        ("script a\nstop\n", 2, "count"),
+        ("script a\nstop x 1 2\n", 2, "count"),
+        ("script a\nstopped 9\n", 2, "name"),
+        (
+            "script a\nstopped abcdefghijklmnopqrstuvwxyzabcdefg\n",
+            2,
+            "name",
+        ),
+        ("script a\nwait _g\n", 2, "name"),
+        ("script a\nstop 1\n", 3, "norun"),
+    ] {
+        expect_broken(&rt, rt.alloc(), text, line, word)?;
+    }
+    Ok(())
+}
+
+#[test]
+fn refused_values_of_shutdown(rt: HostRuntime) -> Result<(), Fail> {
+    for text in [
+        "script a\nstop last\n",
+        "script a\nstop 2147483648\n",
+        "script a\nstop -2147483649\n",
+        "script a\nstop 4294967296\n",
+        "script a\nstop 9223372036854775808\n",
+        "script a\nstop -0\n",
+        "script a\nstop -\n",
+        "script a\nstop 01\n",
+        "script a\nstop +1\n",
+        "script a\nstop 2147483648 1\n",
+        "script a\nstop 1 340282366920938463463374607431768211456\n",
+        "script a\nstop 1 -1\n",
+        "script a\nstop 1 01\n",
+    ] {
+        expect_broken(&rt, rt.alloc(), text, 2, "number")?;
+    }
+    Ok(())
+}
+
 /// The kind of the line that a comment of so many bytes is, or of the line after it.
 fn kind_at(alloc: Global, length: usize) -> Result<Option<Kind>, AllocError> {
     let mut text = vec![in alloc; b'#'; length]?;

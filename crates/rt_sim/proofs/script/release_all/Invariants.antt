@@ -7,8 +7,8 @@ abbrev pub invariant-loop-at : goal.invariant-loop-at
 invariant-loop-at g l = record {
   kept : Kept l.fn.world l.world;
   lacked : l.world.lacked ≡ l.fn.world.lacked;
-  releases : Releases l.fn.handles.items l.handles.items l.fn.world l.world;
+  releases : Releases l.fn.held.items l.held.items l.fn.world l.world;
 }
 
 abbrev pub decreases-loop-at : goal.decreases-loop-at
-decreases-loop-at g l = length l.handles.items
+decreases-loop-at g l = length l.held.items

@@ -8,5 +8,5 @@ returns-in-Nothing-clause-steps g c = rw c.in-Nothing.is (spends-on _ _ _ (spent
 
 pub returns-in_default-clause-steps : goal.returns-in_default-clause-steps
 returns-in_default-clause-steps g c =
-    let none : find c.in-Limits.at c.args.handles.items ≡ None = sym c.take.ensures.state ∙ c.in_default.is in
+    let none : find c.in-Limits.at c.args.held.items ≡ None = sym c.take.ensures.state ∙ c.in_default.is in
     rw (c.in-Limits.is, none) (spends-on _ _ _ (spent-nothing _))

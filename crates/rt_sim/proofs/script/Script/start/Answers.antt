@@ -1,5 +1,8 @@
-use Rattle.std.proofs.Common.{rules, ◌≡◌, pos, refl, Ok}
-use Rattle.rt_sim.specs.Script.{bound, passed, placed, refused, spawned, started}
+use Rattle.std.proofs.Common.{rules, ◌≡◌, ◌∙◌, ap, sym, pos, ℕ, List, Ok}
+use Rattle.rt_model.specs.Turns.{with_task}
+use Rattle.rt_sim.specs.Script.{Script, bound, passed, placed, refused, spawned, started}
+use Rattle.rt_sim.specs.declared.held.Held.{Held}
+use Rattle.rt_sim.specs.declared.held.Held.TheVariants.{Handle}
 use Rattle.rt_sim.proofs.Scripts.{advanced-after, refused-advanced, without-none}
 use Rattle.rt_sim.proofs.script.Script.start.Goals as goal
 
@@ -7,8 +10,8 @@ pub returns-in-Ok-clause-steps : goal.returns-in-Ok-clause-steps
 returns-in-Ok-clause-steps g c on =
     let s = c.args.self.now in
     let told = c.in-Ok.ensures.steps (started s.program c.args.script) (λ context state post. search rules) in
-    let same : c.pass.new.self ≡ passed (bound s c.args.at c.in-Ok.handle) (pos 0) =
-    rw (c.pass.ensures, c.put.ensures.items, c.put.ensures.next, without-none c.args.at s.handles c.requires.free, ← c.self.view_is) refl in
+    let held = Handle c.in-Ok.handle in
+    let same : c.pass.new.self ≡ passed (bound s c.args.at held) (pos 0) = c.pass.ensures ∙ ap (λ (t : Script). passed t (pos 0)) c.keep.ensures ∙ ap (λ (l : List (ℕ × Held)). passed (record s { held = with_task c.args.at held l }) (pos 0)) (sym (without-none c.args.at s.held c.requires.free)) in
     record { leads = λ end answer left walked. told.onward (λ told u. spawned s on c.args.at c.args.context told) end answer left (rw same at walked) }
 
 pub returns-in-Err-clause-steps : goal.returns-in-Err-clause-steps

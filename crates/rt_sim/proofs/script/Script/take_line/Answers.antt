@@ -1,6 +1,6 @@
 use Rattle.std.proofs.Common.{rules, refl}
 use Rattle.std.proofs.lemmas.Int.{to_z-of_z}
-use mir.Syntax.{w64}
+use mir.Syntax.{w32, w64}
 use mir.Val.{SFits}
 use Rattle.rt_model.specs.declared.answer.Answer.TheVariants.{Ready}
 use Rattle.rt_world.proofs.Walked.{polled-gives}
@@ -53,3 +53,19 @@ pub returns-in-Within-clause-steps : goal.returns-in-Within-clause-steps
 unfolding goes_on
 returns-in-Within-clause-steps g c lines =
     rw (c.in-Within.is) (rw c.sleep-fresh-in-Within.ensures at (c.join_within.ensures.steps (λ next. goes_on lines next c.args.world.now.told.state.clock.time c.args.cx.now.task)))
+
+pub returns-in-Stopped-clause-steps : goal.returns-in-Stopped-clause-steps
+unfolding goes_on
+returns-in-Stopped-clause-steps g c lines =
+    rw (c.in-Stopped.is) (c.ask_stopped.ensures.steps (λ next. goes_on lines next c.args.world.now.told.state.clock.time c.args.cx.now.task))
+
+pub returns-in-Wait-clause-steps : goal.returns-in-Wait-clause-steps
+unfolding goes_on
+returns-in-Wait-clause-steps g c lines =
+    rw (c.in-Wait.is) (c.wait.ensures.steps (λ next. goes_on lines next c.args.world.now.told.state.clock.time c.args.cx.now.task))
+
+pub returns-in-Stop-clause-steps : goal.returns-in-Stop-clause-steps
+unfolding goes_on
+returns-in-Stop-clause-steps g c lines =
+    let fits : SFits w32 c.in-Stop.value = (search rules) in
+    rw (c.in-Stop.is) (rw (to_z-of_z w32 c.in-Stop.value fits) at (c.stop.ensures.steps (λ next. goes_on lines next c.args.world.now.told.state.clock.time c.args.cx.now.task)))
