@@ -4,7 +4,7 @@ ghost use Rattle.rt_model.specs.Rules.{MayCall};
 ghost use Rattle.rt_world.specs.Calls.{Kept};
 
 use crate::tests::{Making, lines};
-use crate::{Context, Error, NoMemory, Poller, Signal, Signaler};
+use crate::{CompletionWait, Context, Error, NoMemory, Poller, Signal, Signaler};
 use rand_chacha::ChaCha12Rng;
 use rand_core::SeedableRng;
 use rt_audit::{FinishCause, Journal};
@@ -27,21 +27,44 @@ fn lets_go(signal: Result<Signal, Error>, world: &mut Making) -> bool
     }
 }
 
+/// Gives two signals and their completion up. Answers whether the second was made.
+#[tactic(auto, using(rt_world::proofs::Walked::close_laws))]
+fn lets_all_go(
+    first: Signal,
+    second: Result<Signal, Error>,
+    completion: CompletionWait,
+    world: &mut Making,
+) -> bool
+    requires { MayCall world.old.told.state world.old.out }
+    ensures { Kept world.old world.new }
+{
+    first.give_up(world);
+    let made = lets_go(second, world);
+    completion.give_up(world);
+    made
+}
+
+/// Makes a further signal, gives the group its value, and gives all up. Answers whether the signal was made.
+#[tactic(auto, using(rt_world::proofs::Walked::close_laws))]
+fn gives(signaler: Signaler, first: Signal, world: &mut Making) -> bool
+    requires { MayCall world.old.told.state world.old.out }
+    ensures { Kept world.old world.new }
+{
+    let second = first.clone_signal(world);
+    let completion = signaler.signal(world, 5);
+    lets_all_go(first, second, completion, world)
+}
+
 /// Makes a group, gives its value, and gives up its two signals and its completion. Answers whether all were made.
 #[tactic(auto, using(rt_world::proofs::Walked::close_laws))]
 fn gives_a_value(world: &mut Making) -> bool
     requires { MayCall world.old.told.state world.old.out }
     ensures { Kept world.old world.new }
 {
-    let Ok((signaler, first)) = Signaler::new(world) else {
-        return false;
-    };
-    let second = first.clone_signal(world);
-    let completion = signaler.signal(world, 5);
-    first.give_up(world);
-    let made = lets_go(second, world);
-    completion.give_up(world);
-    made
+    match Signaler::new(world) {
+        Ok((signaler, first)) => gives(signaler, first, world),
+        Err(_error) => false,
+    }
 }
 
 /// Makes a group, and gives its signaler up. Answers whether it was made.
@@ -89,20 +112,48 @@ fn copies(signal: Result<Signal, Error>, world: &mut Making) -> bool
     }
 }
 
+/// Makes a signal of the shutdown, and gives it up. Answers whether it was made.
+#[tactic(auto, using(rt_world::proofs::Walked::close_laws))]
+fn opens(context: &Context, world: &mut Making) -> bool
+    requires { MayCall world.old.told.state world.old.out }
+    ensures { Kept world.old world.new }
+{
+    let before = context.stopped(world);
+    lets_go(before, world)
+}
+
+/// Makes a signal of the shutdown that began, and gives it and a copy up. Answers whether both were made.
+#[tactic(auto, using(rt_world::proofs::Walked::close_laws))]
+fn holds(context: &Context, world: &mut Making) -> bool
+    requires { MayCall world.old.told.state world.old.out }
+    ensures { Kept world.old world.new }
+{
+    let behind = context.stopped(world);
+    copies(behind, world)
+}
+
 /// Makes signals of the shutdown before it begins and behind that. Answers whether all were made.
 #[tactic(auto, using(rt_world::proofs::Walked::close_laws))]
-fn begins_the_shutdown(alloc: Global, world: &mut Making) -> bool
+fn begins_the_shutdown(context: &Context, world: &mut Making) -> bool
+    requires { MayCall world.old.told.state world.old.out }
+    ensures { Kept world.old world.new }
+{
+    let open = opens(context, world);
+    let stopped = stops(world);
+    let held = holds(context, world);
+    open & stopped & held
+}
+
+/// The same, on a context that is closed then.
+#[tactic(auto, using(rt_world::proofs::Walked::close_laws))]
+fn shuts_down(alloc: Global, world: &mut Making) -> bool
     requires { MayCall world.old.told.state world.old.out }
     ensures { Kept world.old world.new }
 {
     let context = Context::root(alloc);
-    let before = context.stopped(world);
-    let open = lets_go(before, world);
-    let stopped = stops(world);
-    let behind = context.stopped(world);
-    let held = copies(behind, world);
+    let began = begins_the_shutdown(&context, world);
     context.close(world);
-    open && stopped && held
+    began
 }
 
 /// Whether the calls are answered and written as they should be.
@@ -146,7 +197,7 @@ finish nomemory
     };
     let given = gives_a_value(&mut world);
     let closed = gives_none(&mut world);
-    let shutdown = begins_the_shutdown(alloc, &mut world);
+    let shutdown = shuts_down(alloc, &mut world);
     let cause = world.cleanup_unmade(None, FinishCause::NoMemory);
     let (journal, _, panic) = world.into_parts();
     let text = lines(alloc, &journal)?;
