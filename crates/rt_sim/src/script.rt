@@ -1,6 +1,6 @@
 //! The task type of a scenario.
 
-ghost use Rattle.std.specs.Prelude.{◌≡◌, ◌≢◌, ◌∷◌, ◌+◌, ◌<◌, List, length, pos, Ok, Err, Result, IfNone, IfSome, IfOk, OnOk, leb, is_some, Some, None, ℕ, ℤ};
+ghost use Rattle.std.specs.Prelude.{◌≡◌, ◌≢◌, ◌∷◌, ◌+◌, ◌<◌, ◌≤◌, List, length, pos, Ok, Err, Result, IfNone, IfSome, IfOk, OnOk, leb, is_some, slice_get, vec_capacity, vec_len, [], Some, None, ℕ, ℤ};
 ghost use Rattle.rt_model.specs.Lists.{find};
 ghost use Rattle.rt_model.specs.Rules.{MayCall};
 ghost use Rattle.rt_model.specs.Walk.{Last};
@@ -51,22 +51,23 @@ pub struct Script {
     place: usize,
     last: i64,
     waits: Waits,
-    // a token, and so apart from `waits`, which each line lets go
-    pub(crate) stop: Option<Stop>,
+    // None or one. A token, and so apart from `waits`, which each line lets go; and in a block of its own, since a script is moved at
+    // each visit.
+    stop: Vec<Stop>,
     held: Tasks<Held>,
     pub(crate) context: Context,
 }
 
 impl Model for Script {
-    ghost use Rattle.std.specs.Prelude.{◌≡◌, ◌<◌, length};
+    ghost use Rattle.std.specs.Prelude.{◌≡◌, ◌<◌, ◌≤◌, length, slice_get, vec_len};
     ghost use Rattle.rt_sim.specs.Program.{text_at};
     ghost use Rattle.rt_sim.specs.Script.{Script};
 
     ghost Value = { Script };
 
-    ghost view = { λ s. record { program = s.program; text = text_at s.program s.script; place = s.place; last = s.last; waits = s.waits; stop = s.stop; held = s.held.items; places = s.held.next; context = s.context } };
+    ghost view = { λ s. record { program = s.program; text = text_at s.program s.script; place = s.place; last = s.last; waits = s.waits; stop = slice_get s.stop.items 0; held = s.held.items; places = s.held.next; context = s.context } };
 
-    ghost invariant = { λ s. (s.held.first ≡ 0) × (s.script < length s.program) };
+    ghost invariant = { λ s. (s.held.first ≡ 0) × (s.script < length s.program) × (vec_len s.stop ≤ 1) };
 }
 
 impl Outcome for Script {
@@ -80,13 +81,14 @@ impl Script {
         ensures { result ≡ started program script context }
     {
         let held = Tasks::new(program.allocator(), 0);
+        let stop = Vec::new(program.allocator());
         Script {
             program,
             script,
             place: 0,
             last: 0,
             waits: Waits::Nothing,
-            stop: None,
+            stop,
             held,
             context,
         }
@@ -249,6 +251,25 @@ impl Script {
             Some(Held::Handle(_handle)) => unreachable!(),
             None => unreachable!(),
         }
+    }
+
+    /// Takes out the stop that is under way, with its room.
+    pub(crate) fn take_stop(&mut self) -> Vec<Stop>
+        ensures stop { slice_get result.items 0 ≡ self.old.stop }
+        ensures few { vec_len result ≤ 1 }
+        ensures state { self.new ≡ record self.old { stop = None } }
+    {
+        let none = Vec::new(self.program.allocator());
+        mem::replace(&mut self.stop, none)
+    }
+
+    /// Keeps the stop that is under way.
+    pub(crate) fn keep_stop(&mut self, stop: Vec<Stop>)
+        requires none { self.old.stop ≡ None }
+        requires few { vec_len stop ≤ 1 }
+        ensures { self.new ≡ record self.old { stop = slice_get stop.items 0 } }
+    {
+        mem::replace(&mut self.stop, stop).destroy_empty();
     }
 
     /// Keeps this under a name that holds nothing.
@@ -638,7 +659,9 @@ impl Task for Script {
             held,
             context,
         } = self;
-        give_stop_up(world, stop);
+        let mut room = stop;
+        give_stop_up(world, only_one(&mut room));
+        room.destroy_empty();
         let held = stop_waiting(world, waits, held);
         release_all(world, held);
         context.close(world);
@@ -673,6 +696,16 @@ fn turn_in(waits: Waits) -> Reschedule
         Waits::Yields(turn) => turn,
         _ => reschedule(),
     }
+}
+
+/// Takes out the stop that stands in its room.
+pub(crate) fn only_one(room: &mut Vec<Stop>) -> Option<Stop>
+    requires { vec_len room.old ≤ 1 }
+    ensures stop { result ≡ slice_get room.old.items 0 }
+    ensures empty { room.new.items ≡ [] }
+    ensures fits { IfSome result (λ stop. 1 ≤ vec_capacity room.new) }
+{
+    room.pop()
 }
 
 /// Gives up the stop that is under way.

@@ -1,6 +1,6 @@
 //! The lines of a script on the shutdown of its run.
 
-ghost use Rattle.std.specs.Prelude.{◌≡◌, ◌+◌, ◌<◌, length, IfNone, None, Ok};
+ghost use Rattle.std.specs.Prelude.{◌≡◌, ◌+◌, ◌<◌, ◌≤◌, [], length, vec_capacity, IfNone, None, Ok};
 ghost use Rattle.rt_model.specs.Rules.{MayCall};
 ghost use Rattle.rt_world.specs.Calls.{IsPolling, Kept};
 ghost use Rattle.rt_world.specs.Walked.{Advanced};
@@ -8,9 +8,8 @@ ghost use Rattle.rt_sim.specs.Script.{Next, Script, asks, awaits, stop_goes, sto
 
 use crate::Script;
 use crate::held::Held;
-use crate::script::UNHELD;
+use crate::script::{UNHELD, only_one};
 use rt_core::{Answer, Cx, Nanos, Poll, Poller, Rng, Stop, World};
-use std::mem;
 
 #[tactic(auto, using(rt_world::proofs::Walked::task_laws))]
 impl Script {
@@ -90,23 +89,35 @@ impl Script {
         ensures text { self.new.text ≡ self.old.text }
         ensures steps { (on : Script → Next) → Advanced (stops self.old on value limit world.old.told.state.clock.time cx.now.task) (on self.new) world.old world.new result self.new }
     {
-        if let Some(stop) = self.stop.take() {
-            return self.poll_stop(world, cx, stop);
+        let mut room = self.take_stop();
+        if let Some(stop) = only_one(&mut room) {
+            return self.poll_stop(world, cx, stop, room);
+        }
+        if room.reserve(1).is_err() {
+            room.destroy_empty();
+            world.lack();
+            return Some(Answer::NoMemory);
         }
         match self.context.child(world, "stop") {
-            Ok(context) => self.poll_stop(world, cx, context.stop(value, limit)),
-            Err(error) => self.refuse(error),
+            Ok(context) => self.poll_stop(world, cx, context.stop(value, limit), room),
+            Err(error) => {
+                room.destroy_empty();
+                self.refuse(error)
+            }
         }
     }
 
-    /// Polls a stop. Answers none where the script goes on.
+    /// Polls a stop, which stays in this room where it is pending. Answers none where the script goes on.
     #[tactic(auto, using(rt_world::proofs::Walked::task_laws), unfolding(crate::specs::Script::stop_goes))]
     fn poll_stop<G: Rng>(
         &mut self,
         world: &mut World<Script, i64, G>,
         cx: &Cx,
         stop: Stop,
+        room: Vec<Stop>,
     ) -> Option<Answer<i64>>
+        requires empty { room.items ≡ [] }
+        requires fits { 1 ≤ vec_capacity room }
         requires room { self.old.place < length self.old.text.lines }
         requires polling { IsPolling world.old cx.now.task }
         requires free { self.old.stop ≡ None }
@@ -118,18 +129,19 @@ impl Script {
         let mut stop = stop;
         match stop.poll(world, cx) {
             Poll::Pending => {
-                match mem::replace(&mut self.stop, Some(stop)) {
-                    None => {}
-                    Some(_stop) => unreachable!(),
-                }
+                let mut room = room;
+                room.push_reserved(stop);
+                self.keep_stop(room);
                 Some(Answer::Pending)
             }
             Poll::Ready(Ok(())) => {
+                room.destroy_empty();
                 stop.give_up(world);
                 self.pass(0);
                 None
             }
             Poll::Ready(Err(error)) => {
+                room.destroy_empty();
                 stop.give_up(world);
                 self.refuse(error)
             }
