@@ -1,6 +1,8 @@
 -- The shutdown of a run stays one, and its signals show the value of the first stop.
-use Rattle.std.proofs.Common.{◌≡◌, ◌⊎◌, inl, inr, ℕ, ℤ, List, [], ◌∷◌, ◌++◌, Option, Some, None, Result, Ok, true, refl, sym, ◌∙◌, arith}
+use Rattle.std.proofs.Common.{◌≡◌, ◌≢◌, ◌⊎◌, inl, inr, ℕ, ℤ, List, [], ◌∷◌, ◌++◌, Option, Some, None, Result, Ok, true, refl, ◌∙◌, arith, All}
+use Rattle.std.specs.List.{AllByRecursion}
 use Rattle.std.specs.Option.{IsSome}
+use Rattle.std.proofs.lemmas.List.Elements.{recursion_from_All}
 use Rattle.rt_base.specs.declared.error.Error.{Error}
 use Rattle.rt_base.specs.declared.poll.Poll.{Poll}
 use Rattle.rt_base.specs.declared.poll.Poll.TheVariants.{Ready}
@@ -23,7 +25,7 @@ use Rattle.rt_laws.proofs.Clock.{lawful-tail, lawful-front}
 abbrev IsOne : State → Type 0
 IsOne s = IsShutdown s.signals s.stop
 
-by-value : (o : Option ℤ) → (o ≡ None) ⊎ ((v : ℤ) × (o ≡ Some v))
+pub by-value : (o : Option ℤ) → (o ≡ None) ⊎ ((v : ℤ) × (o ≡ Some v))
 by-value None = inl refl
 by-value (Some v) = inr (v, refl)
 
@@ -87,9 +89,34 @@ stays-all s (e ∷ x) v is = stays-all (after s e) x v (stays-after s e v is)
 pub stays : (b : Begin) (x y : List Entry) (v : ℤ) → (after_all (begun b) x).stop.value ≡ Some v → (after_all (begun b) (x ++ y)).stop.value ≡ Some v
 stays b x y v is = rw (after_all-append (begun b) x y) (stays-all (after_all (begun b) x) y v is)
 
+-- and nothing but a stop gives it
+abbrev IsNoStop : Entry → Type 0
+IsNoStop e = (by : Option ℕ) (value : ℤ) (reply : CallReply) → e ≢ CallEntry by (Stop value) reply
+
+none-called : (s : StopRecord) (by : Option ℕ) (call : Call) (reply : CallReply) → IsNoStop (CallEntry by call reply) → s.value ≡ None → (stop_called s call reply).value ≡ None
+none-called s by (Stop value) (CompletionAt number) lacks none = absurd (lacks by value (CompletionAt number) refl)
+none-called s by _ _ lacks none = none
+
+none-after : (s : State) (e : Entry) → IsNoStop e → s.stop.value ≡ None → (after s e).stop.value ≡ None
+unfolding after
+none-after s (CallEntry by call reply) lacks none = none-called s.stop by call reply lacks none
+none-after s _ lacks none = none
+
+none-all : (s : State) (x : List Entry) → AllByRecursion IsNoStop x → s.stop.value ≡ None → (after_all s x).stop.value ≡ None
+none-all s [] lacks none = none
+none-all s (e ∷ x) lacks none = none-all (after s e) x lacks.1 (none-after s e lacks.0 none)
+
+pub unstopped : (b : Begin) (x : List Entry) → All IsNoStop x → (after_all (begun b) x).stop.value ≡ None
+unfolding begun
+unstopped b x lacks = none-all (begun b) x (recursion_from_All IsNoStop x lacks) refl
+
 -- what is told behind a stop
 told-behind : (r : SignalRecord) (s : StopRecord) (v : ℤ) → s.value ≡ Some v → stopped_reply (stopped_answer r s) ≡ ClosedWith v
 told-behind r s v some = rw some refl
+
+-- and before the first
+told-before : (r : SignalRecord) (s : StopRecord) → s.value ≡ None → stopped_reply (stopped_answer r s) ≡ SignalAt r.count
+told-before r s none = rw none refl
 
 shown-behind : (s : StopRecord) (v : ℤ) → s.value ≡ Some v → stop_shown s ≡ Ok (Ready v)
 shown-behind s v some = rw some refl
@@ -117,6 +144,12 @@ module _ (b : Begin) (x y : List Entry) (by : Option ℕ) where
       let m = (lawful-tail (begun b) x (CallEntry by Stopped reply ∷ y) l).0 in
       let told : reply ≡ stopped_reply (stopped_answer before.signals before.stop) = m.1.1 in
       told ∙ told-behind before.signals before.stop v some
+
+  pub still_open : (reply : CallReply) → IsLawful (begun b) (x ++ CallEntry by Stopped reply ∷ y) → before.stop.value ≡ None → reply ≡ SignalAt before.signals.count
+  still_open reply l none =
+      let m = (lawful-tail (begun b) x (CallEntry by Stopped reply ∷ y) l).0 in
+      let told : reply ≡ stopped_reply (stopped_answer before.signals before.stop) = m.1.1 in
+      told ∙ told-before before.signals before.stop none
 
   pub polled : (signal : ℕ) (v : ℤ) (reply : CallReply) → IsLawful (begun b) (x ++ CallEntry by (SignalPoll signal) reply ∷ y) → signal_group before.signals signal ≡ Some before.stop.group → before.stop.value ≡ Some v → reply ≡ Value v
   polled signal v reply l of some =

@@ -45,13 +45,13 @@ record AreNumbered (ss : Slotted) : Type 0 where
   pub senders : AreApart ss.senders
   pub senders_given : (k : ℕ) → is_some (find k ss.senders) ≡ true → k < ss.count
 
-none-next : {A : Type 0} (count : ℕ) (xs : List (ℕ × A)) → ((k : ℕ) → is_some (find k xs) ≡ true → k < count) → is_some (find count xs) ≡ false
+pub none-next : {A : Type 0} (count : ℕ) (xs : List (ℕ × A)) → ((k : ℕ) → is_some (find k xs) ≡ true → k < count) → is_some (find count xs) ≡ false
 none-next count xs given = elim (cases_Bool (is_some (find count xs))) [
   | inl e ↦ (let l = given count e in absurd (omega arith))
   | inr e ↦ e
 ]
 
-given-more : {A : Type 0} (count : ℕ) (a : A) (xs : List (ℕ × A)) → ((k : ℕ) → is_some (find k xs) ≡ true → k < count) → (k : ℕ) → is_some (find k (xs ++ (count, a) ∷ [])) ≡ true → k < count + 1
+pub given-more : {A : Type 0} (count : ℕ) (a : A) (xs : List (ℕ × A)) → ((k : ℕ) → is_some (find k xs) ≡ true → k < count) → (k : ℕ) → is_some (find k (xs ++ (count, a) ∷ [])) ≡ true → k < count + 1
 given-more count a xs given k h = elim (has-add k count a xs h) [
   | inl e ↦ omega arith
   | inr was ↦ (let l = given k was in omega arith)

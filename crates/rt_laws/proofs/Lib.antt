@@ -9,6 +9,7 @@ pub mod Flags
 pub mod Doubled
 pub mod Followed
 pub mod Fronts
+pub mod Grouped
 pub mod Handed
 pub mod Endings
 pub mod Ends

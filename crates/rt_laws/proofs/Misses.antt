@@ -9,14 +9,14 @@ use Rattle.rt_audit.specs.declared.answer.AnswerKind.TheVariants.{Pending as Ans
 use Rattle.rt_audit.specs.declared.finish.FinishCause.{FinishCause}
 use Rattle.rt_audit.specs.declared.finish.FinishCause.TheVariants.{Completed, NoMemory}
 use Rattle.rt_audit.specs.declared.entry.Entry.{Entry}
-use Rattle.rt_audit.specs.declared.entry.Entry.TheVariants.{Call, Event, Wake, Round, Visit, Answer as Answered, NodeEnd, Advance, Skip, Fire, Cleanup, Crash, Finish}
+use Rattle.rt_audit.specs.declared.entry.Entry.TheVariants.{Call, Event, Visit, Answer as Answered, NodeEnd, Advance, Skip, Fire, Cleanup, Crash, Finish}
 use Rattle.rt_model.specs.Events.{process_task, task_fields}
 use Rattle.rt_model.specs.State.{State, begun}
 use Rattle.rt_model.specs.Effects.{after, after_all}
 use Rattle.rt_model.specs.Rules.{IsLawful}
 use Rattle.rt_model.specs.Tied.{Steps, Value, nothing, IsTied}
 use Rattle.rt_model.specs.Run.{IsRun}
-use Rattle.rt_laws.specs.Examples.{small_begin, ready_root, opening, visiting_root, still_asleep, awake, root_ends, finishing, stray_call, open_node, unanswered_poll, second_task, ordered, finished_for, called, missing_wake, early_fire, early_sleep, skipped_journal}
+use Rattle.rt_laws.specs.Examples.{small_begin, ready_root, opening, visiting_root, still_asleep, awake, root_ends, finishing, stray_call, open_node, unanswered_poll, second_task, ordered, finished_for, called, fires_with, early_fire, early_sleep, skipped_journal}
 use Rattle.rt_laws.proofs.Clock.{lawful-tail}
 use Rattle.rt_laws.proofs.Valid.{only}
 use Rattle.rt_laws.proofs.Values.{all-whole, not-whole}
@@ -34,7 +34,7 @@ no_stray_call = behind (ready ++ root_ends) (Call None (SleepPoll 5) (PendingAt 
 
 pub no_unanswered_poll : IsLawful (begun small_begin) unanswered_poll → ⊥
 unfolding begun after
-no_unanswered_poll = behind (opening ++ visiting_root) (root_ends ++ finishing Completed) (λ l. l.0.1.0)
+no_unanswered_poll = behind (opening ++ visiting_root) (root_ends ++ finishing NoMemory) (λ l. l.0.1.0)
 
 pub no_second_task : IsLawful (begun small_begin) second_task → ⊥
 unfolding begun after
@@ -48,16 +48,16 @@ pub no_other_cause : (cause : FinishCause) → cause ≢ Completed → cause ≢
 unfolding begun after
 no_other_cause cause n k l = elim (lawful-tail (begun small_begin) (ready ++ root_ends ++ (Crash [] ∷ [])) (Finish cause ∷ []) l).0.1 [ inl e ↦ k e | inr e ↦ n (cc) ]
 
-pub no_missing_wake : (due : ℕ) → IsLawful (begun small_begin) (missing_wake due) → ⊥
+pub no_missing_wake : (due : ℕ) → IsLawful (begun small_begin) (fires_with due []) → ⊥
 unfolding begun after
 no_missing_wake due l =
-    let m = (lawful-tail (begun small_begin) (opening ++ visiting_root ++ still_asleep due ++ (Advance 1000000 ∷ Skip due ∷ Fire 0 ∷ [])) (Round (0 ∷ []) ∷ visiting_root ++ awake due ++ root_ends ++ finishing Completed) l).0.0 in
+    let m = (lawful-tail (begun small_begin) (opening ++ visiting_root ++ still_asleep due ++ (Advance 1000000 ∷ Skip due ∷ Fire 0 ∷ [])) (Cleanup ∷ []) l).0.0 in
     cc
 
 pub no_early_fire : (due : ℕ) → 1000000 < due → IsLawful (begun small_begin) (early_fire due) → ⊥
 unfolding begun after
 no_early_fire due later l =
-    let m = (lawful-tail (begun small_begin) (opening ++ visiting_root ++ still_asleep due ++ (Advance 1000000 ∷ [])) (Fire 0 ∷ Wake 0 ∷ Skip due ∷ Round (0 ∷ []) ∷ visiting_root ++ awake due ++ root_ends ++ finishing Completed) l).0.1.2 in
+    let m = (lawful-tail (begun small_begin) (opening ++ visiting_root ++ still_asleep due ++ (Advance 1000000 ∷ [])) (Fire 0 ∷ []) l).0.1.2 in
     let early : leb due 1000000 ≡ false = grind arith in
     cc
 

@@ -1,27 +1,25 @@
 -- The runs with panics, and what comes near to them is none.
-use Rattle.std.proofs.Common.{◌≡◌, ℕ, Bool, true, false, List, [], ◌∷◌, ◌++◌, Some, refl, arith}
+use Rattle.std.proofs.Common.{◌≡◌, ◌≢◌, ℕ, Bool, true, false, List, [], ◌∷◌, ◌++◌, Some, refl, arith}
 use Rattle.std.proofs.lemmas.List.Sorted.{length_permutation}
-use Rattle.rt_audit.specs.declared.answer.AnswerKind.TheVariants.{Pending, Stopped, Ended}
-use Rattle.rt_audit.specs.declared.call.Call.TheVariants.{CloseNode, GiveUp}
-use Rattle.rt_audit.specs.declared.reply.CallReply.TheVariants.{Done}
+use Rattle.rt_audit.specs.declared.answer.AnswerKind.{AnswerKind}
+use Rattle.rt_audit.specs.declared.answer.AnswerKind.TheVariants.{Pending, Ready, Panicked, Stopped, NoMemory, Ended}
 use Rattle.rt_audit.specs.declared.finish.FinishCause.{FinishCause}
 use Rattle.rt_audit.specs.declared.finish.FinishCause.TheVariants.{Completed, TaskPanicked}
 use Rattle.rt_audit.specs.declared.entry.Entry.{Entry}
-use Rattle.rt_audit.specs.declared.entry.Entry.TheVariants.{Call, Wake, Round, Answer as Answered, NodeEnd, Advance, Cleanup}
-use Rattle.rt_model.specs.State.{State, begun}
+use Rattle.rt_audit.specs.declared.entry.Entry.TheVariants.{Wake, Round, Answer as Answered, NodeEnd, Advance}
+use Rattle.rt_model.specs.State.{State, Halted, begun}
 use Rattle.rt_model.specs.Effects.{after, after_all}
-use Rattle.rt_model.specs.Rules.{IsLawful}
+use Rattle.rt_model.specs.Rules.{MayAnswer, IsLawful}
 use Rattle.rt_model.specs.Tied.{Value, nothing, IsTied}
 use Rattle.rt_model.specs.Run.{IsRun}
-use Rattle.rt_laws.specs.Examples.{finishing}
 use Rattle.rt_laws.specs.Supervised.{gave_beside, Aborting, aborter_joined}
-use Rattle.rt_laws.specs.Panics.{begin_catching, panicking_root, panicking_journal, raising_root, failed_beside, raises, both_wakes, kept_panic, reported_journal, caught_panic, caught_journal, answered_behind, answered_caught, wakes_behind}
+use Rattle.rt_laws.specs.Panics.{begin_catching, panicking_root, panicking_journal, raising_root, failed_beside, raises, both_wakes, kept_panic, reported_journal, caught_panic, caught_journal, answered_kept, answered_caught, wakes_behind, woken_in}
 use Rattle.rt_laws.proofs.Clock.{lawful-tail}
 use Rattle.rt_laws.proofs.Values.{same_value}
 use Rattle.rt_laws.proofs.Decided.{lawful}
 use Rattle.rt_laws.proofs.Followed.{tied}
 
-pub reported-lawful : IsLawful (begun (begin_catching false)) reported_journal
+reported-lawful : IsLawful (begun (begin_catching false)) reported_journal
 unfolding begun after
 reported-lawful = lawful (begin_catching false) reported_journal refl
 
@@ -70,30 +68,35 @@ module _ (text : List ℕ) where
 tail : (catch : Bool) (x y : List Entry) → IsLawful (begun (begin_catching catch)) (x ++ y) → IsLawful (after_all (begun (begin_catching catch)) x) y
 tail catch x y l = lawful-tail (begun (begin_catching catch)) x y l
 
-pub no_poll : IsLawful (begun (begin_catching false)) (answered_behind Pending) → ⊥
-unfolding begun after
-no_poll l =
-    let h = (tail false kept_panic (Answered 0 Pending ∷ Cleanup ∷ NodeEnd 0 ∷ Call (Some 0) (GiveUp 1) Done ∷ Call (Some 0) (CloseNode 0) Done ∷ Answered 0 Ended ∷ finishing TaskPanicked) l).0.1 in
-    cc
+-- the visit of a root that is stopped is answered in one way
+not-answered : (s : State) (task : ℕ) (kind : AnswerKind) → s.phase ≡ Halted task → kind ≢ Stopped → MayAnswer s task kind → ⊥
+not-answered s task Pending is other m = cc
+not-answered s task Ready is other m = cc
+not-answered s task Panicked is other m = cc
+not-answered s task Stopped is other m = other refl
+not-answered s task NoMemory is other m = cc
+not-answered s task Ended is other m = rw is at m
 
-pub no_missing_wake : IsLawful (begun (begin_catching false)) (wakes_behind (Wake 0 ∷ []) (0 ∷ 0 ∷ [])) → ⊥
+pub no_poll : (kind : AnswerKind) → kind ≢ Stopped → IsLawful (begun (begin_catching false)) (answered_kept kind) → ⊥
 unfolding begun after
-no_missing_wake l =
-    let h = (tail false (aborter_joined ++ raises ++ (Wake 0 ∷ [])) (NodeEnd 1 ∷ Advance 2000000 ∷ Round (0 ∷ 0 ∷ []) ∷ []) l).0.0 in
-    cc
+no_poll kind other l =
+    let m = (tail false kept_panic (Answered 0 kind ∷ []) l).0.1.0 in
+    not-answered (after_all (begun (begin_catching false)) kept_panic) 0 kind refl other m
 
-pub no_round_of_one : IsLawful (begun (begin_catching false)) (wakes_behind both_wakes (0 ∷ [])) → ⊥
+pub no_missing_wake : IsLawful (begun (begin_catching false)) (wakes_behind (Wake 0 ∷ [])) → ⊥
+unfolding begun after
+no_missing_wake l = let h = (tail false (aborter_joined ++ raises ++ (Wake 0 ∷ [])) (NodeEnd 1 ∷ []) l).0.0 in cc
+
+pub no_round_of_one : IsLawful (begun (begin_catching false)) (woken_in both_wakes (0 ∷ [])) → ⊥
 unfolding begun after
 no_round_of_one l =
-    let m = (tail false (aborter_joined ++ raises ++ both_wakes ++ (NodeEnd 1 ∷ Advance 2000000 ∷ [])) (Round (0 ∷ []) ∷ []) l).0.1.1 in
+    let m = (tail false (wakes_behind both_wakes ++ (Advance 2000000 ∷ [])) (Round (0 ∷ []) ∷ []) l).0.1.1 in
     let e = length_permutation (0 ∷ 0 ∷ []) (0 ∷ []) m in
     omega arith
 
-pub no_second_wake : IsLawful (begun (begin_catching true)) (wakes_behind both_wakes (0 ∷ [])) → ⊥
+pub no_second_wake : IsLawful (begun (begin_catching true)) (wakes_behind both_wakes) → ⊥
 unfolding begun after
-no_second_wake l =
-    let h = (tail true (aborter_joined ++ raises ++ (Wake 0 ∷ [])) (Wake 0 ∷ NodeEnd 1 ∷ Advance 2000000 ∷ Round (0 ∷ []) ∷ []) l).0 in
-    cc
+no_second_wake l = let h = (tail true (aborter_joined ++ raises ++ (Wake 0 ∷ [])) (Wake 0 ∷ NodeEnd 1 ∷ []) l).0 in cc
 
 pub no_stop : IsLawful (begun (begin_catching true)) (answered_caught Stopped) → ⊥
 unfolding begun after
@@ -101,13 +104,21 @@ no_stop l = let h = (tail true caught_panic (Answered 0 Stopped ∷ []) l).0.1 i
 
 -- what each of these differs from
 
-pub both_come : IsLawful (begun (begin_catching false)) (wakes_behind both_wakes (0 ∷ 0 ∷ []))
+pub root_stopped : IsLawful (begun (begin_catching false)) (answered_kept Stopped)
 unfolding begun after
-both_come = lawful (begin_catching false) (wakes_behind both_wakes (0 ∷ 0 ∷ [])) refl
+root_stopped = lawful (begin_catching false) (answered_kept Stopped) refl
 
-pub one_comes : IsLawful (begun (begin_catching true)) (wakes_behind (Wake 0 ∷ []) (0 ∷ []))
+pub both_come : IsLawful (begun (begin_catching false)) (wakes_behind both_wakes)
 unfolding begun after
-one_comes = lawful (begin_catching true) (wakes_behind (Wake 0 ∷ []) (0 ∷ [])) refl
+both_come = lawful (begin_catching false) (wakes_behind both_wakes) refl
+
+pub queued_twice : IsLawful (begun (begin_catching false)) (woken_in both_wakes (0 ∷ 0 ∷ []))
+unfolding begun after
+queued_twice = lawful (begin_catching false) (woken_in both_wakes (0 ∷ 0 ∷ [])) refl
+
+pub one_comes : IsLawful (begun (begin_catching true)) (wakes_behind (Wake 0 ∷ []))
+unfolding begun after
+one_comes = lawful (begin_catching true) (wakes_behind (Wake 0 ∷ [])) refl
 
 pub goes_on : IsLawful (begun (begin_catching true)) (answered_caught Pending)
 unfolding begun after

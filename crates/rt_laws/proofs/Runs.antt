@@ -6,7 +6,7 @@ use Rattle.rt_audit.specs.declared.answer.AnswerKind.TheVariants.{Ready as Answe
 use Rattle.rt_audit.specs.declared.finish.FinishCause.{FinishCause}
 use Rattle.rt_audit.specs.declared.finish.FinishCause.TheVariants.{Completed, NoMemory}
 use Rattle.rt_audit.specs.declared.entry.Entry.{Entry}
-use Rattle.rt_audit.specs.declared.entry.Entry.TheVariants.{Answer as Answered, Advance, Skip}
+use Rattle.rt_audit.specs.declared.entry.Entry.TheVariants.{Wake, Answer as Answered, Advance, Skip, Fire, Cleanup}
 use Rattle.rt_super.specs.Ancestry.{is_live, with_end}
 use Rattle.rt_model.specs.State.{State, begun}
 use Rattle.rt_model.specs.Effects.{after, after_all}
@@ -16,7 +16,8 @@ use Rattle.rt_model.specs.Turns.{Held, put}
 use Rattle.rt_model.specs.Tied.{Steps, Value, nothing, MovesCleanup, IsTied, taken}
 use Rattle.rt_model.specs.Run.{IsRun, IsCutOff}
 use Rattle.rt_model.proofs.Append.{IsLawful-append, IsTied-append}
-use Rattle.rt_laws.specs.Examples.{small_begin, gave, closes_node, ready_root, Sleeper, sleeping_root, opening, visiting_root, still_asleep, awake, alarm_fires, root_ends, finishing, ready_journal, skipped_journal, short_journal, cut_journal}
+use Rattle.rt_laws.specs.Examples.{small_begin, gave, closes_node, ready_root, Sleeper, sleeping_root, opening, visiting_root, still_asleep, awake, alarm_fires, root_ends, finishing, ready_journal, skipped_journal, short_journal, cut_journal, fires_with, early_fire, early_sleep}
+use Rattle.rt_laws.proofs.Decided.{lawful}
 use Rattle.rt_laws.proofs.Valid.{asleep, with_root, no_values}
 
 -- the end of a root, whatever it was
@@ -182,3 +183,24 @@ skipped_time due = refl
 pub short_time : (due : ℕ) → (after_all (begun small_begin) (short_journal due)).clock.time ≡ 1000000
 unfolding begun after
 short_time due = refl
+
+-- what comes near to their near misses
+
+pub wakes_behind_its_alarm : (due : ℕ) → 1000000 < due → due ≤ MAX_TIME → IsLawful (begun small_begin) (fires_with due (Wake 0 ∷ []))
+unfolding begun after
+wakes_behind_its_alarm due later within =
+    let first = opening ++ visiting_root ++ still_asleep due ++ (Advance 1000000 ∷ []) in
+    let ahead : ltb 1000000 due ≡ true = grind arith in
+    let now : leb due due ≡ true = grind arith in
+    IsLawful-append (begun small_begin) first (Skip due ∷ Fire 0 ∷ Wake 0 ∷ Cleanup ∷ []) (asleep-lawful due (omega arith) within) ((refl, (refl, rw ahead refl)), rw now (search rules))
+
+pub fires_within : (due : ℕ) → 0 < due → due ≤ 1000000 → IsLawful (begun small_begin) (early_fire due)
+unfolding begun after
+fires_within due later short =
+    let first = opening ++ visiting_root ++ still_asleep due ++ (Advance 1000000 ∷ []) in
+    let now : leb due 1000000 ≡ true = grind arith in
+    IsLawful-append (begun small_begin) first (Fire 0 ∷ []) (asleep-lawful due later (omega arith)) (rw now (search rules))
+
+pub over_at_once : IsLawful (begun small_begin) (early_sleep 0)
+unfolding begun after
+over_at_once = lawful small_begin (early_sleep 0) refl

@@ -1,16 +1,16 @@
 -- Roots that signal to themselves and stop their runs, and what comes near to their runs is none.
-use Rattle.std.proofs.Common.{◌≡◌, ℕ, pos, List, [], ◌∷◌, ◌++◌, Some, slice_index, refl, ap, arith}
+use Rattle.std.proofs.Common.{◌≡◌, ◌<◌, ℕ, pos, List, [], ◌∷◌, ◌++◌, Some, length, slice_index, refl, ap, arith}
 use Rattle.rt_audit.specs.declared.call.Call.{Call as CallOf}
 use Rattle.rt_audit.specs.declared.call.Call.TheVariants.{SignalPoll, CompletionPoll, SignalClose, Signal, Stop, Stopped}
 use Rattle.rt_audit.specs.declared.reply.CallReply.{CallReply}
 use Rattle.rt_audit.specs.declared.reply.CallReply.TheVariants.{Done, CompletionAt, SignalAt, Value as Shows, Pending as StillPending}
 use Rattle.rt_audit.specs.declared.finish.FinishCause.TheVariants.{Completed}
-use Rattle.rt_audit.specs.declared.entry.Entry.{Entry}
-use Rattle.rt_audit.specs.declared.entry.Entry.TheVariants.{Call, Wake, Round, Answer as Answered, Advance}
+use Rattle.rt_audit.specs.declared.entry.Entry.TheVariants.{Call, Event, Wake, Round, Answer as Answered, Advance}
 use Rattle.rt_audit.specs.declared.answer.AnswerKind.TheVariants.{Pending}
 use Rattle.rt_model.specs.State.{Announced, begun}
 use Rattle.rt_model.specs.Effects.{after, after_all}
-use Rattle.rt_model.specs.Rules.{Answers, IsLawful}
+use Rattle.rt_model.specs.Events.{process_task, task_fields, announced_by}
+use Rattle.rt_model.specs.Rules.{IsLawful}
 use Rattle.rt_model.specs.Tied.{nothing}
 use Rattle.rt_model.specs.Run.{IsRun}
 use Rattle.rt_laws.specs.Examples.{small_begin, gave, opening, visiting_root}
@@ -88,20 +88,48 @@ abbrev last_byte : List Announced → ℕ
 last_byte [] = 0
 last_byte (event ∷ events) = in_fields event.fields
 
-apart : (n : ℕ) → n ≡ 8 → n ≡ 9 → ⊥
-apart n e f = omega (arith, e, f)
+apart : (n m : ℕ) → n < m → n ≡ m → ⊥
+apart n m less e = omega (arith, e)
 
 pub no_call_announced_so : IsLawful (begun small_begin) (stop_begun (stop_event 8 ∷ Call (Some 0) (Stop (pos 9)) (CompletionAt 2) ∷ [])) → ⊥
 unfolding begun after
 no_call_announced_so l =
     let h = (tail (stop_begun (stop_event 8 ∷ [])) (Call (Some 0) (Stop (pos 9)) (CompletionAt 2) ∷ []) l).0.1.2 in
-    apart 8 refl (ap last_byte h)
+    apart 8 9 (omega arith) (ap last_byte h)
 
 pub no_stray_event : IsLawful (begun small_begin) (stop_begun (stopped_event ∷ Answered 0 Pending ∷ [])) → ⊥
 unfolding begun after
 no_stray_event l =
     let h = (tail (stop_begun (stopped_event ∷ [])) (Answered 0 Pending ∷ []) l).0.1.1 in
     cc
+
+abbrev label_length : List Announced → ℕ
+label_length [] = 0
+label_length (event ∷ events) = length event.label
+
+-- the event of a visit is no call's: its label is longer
+of-no-call : (call : CallOf) (reply : CallReply) → announced_by call reply ≡ record { label = process_task; fields = task_fields 0 [] } ∷ [] → ⊥
+of-no-call (Stop value) reply is = apart 4 12 (omega arith) (ap label_length is)
+of-no-call Stopped reply is = apart 7 12 (omega arith) (ap label_length is)
+of-no-call _ reply is = cc
+
+pub no_event_of_no_call : IsLawful (begun small_begin) (stop_begun (Event process_task (task_fields 0 []) ∷ [])) → ⊥
+unfolding begun after
+no_event_of_no_call l =
+    let m = (tail (stop_begun []) (Event process_task (task_fields 0 []) ∷ []) l).0.1.2 in
+    of-no-call m.0 m.1 m.2
+
+-- no call has two events
+one-event : (call : CallOf) (reply : CallReply) (one two : Announced) → announced_by call reply ≡ one ∷ two ∷ [] → ⊥
+one-event (Stop value) reply one two is = cc
+one-event Stopped reply one two is = cc
+one-event _ reply one two is = cc
+
+pub no_second_event : IsLawful (begun small_begin) (stop_begun (stopped_event ∷ stopped_event ∷ [])) → ⊥
+unfolding begun after
+no_second_event l =
+    let m = (tail (stop_begun (stopped_event ∷ [])) (stopped_event ∷ []) l).0.1.2 in
+    one-event m.0 m.1 _ _ m.2
 
 pub no_silent_stop : IsLawful (begun small_begin) (stop_begun (stop_event 9 ∷ Call (Some 0) (Stop (pos 9)) (CompletionAt 2) ∷ Answered 0 Pending ∷ [])) → ⊥
 unfolding begun after
@@ -118,3 +146,11 @@ pending_completion = lawful small_begin (completion_polled StillPending) refl
 pub announced_stop : IsLawful (begun small_begin) (stop_begun (stop_event 9 ∷ Call (Some 0) (Stop (pos 9)) (CompletionAt 2) ∷ Wake 0 ∷ Answered 0 Pending ∷ []))
 unfolding begun after
 announced_stop = lawful small_begin (stop_begun (stop_event 9 ∷ Call (Some 0) (Stop (pos 9)) (CompletionAt 2) ∷ Wake 0 ∷ Answered 0 Pending ∷ [])) refl
+
+pub one_event : IsLawful (begun small_begin) (stop_begun (stopped_event ∷ []))
+unfolding begun after
+one_event = lawful small_begin (stop_begun (stopped_event ∷ [])) refl
+
+pub one_before_its_call : IsLawful (begun small_begin) (stop_begun (stopped_event ∷ Call (Some 0) Stopped (SignalAt 2) ∷ []))
+unfolding begun after
+one_before_its_call = lawful small_begin (stop_begun (stopped_event ∷ Call (Some 0) Stopped (SignalAt 2) ∷ [])) refl

@@ -158,9 +158,9 @@ stray_call = opening ++ visiting_root ++ (Answered 0 AnswersReady ∷ []) ++ roo
 abbrev pub open_node : List Entry
 open_node = opening ++ visiting_root ++ (Answered 0 AnswersReady ∷ Cleanup ∷ NodeEnd 0 ∷ Answered 0 Ended ∷ []) ++ finishing Completed
 
--- a cleanup in the midst of a poll
+-- a cleanup in the midst of a poll, of a run that is cut off there: `cut_journal` without its answer
 abbrev pub unanswered_poll : List Entry
-unanswered_poll = opening ++ visiting_root ++ root_ends ++ finishing Completed
+unanswered_poll = opening ++ visiting_root ++ root_ends ++ finishing NoMemory
 
 -- a task that doesn't run is visited
 abbrev pub second_task : List Entry
@@ -183,17 +183,16 @@ drawn value = (Start 0 0 None 1000000 ∷ Root 0 ∷ Draw value ∷ Round (0 ∷
 abbrev pub called : CallOf → CallReply → List Entry
 called call reply = opening ++ visiting_root ++ (Call (Some 0) call reply ∷ Answered 0 AnswersReady ∷ []) ++ root_ends ++ finishing Completed
 
--- an alarm goes off and its task doesn't wake
-abbrev pub missing_wake : ℕ → List Entry
-missing_wake due =
-    opening ++ visiting_root ++ still_asleep due ++ (Advance 1000000 ∷ Skip due ∷ Fire 0 ∷ Round (0 ∷ []) ∷ []) ++ visiting_root ++ awake due ++ root_ends ++ finishing Completed
+-- an alarm goes off, these wakes follow, and the run is cut off
+abbrev pub fires_with : ℕ → List Entry → List Entry
+fires_with due wakes =
+    opening ++ visiting_root ++ still_asleep due ++ (Advance 1000000 ∷ Skip due ∷ Fire 0 ∷ []) ++ wakes ++ (Cleanup ∷ [])
 
--- it goes off before the clock skips to it
+-- it goes off behind the first cycle, whenever it is due
 abbrev pub early_fire : ℕ → List Entry
-early_fire due =
-    opening ++ visiting_root ++ still_asleep due ++ (Advance 1000000 ∷ Fire 0 ∷ Wake 0 ∷ Skip due ∷ Round (0 ∷ []) ∷ []) ++ visiting_root ++ awake due ++ root_ends ++ finishing Completed
+early_fire due = opening ++ visiting_root ++ still_asleep due ++ (Advance 1000000 ∷ Fire 0 ∷ [])
 
--- the sleep is over at its first poll
+-- the sleep is over at its first poll, whenever it is due
 abbrev pub early_sleep : ℕ → List Entry
 early_sleep due = opening ++ visiting_root ++ awake due ++ root_ends ++ finishing Completed
 

@@ -49,41 +49,44 @@ failed_beside task text =
 abbrev pub raises : List Entry
 raises = Visit 1 ∷ Event process_task (task_fields 1 handle) ∷ Answered 1 AnswersPanicked ∷ aborter_closes
 
--- these wakes, and the next round in this order
-abbrev pub woken_in : List Entry → List ℕ → List Entry
-woken_in wakes order = wakes ++ (NodeEnd 1 ∷ Advance 2000000 ∷ Round order ∷ [])
-
 -- the root was left pending, so the panic that is kept wakes it, and then so does the result that it waits for
 abbrev pub both_wakes : List Entry
 both_wakes = Wake 0 ∷ Wake 0 ∷ []
 
+-- behind the panic come these wakes, and the node of the task ends
+abbrev pub wakes_behind : List Entry → List Entry
+wakes_behind wakes = aborter_joined ++ raises ++ wakes ++ (NodeEnd 1 ∷ [])
+
+-- and the next round in this order
+abbrev pub woken_in : List Entry → List ℕ → List Entry
+woken_in wakes order = wakes_behind wakes ++ (Advance 2000000 ∷ Round order ∷ [])
+
 -- up to the root's visit behind a panic that is kept
 abbrev pub kept_panic : List Entry
-kept_panic = aborter_joined ++ raises ++ woken_in both_wakes (0 ∷ 0 ∷ []) ++ visiting_root
+kept_panic = woken_in both_wakes (0 ∷ 0 ∷ []) ++ visiting_root
 
--- the root's visit is answered so, and the run fails
-abbrev pub answered_behind : AnswerKind → List Entry
-answered_behind kind =
-    kept_panic ++ (Answered 0 kind ∷ Cleanup ∷ NodeEnd 0 ∷ Call (Some 0) (GiveUp 1) Done ∷ Call (Some 0) (CloseNode 0) Done ∷ Answered 0 Ended ∷ []) ++ finishing TaskPanicked
-
--- the root isn't polled any more
+-- the root isn't polled any more, and the run fails
 abbrev pub reported_journal : List Entry
-reported_journal = answered_behind Stopped
+reported_journal =
+    kept_panic
+    ++ (Answered 0 Stopped ∷ Cleanup ∷ NodeEnd 0 ∷ Call (Some 0) (GiveUp 1) Done ∷ Call (Some 0) (CloseNode 0) Done ∷ Answered 0 Ended ∷ [])
+    ++ finishing TaskPanicked
 
 -- up to the root's visit behind a panic that was caught, which wakes who waits for the result alone
 abbrev pub caught_panic : List Entry
-caught_panic = aborter_joined ++ raises ++ woken_in (Wake 0 ∷ []) (0 ∷ []) ++ visiting_root
+caught_panic = woken_in (Wake 0 ∷ []) (0 ∷ []) ++ visiting_root
 
 -- there is no result
 abbrev pub caught_journal : List Entry
 caught_journal = caught_panic ++ (Call (Some 0) (Join 1) (Refused Exited) ∷ []) ++ parent_ends
 
--- near misses, each beside a journal that differs in this one place and is lawful
+-- near misses are among these and those of `wakes_behind` and `woken_in`, each beside a journal that differs in this one place and
+-- is lawful
 
--- behind the panic come these wakes, and the next round in this order
-abbrev pub wakes_behind : List Entry → List ℕ → List Entry
-wakes_behind wakes order = aborter_joined ++ raises ++ woken_in wakes order
+-- the root's visit behind a panic that is kept is answered so
+abbrev pub answered_kept : AnswerKind → List Entry
+answered_kept kind = kept_panic ++ (Answered 0 kind ∷ [])
 
--- the root's visit behind a panic that was caught is answered so
+-- and behind one that was caught
 abbrev pub answered_caught : AnswerKind → List Entry
 answered_caught kind = caught_panic ++ (Answered 0 kind ∷ [])

@@ -1,5 +1,5 @@
 -- A root that signals to itself, one that stops its own run, and what comes near to their runs.
-use Rattle.std.specs.Prelude.{ℕ, ℤ, pos, List, [], ◌∷◌, ◌++◌, Some, codes}
+use Rattle.std.specs.Prelude.{ℕ, pos, List, [], ◌∷◌, ◌++◌, Some, codes}
 use Rattle.std.specs.Int.{w32, cast_unsigned, to_be_bytes}
 use Rattle.rt_audit.specs.declared.call.Call.TheVariants.{Signaler, CloneSignal, Signal, SignalPoll, SignalClose, CompletionPoll, CompletionClose, Stop, Stopped}
 use Rattle.rt_audit.specs.declared.reply.CallReply.{CallReply}
@@ -11,7 +11,7 @@ use Rattle.rt_audit.specs.declared.entry.Entry.TheVariants.{Call, Event, Wake, R
 use Rattle.rt_model.specs.declared.answer.Answer.{Answer}
 use Rattle.rt_model.specs.declared.answer.Answer.TheVariants.{Pending, Ready}
 use Rattle.rt_model.specs.Turns.{Plainly, Heard, Plain}
-use Rattle.rt_model.specs.Walk.{Step, Does, Spends, Gives, Last}
+use Rattle.rt_model.specs.Walk.{Step, Does, Spends, Gives}
 use Rattle.rt_model.specs.Tied.{Steps, with_first}
 use Rattle.rt_laws.specs.Examples.{opening, visiting_root, root_ends, finishing}
 use Rattle.rt_laws.specs.Supervised.{closes}

@@ -46,8 +46,9 @@ ghost use Rattle.rt_laws.specs.Visits.{IsInVisit};
 
 pub use examples::{
     a_ready_root_has_its_run, a_run_that_lacked_memory_is_cut_off, a_sleeping_root_has_its_run,
-    each_other_cause_ends_a_run, near_misses_are_no_runs, near_misses_are_not_cut_off,
-    near_misses_are_not_lawful, small_inputs_are_valid, small_rounds_are_not_drawn,
+    each_other_cause_ends_a_run, near_misses_are_lawful_but_for_one_place, near_misses_are_no_runs,
+    near_misses_are_not_cut_off, near_misses_are_not_lawful, small_inputs_are_valid,
+    small_rounds_are_not_drawn,
 };
 pub use kin::{
     a_child_ends_with_its_parent, near_misses_of_ends_are_lawful_but_for_one_place,

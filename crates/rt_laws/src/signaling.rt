@@ -1,17 +1,18 @@
 //! The definitions tried on signals and the shutdown.
 
-ghost use Rattle.std.specs.Prelude.{◌≡◌, ◌++◌, ◌∷◌, [], List, ℕ, ℤ, Option, Some, None, pos};
+ghost use Rattle.std.specs.Prelude.{◌≡◌, ◌≢◌, ◌⊎◌, ◌++◌, ◌∷◌, [], List, All, Contains, ℕ, ℤ, Option, Some, None, pos};
 ghost use Rattle.rt_super.specs.Signals.{ShowShutdown, signal_group};
-ghost use Rattle.rt_audit.specs.declared.call.Call.TheVariants.{SignalPoll, Stop, Stopped};
+ghost use Rattle.rt_audit.specs.declared.call.Call.TheVariants.{CloneSignal, SignalPoll, SignalClose, Stop, Stopped};
 ghost use Rattle.rt_audit.specs.declared.reply.CallReply.{CallReply};
-ghost use Rattle.rt_audit.specs.declared.reply.CallReply.TheVariants.{ClosedWith, CompletionAt, Done, Value as Shows, Pending as StillPending};
+ghost use Rattle.rt_audit.specs.declared.reply.CallReply.TheVariants.{ClosedWith, CompletionAt, Done, SignalAt, Value as Shows, Pending as StillPending};
 ghost use Rattle.rt_audit.specs.declared.answer.AnswerKind.TheVariants.{Pending};
 ghost use Rattle.rt_audit.specs.declared.entry.Entry.{Entry};
-ghost use Rattle.rt_audit.specs.declared.entry.Entry.TheVariants.{Call, Wake, Answer};
+ghost use Rattle.rt_audit.specs.declared.entry.Entry.TheVariants.{Call, Event, Wake, Answer};
 ghost use Rattle.rt_audit.specs.declared.finish.FinishCause.TheVariants.{Completed};
 ghost use Rattle.rt_model.specs.declared.begin.Begin.{Begin};
 ghost use Rattle.rt_model.specs.State.{begun};
-ghost use Rattle.rt_model.specs.Effects.{after_all};
+ghost use Rattle.rt_model.specs.Effects.{after, after_all};
+ghost use Rattle.rt_model.specs.Events.{process_task, task_fields};
 ghost use Rattle.rt_model.specs.Rules.{IsLawful};
 ghost use Rattle.rt_model.specs.Run.{IsRun};
 ghost use Rattle.rt_laws.specs.Examples.{small_begin, gave};
@@ -28,20 +29,29 @@ pub fn a_root_that_stops_has_its_run()
     ensures { IsRun stopping_root small_begin stopping_journal Completed (after_all (begun small_begin) stopping_journal) (gave 9) }
 {}
 
-/// In each run an open signal of the shutdown shows nothing before the first stop, and behind it the value of that (`shown`), which
-/// stays (`first`, `stays`). A poll of such a signal behind it is told that value (`polled`), and so is each later `stopped`
-/// (`later`).
+/// In each run a signal that `stopped` gives is one of the shutdown (`given`), whose group stays the same (`group`). A copy of a
+/// signal is of its group (`copied`). An open signal stays open and of its group until it's given up, and isn't open any more
+/// behind that (`kept`). The shutdown has no value before the first stop (`before`), and behind it the value of that (`first`),
+/// which stays (`stays`). An open signal of the shutdown shows what that has (`shown`): a poll of it behind the first stop is
+/// told the value (`polled`), and so is each later `stopped` (`later`), while an earlier one is given a signal (`open`).
 pub fn each_signal_of_the_shutdown_shows_the_first_value()
-    ensures shown { (b : Begin) (x : List Entry) → IsLawful (begun b) x → ShowShutdown (after_all (begun b) x).signals (after_all (begun b) x).stop }
+    ensures given { (b : Begin) (x y : List Entry) (by : Option ℕ) (signal : ℕ) → IsLawful (begun b) (x ++ Call by Stopped (SignalAt signal) ∷ y) → let s = after_all (begun b) x in signal_group (after s (Call by Stopped (SignalAt signal))).signals signal ≡ Some s.stop.group }
+    ensures group { (b : Begin) (x y : List Entry) → (after_all (begun b) (x ++ y)).stop.group ≡ (after_all (begun b) x).stop.group }
+    ensures copied { (b : Begin) (x y : List Entry) (by : Option ℕ) (signal copy : ℕ) → IsLawful (begun b) (x ++ Call by (CloneSignal signal) (SignalAt copy) ∷ y) → let s = after_all (begun b) x in signal_group (after s (Call by (CloneSignal signal) (SignalAt copy))).signals copy ≡ signal_group s.signals signal }
+    ensures kept { (b : Begin) (x y : List Entry) (signal group : ℕ) → signal_group (after_all (begun b) x).signals signal ≡ Some group → let now = signal_group (after_all (begun b) (x ++ y)).signals signal in (now ≡ Some group) ⊎ ((now ≡ None) × ((by : Option ℕ) × Contains y (Call by (SignalClose signal) Done))) }
+    ensures before { (b : Begin) (x : List Entry) → All (λ (e : Entry). (by : Option ℕ) (value : ℤ) (reply : CallReply) → e ≢ Call by (Stop value) reply) x → (after_all (begun b) x).stop.value ≡ None }
     ensures first { (b : Begin) (x y : List Entry) (by : Option ℕ) (value : ℤ) (reply : CallReply) → IsLawful (begun b) (x ++ Call by (Stop value) reply ∷ y) → (after_all (begun b) x).stop.value ≡ None → (after_all (begun b) (x ++ Call by (Stop value) reply ∷ y)).stop.value ≡ Some value }
     ensures stays { (b : Begin) (x y : List Entry) (v : ℤ) → (after_all (begun b) x).stop.value ≡ Some v → (after_all (begun b) (x ++ y)).stop.value ≡ Some v }
-    ensures later { (b : Begin) (x y : List Entry) (by : Option ℕ) (v : ℤ) (reply : CallReply) → IsLawful (begun b) (x ++ Call by Stopped reply ∷ y) → (after_all (begun b) x).stop.value ≡ Some v → reply ≡ ClosedWith v }
+    ensures shown { (b : Begin) (x : List Entry) → IsLawful (begun b) x → ShowShutdown (after_all (begun b) x).signals (after_all (begun b) x).stop }
     ensures polled { (b : Begin) (x y : List Entry) (by : Option ℕ) (signal : ℕ) (v : ℤ) (reply : CallReply) → IsLawful (begun b) (x ++ Call by (SignalPoll signal) reply ∷ y) → signal_group (after_all (begun b) x).signals signal ≡ Some (after_all (begun b) x).stop.group → (after_all (begun b) x).stop.value ≡ Some v → reply ≡ Shows v }
+    ensures later { (b : Begin) (x y : List Entry) (by : Option ℕ) (v : ℤ) (reply : CallReply) → IsLawful (begun b) (x ++ Call by Stopped reply ∷ y) → (after_all (begun b) x).stop.value ≡ Some v → reply ≡ ClosedWith v }
+    ensures open { (b : Begin) (x y : List Entry) (by : Option ℕ) (reply : CallReply) → IsLawful (begun b) (x ++ Call by Stopped reply ∷ y) → (after_all (begun b) x).stop.value ≡ None → reply ≡ SignalAt (after_all (begun b) x).signals.count }
 {}
 
 /// No value is shown before it was given (`early`), and no other than that (`value`, `second_stop`). A signal wakes who waits
 /// (`missing_wake`, `silent_stop`). No completion is met while a signal is open (`completion`). A call comes with the
 /// event that it announces, with no other and not without it (`unannounced`, `announced`), and no event without its call (`stray`).
+/// Where calls are made no event comes that is of none (`of_no_call`), and no second one before a call (`event_twice`).
 pub fn near_misses_of_signals_are_not_lawful()
     ensures early { IsLawful (begun small_begin) (signal_polled (Shows (pos 5))) → ⊥ }
     ensures missing_wake { IsLawful (begun small_begin) (signal_given []) → ⊥ }
@@ -51,11 +61,16 @@ pub fn near_misses_of_signals_are_not_lawful()
     ensures unannounced { IsLawful (begun small_begin) (stop_awaited []) → ⊥ }
     ensures announced { IsLawful (begun small_begin) (stop_begun (stop_event 8 ∷ Call (Some 0) (Stop (pos 9)) (CompletionAt 2) ∷ [])) → ⊥ }
     ensures stray { IsLawful (begun small_begin) (stop_begun (stopped_event ∷ Answer 0 Pending ∷ [])) → ⊥ }
+    ensures of_no_call { IsLawful (begun small_begin) (stop_begun (Event process_task (task_fields 0 []) ∷ [])) → ⊥ }
+    ensures event_twice { IsLawful (begun small_begin) (stop_begun (stopped_event ∷ stopped_event ∷ [])) → ⊥ }
     ensures silent_stop { IsLawful (begun small_begin) (stop_begun (stop_event 9 ∷ Call (Some 0) (Stop (pos 9)) (CompletionAt 2) ∷ Answer 0 Pending ∷ [])) → ⊥ }
 {}
 
-/// Two of those with what may come there; the others stand in the runs above.
+/// Those with what may come there: a completion that isn't met (`completion`), a stop with its wake (`stop`), and one event of a call
+/// (`event`) with its call (`call`); the others stand in the runs above.
 pub fn near_misses_of_signals_are_lawful_but_for_one_place()
     ensures completion { IsLawful (begun small_begin) (completion_polled StillPending) }
     ensures stop { IsLawful (begun small_begin) (stop_begun (stop_event 9 ∷ Call (Some 0) (Stop (pos 9)) (CompletionAt 2) ∷ Wake 0 ∷ Answer 0 Pending ∷ [])) }
+    ensures event { IsLawful (begun small_begin) (stop_begun (stopped_event ∷ [])) }
+    ensures call { IsLawful (begun small_begin) (stop_begun (stopped_event ∷ Call (Some 0) Stopped (SignalAt 2) ∷ [])) }
 {}

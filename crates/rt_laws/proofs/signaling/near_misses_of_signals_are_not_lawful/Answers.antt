@@ -1,4 +1,4 @@
-use Rattle.rt_laws.proofs.Signals.{no_early_value, no_missing_wake, no_other_value, no_early_completion, no_value_of_the_second_stop, no_call_unannounced, no_call_announced_so, no_stray_event, no_silent_stop}
+use Rattle.rt_laws.proofs.Signals.{no_early_value, no_missing_wake, no_other_value, no_early_completion, no_value_of_the_second_stop, no_call_unannounced, no_call_announced_so, no_stray_event, no_silent_stop, no_event_of_no_call, no_second_event}
 use Rattle.rt_laws.proofs.signaling.near_misses_of_signals_are_not_lawful.Goals as goal
 
 pub returns-clause-early : goal.returns-clause-early
@@ -27,3 +27,9 @@ returns-clause-stray c = no_stray_event
 
 pub returns-clause-silent_stop : goal.returns-clause-silent_stop
 returns-clause-silent_stop c = no_silent_stop
+
+pub returns-clause-of_no_call : goal.returns-clause-of_no_call
+returns-clause-of_no_call c = no_event_of_no_call
+
+pub returns-clause-event_twice : goal.returns-clause-event_twice
+returns-clause-event_twice c = no_second_event
