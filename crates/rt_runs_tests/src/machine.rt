@@ -1,10 +1,11 @@
 // Runs by the calls of the machine, beside their journals.
 
-use crate::journals::{BEGIN, JOURNALS};
+use crate::journals::JOURNALS;
 use crate::reading::{line_of, said_in};
 use crate::replay::{Said, journal_of};
 use rt_audit::{AnswerKind, Journal};
 use rt_base::{MAX_TIME, NoMemory};
+use rt_journals::BEGIN;
 use rt_machine::Machine;
 use rt_model::Begin;
 use std::alloc::Global;

@@ -40,6 +40,7 @@ impl Family {
     pub fn may_add(&self, parent: u64, child: u64) -> bool
         ensures childless { result ≡ true → children_in self.now child ≡ [] }
         ensures apart { result ≡ true → is_child child (Some parent) ≡ false }
+        ensures may { is_child child (Some parent) ≡ false → children_in self.now child ≡ [] → result ≡ true }
     {
         if child == parent {
             return false;

@@ -1,6 +1,6 @@
 //! What a call may be answered.
 
-ghost use Rattle.std.specs.Prelude.{◌≡◌, ◌↔◌, ◌⊎◌, IfErr, IfOk, IfSome, OnErr, IsTrue, option_map};
+ghost use Rattle.std.specs.Prelude.{◌≡◌, ◌↔◌, ◌⊎◌, IfErr, IfOk, IfSome, OnErr, IsTrue, Some, option_map};
 ghost use Rattle.rt_base.specs.declared.error.Error.TheVariants.{UnknownToken, Metric};
 ghost use Rattle.rt_audit.specs.declared.call.Call.TheVariants.{Abort, AbortTask, Child, CloneSignal, CloseNode, GiveUp, SleepPoll, Slot, Spawn, Wake};
 ghost use Rattle.rt_model.specs.Signals.{met_reply, shown_reply, stopped_reply};
@@ -332,7 +332,8 @@ fn is_metric(error: &Error, kind: MetricError) -> bool
 
 /// The kind of a metric's error.
 fn metric_error(error: &Error) -> Option<MetricError>
-    ensures { IfSome result (λ kind. error.now ≡ Error.Metric kind) }
+    ensures some { IfSome result (λ kind. error.now ≡ Error.Metric kind) }
+    ensures each { (kind : MetricError) → error.now ≡ Error.Metric kind → result ≡ Some kind }
 {
     match error {
         Error::Metric(kind) => Some(*kind),

@@ -551,6 +551,11 @@ pub const PANICS: &[Copied] = &[
         Instead("answer 0 ready"),
     ),
     (
+        "a root that is pending behind a panic",
+        23,
+        Instead("answer 0 pending"),
+    ),
+    (
         "a poll of the root behind a panic",
         23,
         Instead("call 0 join 1 -> err 1"),

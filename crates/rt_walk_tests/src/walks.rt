@@ -8,14 +8,17 @@ use crate::copies::{
     STOPS_OF_ITSELF, TWICE_WOKEN, UNMADES, VISITS, VISITS_WITH_AN_END, WAKES,
 };
 use crate::journals::{
-    ABORTS, BEGIN, CATCHING, CAUGHT, CLEANUP, CUT, FAMILY, LAST_NUMBERS, LATE, LATE_SIGNAL, MADE,
-    NO_NUMBER, NODE_ENDED, ONE_LEFT, PANIC, READY, REFUSED, ROOT_PANIC, SHUTDOWN, SIGNALS, SLEEP,
-    SLOTS, STALL, STOPS, TIMED, TWICE, TWO_LEFT, UNMADE,
+    CLEANUP, CUT, LATE, LATE_SIGNAL, ONE_LEFT, READY, REFUSED, SHUTDOWN, SIGNALS, SLEEP, SLOTS,
+    STALL, TIMED, TWO_LEFT, UNMADE,
 };
 use crate::many::{MANY_ALARMS, MANY_TASKS, joined};
 use crate::told_text::{Unread, entries_of};
 use rt_audit::Entry;
 use rt_base::NoMemory;
+use rt_journals::{
+    ABORTS, BEGIN, CATCHING, CAUGHT, FAMILY, LAST_NUMBERS, MADE, NO_NUMBER, NODE_ENDED, PANIC,
+    ROOT_PANIC, STOPS, TWICE,
+};
 use rt_model::Begin;
 use rt_walk::{Walker, first_unlawful};
 use std::alloc::Global;
@@ -139,10 +142,13 @@ const OF_TASKS: &[Copies] = &[
 
 const OF_DOUBLE_WAKES: &[Copies] = &[(BEGIN, TWICE, TWICE_WOKEN)];
 
-const OF_PANICS_AND_REFUSALS: &[Copies] = &[
+const OF_PANICS: &[Copies] = &[
     (BEGIN, PANIC, PANICS),
     (CATCHING, CAUGHT, CAUGHT_PANICS),
     (BEGIN, ROOT_PANIC, ROOT_PANICS),
+];
+
+const OF_REFUSALS_AND_ENDS: &[Copies] = &[
     (BEGIN, REFUSED, REFUSALS),
     (BEGIN, REFUSED, SPAWNS_ON_AN_ENDED_NODE),
     (BEGIN, CLEANUP, ORDERS),
@@ -205,8 +211,14 @@ fn damaged_copies_of_double_wakes(rt: HostRuntime) -> Result<(), Fail> {
 }
 
 #[test]
-fn damaged_copies_of_panics_and_refusals(rt: HostRuntime) -> Result<(), Fail> {
-    assert!(rt; first_kept(rt.alloc(), OF_PANICS_AND_REFUSALS)?.is_none());
+fn damaged_copies_of_panics(rt: HostRuntime) -> Result<(), Fail> {
+    assert!(rt; first_kept(rt.alloc(), OF_PANICS)?.is_none());
+    Ok(())
+}
+
+#[test]
+fn damaged_copies_of_refusals_and_ends(rt: HostRuntime) -> Result<(), Fail> {
+    assert!(rt; first_kept(rt.alloc(), OF_REFUSALS_AND_ENDS)?.is_none());
     Ok(())
 }
 
