@@ -50,6 +50,10 @@ pub record MayStart (begin : Begin) : Type 0 where
   pub start_within : begin.start ≤ MAX_TIME
   pub deadline_within : IsWithin begin.deadline
 
+-- a checkpoint is of a moment and of settings with which a run may begin
+abbrev pub MayResume : ℕ → Option ℕ → ℕ → Type 0
+MayResume time deadline cycle = (1 ≤ cycle) × (time ≤ MAX_TIME) × IsWithin deadline
+
 -- what a completed run leaves: its last moment, what its start fixed but the first task number, all entries, and its generator
 pub record Kept (G : Type 0) : Type 0 where
   pub time : ℕ
@@ -59,6 +63,14 @@ pub record Kept (G : Type 0) : Type 0 where
   pub journal : List Entry
   pub rng : G
 
--- the beginning of a first run: its task numbers begin with 0
-abbrev pub first_begin : ℕ → ℕ → Option ℕ → Bool → Begin
-first_begin cycle start timeout catch = record { start = start; cycle = cycle; deadline = deadline_of start timeout; first = 0; catch = catch }
+-- the beginning of a first run, whose task numbers begin with this one
+abbrev pub first_begin : ℕ → ℕ → Option ℕ → Bool → ℕ → Begin
+first_begin cycle start timeout catch next = record { start = start; cycle = cycle; deadline = deadline_of start timeout; first = next; catch = catch }
+
+-- the beginning of a run that goes on behind another: at its last moment, with the same deadline, and with task numbers from 0 on
+abbrev pub resumed : {G : Type 0} → Kept G → Starting G
+resumed kept = record {
+  begin = record { start = kept.time; cycle = kept.cycle; deadline = kept.deadline; first = 0; catch = kept.catch };
+  given = kept.journal;
+  rng = kept.rng;
+}

@@ -1,9 +1,10 @@
 //! What a run leaves.
 
 ghost use Rattle.std.specs.Prelude.{◌≡◌};
+ghost use Rattle.rt_audit.specs.Journal.{digest_of};
 
 use crate::RunError;
-use rt_audit::Journal;
+use rt_audit::{Auditor, Journal};
 use rt_base::Nanos;
 use std::marker::Model;
 
@@ -22,14 +23,23 @@ pub struct Checkpoint<G> {
 }
 
 impl<G> Model for Checkpoint<G> {
-    ghost use Rattle.rt_core.specs.Starting.{Kept};
+    ghost use Rattle.rt_core.specs.Starting.{Kept, MayResume};
 
     ghost Value = { Kept G };
 
     ghost view = { λ c. record { time = c.time; deadline = c.deadline; cycle = c.cycle; catch = c.catch_panics; journal = c.journal.entries; rng = c.rng } };
+
+    ghost invariant = { λ c. MayResume c.time c.deadline c.cycle };
 }
 
 impl<G> Checkpoint<G> {
+    /// The digest of the events of all runs so far.
+    pub fn auditor(&self) -> Auditor
+        ensures { result ≡ digest_of self.now.journal }
+    {
+        self.journal.auditor()
+    }
+
     /// The journal of all runs so far.
     pub fn journal(&self) -> &Journal
         ensures { result.now.entries ≡ self.now.journal }

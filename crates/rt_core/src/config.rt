@@ -4,7 +4,7 @@ ghost use Rattle.std.specs.Prelude.{◌≡◌, ◌≤◌, ◌<◌, ◌+◌, Opti
 ghost use Rattle.rt_core.specs.Starting.{assert_of, default_seed, seeded};
 
 use rand_chacha::ChaCha12Rng;
-use rand_core::SeedableRng;
+use rand_core::{Rng, SeedableRng};
 use rt_base::{MAX_TIME, Nanos};
 use thiserror::Error;
 
@@ -22,8 +22,8 @@ pub enum ConfigError {
     DeadlineTooLate,
 }
 
-/// The settings of a run: its generator, in nanoseconds its cycle, its start and its timeout, and whether panics of tasks
-/// are caught.
+/// The settings of a run: its generator, in nanoseconds its cycle, its start and its timeout, whether panics of tasks are
+/// caught, and the number of its first task.
 #[derive(Debug, Drop)]
 pub struct Config<G> {
     pub(crate) rng: G,
@@ -31,16 +31,18 @@ pub struct Config<G> {
     pub(crate) start_time: Nanos,
     pub(crate) timeout: Option<Nanos>,
     pub(crate) catch_panics: bool,
+    pub(crate) next_task: u64,
 }
 
 impl Config<ChaCha12Rng> {
-    /// A generator of seed 42, a cycle of 1,000,000 ns, start 0, no timeout, and panics not caught.
+    /// A generator of seed 42, a cycle of 1,000,000 ns, start 0, no timeout, panics not caught, and task numbers from 0 on.
     pub fn new() -> Self
         ensures rng { result.rng ≡ seeded default_seed }
         ensures cycle { result.cycle ≡ 1000000 }
         ensures start { result.start_time ≡ 0 }
         ensures timeout { result.timeout ≡ None }
         ensures catch { result.catch_panics ≡ false }
+        ensures next { result.next_task ≡ 0 }
     {
         Config {
             rng: ChaCha12Rng::seed_from_u64(42),
@@ -48,6 +50,7 @@ impl Config<ChaCha12Rng> {
             start_time: 0,
             timeout: None,
             catch_panics: false,
+            next_task: 0,
         }
     }
 }
@@ -59,8 +62,40 @@ impl Default for Config<ChaCha12Rng> {
         ensures start { result.start_time ≡ 0 }
         ensures timeout { result.timeout ≡ None }
         ensures catch { result.catch_panics ≡ false }
+        ensures next { result.next_task ≡ 0 }
     {
         Config::new()
+    }
+}
+
+impl<G: Drop> Config<G> {
+    /// Sets the generator.
+    pub fn with_rng<H: Rng>(self, rng: H) -> Config<H>
+        ensures { result ≡ record { rng = rng; cycle = self.cycle; start_time = self.start_time; timeout = self.timeout; catch_panics = self.catch_panics; next_task = self.next_task } }
+    {
+        let Config {
+            rng: _,
+            cycle,
+            start_time,
+            timeout,
+            catch_panics,
+            next_task,
+        } = self;
+        Config {
+            rng,
+            cycle,
+            start_time,
+            timeout,
+            catch_panics,
+            next_task,
+        }
+    }
+
+    /// Sets the generator, to the one of this seed.
+    pub fn with_seed(self, seed: u64) -> Config<ChaCha12Rng>
+        ensures { result ≡ record { rng = seeded seed; cycle = self.cycle; start_time = self.start_time; timeout = self.timeout; catch_panics = self.catch_panics; next_task = self.next_task } }
+    {
+        self.with_rng(ChaCha12Rng::seed_from_u64(seed))
     }
 }
 
@@ -95,6 +130,16 @@ impl<G> Config<G> {
     {
         Config {
             catch_panics: catch,
+            ..self
+        }
+    }
+
+    /// Sets the number of the first task of the first run. A run that goes on behind another begins with 0 again.
+    pub fn with_next_task(self, next: u64) -> Self
+        ensures { result ≡ record self { next_task = next } }
+    {
+        Config {
+            next_task: next,
             ..self
         }
     }

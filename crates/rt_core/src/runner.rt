@@ -3,7 +3,7 @@
 ghost use Rattle.std.specs.Prelude.{◌≡◌, ◌≤◌, ◌↔◌, [], None, Some, Ok, Err, IsOk, IfOk, IfErr, MatchResult, false};
 ghost use Rattle.rt_model.specs.Tied.{with_first};
 ghost use Rattle.rt_model.specs.Run.{IsValidInput};
-ghost use Rattle.rt_core.specs.Starting.{assert_of, deadline_of, default_seed, first_begin, seeded, IsWithin, Kept};
+ghost use Rattle.rt_core.specs.Starting.{assert_of, deadline_of, default_seed, first_begin, resumed, seeded, IsWithin, Kept};
 ghost use Rattle.rt_core.specs.Given.{entries_of};
 ghost use Rattle.rt_core.specs.Outcome.{Completes, Fails, DrawsNothing};
 
@@ -44,7 +44,7 @@ impl<G: Rng + Drop> Runner<G> {
     /// the settings.
     pub fn new(config: Config<G>) -> Result<Runner<G>, ConfigError>
         ensures accepted { IsOk result ↔ (assert_of config.cycle config.start_time config.timeout ≡ Ok tt) }
-        ensures ok { IfOk result (λ r. r ≡ record { begin = first_begin config.cycle config.start_time config.timeout config.catch_panics; given = []; rng = config.rng }) }
+        ensures ok { IfOk result (λ r. r ≡ record { begin = first_begin config.cycle config.start_time config.timeout config.catch_panics config.next_task; given = []; rng = config.rng }) }
         ensures refused { IfErr result (λ e. assert_of config.cycle config.start_time config.timeout ≡ Err e) }
     {
         match config.assert() {
@@ -56,6 +56,7 @@ impl<G: Rng + Drop> Runner<G> {
                     start_time,
                     timeout,
                     catch_panics,
+                    next_task,
                 } = config;
                 Ok(Runner {
                     rng,
@@ -63,7 +64,7 @@ impl<G: Rng + Drop> Runner<G> {
                         start: start_time,
                         cycle,
                         deadline: deadline_after(start_time, timeout),
-                        first: 0,
+                        first: next_task,
                         catch: catch_panics,
                     },
                     journal: None,
@@ -149,12 +150,50 @@ impl<G: Rng + Drop> Runner<G> {
     }
 }
 
+impl<G> Runner<G> {
+    /// A runner that goes on behind the run that left this checkpoint: from its last moment on, with its deadline, cycle,
+    /// generator and journal. Tasks, nodes, alarms and all else begin anew.
+    pub fn from(checkpoint: Checkpoint<G>) -> Runner<G>
+        ensures { result ≡ resumed checkpoint }
+    {
+        let Checkpoint {
+            rng,
+            journal,
+            time,
+            deadline,
+            cycle,
+            catch_panics,
+        } = checkpoint;
+        Runner {
+            rng,
+            begin: Begin {
+                start: time,
+                cycle,
+                deadline,
+                first: 0,
+                catch: catch_panics,
+            },
+            journal: Some(journal),
+        }
+    }
+}
+
 impl Runner<ChaCha12Rng> {
+    /// A runner with the settings of [`Config::new`] and the generator of this seed.
+    pub fn seeded(seed: u64) -> Runner<ChaCha12Rng>
+        ensures { result ≡ record { begin = first_begin 1000000 0 None false 0; given = []; rng = seeded seed } }
+    {
+        match Runner::new(Config::new().with_seed(seed)) {
+            Ok(runner) => runner,
+            Err(_) => unreachable!(),
+        }
+    }
+
     /// A runner with the settings of [`Config::new`] and this timeout in nanoseconds. It is refused exactly as
     /// [`Config::assert`] refuses these settings.
     pub fn timed(timeout: Nanos) -> Result<Runner<ChaCha12Rng>, ConfigError>
         ensures accepted { IsOk result ↔ (assert_of 1000000 0 (Some timeout) ≡ Ok tt) }
-        ensures ok { IfOk result (λ r. r ≡ record { begin = first_begin 1000000 0 (Some timeout) false; given = []; rng = seeded default_seed }) }
+        ensures ok { IfOk result (λ r. r ≡ record { begin = first_begin 1000000 0 (Some timeout) false 0; given = []; rng = seeded default_seed }) }
         ensures refused { IfErr result (λ e. assert_of 1000000 0 (Some timeout) ≡ Err e) }
     {
         Runner::new(Config::new().with_timeout(Some(timeout)))
@@ -164,12 +203,9 @@ impl Runner<ChaCha12Rng> {
 impl Default for Runner<ChaCha12Rng> {
     /// A runner with the settings of [`Config::new`].
     fn default() -> Self
-        ensures { result ≡ record { begin = first_begin 1000000 0 None false; given = []; rng = seeded default_seed } }
+        ensures { result ≡ record { begin = first_begin 1000000 0 None false 0; given = []; rng = seeded default_seed } }
     {
-        match Runner::new(Config::new()) {
-            Ok(runner) => runner,
-            Err(_) => unreachable!(),
-        }
+        Runner::seeded(42)
     }
 }
 

@@ -82,12 +82,12 @@ fn last_moment() -> Config<ChaCha12Rng> {
 }
 
 /// A root at this stage, which gives this number.
-fn root(stage: Stage, number: u64) -> RootErrand {
+pub(crate) fn root(stage: Stage, number: u64) -> RootErrand {
     RootErrand { stage, number }
 }
 
 /// A sleep that wasn't polled yet.
-fn naps(nap: Nanos) -> Stage {
+pub(crate) fn naps(nap: Nanos) -> Stage {
     Stage::Naps { nap }
 }
 

@@ -9,3 +9,5 @@ mod courier;
 mod errands;
 #[cfg(test)]
 mod keeper;
+#[cfg(test)]
+mod resuming;

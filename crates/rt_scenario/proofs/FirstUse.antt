@@ -113,7 +113,7 @@ all_with P (x ∷ xs) k p h = by (text_cmp k x) (all_with P xs k p h.1)
     by Equal more = h
     by Greater more = (h.0, more)
 
-sorted_with : (ks : List (List ℕ)) (k : List ℕ) → IsStrictlySortedBy text_cmp ks → IsStrictlySortedBy text_cmp (insert_key text_cmp ks k)
+pub sorted_with : (ks : List (List ℕ)) (k : List ℕ) → IsStrictlySortedBy text_cmp ks → IsStrictlySortedBy text_cmp (insert_key text_cmp ks k)
 unfolding IsStrictlySortedBy
 sorted_with [] k s = (tt, tt)
 sorted_with (x ∷ xs) k s = by (text_cmp k x) refl (sorted_with xs k s.1)
@@ -127,7 +127,7 @@ sorted_all : (names start : List (List ℕ)) → IsStrictlySortedBy text_cmp sta
 sorted_all [] start s = s
 sorted_all (n ∷ ns) start s = sorted_all ns (insert_key text_cmp start n) (sorted_with start n s)
 
-none_sorted : IsStrictlySortedBy text_cmp []
+pub none_sorted : IsStrictlySortedBy text_cmp []
 unfolding IsStrictlySortedBy
 none_sorted = tt
 
@@ -164,6 +164,24 @@ any_all q (n ∷ ns) start =
     any_all q ns (insert_key text_cmp start n)
     ∙ ap (λ b. list_any (eq_by_cmp text_cmp q) ns || b) (any_with q start n)
     ∙ grouped (list_any (eq_by_cmp text_cmp q) ns) (eq_by_cmp text_cmp q n) (list_any (eq_by_cmp text_cmp q) start)
+
+-- two names may be taken in the other way round
+swap_keys : (names : List (List ℕ)) (a b : List ℕ) → IsStrictlySortedBy text_cmp names → insert_key text_cmp (insert_key text_cmp names a) b ≡ insert_key text_cmp (insert_key text_cmp names b) a
+swap_keys names a b s =
+    let one : BTreeSet (List ℕ) = record { keys = insert_key text_cmp (insert_key text_cmp names a) b } in
+    let other : BTreeSet (List ℕ) = record { keys = insert_key text_cmp (insert_key text_cmp names b) a } in
+    btree_set_from_contains nat_list_cmp_total one other (sorted_with (insert_key text_cmp names a) b (sorted_with names a s)) (sorted_with (insert_key text_cmp names b) a (sorted_with names b s))
+    (λ q.
+    any_with q (insert_key text_cmp names a) b
+    ∙ ap (λ r. eq_by_cmp text_cmp q b || r) (any_with q names a)
+    ∙ swapped (eq_by_cmp text_cmp q b) (eq_by_cmp text_cmp q a) (list_any (eq_by_cmp text_cmp q) names)
+    ∙ sym (any_with q (insert_key text_cmp names b) a ∙ ap (λ r. eq_by_cmp text_cmp q a || r) (any_with q names b)))
+    exact_bytes
+
+-- so may one and then many
+pub key_first : (names start : List (List ℕ)) (name : List ℕ) → IsStrictlySortedBy text_cmp start → fold (insert_key text_cmp) (insert_key text_cmp start name) names ≡ insert_key text_cmp (fold (insert_key text_cmp) start names) name
+key_first [] start name s = refl
+key_first (n ∷ ns) start name s = ap (λ l. fold (insert_key text_cmp) l ns) (swap_keys start name n s) ∙ key_first ns (insert_key text_cmp start n) name (sorted_with start n s)
 
 or_none : (a : Bool) → (a || false) ≡ a
 or_none true = refl

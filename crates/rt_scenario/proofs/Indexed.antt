@@ -1,15 +1,19 @@
 -- Lines by the indices of their handles.
-use Rattle.std.proofs.Common.{◌≡◌, ℕ, ◌≤◌, ◌<◌, Bool, true, false, if◌then◌else◌, List, [], ◌∷◌, ◌++◌, length, map, get_or, Option, Some, None, refl, sym, ap, subst, ◌∙◌, arith}
+use Rattle.std.proofs.Common.{◌≡◌, ℕ, ◌≤◌, ◌<◌, Bool, true, false, if◌then◌else◌, List, [], ◌∷◌, ◌++◌, length, fold, map, get_or, slice_index, Option, Some, None, refl, sym, ap, subst, ◌∙◌, arith}
 use Rattle.std.specs.List.{All, list_any}
 use Rattle.std.specs.Str.{bytes_eq}
 use Rattle.std.proofs.lemmas.List.{get_or_append_left, get_or-map, length_push, map_push}
 use Rattle.std.proofs.lemmas.List.Elements.{All-push, All-tail}
-use Rattle.rt_scenario.specs.Indexed.{HasIndex, in_order, named_by, placed_at, with_name}
-use Rattle.rt_scenario.specs.Scripts.{handle_of, handles_of, place_of, placed, with_handle, with_handles}
+use Rattle.std.proofs.lemmas.List.Sums.{fold_push}
+use Rattle.std.specs.BTreeSet.{insert_key}
+use Rattle.std.specs.List.Sorted.{IsStrictlySortedBy}
+use Rattle.rt_base.specs.Attributes.{text_cmp}
+use Rattle.rt_scenario.specs.Indexed.{HasIndex, in_order, name_at, named_by, placed_at, with_name}
+use Rattle.rt_scenario.specs.Scripts.{all_names, handle_of, handles_of, place_of, placed, with_handle, with_handles}
 use Rattle.rt_scenario.specs.declared.line.Line.TheVariants as step
 use Rattle.rt_scenario.specs.declared.named_line.NamedLine.{NamedLine}
 use Rattle.rt_scenario.specs.declared.named_line.NamedLine.TheVariants.{Plain, Spawn, Abort, Drop, Join, Within, Stopped, Wait}
-use Rattle.rt_scenario.proofs.FirstUse.{in_order_more}
+use Rattle.rt_scenario.proofs.FirstUse.{in_order_more, key_first, none_sorted, sorted_with}
 
 -- the names that were there keep their indices
 kept_at : (names : List (List ℕ)) (o : Option (List ℕ)) (i : ℕ) → i < length names → get_or (with_name names o) i [] ≡ get_or names i []
@@ -67,11 +71,34 @@ in_order_with : (names : List (List ℕ)) (o : Option (List ℕ)) → with_handl
 in_order_with names None = refl
 in_order_with names (Some name) = sym (in_order_more names name)
 
--- a line more has its handle among those in order
-handles_push : (names : List (List ℕ)) (lines : List (NamedLine (List ℕ))) (line : NamedLine (List ℕ)) → handles_of lines ≡ in_order names → handles_of (lines ++ line ∷ []) ≡ in_order (with_name names (handle_of line))
-handles_push names lines line h = with_push [] lines line ∙ ap (λ ns. with_handle ns (handle_of line)) h ∙ in_order_with names (handle_of line)
+sorted_one : (names : List (List ℕ)) (o : Option (List ℕ)) → IsStrictlySortedBy text_cmp names → IsStrictlySortedBy text_cmp (with_handle names o)
+sorted_one names None s = s
+sorted_one names (Some name) s = sorted_with names name s
 
-module _ (names more : List (List ℕ)) (lines : List (NamedLine ℕ)) (line : NamedLine ℕ) (whole : NamedLine (List ℕ)) (taken : more ≡ with_name names (handle_of whole)) (inside : All (HasIndex (length names)) lines) where
+sorted_handles : (names : List (List ℕ)) (lines : List (NamedLine (List ℕ))) → IsStrictlySortedBy text_cmp names → IsStrictlySortedBy text_cmp (with_handles names lines)
+sorted_handles names [] s = s
+sorted_handles names (line ∷ lines) s = sorted_handles (with_handle names (handle_of line)) lines (sorted_one names (handle_of line) s)
+
+handle_first : (start choices : List (List ℕ)) (o : Option (List ℕ)) → IsStrictlySortedBy text_cmp start → fold (insert_key text_cmp) (with_handle start o) choices ≡ with_handle (fold (insert_key text_cmp) start choices) o
+handle_first start choices None s = refl
+handle_first start choices (Some name) s = key_first choices start name s
+
+-- a line more has its name among those in order
+handles_push : (names : List (List ℕ)) (lines : List (NamedLine (List ℕ))) (choices : List (List ℕ)) (line : NamedLine (List ℕ)) → all_names lines choices ≡ in_order names → all_names (lines ++ line ∷ []) choices ≡ in_order (with_name names (handle_of line))
+handles_push names lines choices line h =
+    ap (λ ns. fold (insert_key text_cmp) ns choices) (with_push [] lines line)
+    ∙ handle_first (handles_of lines) choices (handle_of line) (sorted_handles [] lines none_sorted)
+    ∙ ap (λ ns. with_handle ns (handle_of line)) h
+    ∙ in_order_with names (handle_of line)
+
+-- the choices so far stay where a name more is taken in
+choices_kept : (names : List (List ℕ)) (o : Option (List ℕ)) (indices : List ℕ) → All (λ index. index < length names) indices → map (name_at (with_name names o)) indices ≡ map (name_at names) indices
+choices_kept names o [] inside = refl
+choices_kept names o (i ∷ is) inside =
+    ap (λ n. n ∷ map (name_at (with_name names o)) is) (kept_at names o i (inside 0 i (omega arith)))
+    ∙ ap (λ ns. name_at names i ∷ ns) (choices_kept names o is (All-tail (λ index. index < length names) i is inside))
+
+module _ (names more : List (List ℕ)) (lines : List (NamedLine ℕ)) (choices : List ℕ) (line : NamedLine ℕ) (whole : NamedLine (List ℕ)) (taken : more ≡ with_name names (handle_of whole)) (inside : All (HasIndex (length names)) lines) (chosen : All (λ index. index < length names) choices) where
   kept : map (named_by more) lines ≡ map (named_by names) lines
   kept = ap (λ m. map (named_by m) lines) taken ∙ named_kept names (handle_of whole) lines inside
 
@@ -84,8 +111,51 @@ module _ (names more : List (List ℕ)) (lines : List (NamedLine ℕ)) (line : N
       let low : length names ≤ length more = subst (λ m. length names ≤ length m) (sym taken) (longer names (handle_of whole)) in
       All-push (HasIndex (length more)) lines line (indices_more (length names) (length more) lines low inside) own
 
-  pub order_push : named_by more line ≡ whole → handles_of (map (named_by names) lines) ≡ in_order names → handles_of (map (named_by more) (lines ++ line ∷ [])) ≡ in_order more
-  order_push is h = ap handles_of (lines_more is) ∙ handles_push names (map (named_by names) lines) whole h ∙ ap in_order (sym taken)
+  -- so stay the choices
+  pub choices_same : map (name_at more) choices ≡ map (name_at names) choices
+  choices_same = ap (λ m. map (name_at m) choices) taken ∙ choices_kept names (handle_of whole) choices chosen
+
+  pub chosen_same : All (λ index. index < length more) choices
+  chosen_same k d below =
+      let low : length names ≤ length more = subst (λ m. length names ≤ length m) (sym taken) (longer names (handle_of whole)) in
+      omega (arith, low, chosen k d below)
+
+  pub order_push : named_by more line ≡ whole → all_names (map (named_by names) lines) (map (name_at names) choices) ≡ in_order names → all_names (map (named_by more) (lines ++ line ∷ [])) (map (name_at more) choices) ≡ in_order more
+  order_push is h =
+      ap (λ ls. all_names ls (map (name_at more) choices)) (lines_more is)
+      ∙ ap (λ cs. all_names (map (named_by names) lines ++ whole ∷ []) cs) choices_same
+      ∙ handles_push names (map (named_by names) lines) (map (name_at names) choices) whole h
+      ∙ ap in_order (sym taken)
+
+module _ (names more : List (List ℕ)) (lines : List (NamedLine ℕ)) (choices : List ℕ) (index : ℕ) (name : List ℕ) (taken : more ≡ with_name names (Some name)) (inside : All (HasIndex (length names)) lines) (chosen : All (λ i. i < length names) choices) (is : name_at more index ≡ name) where
+  -- the lines and choices with a choice more
+  pub lines_same : map (named_by more) lines ≡ map (named_by names) lines
+  lines_same = ap (λ m. map (named_by m) lines) taken ∙ named_kept names (Some name) lines inside
+
+  pub choices_more : map (name_at more) (choices ++ index ∷ []) ≡ map (name_at names) choices ++ name ∷ []
+  choices_more =
+      map_push (name_at more) choices index
+      ∙ ap (λ n. map (name_at more) choices ++ n ∷ []) is
+      ∙ ap (λ cs. cs ++ name ∷ []) (ap (λ m. map (name_at m) choices) taken ∙ choices_kept names (Some name) choices chosen)
+
+  pub indices_same : All (HasIndex (length more)) lines
+  indices_same =
+      let low : length names ≤ length more = subst (λ m. length names ≤ length m) (sym taken) (longer names (Some name)) in
+      indices_more (length names) (length more) lines low inside
+
+  pub chosen_push : index < length more → All (λ i. i < length more) (choices ++ index ∷ [])
+  chosen_push own =
+      let low : length names ≤ length more = subst (λ m. length names ≤ length m) (sym taken) (longer names (Some name)) in
+      All-push (λ i. i < length more) choices index (λ k d below. omega (arith, low, chosen k d below)) own
+
+  pub order_choice : all_names (map (named_by names) lines) (map (name_at names) choices) ≡ in_order names → all_names (map (named_by more) lines) (map (name_at more) (choices ++ index ∷ [])) ≡ in_order more
+  order_choice h =
+      ap (λ ls. all_names ls (map (name_at more) (choices ++ index ∷ []))) lines_same
+      ∙ ap (λ cs. all_names (map (named_by names) lines) cs) choices_more
+      ∙ fold_push (insert_key text_cmp) (handles_of (map (named_by names) lines)) (map (name_at names) choices) name
+      ∙ ap (λ ns. insert_key text_cmp ns name) h
+      ∙ in_order_with names (Some name)
+      ∙ ap in_order (sym taken)
 
 placed_one : (names order : List (List ℕ)) (line : NamedLine ℕ) → HasIndex (length names) line → placed_at (map (place_of order) names) line ≡ placed order (named_by names line)
 placed_one names order (Plain line) inside = refl
@@ -104,3 +174,10 @@ placed_named names order (line ∷ lines) inside =
     let one : placed_at (map (place_of order) names) line ≡ placed order (named_by names line) = placed_one names order line (inside 0 line (omega arith)) in
     let rest = placed_named names order lines (All-tail (HasIndex (length names)) line lines inside) in
     ap (λ l. l ∷ map (placed_at (map (place_of order) names)) lines) one ∙ ap (λ ls. placed order (named_by names line) ∷ ls) rest
+
+-- so do they give the choices theirs
+pub placed_choices : (names order : List (List ℕ)) (choices : List ℕ) → All (λ index. index < length names) choices → map (slice_index (map (place_of order) names)) choices ≡ map (place_of order) (map (name_at names) choices)
+placed_choices names order [] inside = refl
+placed_choices names order (i ∷ is) inside =
+    ap (λ p. p ∷ map (slice_index (map (place_of order) names)) is) (get_or-map (place_of order) names i [] 0 (inside 0 i (omega arith)))
+    ∙ ap (λ ps. place_of order (name_at names i) ∷ ps) (placed_choices names order is (All-tail (λ index. index < length names) i is inside))

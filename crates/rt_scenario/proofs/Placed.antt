@@ -1,5 +1,5 @@
 -- A handle in the lines of a script has a place among its handles.
-use Rattle.std.proofs.Common.{◌≡◌, ℕ, suc, ◌+◌, ◌≤◌, ◌<◌, Bool, true, false, cond, List, [], ◌∷◌, ◌++◌, length, get_or, Option, Some, None, refl, sym, subst, arith}
+use Rattle.std.proofs.Common.{◌≡◌, ℕ, suc, ◌+◌, ◌≤◌, ◌<◌, Bool, true, false, cond, List, [], ◌∷◌, ◌++◌, length, fold, map, get_or, Option, Some, None, refl, sym, subst, arith}
 use Rattle.std.specs.List.{All, filter}
 use Rattle.std.specs.Option.{IfSome}
 use Rattle.std.specs.Ordering.{is_lt, ordering_reverse, match_ordering}
@@ -7,11 +7,11 @@ use Rattle.std.specs.declared.cmp.Ordering.{Ordering}
 use Rattle.std.specs.declared.cmp.Ordering.TheVariants.{Less, Equal, Greater}
 use Rattle.std.specs.BTreeSet.{insert_key}
 use Rattle.std.specs.Cmp.Lexicographic.{nat_list_cmp_total}
-use Rattle.std.proofs.lemmas.List.{length_push}
+use Rattle.std.proofs.lemmas.List.{length_push, length-append, length-map}
 use Rattle.std.proofs.lemmas.List.Elements.{All-cons, All-map, All-push}
 use Rattle.rt_base.specs.Attributes.{text_cmp}
-use Rattle.rt_scenario.specs.Scenario.{with_line, with_panic}
-use Rattle.rt_scenario.specs.Scripts.{Begun, closed_script, handle_of, handles_of, place_of, placed, with_handle, with_handles}
+use Rattle.rt_scenario.specs.Scenario.{with_line, with_panic, with_select}
+use Rattle.rt_scenario.specs.Scripts.{Begun, closed_script, handle_of, handles_of, names_of, place_of, placed, with_handle, with_handles}
 use Rattle.rt_scenario.specs.Within.{IsWithin, HasPlaces, HavePlaces, IsFree, IsNamed, IsBegun}
 use Rattle.rt_scenario.specs.declared.line.Line.{Line}
 use Rattle.rt_scenario.specs.declared.line.Line.TheVariants as step
@@ -95,36 +95,58 @@ all_lie names [] = λ k d inside. absurd (omega (arith, inside))
 all_lie names (line ∷ lines) =
     All-cons (λ l. IfSome (handle_of l) (Lies (with_handles names (line ∷ lines)))) line lines (own names (handle_of line) lines) (all_lie (with_handle names (handle_of line)) lines)
 
-placed_one : (scripts : ℕ) (s : ScriptText) (line : NamedLine (List ℕ)) → IsNamed scripts (length s.words) line → IfSome (handle_of line) (Lies s.handles) → IsWithin scripts s (placed s.handles line)
-placed_one scripts s (Plain (step.Panic word)) named lies = named
-placed_one scripts s (Plain (step.Spawn handle script)) named lies = absurd named
-placed_one scripts s (Plain (step.Abort handle)) named lies = absurd named
-placed_one scripts s (Plain (step.Drop handle)) named lies = absurd named
-placed_one scripts s (Plain (step.Join handle)) named lies = absurd named
-placed_one scripts s (Plain (step.Within handle limit)) named lies = absurd named
-placed_one scripts s (Plain (step.Stopped signal)) named lies = absurd named
-placed_one scripts s (Plain (step.Wait signal)) named lies = absurd named
-placed_one scripts s (Plain (step.Sleep n)) named lies = tt
-placed_one scripts s (Plain (step.Until n)) named lies = tt
-placed_one scripts s (Plain step.Yield) named lies = tt
-placed_one scripts s (Plain step.Pend) named lies = tt
-placed_one scripts s (Plain (step.End v)) named lies = tt
-placed_one scripts s (Plain step.EndLast) named lies = tt
-placed_one scripts s (Plain (step.Stop v limit)) named lies = tt
-placed_one scripts s (Plain step.AbortSelf) named lies = tt
-placed_one scripts s (Spawn handle script) named lies = (lies, named)
-placed_one scripts s (Abort handle) named lies = lies
-placed_one scripts s (Drop handle) named lies = lies
-placed_one scripts s (Join handle) named lies = lies
-placed_one scripts s (Within handle limit) named lies = lies
-placed_one scripts s (Stopped signal) named lies = lies
-placed_one scripts s (Wait signal) named lies = lies
+-- a name keeps its place where more are taken in, and each of these has one
+lies_more : (start names : List (List ℕ)) (name : List ℕ) → Lies start name → Lies (fold (insert_key text_cmp) start names) name
+lies_more start [] name h = h
+lies_more start (n ∷ ns) name h = lies_more (insert_key text_cmp start n) ns name (kept name n start h)
+
+choices_lie : (start names : List (List ℕ)) → All (Lies (fold (insert_key text_cmp) start names)) names
+choices_lie start [] = λ k d inside. absurd (omega (arith, inside))
+choices_lie start (n ∷ ns) =
+    All-cons (Lies (fold (insert_key text_cmp) (insert_key text_cmp start n) ns)) n ns (lies_more (insert_key text_cmp start n) ns n (taken n start)) (choices_lie (insert_key text_cmp start n) ns)
+
+lies_if : (start names : List (List ℕ)) (o : Option (List ℕ)) → IfSome o (Lies start) → IfSome o (Lies (fold (insert_key text_cmp) start names))
+lies_if start names None h = tt
+lies_if start names (Some name) h = lies_more start names name h
+
+placed_one : (scripts : ℕ) (s : ScriptText) (line : NamedLine (List ℕ)) → IsNamed scripts (length s.words) (length s.choices) line → IfSome (handle_of line) (Lies s.handles) → All (λ place. place < length s.handles) s.choices → IsWithin scripts s (placed s.handles line)
+placed_one scripts s (Plain (step.Panic word)) named lies chosen = named
+placed_one scripts s (Plain (step.Spawn handle script)) named lies chosen = absurd named
+placed_one scripts s (Plain (step.Abort handle)) named lies chosen = absurd named
+placed_one scripts s (Plain (step.Drop handle)) named lies chosen = absurd named
+placed_one scripts s (Plain (step.Join handle)) named lies chosen = absurd named
+placed_one scripts s (Plain (step.Within handle limit)) named lies chosen = absurd named
+placed_one scripts s (Plain (step.Select start past)) named lies chosen = (named.0, named.1, chosen)
+placed_one scripts s (Plain (step.Stopped signal)) named lies chosen = absurd named
+placed_one scripts s (Plain (step.Wait signal)) named lies chosen = absurd named
+placed_one scripts s (Plain (step.Sleep n)) named lies chosen = tt
+placed_one scripts s (Plain (step.Until n)) named lies chosen = tt
+placed_one scripts s (Plain step.Yield) named lies chosen = tt
+placed_one scripts s (Plain step.Pend) named lies chosen = tt
+placed_one scripts s (Plain (step.End v)) named lies chosen = tt
+placed_one scripts s (Plain step.EndLast) named lies chosen = tt
+placed_one scripts s (Plain (step.Stop v limit)) named lies chosen = tt
+placed_one scripts s (Plain step.AbortSelf) named lies chosen = tt
+placed_one scripts s (Spawn handle script) named lies chosen = (lies, named)
+placed_one scripts s (Abort handle) named lies chosen = lies
+placed_one scripts s (Drop handle) named lies chosen = lies
+placed_one scripts s (Join handle) named lies chosen = lies
+placed_one scripts s (Within handle limit) named lies chosen = lies
+placed_one scripts s (Stopped signal) named lies chosen = lies
+placed_one scripts s (Wait signal) named lies chosen = lies
 
 -- a script that is closed has the places that its lines hold
 pub closed_has : (scripts : ℕ) (s : Begun) → IsBegun scripts s → HasPlaces scripts (closed_script s)
 closed_has scripts s begun =
-    All-map (IsWithin scripts (closed_script s)) (placed (handles_of s.lines)) s.lines
-    (λ k d inside. placed_one scripts (closed_script s) (get_or s.lines k d) (begun k d inside) (all_lie [] s.lines k d inside))
+    let names = names_of s in
+    let chosen : All (λ place. place < length names) (map (place_of names) s.choices) =
+    All-map (λ place. place < length names) (place_of names) s.choices (choices_lie (handles_of s.lines) s.choices) in
+    let long : length (map (place_of names) s.choices) ≡ length s.choices = length-map s.choices (place_of names) in
+    All-map (IsWithin scripts (closed_script s)) (placed names) s.lines
+    (λ k d inside.
+    placed_one scripts (closed_script s) (get_or s.lines k d)
+    (subst (λ n. IsNamed scripts (length s.words) n (get_or s.lines k d)) (sym long) (begun k d inside))
+    (lies_if (handles_of s.lines) s.choices (handle_of (get_or s.lines k d)) (all_lie [] s.lines k d inside)) chosen)
 
 -- among more scripts the places lie as well
 within_more : (n : ℕ) (s : ScriptText) (line : Line) → IsWithin n s line → IsWithin (n + 1) s line
@@ -134,6 +156,7 @@ within_more n s (step.Abort handle) h = h
 within_more n s (step.Drop handle) h = h
 within_more n s (step.Join handle) h = h
 within_more n s (step.Within handle limit) h = h
+within_more n s (step.Select start past) h = h
 within_more n s (step.Stopped signal) h = h
 within_more n s (step.Wait signal) h = h
 within_more n s (step.Sleep d) h = tt
@@ -154,62 +177,96 @@ have_push ss s have has k d inside =
     subst (λ n. HasPlaces n (get_or (ss ++ s ∷ []) k d)) (sym (length_push ss s))
     (All-push (HasPlaces (length ss + 1)) ss s (λ i e below. has_more (length ss) (get_or ss i e) (have i e below)) (has_more (length ss) s has) k d inside)
 
-free_named : (scripts words : ℕ) (line : NamedLine (List ℕ)) → IsFree scripts line → IsNamed scripts words line
-free_named scripts words (Plain (step.Panic word)) h = absurd h
-free_named scripts words (Plain (step.Spawn handle script)) h = absurd h
-free_named scripts words (Plain (step.Abort handle)) h = absurd h
-free_named scripts words (Plain (step.Drop handle)) h = absurd h
-free_named scripts words (Plain (step.Join handle)) h = absurd h
-free_named scripts words (Plain (step.Within handle limit)) h = absurd h
-free_named scripts words (Plain (step.Stopped signal)) h = absurd h
-free_named scripts words (Plain (step.Wait signal)) h = absurd h
-free_named scripts words (Plain (step.Sleep n)) h = tt
-free_named scripts words (Plain (step.Until n)) h = tt
-free_named scripts words (Plain step.Yield) h = tt
-free_named scripts words (Plain step.Pend) h = tt
-free_named scripts words (Plain (step.End v)) h = tt
-free_named scripts words (Plain step.EndLast) h = tt
-free_named scripts words (Plain (step.Stop v limit)) h = tt
-free_named scripts words (Plain step.AbortSelf) h = tt
-free_named scripts words (Spawn handle script) h = h
-free_named scripts words (Abort handle) h = tt
-free_named scripts words (Drop handle) h = tt
-free_named scripts words (Join handle) h = tt
-free_named scripts words (Within handle limit) h = tt
-free_named scripts words (Stopped signal) h = tt
-free_named scripts words (Wait signal) h = tt
+free_named : (scripts words choices : ℕ) (line : NamedLine (List ℕ)) → IsFree scripts line → IsNamed scripts words choices line
+free_named scripts words choices (Plain (step.Panic word)) h = absurd h
+free_named scripts words choices (Plain (step.Spawn handle script)) h = absurd h
+free_named scripts words choices (Plain (step.Abort handle)) h = absurd h
+free_named scripts words choices (Plain (step.Drop handle)) h = absurd h
+free_named scripts words choices (Plain (step.Join handle)) h = absurd h
+free_named scripts words choices (Plain (step.Within handle limit)) h = absurd h
+free_named scripts words choices (Plain (step.Select start past)) h = absurd h
+free_named scripts words choices (Plain (step.Stopped signal)) h = absurd h
+free_named scripts words choices (Plain (step.Wait signal)) h = absurd h
+free_named scripts words choices (Plain (step.Sleep n)) h = tt
+free_named scripts words choices (Plain (step.Until n)) h = tt
+free_named scripts words choices (Plain step.Yield) h = tt
+free_named scripts words choices (Plain step.Pend) h = tt
+free_named scripts words choices (Plain (step.End v)) h = tt
+free_named scripts words choices (Plain step.EndLast) h = tt
+free_named scripts words choices (Plain (step.Stop v limit)) h = tt
+free_named scripts words choices (Plain step.AbortSelf) h = tt
+free_named scripts words choices (Spawn handle script) h = h
+free_named scripts words choices (Abort handle) h = tt
+free_named scripts words choices (Drop handle) h = tt
+free_named scripts words choices (Join handle) h = tt
+free_named scripts words choices (Within handle limit) h = tt
+free_named scripts words choices (Stopped signal) h = tt
+free_named scripts words choices (Wait signal) h = tt
 
 -- a line more
 pub begun_line : (scripts : ℕ) (s : Begun) (line : NamedLine (List ℕ)) → IsBegun scripts s → IsFree scripts line → IsBegun scripts (with_line line s)
-begun_line scripts s line begun free = All-push (IsNamed scripts (length s.words)) s.lines line begun (free_named scripts (length s.words) line free)
+begun_line scripts s line begun free = All-push (IsNamed scripts (length s.words) (length s.choices)) s.lines line begun (free_named scripts (length s.words) (length s.choices) line free)
 
-named_more : (scripts words : ℕ) (line : NamedLine (List ℕ)) → IsNamed scripts words line → IsNamed scripts (words + 1) line
-named_more scripts words (Plain (step.Panic word)) h = omega (arith, h)
-named_more scripts words (Plain (step.Spawn handle script)) h = absurd h
-named_more scripts words (Plain (step.Abort handle)) h = absurd h
-named_more scripts words (Plain (step.Drop handle)) h = absurd h
-named_more scripts words (Plain (step.Join handle)) h = absurd h
-named_more scripts words (Plain (step.Within handle limit)) h = absurd h
-named_more scripts words (Plain (step.Stopped signal)) h = absurd h
-named_more scripts words (Plain (step.Wait signal)) h = absurd h
-named_more scripts words (Plain (step.Sleep n)) h = tt
-named_more scripts words (Plain (step.Until n)) h = tt
-named_more scripts words (Plain step.Yield) h = tt
-named_more scripts words (Plain step.Pend) h = tt
-named_more scripts words (Plain (step.End v)) h = tt
-named_more scripts words (Plain step.EndLast) h = tt
-named_more scripts words (Plain (step.Stop v limit)) h = tt
-named_more scripts words (Plain step.AbortSelf) h = tt
-named_more scripts words (Spawn handle script) h = h
-named_more scripts words (Abort handle) h = tt
-named_more scripts words (Drop handle) h = tt
-named_more scripts words (Join handle) h = tt
-named_more scripts words (Within handle limit) h = tt
-named_more scripts words (Stopped signal) h = tt
-named_more scripts words (Wait signal) h = tt
+named_more : (scripts words choices : ℕ) (line : NamedLine (List ℕ)) → IsNamed scripts words choices line → IsNamed scripts (words + 1) choices line
+named_more scripts words choices (Plain (step.Panic word)) h = omega (arith, h)
+named_more scripts words choices (Plain (step.Spawn handle script)) h = absurd h
+named_more scripts words choices (Plain (step.Abort handle)) h = absurd h
+named_more scripts words choices (Plain (step.Drop handle)) h = absurd h
+named_more scripts words choices (Plain (step.Join handle)) h = absurd h
+named_more scripts words choices (Plain (step.Within handle limit)) h = absurd h
+named_more scripts words choices (Plain (step.Select start past)) h = h
+named_more scripts words choices (Plain (step.Stopped signal)) h = absurd h
+named_more scripts words choices (Plain (step.Wait signal)) h = absurd h
+named_more scripts words choices (Plain (step.Sleep n)) h = tt
+named_more scripts words choices (Plain (step.Until n)) h = tt
+named_more scripts words choices (Plain step.Yield) h = tt
+named_more scripts words choices (Plain step.Pend) h = tt
+named_more scripts words choices (Plain (step.End v)) h = tt
+named_more scripts words choices (Plain step.EndLast) h = tt
+named_more scripts words choices (Plain (step.Stop v limit)) h = tt
+named_more scripts words choices (Plain step.AbortSelf) h = tt
+named_more scripts words choices (Spawn handle script) h = h
+named_more scripts words choices (Abort handle) h = tt
+named_more scripts words choices (Drop handle) h = tt
+named_more scripts words choices (Join handle) h = tt
+named_more scripts words choices (Within handle limit) h = tt
+named_more scripts words choices (Stopped signal) h = tt
+named_more scripts words choices (Wait signal) h = tt
 
 -- a panic more, and its word
 pub begun_panic : (scripts : ℕ) (s : Begun) (word : List ℕ) → IsBegun scripts s → IsBegun scripts (with_panic word s)
 begun_panic scripts s word begun k d inside =
-    subst (λ n. IsNamed scripts n (get_or (with_panic word s).lines k d)) (sym (length_push s.words word))
-    (All-push (IsNamed scripts (length s.words + 1)) s.lines (Plain (step.Panic (length s.words))) (λ i e below. named_more scripts (length s.words) (get_or s.lines i e) (begun i e below)) (omega arith) k d inside)
+    subst (λ n. IsNamed scripts n (length s.choices) (get_or (with_panic word s).lines k d)) (sym (length_push s.words word))
+    (All-push (IsNamed scripts (length s.words + 1) (length s.choices)) s.lines (Plain (step.Panic (length s.words))) (λ i e below. named_more scripts (length s.words) (length s.choices) (get_or s.lines i e) (begun i e below)) (omega arith) k d inside)
+
+chosen_more : (scripts words choices more : ℕ) (line : NamedLine (List ℕ)) → IsNamed scripts words choices line → IsNamed scripts words (choices + more) line
+chosen_more scripts words choices more (Plain (step.Panic word)) h = h
+chosen_more scripts words choices more (Plain (step.Spawn handle script)) h = absurd h
+chosen_more scripts words choices more (Plain (step.Abort handle)) h = absurd h
+chosen_more scripts words choices more (Plain (step.Drop handle)) h = absurd h
+chosen_more scripts words choices more (Plain (step.Join handle)) h = absurd h
+chosen_more scripts words choices more (Plain (step.Within handle limit)) h = absurd h
+chosen_more scripts words choices more (Plain (step.Select start past)) h = (h.0, omega (arith, h.1))
+chosen_more scripts words choices more (Plain (step.Stopped signal)) h = absurd h
+chosen_more scripts words choices more (Plain (step.Wait signal)) h = absurd h
+chosen_more scripts words choices more (Plain (step.Sleep n)) h = tt
+chosen_more scripts words choices more (Plain (step.Until n)) h = tt
+chosen_more scripts words choices more (Plain step.Yield) h = tt
+chosen_more scripts words choices more (Plain step.Pend) h = tt
+chosen_more scripts words choices more (Plain (step.End v)) h = tt
+chosen_more scripts words choices more (Plain step.EndLast) h = tt
+chosen_more scripts words choices more (Plain (step.Stop v limit)) h = tt
+chosen_more scripts words choices more (Plain step.AbortSelf) h = tt
+chosen_more scripts words choices more (Spawn handle script) h = h
+chosen_more scripts words choices more (Abort handle) h = tt
+chosen_more scripts words choices more (Drop handle) h = tt
+chosen_more scripts words choices more (Join handle) h = tt
+chosen_more scripts words choices more (Within handle limit) h = tt
+chosen_more scripts words choices more (Stopped signal) h = tt
+chosen_more scripts words choices more (Wait signal) h = tt
+
+-- a choice more, of one name at least
+pub begun_select : (scripts : ℕ) (s : Begun) (names : List (List ℕ)) → 0 < length names → IsBegun scripts s → IsBegun scripts (with_select names s)
+begun_select scripts s names some begun k d inside =
+    subst (λ n. IsNamed scripts (length s.words) n (get_or (with_select names s).lines k d)) (sym (length-append s.choices names))
+    (All-push (IsNamed scripts (length s.words) (length s.choices + length names)) s.lines (Plain (step.Select (length s.choices) (length s.choices + length names))) (λ i e below. chosen_more scripts (length s.words) (length s.choices) (length names) (get_or s.lines i e) (begun i e below)) ((omega (arith, some)), (omega arith)) k d inside)

@@ -5,13 +5,13 @@ use Rattle.std.proofs.lemmas.List.Elements.{All-cons}
 use Rattle.std.specs.Option.{option_map, option_copied}
 use Rattle.std.specs.Borrow.{Bor}
 use Rattle.rt_scenario.specs.Words.{is_text}
-use Rattle.rt_scenario.specs.Scenario.{Draft, CanRun, script_at, scripts_at, onto_places, row}
+use Rattle.rt_scenario.specs.Scenario.{Draft, CanRun, script_at, scripts_at, onto_places, row, select_row}
 use Rattle.std.specs.Cmp.Lexicographic.{same_text}
 use Rattle.rt_scenario.specs.Answers.{IsBare}
 use Rattle.rt_scenario.specs.declared.kind.Kind.TheVariants as kind
 use Rattle.rt_scenario.specs.declared.scenario.ScriptText.{ScriptText}
 use Rattle.rt_scenario.specs.declared.word.Word.{Word}
-use Rattle.rt_scenario.specs.declared.word.Word.TheVariants.{Timeout, Catch, Script, Sleep, Until, Yield, Pend, End, Panic, Spawn, Abort, Drop, Join, Within, Stopped, Wait, Stop, Done, Run}
+use Rattle.rt_scenario.specs.declared.word.Word.TheVariants.{Timeout, Catch, Script, Sleep, Until, Yield, Pend, End, Panic, Spawn, Abort, Drop, Join, Within, Select, Stopped, Wait, Stop, Done, Run}
 
 -- the first place, or else the second
 abbrev pub place_or : Option ℕ → Option ℕ → Option ℕ
@@ -54,10 +54,16 @@ bare_count d Abort (w ∷ ws) bare some = absurd bare
 bare_count d Drop (w ∷ ws) bare some = absurd bare
 bare_count d Join (w ∷ ws) bare some = absurd bare
 bare_count d Within (w ∷ ws) bare some = absurd bare
+bare_count d Select (w ∷ ws) bare some = absurd bare
 bare_count d Stopped (w ∷ ws) bare some = absurd bare
 bare_count d Wait (w ∷ ws) bare some = absurd bare
 bare_count d Stop (w ∷ ws) bare some = absurd bare
 bare_count d Run (w ∷ ws) bare some = absurd bare
+
+-- a choice among some
+pub select_some : (d : Draft) (ws : List (List ℕ)) → 0 < length ws → row d Select ws ≡ select_row d ws
+select_some d [] some = absurd (omega (arith, some))
+select_some d (w ∷ ws) some = refl
 
 place_or_none : (o : Option ℕ) → place_or o None ≡ o
 place_or_none None = refl

@@ -26,9 +26,13 @@ map_handle f (Wait signal) = Wait (f signal)
 abbrev pub read : NamedLine (Bor (List ℕ)) → NamedLine (List ℕ)
 read = map_handle (λ name. name.now)
 
+-- the name of this index
+abbrev pub name_at : List (List ℕ) → ℕ → List ℕ
+name_at names index = slice_index_or names index []
+
 -- the line with its name, by the names
 abbrev pub named_by : List (List ℕ) → NamedLine ℕ → NamedLine (List ℕ)
-named_by names = map_handle (λ index. slice_index_or names index [])
+named_by names = map_handle (name_at names)
 
 -- the index is that of one of so many names
 abbrev pub HasIndex : ℕ → NamedLine ℕ → Type 0

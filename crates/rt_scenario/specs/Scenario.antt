@@ -16,7 +16,7 @@ use Rattle.rt_scenario.specs.declared.named_line.NamedLine.TheVariants.{Plain, S
 use Rattle.rt_scenario.specs.declared.scenario.Scenario.{Scenario}
 use Rattle.rt_scenario.specs.declared.scenario.ScriptText.{ScriptText}
 use Rattle.rt_scenario.specs.declared.word.Word.{Word}
-use Rattle.rt_scenario.specs.declared.word.Word.TheVariants.{Timeout, Catch, Script, Sleep, Until, Yield, Pend, End, Panic, Spawn as SpawnWord, Abort as AbortWord, Drop as DropWord, Join as JoinWord, Within as WithinWord, Stopped as StoppedWord, Wait as WaitWord, Stop as StopWord, Done, Run}
+use Rattle.rt_scenario.specs.declared.word.Word.TheVariants.{Timeout, Catch, Script, Sleep, Until, Yield, Pend, End, Panic, Spawn as SpawnWord, Abort as AbortWord, Drop as DropWord, Join as JoinWord, Within as WithinWord, Select as SelectWord, Stopped as StoppedWord, Wait as WaitWord, Stop as StopWord, Done, Run}
 
 -- what the lines so far say: the settings, the scripts, the one whose `done` hasn't come, and the places
 -- of the scripts that are run, the root first
@@ -74,7 +74,7 @@ abbrev pub script_row : Draft → List ℕ → Result Draft Kind
 script_row d name =
     if not (is_name name) then Err kind.Name
     else (if is_some (script_at d.scripts name) then Err kind.Twice
-    else Ok (record d { current = Some (record { name = name; lines = []; words = [] }) }))
+    else Ok (record d { current = Some (record { name = name; lines = []; words = []; choices = [] }) }))
 
 abbrev pub with_line : NamedLine (List ℕ) → Begun → Begun
 with_line line s = record s { lines = s.lines ++ line ∷ [] }
@@ -125,6 +125,17 @@ within_row d limit handle = if not (is_name handle) then Err kind.Name else limi
 
 abbrev pub abort_row : Draft → List ℕ → Result Draft Kind
 abort_row d word = if is_text word (codes "self") then step_row d (Plain step.AbortSelf) else handle_row d Abort word
+
+-- names that are chosen go behind those before them
+abbrev pub with_choices : List (List ℕ) → Begun → Begun
+with_choices names s = record s { choices = s.choices ++ names }
+
+abbrev pub with_select : List (List ℕ) → Begun → Begun
+with_select names s = with_line (Plain (step.Select (length s.choices) (length s.choices + length names))) (with_choices names s)
+
+-- a choice among what has these names
+abbrev pub select_row : Draft → List (List ℕ) → Result Draft Kind
+select_row d names = if not (list_all is_name names) then Err kind.Name else Ok (record d { current = option_map (with_select names) d.current })
 
 -- a shutdown that is waited for to its end
 abbrev pub stop_row : Draft → Option ℤ → Result Draft Kind
@@ -186,6 +197,7 @@ row d AbortWord (w ∷ []) = abort_row d w
 row d DropWord (h ∷ []) = handle_row d Drop h
 row d JoinWord (h ∷ []) = handle_row d Join h
 row d WithinWord (w ∷ h ∷ []) = within_row d (number_of w) h
+row d SelectWord (h ∷ hs) = select_row d (h ∷ hs)
 row d StoppedWord (g ∷ []) = handle_row d Stopped g
 row d WaitWord (g ∷ []) = handle_row d Wait g
 row d StopWord (v ∷ []) = stop_row d (small_value_of v)

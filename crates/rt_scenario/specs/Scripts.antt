@@ -1,5 +1,5 @@
 -- A script while its lines come, and as it is given; and how many tasks scripts make.
-use Rattle.std.specs.Prelude.{ℕ, ◌+◌, List, [], ◌∷◌, ◌++◌, length, map, slice_index, Option, Some, None}
+use Rattle.std.specs.Prelude.{ℕ, ◌+◌, List, [], ◌∷◌, ◌++◌, length, fold, map, slice_index, Option, Some, None}
 use Rattle.std.specs.List.{filter}
 use Rattle.std.specs.Ordering.{is_lt}
 use Rattle.std.specs.BTreeSet.{insert_key}
@@ -10,11 +10,12 @@ use Rattle.rt_scenario.specs.declared.named_line.NamedLine.{NamedLine}
 use Rattle.rt_scenario.specs.declared.named_line.NamedLine.TheVariants.{Plain, Spawn, Abort, Drop, Join, Within, Stopped, Wait}
 use Rattle.rt_scenario.specs.declared.scenario.ScriptText.{ScriptText}
 
--- a script without its `done`; handles and signals stand in its lines by their names
+-- a script without its `done`; handles and signals stand in its lines and choices by their names
 pub record Begun : Type 0 where
   pub name : List ℕ
   pub lines : List (NamedLine (List ℕ))
   pub words : List (List ℕ)
+  pub choices : List (List ℕ)
 
 -- the name of the handle or signal of a line
 abbrev pub handle_of : NamedLine (List ℕ) → Option (List ℕ)
@@ -40,6 +41,13 @@ with_handles names (line ∷ lines) = with_handles (with_handle names (handle_of
 abbrev pub handles_of : List (NamedLine (List ℕ)) → List (List ℕ)
 handles_of lines = with_handles [] lines
 
+-- the same with those of choices
+abbrev pub all_names : List (NamedLine (List ℕ)) → List (List ℕ) → List (List ℕ)
+all_names lines choices = fold (insert_key text_cmp) (handles_of lines) choices
+
+abbrev pub names_of : Begun → List (List ℕ)
+names_of s = all_names s.lines s.choices
+
 -- the place of a name among these: as many stand before it
 abbrev pub place_of : List (List ℕ) → List ℕ → ℕ
 place_of names name = length (filter (λ other. is_lt (text_cmp other name)) names)
@@ -56,7 +64,8 @@ placed names (Stopped signal) = step.Stopped (place_of names signal)
 placed names (Wait signal) = step.Wait (place_of names signal)
 
 abbrev pub closed_script : Begun → ScriptText
-closed_script s = record { name = s.name; lines = map (placed (handles_of s.lines)) s.lines; handles = handles_of s.lines; words = s.words }
+closed_script s =
+    record { name = s.name; lines = map (placed (names_of s)) s.lines; handles = names_of s; words = s.words; choices = map (place_of (names_of s)) s.choices }
 
 -- the places of the scripts that the lines spawn
 abbrev pub spawned_in : List Line → List ℕ

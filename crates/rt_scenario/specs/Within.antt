@@ -1,5 +1,5 @@
 -- The places that lines hold lie within their lists.
-use Rattle.std.specs.Prelude.{ℕ, ◌<◌, List, length}
+use Rattle.std.specs.Prelude.{ℕ, ◌<◌, ◌≤◌, List, length}
 use Rattle.std.specs.List.{All}
 use Rattle.rt_scenario.specs.Scripts.{Begun}
 use Rattle.rt_scenario.specs.declared.line.Line.{Line}
@@ -8,7 +8,7 @@ use Rattle.rt_scenario.specs.declared.named_line.NamedLine.{NamedLine}
 use Rattle.rt_scenario.specs.declared.named_line.NamedLine.TheVariants.{Plain, Spawn}
 use Rattle.rt_scenario.specs.declared.scenario.ScriptText.{ScriptText}
 
--- a name's place and a word's lie among those of the script, and a script's among so many
+-- a name's place and a word's lie among those of the script, and a script's among so many; so do a choice's names
 abbrev pub IsWithin : ℕ → ScriptText → Line → Type 0
 IsWithin scripts s (step.Panic word) = word < length s.words
 IsWithin scripts s (step.Spawn handle script) = (handle < length s.handles) × (script < scripts)
@@ -16,6 +16,7 @@ IsWithin scripts s (step.Abort handle) = handle < length s.handles
 IsWithin scripts s (step.Drop handle) = handle < length s.handles
 IsWithin scripts s (step.Join handle) = handle < length s.handles
 IsWithin scripts s (step.Within handle limit) = handle < length s.handles
+IsWithin scripts s (step.Select start past) = (start < past) × (past ≤ length s.choices) × All (λ place. place < length s.handles) s.choices
 IsWithin scripts s (step.Stopped signal) = signal < length s.handles
 IsWithin scripts s (step.Wait signal) = signal < length s.handles
 IsWithin scripts s line = Unit {0}
@@ -27,7 +28,7 @@ HasPlaces scripts s = All (IsWithin scripts s) s.lines
 abbrev pub HavePlaces : List ScriptText → Type 0
 HavePlaces scripts = All (HasPlaces (length scripts)) scripts
 
--- a line without a word, whose name has no place yet, and whose script is among so many
+-- a line without a word or a choice, whose name has no place yet, and whose script is among so many
 abbrev pub IsFree : ℕ → NamedLine (List ℕ) → Type 0
 IsFree scripts (Plain (step.Panic word)) = ⊥
 IsFree scripts (Plain (step.Spawn handle script)) = ⊥
@@ -35,15 +36,17 @@ IsFree scripts (Plain (step.Abort handle)) = ⊥
 IsFree scripts (Plain (step.Drop handle)) = ⊥
 IsFree scripts (Plain (step.Join handle)) = ⊥
 IsFree scripts (Plain (step.Within handle limit)) = ⊥
+IsFree scripts (Plain (step.Select start past)) = ⊥
 IsFree scripts (Plain (step.Stopped signal)) = ⊥
 IsFree scripts (Plain (step.Wait signal)) = ⊥
 IsFree scripts (Spawn handle script) = script < scripts
 IsFree scripts line = Unit {0}
 
--- such a line, or a panic whose word is among so many
-abbrev pub IsNamed : ℕ → ℕ → NamedLine (List ℕ) → Type 0
-IsNamed scripts words (Plain (step.Panic word)) = word < words
-IsNamed scripts words line = IsFree scripts line
+-- such a line, or one whose word or choice is among so many
+abbrev pub IsNamed : ℕ → ℕ → ℕ → NamedLine (List ℕ) → Type 0
+IsNamed scripts words choices (Plain (step.Panic word)) = word < words
+IsNamed scripts words choices (Plain (step.Select start past)) = (start < past) × (past ≤ choices)
+IsNamed scripts words choices line = IsFree scripts line
 
 abbrev pub IsBegun : ℕ → Begun → Type 0
-IsBegun scripts s = All (IsNamed scripts (length s.words)) s.lines
+IsBegun scripts s = All (IsNamed scripts (length s.words) (length s.choices)) s.lines

@@ -2,7 +2,7 @@
 use Rattle.std.specs.Prelude.{ℕ, Bool, true, false, nat_eq, List, codes, if◌then◌else◌, Option, Some, None}
 use Rattle.std.specs.Cmp.Lexicographic.{pointwise}
 use Rattle.rt_scenario.specs.declared.word.Word.{Word}
-use Rattle.rt_scenario.specs.declared.word.Word.TheVariants.{Timeout, Catch, Script, Sleep, Until, Yield, Pend, End, Panic, Spawn, Abort, Drop, Join, Within, Stopped, Wait, Stop, Done, Run}
+use Rattle.rt_scenario.specs.declared.word.Word.TheVariants.{Timeout, Catch, Script, Sleep, Until, Yield, Pend, End, Panic, Spawn, Abort, Drop, Join, Within, Select, Stopped, Wait, Stop, Done, Run}
 
 abbrev pub is_text : List ℕ → List ℕ → Bool
 is_text = pointwise nat_eq
@@ -23,12 +23,13 @@ word_of text =
     else (if is_text text (codes "drop") then Some Drop
     else (if is_text text (codes "join") then Some Join
     else (if is_text text (codes "within") then Some Within
+    else (if is_text text (codes "select") then Some Select
     else (if is_text text (codes "stopped") then Some Stopped
     else (if is_text text (codes "wait") then Some Wait
     else (if is_text text (codes "stop") then Some Stop
     else (if is_text text (codes "done") then Some Done
     else (if is_text text (codes "run") then Some Run
-    else None))))))))))))))))))
+    else None)))))))))))))))))))
 
 abbrev pub switch_of : List ℕ → Option Bool
 switch_of word =

@@ -5,7 +5,7 @@ ghost use Rattle.std.specs.List.{All, list_all};
 ghost use Rattle.rt_scenario.specs.Lines.{words_of, words_in};
 ghost use Rattle.rt_scenario.specs.Numbers.{number_of, small_value_of, value_of};
 ghost use Rattle.rt_scenario.specs.Words.{switch_of};
-ghost use Rattle.rt_scenario.specs.Scenario.{Draft, blank, CanRun, is_between, is_name, is_placed, is_printable, names_run, row, after_line, after_text, after_words, timeout_row, catch_row, script_row, step_row, sleep_row, until_row, end_row, panic_row, spawn_row, spawned_row, abort_row, handle_row, within_row, stop_row, limited_stop_row, done_row, found_row, run_row, script_at, scripts_at};
+ghost use Rattle.rt_scenario.specs.Scenario.{Draft, blank, CanRun, is_between, is_name, is_placed, is_printable, names_run, row, after_line, after_text, after_words, timeout_row, catch_row, script_row, step_row, sleep_row, until_row, end_row, panic_row, spawn_row, spawned_row, abort_row, handle_row, within_row, stop_row, limited_stop_row, select_row, with_select, done_row, found_row, run_row, script_at, scripts_at};
 ghost use Rattle.rt_scenario.specs.Answers.{Answers, Finishes, IsBare, Lacks, found_at, or_missing};
 ghost use Rattle.rt_scenario.specs.Indexed.{read};
 ghost use Rattle.rt_scenario.specs.Scripts.{tasks_of, tasks_at as total_at};
@@ -214,6 +214,7 @@ impl Draft {
                 let (limit, handle) = two(args)?;
                 self.within(limit, handle)
             }
+            Word::Select => self.select(args),
             Word::Stopped => self.stopped(one(args)?),
             Word::Wait => self.wait(one(args)?),
             Word::Stop => self.shut_down(args),
@@ -399,6 +400,25 @@ impl Draft {
         match numbers::number_of(limit) {
             Some(limit) => self.push(NamedLine::Within(handle, limit)),
             None => Err(Stop::Breaks(Kind::Number)),
+        }
+    }
+
+    fn select(&mut self, args: Option<&[u8]>) -> Result<(), Stop>
+        requires { is_some self.old.current ≡ true }
+        ensures { Answers (row self.old word.Select (words_in args.entry)) result self.new }
+    {
+        if args.is_none() {
+            return Err(Stop::Breaks(Kind::Count));
+        }
+        if !are_names(args) {
+            return Err(Stop::Breaks(Kind::Name));
+        }
+        match self.current.take() {
+            Some(script) => {
+                self.current = Some(script.with_select(args)?);
+                Ok(())
+            }
+            None => unreachable!(),
         }
     }
 

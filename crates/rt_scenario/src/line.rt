@@ -34,6 +34,9 @@ pub enum Line {
     Join(usize),
     /// Waits for the task of this handle for at most so long.
     Within(usize, Nanos),
+    /// Waits for the first to end of the tasks whose handles are chosen: those from the first place of the script's
+    /// `choices` on and before the second. There is at least one.
+    Select(usize, usize),
     /// Makes a signal of the run's shutdown, and keeps it at this place.
     Stopped(usize),
     /// Waits for this signal.

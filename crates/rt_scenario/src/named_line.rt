@@ -59,7 +59,8 @@ pub fn placed(line: NamedLine<usize>, places: &[usize]) -> Line
     }
 }
 
-fn place_at(places: &[usize], index: usize) -> usize
+/// The place of the name of this index.
+pub fn place_at(places: &[usize], index: usize) -> usize
     ensures { result ≡ slice_index places.now index }
 {
     places.get(index).copied().unwrap_or(0)

@@ -1,43 +1,49 @@
 // A script whose `done` hasn't come.
-ghost use Rattle.std.specs.Prelude.{◌≡◌, [], IfOk, OnOk, OnErr, map};
+ghost use Rattle.std.specs.Prelude.{◌≡◌, true, [], ◌∷◌, IfOk, OnOk, OnErr, length, map, slice_index};
+ghost use Rattle.std.specs.List.{list_all};
 ghost use Rattle.rt_scenario.specs.Indexed.{placed_at, read};
 ghost use Rattle.rt_scenario.specs.Scripts.{closed_script};
-ghost use Rattle.rt_scenario.specs.Scenario.{with_line, with_panic};
+ghost use Rattle.rt_scenario.specs.Lines.{words_in};
+ghost use Rattle.rt_scenario.specs.Scenario.{is_name, with_choices, with_line, with_panic, with_select};
 
 use crate::handles::Handles;
 use crate::line::Line;
-use crate::named_line::{NamedLine, indexed, placed};
+use crate::named_line::{NamedLine, indexed, place_at, placed};
+use crate::names::name_of;
 use crate::scenario::ScriptText;
+use crate::split::split_word;
 use rt_base::{Items, NoMemory, Text};
 use std::alloc::Global;
 use std::marker::Model;
 
-/// The lines of a script so far, the names of what they hold, and the words of its panics.
+/// The lines of a script so far, the names of what they hold, the words of its panics, and the indices of the names that
+/// its choices take.
 #[derive(Drop)]
 pub struct OpenScript {
     name: Text,
     lines: Vec<NamedLine<usize>>,
     handles: Handles,
     words: Vec<Text>,
+    choices: Vec<usize>,
 }
 
 impl Model for OpenScript {
-    ghost use Rattle.std.specs.Prelude.{◌≡◌, length, map};
+    ghost use Rattle.std.specs.Prelude.{◌≡◌, ◌<◌, length, map};
     ghost use Rattle.std.specs.List.{All};
-    ghost use Rattle.rt_scenario.specs.Indexed.{HasIndex, in_order, named_by};
-    ghost use Rattle.rt_scenario.specs.Scripts.{Begun, handles_of};
+    ghost use Rattle.rt_scenario.specs.Indexed.{HasIndex, in_order, name_at, named_by};
+    ghost use Rattle.rt_scenario.specs.Scripts.{Begun, all_names};
 
     ghost Value = { Begun };
 
-    ghost view = { λ s. record { name = s.name; lines = map (named_by s.handles) s.lines.items; words = s.words.items } };
+    ghost view = { λ s. record { name = s.name; lines = map (named_by s.handles) s.lines.items; words = s.words.items; choices = map (name_at s.handles) s.choices.items } };
 
-    ghost invariant = { λ s. All (HasIndex (length s.handles)) s.lines.items × (handles_of (map (named_by s.handles) s.lines.items) ≡ in_order s.handles) };
+    ghost invariant = { λ s. All (HasIndex (length s.handles)) s.lines.items × All (λ index. index < length s.handles) s.choices.items × (all_names (map (named_by s.handles) s.lines.items) (map (name_at s.handles) s.choices.items) ≡ in_order s.handles) };
 }
 
 impl OpenScript {
     /// A script without lines, which keeps them in the room of `spare`.
     pub fn new(alloc: Global, name: Text, spare: Vec<NamedLine<usize>>) -> OpenScript
-        ensures { result ≡ record { name = name; lines = []; words = [] } }
+        ensures { result ≡ record { name = name; lines = []; words = []; choices = [] } }
     {
         let mut lines = spare;
         lines.clear();
@@ -46,6 +52,7 @@ impl OpenScript {
             lines,
             handles: Handles::new(alloc),
             words: Vec::new(alloc),
+            choices: Vec::new(alloc),
         }
     }
 
@@ -70,6 +77,42 @@ impl OpenScript {
         Ok(())
     }
 
+    /// The script with a choice among what these words name.
+    pub fn with_select(self, names: Option<&[u8]>) -> Result<OpenScript, NoMemory>
+        requires { list_all is_name (words_in names) ≡ true }
+        ensures { IfOk result (λ script. script ≡ with_select (words_in names.entry) self) }
+    {
+        let mut script = self;
+        let start = script.count_choices();
+        let mut rest = names;
+        while let Some(text) = rest {
+            let (word, tail) = split_word(text);
+            match name_of(word) {
+                Some(name) => script.push_choice(name)?,
+                None => unreachable!(),
+            }
+            rest = tail;
+        }
+        let past = script.count_choices();
+        script.push(NamedLine::Plain(Line::Select(start, past)))?;
+        Ok(script)
+    }
+
+    fn count_choices(&self) -> usize
+        ensures { result ≡ length self.now.choices }
+    {
+        self.choices.len()
+    }
+
+    fn push_choice(&mut self, name: &str) -> Result<(), NoMemory>
+        ensures { OnOk result (self.new ≡ with_choices (name.now ∷ []) self.old) }
+    {
+        self.choices.reserve(1)?;
+        let index = self.handles.index_of(name)?;
+        self.choices.push_reserved(index);
+        Ok(())
+    }
+
     /// The script as it stands, with the places of its names; and the room of its lines.
     pub fn close(self) -> Result<(ScriptText, Vec<NamedLine<usize>>), NoMemory>
         ensures { IfOk result (λ closed. closed.0 ≡ closed_script self) }
@@ -79,15 +122,18 @@ impl OpenScript {
             lines: kept,
             handles,
             words,
+            choices,
         } = self;
         let alloc = *kept.allocator();
         let (handles, places) = handles.in_order()?;
         let lines = placed_lines(alloc, kept.as_slice(), places.as_slice())?;
+        let choices = placed_choices(alloc, choices.as_slice(), places.as_slice())?;
         let script = ScriptText {
             name,
             lines: Items::of(lines),
             handles: Items::of(handles),
             words: Items::of(words),
+            choices: Items::of(choices),
         };
         Ok((script, kept))
     }
@@ -104,6 +150,22 @@ fn placed_lines(
     let mut rest = lines;
     while let Some((line, tail)) = rest.split_first() {
         list.push(placed(*line, places))?;
+        rest = tail;
+    }
+    Ok(list)
+}
+
+fn placed_choices(
+    alloc: Global,
+    choices: &[usize],
+    places: &[usize],
+) -> Result<Vec<usize>, NoMemory>
+    ensures { IfOk result (λ list. list.items ≡ map (slice_index places.now) choices.now) }
+{
+    let mut list = Vec::with_capacity(alloc, choices.len())?;
+    let mut rest = choices;
+    while let Some((index, tail)) = rest.split_first() {
+        list.push(place_at(places, *index))?;
         rest = tail;
     }
     Ok(list)

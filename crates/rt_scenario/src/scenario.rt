@@ -27,4 +27,6 @@ pub struct ScriptText {
     pub handles: Items<Text>,
     /// The words of its panics, in order of the lines.
     pub words: Items<Text>,
+    /// The places among `handles` of the names that its choices take, in order of the lines.
+    pub choices: Items<usize>,
 }

@@ -1,3 +1,4 @@
+pub mod Choices
 pub mod Ends
 pub mod Makings
 pub mod Programs

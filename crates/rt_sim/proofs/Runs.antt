@@ -3,6 +3,7 @@ use Rattle.std.proofs.Common.{◌≡◌, ◌∙◌, ℕ, List, [], subst, sym, �
 use Rattle.std.proofs.lemmas.List.{append-nil}
 use Rattle.std.proofs.lemmas.Option.{slice_get_read}
 use Rattle.rand_chacha.specs.ChaCha.{ChaCha}
+use Rattle.rt_audit.specs.Journal.{digest_of}
 use Rattle.rt_audit.specs.declared.entry.Entry.{Entry}
 use Rattle.rt_core.specs.declared.run_error.RunError.{RunError}
 use Rattle.rt_model.specs.Tied.{Steps}
@@ -38,7 +39,7 @@ makes-at s scripts script m same h value program root with = record {
   with = with;
 }
 
-pub reported : (s : Scenario) (script : ScriptText) (m : Maker) (result : RunResult) (time : ℕ) (entries : List Entry) (run : RunReport) → run ≡ report_of script.name result time 0 entries → Makes s s.root script m → Comes m (starting s) entries time result → DrawsNothing (starting s) entries → IsReported s s.root (starting s) 0 entries run
+pub reported : (s : Scenario) (script : ScriptText) (m : Maker) (result : RunResult) (time : ℕ) (entries : List Entry) (run : RunReport) → run ≡ report_of script.name result time 0 (digest_of entries) entries → Makes s s.root script m → Comes m (starting s) entries time result → DrawsNothing (starting s) entries → IsReported s s.root (starting s) 0 entries run
 reported s script m result time entries run is makes comes drawn = rw is (record { script = script; maker = m; makes = makes; comes = comes; drawn = drawn; is = refl })
 
 -- the only run of a scenario

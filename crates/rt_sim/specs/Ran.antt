@@ -3,7 +3,7 @@ use Rattle.std.specs.Prelude.{◌≡◌, ◌≢◌, ◌+◌, ◌++◌, ℕ, ℤ,
 use Rattle.rand_chacha.specs.ChaCha.{ChaCha}
 use Rattle.rt_audit.specs.declared.entry.Entry.{Entry}
 use Rattle.rt_audit.specs.declared.entry.Entry.TheVariants.{Round}
-use Rattle.rt_audit.specs.Journal.{last_time}
+use Rattle.rt_audit.specs.Journal.{digest_of, last_time}
 use Rattle.rt_model.specs.Tied.{Steps, with_first}
 use Rattle.rt_core.specs.declared.run_error.RunError.TheVariants.{NoMemory}
 use Rattle.rt_core.specs.Starting.{Starting, Kept, first_begin, seeded, default_seed}
@@ -23,7 +23,7 @@ root_steps m = with_first script_steps (λ now. making m)
 
 -- how the first run of a scenario begins
 abbrev pub starting : Scenario → Starting ChaCha
-starting s = record { begin = first_begin 1000000 0 s.timeout s.catch; given = []; rng = seeded default_seed }
+starting s = record { begin = first_begin 1000000 0 s.timeout s.catch 0; given = []; rng = seeded default_seed }
 
 -- this maker makes the root of this script of the scenario, and those beside it
 pub record Makes (s : Scenario) (root : ℕ) (script : ScriptText) (m : Maker) : Type 0 where
@@ -52,14 +52,14 @@ rounds_in [] = 0
 rounds_in (Round order ∷ entries) = rounds_in entries + 1
 rounds_in (entry ∷ entries) = rounds_in entries
 
--- the report of a run of these entries, which stand in the journal from this place on
-abbrev pub report_of : List ℕ → RunResult → ℕ → ℕ → List Entry → RunReport
-report_of root result time place entries = record {
+-- the report of a run of these entries, which stand in the journal from this place on, with the digest of the journal so far
+abbrev pub report_of : List ℕ → RunResult → ℕ → ℕ → List ℕ → List Entry → RunReport
+report_of root result time place digest entries = record {
   root = root;
   result = result;
   from = place;
   to = place + length entries;
-  digest = 0 ∷ 0 ∷ 0 ∷ 0 ∷ [];
+  digest = digest;
   time = time;
   rounds = rounds_in entries;
 }
@@ -71,7 +71,7 @@ pub record IsReported (s : Scenario) (root : ℕ) (from : Starting ChaCha) (plac
   pub makes : Makes s root script maker
   pub comes : Comes maker from entries run.time run.result
   pub drawn : DrawsNothing from (from.given ++ entries)
-  pub is : run ≡ report_of script.name run.result run.time place entries
+  pub is : run ≡ report_of script.name run.result run.time place (digest_of (from.given ++ entries)) entries
 
 -- the runs of these roots from these beginnings are reported one after another, and have these entries
 abbrev pub Chain : Scenario → List (ℕ × Starting ChaCha) → ℕ → List RunReport → List Entry → Type 0

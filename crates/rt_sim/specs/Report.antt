@@ -1,6 +1,7 @@
 -- The text of a report.
 use Rattle.std.specs.Prelude.{◌≡◌, ℕ, List, [], ◌∷◌, ◌++◌, Option, codes}
 use Rattle.std.specs.Fmt.{decimal, signed_decimal}
+use Rattle.hex.specs.Hex.{encode_lower}
 use Rattle.rt_base.specs.Outside.{Appends}
 use Rattle.rt_audit.specs.declared.entry.Entry.{Entry}
 use Rattle.rt_audit.specs.Lines.{line_of}
@@ -30,7 +31,7 @@ result_text (Ok value) = codes "result ok " ++ (signed_decimal value ++ codes "\
 result_text (Failed error) = (codes "result " ++ (word_of error ++ detail_of error)) ++ codes "\n"
 
 abbrev pub numbers_text : RunReport → List ℕ
-numbers_text run = codes "time " ++ (decimal run.time ++ (codes "\nrounds " ++ (decimal run.rounds ++ codes "\ndigest 00000000\n")))
+numbers_text run = codes "time " ++ (decimal run.time ++ (codes "\nrounds " ++ (decimal run.rounds ++ (codes "\ndigest " ++ (encode_lower run.digest ++ codes "\n")))))
 
 -- a line for each entry
 abbrev pub entries_text : List Entry → List ℕ

@@ -1,5 +1,5 @@
 -- What a script does, line by line.
-use Rattle.std.specs.Prelude.{ℕ, ◌+◌, max, List, [], ◌∷◌, codes, drop, Option, Some, None, Result, Ok, Err, ℤ, pos, negsuc}
+use Rattle.std.specs.Prelude.{◌≡◌, ℕ, ◌+◌, max, Bool, true, false, List, [], ◌∷◌, codes, drop, Option, Some, None, Result, Ok, Err, ℤ, pos, negsuc}
 use Rattle.rt_base.specs.declared.error.Error.{Error}
 use Rattle.rt_base.specs.declared.error.Error.TheVariants.{Exited, Closed as IsClosed, Aborted, Timeout, ClockOverflow, UnknownToken, TooManyTasks, Metric, NoMemory as LacksMemory}
 use Rattle.rt_base.specs.declared.poll.Poll.{Poll}
@@ -23,13 +23,13 @@ use Rattle.rt_core.specs.declared.stop.Stop.{Stop}
 use Rattle.rt_core.specs.declared.stop.Stopping.TheVariants.{Begins}
 use Rattle.rt_core.specs.declared.yields.Reschedule.{Reschedule}
 use Rattle.rt_scenario.specs.declared.line.Line.{Line}
-use Rattle.rt_scenario.specs.declared.line.Line.TheVariants.{Sleep, Until, Yield, Pend, End, EndLast, Panic, Spawn, Abort, AbortSelf, Drop, Join, Within, Stopped, Wait, Stop as Shutdown}
+use Rattle.rt_scenario.specs.declared.line.Line.TheVariants.{Sleep, Until, Yield, Pend, End, EndLast, Panic, Spawn, Abort, AbortSelf, Drop, Join, Within, Select, Stopped, Wait, Stop as Shutdown}
 use Rattle.rt_scenario.specs.declared.scenario.ScriptText.{ScriptText}
-use Rattle.rt_sim.specs.Program.{text_at, name_at, word_at}
+use Rattle.rt_sim.specs.Program.{text_at, name_at, word_at, choices_in}
 use Rattle.rt_sim.specs.declared.held.Held.{Held}
 use Rattle.rt_sim.specs.declared.held.Held.TheVariants.{Handle, Signal}
 use Rattle.rt_sim.specs.declared.script.Waits.{Waits}
-use Rattle.rt_sim.specs.declared.script.Waits.TheVariants.{Nothing, Sleeps, Yields, Limits}
+use Rattle.rt_sim.specs.declared.script.Waits.TheVariants.{Nothing, Sleeps, Yields, Limits, Chooses}
 
 -- a script that runs: all scripts, its own text, the place of its line, the value of the one before, what it waits for, the stop of its
 -- run that is under way, what it holds by the places of the names, for how many names it has places, and its context
@@ -287,6 +287,108 @@ stops_by s on value limit time task (Some stop) = stop_goes s on time task stop
 unfoldable pub stops : Script → (Script → Next) → ℤ → Option ℕ → ℕ → ℕ → Next
 stops s on value limit time task = stops_by (record s { stop = None }) on value limit time task s.stop
 
+-- whether these names all hold handles, and what they hold once each was taken out and put back. A name that stands twice holds none
+-- at its second place
+abbrev pub tried_by : ℕ → Option (TaskHandle ℤ) → List (ℕ × Held) → Bool × List (ℕ × Held) → Bool × List (ℕ × Held)
+tried_by at None held more = (false, held)
+tried_by at (Some handle) held (all, rest) = (all, with_task at (Handle handle) rest)
+
+unfoldable pub tried : List ℕ → List (ℕ × Held) → Bool × List (ℕ × Held)
+tried [] held = (true, held)
+tried (at ∷ ats) held = tried_by at (as_handle (find at held)) held (tried ats (without at held))
+
+-- a script tried these names so
+abbrev pub Tries : List ℕ → Script → Bool → Script → Type 0
+Tries ats s all new = (all ≡ (tried ats s.held).0) × (new ≡ record s { held = (tried ats s.held).1 })
+
+abbrev pub Choosing : Type 0
+Choosing = Step Script Script ℤ (Poll (Result ℤ Error))
+
+-- the handle of a name is polled, and stays
+unfoldable pub polls_name : Script → ℕ → Option (TaskHandle ℤ) → Choosing
+polls_name s at None = Gives IsPending s
+polls_name s at (Some handle) = then (task_polls handle) (λ told handle. Gives told (bound s at (Handle handle)))
+
+abbrev pub unless_ready : (Script → Choosing) → Poll (Result ℤ Error) → Script → Choosing
+unless_ready next IsPending s = next s
+unless_ready next (IsReady answer) s = Gives (IsReady answer) s
+
+-- the handles of these names are polled in order, up to the first that is ready
+unfoldable pub polls_chosen : List ℕ → Script → Choosing
+polls_chosen [] s = Gives IsPending s
+polls_chosen (at ∷ ats) s = then (polls_name s at (handle_at s at)) (unless_ready (polls_chosen ats))
+
+abbrev pub aborts_of : Option (TaskHandle ℤ) → Last Script ℤ
+aborts_of None = Gives tt tt
+aborts_of (Some handle) = handle_aborts handle
+
+abbrev pub aborted_at : ℕ → Option (TaskHandle ℤ) → List (ℕ × Held) → List (ℕ × Held)
+aborted_at at None held = held
+aborted_at at (Some handle) held = with_task at (Handle (aborted handle)) (without at held)
+
+-- the tasks of these names are aborted in order, and what the names hold then
+unfoldable pub aborts_chosen : List ℕ → List (ℕ × Held) → Last Script ℤ
+aborts_chosen [] held = Gives tt tt
+aborts_chosen (at ∷ ats) held =
+    followed_by (aborts_of (as_handle (find at held))) (aborts_chosen ats (aborted_at at (as_handle (find at held)) held))
+
+unfoldable pub aborted_in : List ℕ → List (ℕ × Held) → List (ℕ × Held)
+aborted_in [] held = held
+aborted_in (at ∷ ats) held = aborted_in ats (aborted_at at (as_handle (find at held)) held)
+
+-- what these names hold is given up in order, and what names hold then
+unfoldable pub releases_chosen : List ℕ → List (ℕ × Held) → Last Script ℤ
+releases_chosen [] held = Gives tt tt
+releases_chosen (at ∷ ats) held = followed_by (releases (find at held)) (releases_chosen ats (without at held))
+
+unfoldable pub freed_of : List ℕ → List (ℕ × Held) → List (ℕ × Held)
+freed_of [] held = held
+freed_of (at ∷ ats) held = freed_of ats (without at held)
+
+-- a choice is left: its tasks are aborted, and then its handles given up
+abbrev pub leaves_choice : List ℕ → List (ℕ × Held) → Last Script ℤ
+leaves_choice ats held = followed_by (aborts_chosen ats held) (releases_chosen ats (aborted_in ats held))
+
+abbrev pub unchosen : List ℕ → Script → Script
+unchosen ats s = record s { held = freed_of ats (aborted_in ats s.held) }
+
+-- past a line that was answered so
+abbrev pub settled : Script → (Script → Next) → Result ℤ Error → Next
+settled s on (Ok value) = on (passed s value)
+settled s on (Err error) = refused s on error
+
+-- the handles of a choice were polled so
+abbrev pub chosen : (Script → Next) → ℕ → ℕ → Poll (Result ℤ Error) → Script → Next
+chosen on first past IsPending s = Gives Pending (waiting s (Chooses first past))
+chosen on first past (IsReady answer) s =
+    followed_by (leaves_choice (choices_in s.text first past) s.held) (settled (unchosen (choices_in s.text first past) s) on answer)
+
+unfoldable pub goes_choosing : Script → (Script → Next) → ℕ → ℕ → Next
+goes_choosing s on first past = then (polls_chosen (choices_in s.text first past) s) (chosen on first past)
+
+-- a choice begins where its names differ and all hold handles
+abbrev pub begun_choice : Script → (Script → Next) → ℕ → ℕ → Bool × List (ℕ × Held) → Next
+begun_choice s on first past (false, held) = on (passed (record s { held = held }) unheld)
+begun_choice s on first past (true, held) = goes_choosing (record s { held = held }) on first past
+
+-- the choice that is under way
+abbrev pub range_of : Waits → Option (ℕ × ℕ)
+range_of (Chooses first past) = Some (first, past)
+range_of waits = None
+
+-- it goes on, or a new one begins
+abbrev pub chooses_by : Script → (Script → Next) → ℕ → ℕ → Option (ℕ × ℕ) → Next
+chooses_by s on first past None = begun_choice s on first past (tried (choices_in s.text first past) s.held)
+chooses_by s on first past (Some range) = goes_choosing s on first past
+
+unfoldable pub chooses : Script → (Script → Next) → ℕ → ℕ → Next
+chooses s on first past = chooses_by s on first past (range_of s.waits)
+
+-- the names of the choice that is under way
+abbrev pub choice_in : ScriptText → Option (ℕ × ℕ) → List ℕ
+choice_in text None = []
+choice_in text (Some range) = choices_in text range.0 range.1
+
 -- the lines from a place on, at a time and under a number. The end of the lines acts as `end 0`
 unfoldable pub goes_on : List Line → Script → ℕ → ℕ → Next
 goes_on [] s time task = Gives (Ready (pos 0)) s
@@ -303,6 +405,7 @@ goes_on (Within at limit ∷ lines) s time task = joins_within s (λ next. goes_
 goes_on (Abort at ∷ lines) s time task = aborts s (λ next. goes_on lines next time task) at
 goes_on (AbortSelf ∷ lines) s time task = aborts_itself s (λ next. goes_on lines next time task) task
 goes_on (Drop at ∷ lines) s time task = drops s (λ next. goes_on lines next time task) at
+goes_on (Select first past ∷ lines) s time task = chooses s (λ next. goes_on lines next time task) first past
 goes_on (Stopped at ∷ lines) s time task = asks s (λ next. goes_on lines next time task) at
 goes_on (Wait at ∷ lines) s time task = awaits s (λ next. goes_on lines next time task) at
 goes_on (Shutdown value limit ∷ lines) s time task = stops s (λ next. goes_on lines next time task) value limit time task
@@ -319,12 +422,13 @@ unfoldable pub releases_all : List (ℕ × Held) → Last Script ℤ → Last Sc
 releases_all [] next = next
 releases_all (h ∷ held) next = followed_by (held_spends h.1) (releases_all held next)
 
--- what it waits for is given up: of a join with a limit its handle
+-- what it waits for is given up: of a join with a limit its handle. A choice was left before
 abbrev pub stops_waiting : Waits → List (ℕ × Held) → Last Script ℤ
 stops_waiting Nothing held = Gives tt tt
 stops_waiting (Sleeps sleep) held = sleep_spends sleep
 stops_waiting (Yields turn) held = reschedule_spends turn
 stops_waiting (Limits at sleep) held = releases (find at held)
+stops_waiting (Chooses first past) held = Gives tt tt
 
 -- what names hold then
 abbrev pub left_by : Waits → List (ℕ × Held) → List (ℕ × Held)
@@ -337,10 +441,13 @@ gives_stop_up None = Gives tt tt
 gives_stop_up (Some stop) = stop_spends stop
 
 -- an end gives up what is under way, then what names hold, and closes the context
-abbrev pub ended : Script → Last Script ℤ
-ended s =
+abbrev pub ended_behind : Script → Last Script ℤ
+ended_behind s =
     followed_by (gives_stop_up s.stop)
     (followed_by (stops_waiting s.waits s.held) (releases_all (left_by s.waits s.held) (closes s.context.node)))
+
+abbrev pub ended : Script → Last Script ℤ
+ended s = followed_by (leaves_choice (choice_in s.text (range_of s.waits)) s.held) (ended_behind (unchosen (choice_in s.text (range_of s.waits)) s))
 
 abbrev pub script_steps : TaskSteps Script ℤ
 script_steps = record { next = λ s time task. polled s time task; last = λ s time number. ended s }

@@ -1,6 +1,9 @@
 //! `rt_sim`: a script runs as the root of a run, and its journal, result, time and rounds are reported.
 #![tactic(auto)]
 
+mod choosing;
+#[cfg(test)]
+mod choosing_tests;
 mod held;
 mod maker;
 mod outcome;

@@ -20,7 +20,7 @@ pub struct RunReport {
     pub from: usize,
     /// The place behind its last entry.
     pub to: usize,
-    /// Zero bytes, as long as no digest is kept.
+    /// The digest of the journal's events up to its end.
     pub digest: [u8; 4],
     /// Its last moment, in nanoseconds since the epoch.
     pub time: Nanos,

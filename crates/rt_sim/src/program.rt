@@ -2,7 +2,7 @@
 
 ghost use Rattle.std.specs.Prelude.{◌≡◌, ◌<◌, IfOk, IfSome, length};
 ghost use Rattle.rt_scenario.specs.Within.{HavePlaces, IsWithin};
-ghost use Rattle.rt_sim.specs.Program.{text_at, name_at, word_at, line_at};
+ghost use Rattle.rt_sim.specs.Program.{text_at, name_at, word_at, choice_at, line_at};
 
 use rt_base::{NoMemory, Text};
 use rt_scenario::{Line, ScriptText};
@@ -97,6 +97,19 @@ impl Program {
         ensures { result.now ≡ name_at (text_at self.now script) handle }
     {
         self.text(script).handles.as_slice()[handle].as_str()
+    }
+
+    /// The place of a name that the choices of a script take; of one past the last it is 0.
+    pub fn choice(&self, script: usize, at: usize) -> usize
+        requires { script < length self.now }
+        ensures { result ≡ choice_at (text_at self.now script) at }
+    {
+        self.text(script)
+            .choices
+            .as_slice()
+            .get(at)
+            .copied()
+            .unwrap_or(0)
     }
 
     /// A copy of a word of a script's panics.

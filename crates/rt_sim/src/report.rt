@@ -78,7 +78,7 @@ pub fn write_report<K: Sink8>(
     write!(buffer, "run {root}\n")?;
     write_entries(alloc, sink, &mut buffer, entries)?;
     add_result(&mut buffer, &run.result)?;
-    add_numbers(&mut buffer, run)?;
+    add_numbers(alloc, &mut buffer, run)?;
     write_whole(sink, buffer.as_bytes())?;
     Ok(())
 }
@@ -154,12 +154,14 @@ fn add_detail(text: &mut String, error: &RunError) -> Result<(), NoMemory>
     Ok(())
 }
 
-fn add_numbers(text: &mut String, run: &RunReport) -> Result<(), NoMemory>
+fn add_numbers(alloc: Global, text: &mut String, run: &RunReport) -> Result<(), NoMemory>
     ensures { OnOk result (string_bytes text.new ≡ string_bytes text.old ++ numbers_text run.now) }
 {
     let time = run.time;
     let rounds = run.rounds;
-    write!(text, "time {time}\nrounds {rounds}\ndigest 00000000\n")?;
+    let encoded = hex::encode(alloc, &run.digest)?;
+    let digest = encoded.as_str();
+    write!(text, "time {time}\nrounds {rounds}\ndigest {digest}\n")?;
     Ok(())
 }
 

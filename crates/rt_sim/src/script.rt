@@ -13,8 +13,9 @@ ghost use Rattle.rt_world.specs.Calls.{IsPolling, Kept};
 ghost use Rattle.rt_world.specs.Walked.{Advanced, Leads, Spends, Spent};
 ghost use Rattle.rt_scenario.specs.Within.{IsWithin};
 ghost use Rattle.rt_scenario.specs.declared.line.Line.{Line};
-ghost use Rattle.rt_sim.specs.Program.{line_at, name_at, word_at};
-ghost use Rattle.rt_sim.specs.Script.{Next, Script, started, sleeps, yields, spawns, placed, joins, joins_within, limits, limit_in, left_by, aborts, releases_all, gives_stop_up, stops_waiting, limited, sleep_in, turn_in, aborts_itself, drops, releases, goes_on, passed, loosed, put_back, handle_at, signal_at, roomed, refused, value_of};
+ghost use Rattle.rt_sim.specs.declared.script.Waits.TheVariants.{Chooses};
+ghost use Rattle.rt_sim.specs.Program.{choice_at, line_at, name_at, word_at};
+ghost use Rattle.rt_sim.specs.Script.{Next, Script, started, sleeps, yields, spawns, placed, joins, joins_within, limits, limit_in, left_by, aborts, releases_all, gives_stop_up, stops_waiting, limited, sleep_in, turn_in, aborts_itself, drops, releases, goes_on, passed, loosed, put_back, range_of, waiting, handle_at, signal_at, roomed, refused, value_of};
 
 use crate::Program;
 use crate::held::Held;
@@ -39,6 +40,8 @@ pub enum Waits {
     Yields(Reschedule),
     /// Waits for the task of the handle at this place, and at most for this sleep.
     Limits(usize, Sleep),
+    /// Waits for the first of the tasks of a choice, which has the names from one place on and before another.
+    Chooses(usize, usize),
 }
 
 /// A script that runs.
@@ -215,7 +218,7 @@ impl Script {
     }
 
     /// Takes out the handle that a name holds. Anything else stays.
-    fn take_handle(&mut self, at: usize) -> Option<Handle<Script>>
+    pub(crate) fn take_handle(&mut self, at: usize) -> Option<Handle<Script>>
         ensures handle { result ≡ handle_at self.old at }
         ensures taken { IfSome result (λ handle. (self.new ≡ loosed self.old at) × (at < self.old.places) × (find at self.new.held ≡ None)) }
         ensures stays { IfNone result (self.new ≡ self.old) }
@@ -270,6 +273,30 @@ impl Script {
         ensures { self.new ≡ record self.old { stop = slice_get stop.items 0 } }
     {
         mem::replace(&mut self.stop, stop).destroy_empty();
+    }
+
+    /// The place of the name that a choice takes.
+    pub(crate) fn chosen_name(&self, choice: usize) -> usize
+        ensures { result ≡ choice_at self.now.text choice }
+    {
+        self.program.choice(self.script, choice)
+    }
+
+    /// The choice that is under way.
+    pub(crate) fn choosing(&self) -> Option<(usize, usize)>
+        ensures { result ≡ range_of self.now.waits }
+    {
+        match self.waits {
+            Waits::Chooses(first, past) => Some((first, past)),
+            _ => None,
+        }
+    }
+
+    /// Waits for the first of the tasks of a choice.
+    pub(crate) fn wait_for_choice(&mut self, first: usize, past: usize)
+        ensures { self.new ≡ waiting self.old (Chooses first past) }
+    {
+        self.waits = Waits::Chooses(first, past);
     }
 
     /// Keeps this under a name that holds nothing.
@@ -626,6 +653,7 @@ impl Script {
                 self.drop_handle(world, at);
                 None
             }
+            Line::Select(first, past) => self.select(world, cx, first, past),
             Line::Stopped(at) => self.ask_stopped(world, at),
             Line::Wait(at) => self.wait(world, cx, at),
             Line::Stop(value, limit) => self.stop(world, cx, value, limit),
@@ -649,6 +677,8 @@ impl Task for Script {
     }
 
     fn end<G: Rng>(self, world: &mut World<Script, i64, G>) {
+        let mut script = self;
+        script.leave_under_way(world);
         let Script {
             program: _,
             script: _,
@@ -658,7 +688,7 @@ impl Task for Script {
             stop,
             held,
             context,
-        } = self;
+        } = script;
         let mut room = stop;
         give_stop_up(world, only_one(&mut room));
         room.destroy_empty();
@@ -740,6 +770,7 @@ fn stop_waiting<G: Rng>(
         Waits::Nothing => {}
         Waits::Sleeps(sleep) => sleep.give_up(world),
         Waits::Yields(turn) => turn.give_up(world),
+        Waits::Chooses(_, _) => {}
         Waits::Limits(at, _) => {
             if let Some(one) = held.take(at as u64) {
                 one.give_up(world);

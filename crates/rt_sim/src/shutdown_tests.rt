@@ -70,7 +70,7 @@ finish ok
 result ok 1
 time 4000000
 rounds 5
-digest 00000000
+digest 4c5d0b24
 ";
     expect_report(&rt, rt.alloc(), input, 0, report)
 }
@@ -126,7 +126,7 @@ finish ok
 result ok -4
 time 2500000
 rounds 2
-digest 00000000
+digest 0b5a9521
 ";
     expect_report(&rt, rt.alloc(), input, 0, report)
 }
@@ -160,7 +160,7 @@ finish ok
 result ok -7
 time 0
 rounds 1
-digest 00000000
+digest 1eeefe63
 ";
     expect_report(&rt, rt.alloc(), input, 0, report)
 }
@@ -209,7 +209,7 @@ finish timeout
 result timeout
 time 9000000
 rounds 2
-digest 00000000
+digest 37692944
 ";
     expect_report(&rt, rt.alloc(), input, 6, report)
 }
@@ -237,7 +237,7 @@ finish ok
 result ok -11
 time 0
 rounds 1
-digest 00000000
+digest 32ffd0c0
 ";
     expect_report(&rt, rt.alloc(), input, 0, report)
 }
@@ -271,7 +271,7 @@ finish ok
 result ok -99
 time 0
 rounds 1
-digest 00000000
+digest f5ceff9d
 ";
     for line in [
         "join g",
@@ -330,7 +330,7 @@ finish ok
 result ok 0
 time 0
 rounds 1
-digest 00000000
+digest 5b63c7fa
 ";
     expect_report(&rt, rt.alloc(), input, 0, report)
 }

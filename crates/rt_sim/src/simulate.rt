@@ -5,6 +5,7 @@ ghost use Rattle.rt_base.specs.Outside.{HasRisen};
 ghost use Rattle.std.specs.List.{All};
 ghost use Rattle.rt_scenario.specs.Scenario.{scenario_of, CanRun, Whole, BrokenAt};
 ghost use Rattle.rt_scenario.specs.Within.{HavePlaces};
+ghost use Rattle.rt_audit.specs.Journal.{digest_of};
 ghost use Rattle.rt_sim.specs.Asked.{Asked, Reads, IsAsked, Refuses, Reports, EndsAs, Ends, says_run};
 ghost use Rattle.rt_sim.specs.Ran.{report_of, rounds_in, status_of};
 ghost use Rattle.rt_sim.specs.Report.{reports_text};
@@ -178,14 +179,14 @@ fn halted(alloc: Global, journal: Journal) -> Outcome
 
 /// The report of a run whose entries are all of the journal.
 fn report_of(root: Text, ended: RunResult, time: Nanos, journal: &Journal) -> RunReport
-    ensures { result ≡ report_of root ended time 0 journal.now.entries }
+    ensures { result ≡ report_of root ended time 0 (digest_of journal.now.entries) journal.now.entries }
 {
     RunReport {
         root,
         result: ended,
         from: 0,
         to: journal.len(),
-        digest: [0; 4],
+        digest: journal.digest(),
         time,
         rounds: count_rounds(journal.entries()),
     }

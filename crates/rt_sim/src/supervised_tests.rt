@@ -50,7 +50,7 @@ finish ok
 result ok 1
 time 0
 rounds 1
-digest 00000000
+digest 90061b30
 ";
     expect_report(&rt, rt.alloc(), input, 0, report)
 }
@@ -100,7 +100,7 @@ finish ok
 result ok 1
 time 1000000
 rounds 2
-digest 00000000
+digest 7df9e3e1
 ";
     expect_report(&rt, rt.alloc(), input, 0, report)
 }
@@ -146,7 +146,7 @@ finish ok
 result ok 4
 time 2000000
 rounds 3
-digest 00000000
+digest 7f1bd155
 ";
     expect_report(&rt, rt.alloc(), input, 0, report)
 }
@@ -193,7 +193,7 @@ finish ok
 result ok -2
 time 2000000
 rounds 3
-digest 00000000
+digest 7f1bd155
 ";
     expect_report(&rt, rt.alloc(), input, 0, report)
 }
@@ -290,7 +290,7 @@ finish ok
 result ok 3
 time 11000000
 rounds 7
-digest 00000000
+digest e7bb7cb5
 ";
     expect_report(&rt, rt.alloc(), input, 0, report)
 }
@@ -335,7 +335,7 @@ finish panicked
 result panicked boom
 time 2000000
 rounds 3
-digest 00000000
+digest 7f1bd155
 ";
     expect_report(&rt, rt.alloc(), input, 6, report)
 }
@@ -380,7 +380,7 @@ finish ok
 result ok -1
 time 2000000
 rounds 3
-digest 00000000
+digest 7f1bd155
 ";
     expect_report(&rt, rt.alloc(), input, 0, report)
 }
@@ -415,7 +415,7 @@ finish panicked
 result panicked a~b
 time 1500000
 rounds 2
-digest 00000000
+digest 6c6fa1c7
 ";
     expect_report(&rt, rt.alloc(), input, 6, report)
 }
@@ -441,7 +441,7 @@ finish ok
 result ok -14
 time 0
 rounds 1
-digest 00000000
+digest 32ffd0c0
 ";
     expect_report(&rt, rt.alloc(), input, 0, report)
 }
@@ -467,7 +467,7 @@ finish ok
 result ok -12
 time 0
 rounds 1
-digest 00000000
+digest 32ffd0c0
 ";
     expect_report(&rt, rt.alloc(), input, 0, report)
 }
@@ -509,7 +509,7 @@ finish ok
 result ok -99
 time 0
 rounds 1
-digest 00000000
+digest 32ffd0c0
 ";
     expect_report(&rt, rt.alloc(), input, 0, report)
 }
@@ -550,7 +550,7 @@ finish ok
 result ok -99
 time 0
 rounds 1
-digest 00000000
+digest 32ffd0c0
 ";
     expect_report(&rt, rt.alloc(), input, 0, report)
 }
@@ -594,7 +594,7 @@ finish panicked
 result panicked first
 time 0
 rounds 1
-digest 00000000
+digest 4315a888
 ";
     expect_report(&rt, rt.alloc(), input, 6, report)
 }
@@ -643,7 +643,7 @@ finish ok
 result ok -4
 time 3000000
 rounds 3
-digest 00000000
+digest 7f1bd155
 ";
     expect_report(&rt, rt.alloc(), input, 0, report)
 }
@@ -699,7 +699,7 @@ finish stalled
 result stalled
 time 10000000
 rounds 4
-digest 00000000
+digest c00e3d5d
 ";
     expect_report(&rt, rt.alloc(), input, 6, report)
 }
@@ -748,7 +748,7 @@ finish timeout
 result timeout
 time 9000000
 rounds 2
-digest 00000000
+digest 12d693a1
 ";
     expect_report(&rt, rt.alloc(), input, 6, report)
 }
@@ -772,6 +772,6 @@ fn chain(alloc: Global, scripts: u64) -> Result<String, AllocError> {
 #[test]
 fn chain_ends_at_once(rt: HostRuntime) -> Result<(), Fail> {
     let alloc = rt.alloc();
-    let end = "finish ok\nresult ok -2\ntime 2002000000\nrounds 1004\ndigest 00000000\n";
+    let end = "finish ok\nresult ok -2\ntime 2002000000\nrounds 1004\ndigest 3d027316\n";
     expect_end(&rt, alloc, "run", chain(alloc, 1_000)?.as_str(), 0, end)
 }

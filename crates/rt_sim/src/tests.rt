@@ -10,7 +10,7 @@ use std::test::Fail;
 const SEVEN: &str = "script a\nend 7\ndone\nrun a\n";
 
 /// The report's end where the root gave 7.
-const SEVEN_END: &str = "finish ok\nresult ok 7\ntime 0\nrounds 1\ndigest 00000000\n";
+const SEVEN_END: &str = "finish ok\nresult ok 7\ntime 0\nrounds 1\ndigest 32ffd0c0\n";
 
 const USAGE: &str = "usage: rt_sim run | gen N | load N | workers N\n";
 
@@ -75,55 +75,55 @@ fn statuses_and_texts(rt: HostRuntime) -> Result<(), Fail> {
             "run",
             "script a\nend 7\ndone\nrun a\n",
             0u8,
-            "finish ok\nresult ok 7\ntime 0\nrounds 1\ndigest 00000000\n",
+            "finish ok\nresult ok 7\ntime 0\nrounds 1\ndigest 32ffd0c0\n",
         ),
         (
             "run",
             "# it naps\n\nscript a\nsleep 2500000\nyield\nend last\ndone\nrun a\n",
             0,
-            "finish ok\nresult ok 0\ntime 3500000\nrounds 3\ndigest 00000000\n",
+            "finish ok\nresult ok 0\ntime 3500000\nrounds 3\ndigest 173af621\n",
         ),
         (
             "run",
             "timeout 1500000\nscript a\nsleep 9000000\ndone\nrun a\n",
             6,
-            "finish timeout\nresult timeout\ntime 9000000\nrounds 1\ndigest 00000000\n",
+            "finish timeout\nresult timeout\ntime 9000000\nrounds 1\ndigest 32ffd0c0\n",
         ),
         (
             "run",
             "script a\npend\ndone\nrun a\n",
             6,
-            "finish stalled\nresult stalled\ntime 1000000\nrounds 1\ndigest 00000000\n",
+            "finish stalled\nresult stalled\ntime 1000000\nrounds 1\ndigest 32ffd0c0\n",
         ),
         (
             "run",
             "script a\nsleep 9223372036854775808000000000\nend last\ndone\nrun a\n",
             0,
-            "finish ok\nresult ok -11\ntime 0\nrounds 1\ndigest 00000000\n",
+            "finish ok\nresult ok -11\ntime 0\nrounds 1\ndigest 32ffd0c0\n",
         ),
         (
             "run",
             "script w\nend 5\ndone\nscript a\nspawn h w\nwithin 9223372036854775808000000000 h\nend last\ndone\nrun a\n",
             0,
-            "finish ok\nresult ok -11\ntime 0\nrounds 1\ndigest 00000000\n",
+            "finish ok\nresult ok -11\ntime 0\nrounds 1\ndigest 32ffd0c0\n",
         ),
         (
             "run",
             "script w\nend 5\ndone\nscript a\nspawn h w\nwithin 4000000 h\nend last\ndone\nrun a\n",
             0,
-            "finish ok\nresult ok 5\ntime 2000000\nrounds 3\ndigest 00000000\n",
+            "finish ok\nresult ok 5\ntime 2000000\nrounds 3\ndigest 7f1bd155\n",
         ),
         (
             "run",
             "script w\nend 5\ndone\nscript a\nspawn h w\nabort h\nwithin 4000000 h\nend last\ndone\nrun a\n",
             0,
-            "finish ok\nresult ok -2\ntime 2000000\nrounds 3\ndigest 00000000\n",
+            "finish ok\nresult ok -2\ntime 2000000\nrounds 3\ndigest 7f1bd155\n",
         ),
         (
             "run",
             "script a\nwithin 5 h\nend last\ndone\nrun a\n",
             0,
-            "finish ok\nresult ok -99\ntime 0\nrounds 1\ndigest 00000000\n",
+            "finish ok\nresult ok -99\ntime 0\nrounds 1\ndigest 32ffd0c0\n",
         ),
         ("run", "", 3, "error 1 norun\n"),
         ("run", "script a\nend 7\ndone\nrun a", 3, "error 4 cut\n"),
@@ -165,7 +165,7 @@ fn sleep_to_the_last_moment(rt: HostRuntime) -> Result<(), Fail> {
         "run",
         "script a\nsleep 9223372036854775807999999999\nyield\nend 0\ndone\nrun a\n",
         6,
-        "finish overflow\nresult overflow\ntime 9223372036854775807999999999\nrounds 2\ndigest 00000000\n",
+        "finish overflow\nresult overflow\ntime 9223372036854775807999999999\nrounds 2\ndigest 6c6fa1c7\n",
     )
 }
 
@@ -177,7 +177,7 @@ fn sleep_one_past_it(rt: HostRuntime) -> Result<(), Fail> {
         "run",
         "script a\nsleep 9223372036854775808000000000\nend last\ndone\nrun a\n",
         0,
-        "finish ok\nresult ok -11\ntime 0\nrounds 1\ndigest 00000000\n",
+        "finish ok\nresult ok -11\ntime 0\nrounds 1\ndigest 32ffd0c0\n",
     )
 }
 
@@ -262,7 +262,7 @@ fn long_report(rt: HostRuntime) -> Result<(), Fail> {
     let outcome = simulated(alloc, "run", &mut source, &mut sink)?;
     assert!(rt; outcome.status == 0);
     assert!(rt; sink.as_slice().len() > 1_048_576);
-    let end = "finish ok\nresult ok 7\ntime 10000000000\nrounds 10001\ndigest 00000000\n";
+    let end = "finish ok\nresult ok 7\ntime 10000000000\nrounds 10001\ndigest 0a7ca5fb\n";
     assert!(rt; sink.as_slice().ends_with(end.as_bytes()));
     Ok(())
 }

@@ -5,3 +5,5 @@
 mod metrics;
 #[cfg(test)]
 mod scenarios;
+#[cfg(test)]
+mod sizes;

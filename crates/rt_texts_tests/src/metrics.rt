@@ -1,4 +1,4 @@
-// Each call once, the worked examples, the text with all that it may hold, and many metrics.
+// Each call once, the worked examples, and the text with all that it may hold.
 //
 // A case is a function that makes its calls and says whether they came to what is written beside them, or how many did. None has a
 // contract, so that the tests' proofs stay small, and a call that wants a metric to be there is made where the registry says so.
@@ -17,7 +17,7 @@ fn same<T: Drop + PartialEq>(seen: T, wanted: T) -> bool {
 }
 
 /// Whether a call came to this.
-fn came<T: Drop + PartialEq, E: Drop>(answer: Result<T, E>, wanted: T) -> bool {
+pub fn came<T: Drop + PartialEq, E: Drop>(answer: Result<T, E>, wanted: T) -> bool {
     match answer {
         Ok(seen) => seen == wanted,
         Err(_) => false,
@@ -25,7 +25,7 @@ fn came<T: Drop + PartialEq, E: Drop>(answer: Result<T, E>, wanted: T) -> bool {
 }
 
 /// Whether a call was answered at all.
-fn went<T: Drop, E: Drop>(answer: Result<T, E>) -> bool {
+pub fn went<T: Drop, E: Drop>(answer: Result<T, E>) -> bool {
     answer.is_ok()
 }
 
@@ -53,12 +53,12 @@ fn statuses(registry: &mut Registry) -> Result<status::Counter, Error> {
 }
 
 /// Gives a claim up.
-fn give_up<M>(registry: &mut Registry, metric: Registered<M>) {
+pub fn give_up<M>(registry: &mut Registry, metric: Registered<M>) {
     metric.release(registry);
 }
 
 /// Whether this is the text.
-fn reads(registry: &Registry, wanted: &str) -> bool {
+pub fn reads(registry: &Registry, wanted: &str) -> bool {
     match registry.encode() {
         Ok(text) => text.as_str() == wanted,
         Err(_) => false,
@@ -66,7 +66,7 @@ fn reads(registry: &Registry, wanted: &str) -> bool {
 }
 
 /// The text of no metric.
-const EMPTY: &str = "# EOF\n";
+pub const EMPTY: &str = "# EOF\n";
 
 /// Whether the number has so many claims, and a metric exactly where it has some.
 fn claimed(registry: &Registry, id: u64, claims: u64) -> bool {
@@ -366,7 +366,7 @@ fn guard_of_a_removed_child(rt: HostRuntime) {
 }
 
 /// An attribute.
-fn attribute(alloc: Global, key: &str, value: &str) -> Result<Vec<(Text, Text)>, NoMemory> {
+pub fn attribute(alloc: Global, key: &str, value: &str) -> Result<Vec<(Text, Text)>, NoMemory> {
     let mut attributes = Vec::new(alloc);
     let key = Text::of(String::from_str(alloc, key)?);
     attributes.push((key, Text::of(String::from_str(alloc, value)?)))?;
@@ -398,13 +398,13 @@ const LESS: &str =
     "# HELP load Load.\n# TYPE load gauge\nload{host=\"y\"} 0\nload{host=\"z\"} 0\n# EOF\n";
 
 /// A gauge more.
-fn grow(alloc: Global, registry: &mut Registry, host: &str) -> Result<Gauge, Error> {
+pub fn grow(alloc: Global, registry: &mut Registry, host: &str) -> Result<Gauge, Error> {
     let place = attribute(alloc, "host", host)?;
     registry.register("load", "Load", &place)
 }
 
 /// Makes a child, and raises it.
-fn raises_child<L: LabelSet>(
+pub fn raises_child<L: LabelSet>(
     registry: &mut Registry,
     hits: &CounterFamily,
     labels: &L,
@@ -431,7 +431,7 @@ fn with_none(alloc: Global, registry: &mut Registry, hits: &CounterFamily) -> Re
     Ok(filled)
 }
 
-fn hits(alloc: Global, registry: &mut Registry) -> Result<CounterFamily, Error> {
+pub fn hits(alloc: Global, registry: &mut Registry) -> Result<CounterFamily, Error> {
     let zone = attribute(alloc, "zone", "x")?;
     registry.register("hits", "Hits", &zone)
 }
@@ -511,7 +511,12 @@ fn is_refused<M>(
 /// A name, a help, and why they are refused.
 type Refusal = (&'static str, &'static str, MetricError);
 
-fn refuses<M: Metric>(registry: &mut Registry, name: &str, help: &str, why: MetricError) -> bool {
+pub fn refuses<M: Metric>(
+    registry: &mut Registry,
+    name: &str,
+    help: &str,
+    why: MetricError,
+) -> bool {
     let answer = registry.register::<M>(name, help, &[]);
     is_refused(registry, answer, why)
 }
@@ -826,107 +831,4 @@ fn numbers_at_their_bounds(rt: HostRuntime) {
     let mut registry = Registry::new(rt.alloc());
     let counter = came(wrap_counter(&mut registry), true);
     assert!(rt; counter & came(wrap_gauge(&mut registry), true));
-}
-
-/// How many gauges one name has at once.
-const SERIES: u32 = 2_000;
-
-fn lines(text: &str) -> usize {
-    let mut ends = 0_usize;
-    for byte in text.as_bytes() {
-        if *byte == b'\n' {
-            ends = ends.saturating_add(1);
-        }
-    }
-    ends
-}
-
-/// Whether the text has so many lines.
-fn has_lines(registry: &Registry, wanted: usize) -> bool {
-    match registry.encode() {
-        Ok(text) => lines(text.as_str()) == wanted,
-        Err(_) => false,
-    }
-}
-
-/// A gauge of that number.
-fn numbered(alloc: Global, registry: &mut Registry, number: u32) -> Result<Gauge, Error> {
-    let host = format!(in alloc; "{number}")?;
-    grow(alloc, registry, host.as_str())
-}
-
-/// Whether the text has a line of each, when so many gauges more are there at once.
-fn series(alloc: Global, registry: &mut Registry, left: u32) -> bool {
-    if left == 0 {
-        return has_lines(registry, SERIES as usize + 3);
-    }
-    match numbered(alloc, registry, left).ok() {
-        Some(load) => {
-            let seen = series(alloc, registry, left - 1);
-            give_up(registry, load);
-            seen
-        }
-        None => false,
-    }
-}
-
-#[test]
-fn thousands_of_series(rt: HostRuntime) {
-    let mut registry = Registry::new(rt.alloc());
-    let seen = series(rt.alloc(), &mut registry, SERIES);
-    assert!(rt; seen & reads(&registry, EMPTY));
-}
-
-/// Letters of a long name, help and label.
-const LONG: usize = 65_536;
-
-/// A text of so many letters.
-fn letters(alloc: Global, count: usize) -> Result<String, NoMemory> {
-    let mut text = String::new(alloc);
-    for _ in 0..count {
-        text.push('x')?;
-    }
-    Ok(text)
-}
-
-/// Whether the text is as long as so many letters and what stands between them.
-fn has_length(registry: &Registry, letters: usize) -> bool {
-    let between = "# HELP  .\n# TYPE  gauge\n{=\"\"} 0\n# EOF\n";
-    match registry.encode() {
-        Ok(text) => text.as_str().len() == letters.saturating_add(between.len()),
-        Err(_) => false,
-    }
-}
-
-/// A gauge of that name, help and label.
-fn named(alloc: Global, registry: &mut Registry, name: &str) -> Result<Gauge, Error> {
-    let labels = attribute(alloc, name, name)?;
-    registry.register(name, name, &labels)
-}
-
-fn is_long(alloc: Global, registry: &mut Registry, name: &str) -> Result<bool, Error> {
-    let load = named(alloc, registry, name)?;
-    let long = has_length(registry, 6 * LONG);
-    give_up(registry, load);
-    Ok(long)
-}
-
-fn takes_long(alloc: Global, registry: &mut Registry) -> Result<bool, Error> {
-    let name = letters(alloc, LONG)?;
-    is_long(alloc, registry, name.as_str())
-}
-
-/// A long name with a dash at its end.
-fn refuses_long(alloc: Global, registry: &mut Registry) -> Result<bool, NoMemory> {
-    let mut name = letters(alloc, LONG)?;
-    name.push('-')?;
-    let why = MetricError::BadLabel;
-    Ok(refuses::<raw::Gauge>(registry, name.as_str(), "Load", why))
-}
-
-#[test]
-fn longest_texts(rt: HostRuntime) {
-    let mut registry = Registry::new(rt.alloc());
-    let taken = came(takes_long(rt.alloc(), &mut registry), true);
-    assert!(rt; taken & came(refuses_long(rt.alloc(), &mut registry), true));
 }

@@ -356,6 +356,63 @@ fn refused_values_of_shutdown(rt: HostRuntime) -> Result<(), Fail> {
     Ok(())
 }
 
+#[test]
+fn surface_of_select(rt: HostRuntime) -> Result<(), Fail> {
+    let text =
+        b"script idle\ndone\nscript main\nspawn k idle\nselect z\nselect k B k\njoin B\nselect a z\ndone\nrun main\n";
+    let scenario = read_scenario(rt.alloc(), text)?;
+    let [idle, main] = scenario.scripts.as_slice() else {
+        panic!(rt; "other scripts");
+    };
+    assert!(rt; idle.choices.as_slice().len() == 0);
+    assert!(rt;
+        main.lines.as_slice()
+            == [
+                Line::Spawn(2, 0),
+                Line::Select(0, 1),
+                Line::Select(1, 4),
+                Line::Join(0),
+                Line::Select(4, 6)
+            ]
+            .as_slice()
+    );
+    assert!(rt; main.choices.as_slice() == [3usize, 2, 0, 2, 1, 3].as_slice());
+    let names = main.handles.as_slice();
+    assert!(rt; names.len() == 4);
+    for (held, name) in names.iter().zip(["B", "a", "k", "z"]) {
+        assert!(rt; held.as_str() == name);
+    }
+    Ok(())
+}
+
+#[test]
+fn lines_of_select(rt: HostRuntime) -> Result<(), Fail> {
+    for text in [
+        "script a\nselect abcdefghijklmnopqrstuvwxyzabcdef\nselect self self\ndone\nrun a\n",
+        "script select\nselect select with last\nselect g\nstopped g\ndone\nrun select\n",
+    ] {
+        expect_read(&rt, rt.alloc(), text);
+    }
+    for (text, line, word) in [
+        ("script a\nselect h", 2u64, "cut"),
+        ("script a\nselect h  i\n", 2, "space"),
+        ("select\n", 1, "place"),
+        ("script a\nselects h\n", 2, "unknown"),
+        ("script a\nselect\n", 2, "count"),
+        ("script a\nselect 9\n", 2, "name"),
+        ("script a\nselect h i 9\n", 2, "name"),
+        (
+            "script a\nselect abcdefghijklmnopqrstuvwxyzabcdefg h\n",
+            2,
+            "name",
+        ),
+        ("script a\nselect h\n", 3, "norun"),
+    ] {
+        expect_broken(&rt, rt.alloc(), text, line, word)?;
+    }
+    Ok(())
+}
+
 /// The kind of the line that a comment of so many bytes is, or of the line after it.
 fn kind_at(alloc: Global, length: usize) -> Result<Option<Kind>, AllocError> {
     let mut text = vec![in alloc; b'#'; length]?;

@@ -1,7 +1,7 @@
 use Rattle.std.proofs.Common.{◌≡◌, ℕ, List, ◌∷◌, [], ◌++◌, length, map, refl, sym, ap, subst, ◌∙◌, rules}
 use Rattle.std.specs.List.{All}
-use Rattle.rt_scenario.specs.Indexed.{HasIndex, named_by}
-use Rattle.rt_scenario.specs.Scripts.{handles_of}
+use Rattle.rt_scenario.specs.Indexed.{HasIndex, name_at, named_by}
+use Rattle.rt_scenario.specs.Scripts.{all_names}
 use Rattle.rt_scenario.specs.declared.line.Line.TheVariants.{Panic}
 use Rattle.rt_scenario.specs.declared.named_line.NamedLine.{NamedLine}
 use Rattle.rt_scenario.specs.declared.named_line.NamedLine.TheVariants.{Plain}
@@ -12,9 +12,11 @@ pub invariant_of-self-2 : goal.invariant_of-self-2
 invariant_of-self-2 c =
     let names = c.self.inside.handles in
     let lines = c.self.inside.lines.items in
+    let choices = c.self.inside.choices.items in
     let line : NamedLine ℕ = Plain (Panic c.len.result) in
     let whole : NamedLine (List ℕ) = Plain (Panic c.len.result) in
     let pushed : c.push_reserved.new.self.items ≡ lines ++ line ∷ [] = search rules in (
-      subst (All (HasIndex (length names))) (sym pushed) (indices_push names names lines line whole refl c.self.invariant.0 tt),
-      ap (λ ls. handles_of (map (named_by names) ls)) pushed ∙ order_push names names lines line whole refl c.self.invariant.0 refl c.self.invariant.1,
+      subst (All (HasIndex (length names))) (sym pushed) (indices_push names names lines choices line whole refl c.self.invariant.0 c.self.invariant.1 tt),
+      c.self.invariant.1,
+      ap (λ ls. all_names (map (named_by names) ls) (map (name_at names) choices)) pushed ∙ order_push names names lines choices line whole refl c.self.invariant.0 c.self.invariant.1 refl c.self.invariant.2,
     )

@@ -56,3 +56,8 @@ pub returns-in-stopped : goal.returns-in-stopped
 returns-in-stopped c =
     let text : c.args.text.now ≡ codes "stopped" = text_from_reads c.args.text.now (codes "stopped") (omega arith) (search rules) in
     rw text refl
+
+pub returns-in-select : goal.returns-in-select
+returns-in-select c =
+    let text : c.args.text.now ≡ codes "select" = text_from_reads c.args.text.now (codes "select") (omega arith) (search rules) in
+    rw text refl

@@ -54,6 +54,11 @@ unfolding goes_on
 returns-in-Within-clause-steps g c lines =
     rw (c.in-Within.is) (rw c.sleep-fresh-in-Within.ensures at (c.join_within.ensures.steps (λ next. goes_on lines next c.args.world.now.told.state.clock.time c.args.cx.now.task)))
 
+pub returns-in-Select-clause-steps : goal.returns-in-Select-clause-steps
+unfolding goes_on
+returns-in-Select-clause-steps g c lines =
+    rw (c.in-Select.is) (c.select.ensures.steps (λ next. goes_on lines next c.args.world.now.told.state.clock.time c.args.cx.now.task))
+
 pub returns-in-Stopped-clause-steps : goal.returns-in-Stopped-clause-steps
 unfolding goes_on
 returns-in-Stopped-clause-steps g c lines =
