@@ -1,5 +1,5 @@
 // A writer of a blob that holds the last bytes back.
-ghost use Rattle.std.specs.Prelude.{◌≡◌, ◌+◌, ◌-◌, ◌*◌, ◌^◌, ◌<◌, ◌≤◌, ℕ, [], List, Ok, Err, IfOk, OnErr, OnOk, length, take, drop, if◌then◌else◌, ◌||◌, ◌&&◌, not, true, false, Option, Some, None, MatchResult, ⊤};
+ghost use Rattle.std.specs.Prelude.{◌≡◌, ◌+◌, ◌-◌, ◌*◌, ◌^◌, ◌<◌, ◌≤◌, ℕ, [], List, Ok, Err, IfOk, OnErr, OnOk, length, take, drop, if◌then◌else◌, ◌||◌, ◌&&◌, not, true, false, Option, MatchResult, ⊤};
 ghost use Rattle.rt_base.specs.Counted.{Notes};
 ghost use Rattle.rt_base.specs.declared.error.Error.{Error};
 ghost use Rattle.rt_buffer.specs.declared.sync_state.SyncState.{SyncState};
@@ -8,10 +8,9 @@ ghost use Rattle.rt_buffer.specs.Flat.{HasBytes};
 ghost use Rattle.rt_buffer.specs.Framing.{OnOthers};
 ghost use Rattle.rt_buffer.specs.Memory.{MemoryKeeps};
 ghost use Rattle.rt_buffer.specs.Pieces.{with_bytes};
-ghost use Rattle.rt_buffer.specs.Steps.{AreBuffers, Begins, Drains, Ends, Finishes, GivesHandle, IfStarted, Puts, PutsAgain, PutsAll, ResizesBlob, ResizesTip, Runs, Saves, Settles, Starts, SyncsBlob, Then, Waits, WritesAt, WritesChunk, WritesDurably, WritesOut, is_started, room_for, seen_start, seen_step, with_state, with_tip, writer};
-ghost use Rattle.rt_buffer.specs.Tip.{empty_tip, bytes_to_write, bytes_before, drained, resized_tip, end_of, is_within, merged, laid_over};
+ghost use Rattle.rt_buffer.specs.Steps.{Ends, Finishes, GivesHandle, Runs, Starts, WritesAt, is_started, room_for, seen_start, seen_step, writer};
+ghost use Rattle.rt_buffer.specs.Tip.{empty_tip, end_of, is_within, merged, laid_over};
 ghost use Rattle.rt_buffer.specs.Writing.{has_bytes, needs_sync, ReadsTip, ReadsThrough, LiesOver, ClosesWriter};
-ghost use Rattle.rt_store.specs.Answered.{is_numbered};
 ghost use Rattle.rt_store.specs.Content.{resized, written};
 ghost use Rattle.rt_store.specs.declared.ticket.Ticket.{Ticket};
 
@@ -21,11 +20,10 @@ use crate::pieces::Pieces;
 use crate::sync_handle::{Started, handed};
 use crate::sync_state::SyncState;
 use crate::write_op::{Rest, Step, Stepped, WriteOp};
-use rt_base::{Env, Error, NoMemory, Poll, ReadOptions, WriteOptions};
-use rt_bufs::{IoBuf, IoBufs};
-use rt_store::{BlobOf, Done, Storage};
+use rt_base::{Env, Error, NoMemory, Poll, ReadOptions};
+use rt_bufs::IoBufs;
+use rt_store::{BlobOf, Storage};
 use std::alloc::Global;
-use std::mem;
 
 /// A writer of a blob. It must be spent by [`close`](Self::close).
 ///
@@ -33,7 +31,7 @@ use std::mem;
 pub struct Write<S: Storage> {
     pub(crate) blob: BlobOf<S>,
     pub(crate) held: Held,
-    alloc: Global,
+    pub(crate) alloc: Global,
 }
 
 impl<S: Storage> Write<S> {
@@ -260,6 +258,29 @@ impl<S: Storage> Write<S> {
         }
     }
 
+    // Does what is left, where no ticket is held.
+    #[tactic(auto, using(crate::proofs::Steps::then_done, crate::proofs::Steps::then_waits, crate::proofs::Steps::then_refused))]
+    fn finish<E: Env>(
+        &mut self,
+        store: &mut S,
+        env: &mut E,
+        rest: Rest,
+        task: u64,
+    ) -> Result<Poll<()>, Error>
+        requires { is_started self.old.held.state ≡ false }
+        ensures finishes { Notes (E.noted env.old) (λ x. Finishes ⟦<S as Called>⟧.calls self.old.blob rest task (writer store.old self.old.held) result (writer store.new self.new.held) x) (E.noted env.new) }
+        ensures blob { self.new.blob ≡ self.old.blob }
+        ensures spent { E.spare env.old ≤ E.spare env.new + room_for S.most rest }
+    {
+        match rest {
+            Rest::Nothing => Ok(Poll::Ready(())),
+            Rest::Sync => self.save(store, env, task),
+            Rest::Resize(len) => self.resize_tip(store, env, len),
+            Rest::Write(left) => self.put_all(store, env, left),
+            Rest::Start => self.drain_and_begin(store, env),
+        }
+    }
+
     // What a call answers that came to this, with what is left to do where it waits.
     fn end(self, store: &mut S, progress: Result<Poll<()>, Error>, rest: Rest) -> Step<S>
         ensures { Ends ⟦<S as Called>⟧.calls self.blob rest progress (writer store.old self.held) store.new (seen_step (λ w. (w.blob, w.held)) (λ p. ((p.write.blob, p.write.held), p.rest)) result) }
@@ -305,455 +326,5 @@ impl<S: Storage> Write<S> {
         let mut bufs = fetched.freeze()?;
         bufs.append(self.held.tip.slice(0, len - first)?)?;
         Ok(bufs)
-    }
-}
-
-// Writes and syncs. Each answers whether it is done, and waits for a ticket else.
-impl<S: Storage> Write<S> {
-    // Gives a started sync up that is done: its ticket is ready, and the store stays as it was.
-    fn settle(&mut self, store: &mut S)
-        requires { IfStarted self.old.held.state (λ t. is_numbered t ≡ false) }
-        ensures store { store.new ≡ store.old }
-        ensures held { self.new.held ≡ with_state self.old.held SyncState.Clean }
-        ensures blob { self.new.blob ≡ self.old.blob }
-    {
-        match mem::replace(&mut self.held.state, SyncState::Clean) {
-            SyncState::Clean | SyncState::Dirty => unreachable!(),
-            SyncState::Started(ticket) => store.give_up_sync(ticket),
-        }
-    }
-
-    // Polls a started sync.
-    #[tactic(auto, using(crate::proofs::Steps::polled_ready))]
-    pub(crate) fn wait<E: Env>(
-        &mut self,
-        store: &mut S,
-        env: &mut E,
-        task: u64,
-    ) -> Result<Poll<()>, Error>
-        ensures waits { Notes (E.noted env.old) (λ x. Waits ⟦<S as Called>⟧.calls task (writer store.old self.old.held) result (writer store.new self.new.held) x) (E.noted env.new) }
-        ensures settled { result ≡ Ok (Poll.Ready tt) → is_started self.new.held.state ≡ false }
-        ensures blob { self.new.blob ≡ self.old.blob }
-        ensures spent { E.spare env.old ≤ E.spare env.new + S.most }
-    {
-        let SyncState::Started(ticket) = &mut self.held.state else {
-            return Ok(Poll::Ready(()));
-        };
-        match store.poll_sync(env, ticket, task) {
-            Poll::Pending => Ok(Poll::Pending),
-            Poll::Ready(Err(error)) => Err(error),
-            Poll::Ready(Ok(())) => {
-                self.settle(store);
-                Ok(Poll::Ready(()))
-            }
-        }
-    }
-
-    // Does what is left, where no ticket is held.
-    #[tactic(auto, using(crate::proofs::Steps::then_done, crate::proofs::Steps::then_waits, crate::proofs::Steps::then_refused))]
-    fn finish<E: Env>(
-        &mut self,
-        store: &mut S,
-        env: &mut E,
-        rest: Rest,
-        task: u64,
-    ) -> Result<Poll<()>, Error>
-        requires { is_started self.old.held.state ≡ false }
-        ensures finishes { Notes (E.noted env.old) (λ x. Finishes ⟦<S as Called>⟧.calls self.old.blob rest task (writer store.old self.old.held) result (writer store.new self.new.held) x) (E.noted env.new) }
-        ensures blob { self.new.blob ≡ self.old.blob }
-        ensures spent { E.spare env.old ≤ E.spare env.new + room_for S.most rest }
-    {
-        match rest {
-            Rest::Nothing => Ok(Poll::Ready(())),
-            Rest::Sync => self.save(store, env, task),
-            Rest::Resize(len) => self.resize_tip(store, env, len),
-            Rest::Write(left) => self.put_all(store, env, left),
-            Rest::Start => self.drain_and_begin(store, env),
-        }
-    }
-
-    // A change is durable, or its ticket is held and polled.
-    fn keep<E: Env>(
-        &mut self,
-        store: &mut S,
-        env: &mut E,
-        done: Done,
-        task: u64,
-    ) -> Result<Poll<()>, Error>
-        requires { is_started self.old.held.state ≡ false }
-        ensures settles { Notes (E.noted env.old) (λ x. Settles ⟦<S as Called>⟧.calls task done (writer store.old self.old.held) result (writer store.new self.new.held) x) (E.noted env.new) }
-        ensures blob { self.new.blob ≡ self.old.blob }
-        ensures spent { E.spare env.old ≤ E.spare env.new + S.most }
-    {
-        match done {
-            Done::Now => {
-                self.held.set_state(SyncState::Clean);
-                Ok(Poll::Ready(()))
-            }
-            Done::Gated(ticket) => {
-                self.held.set_state(SyncState::Started(ticket));
-                self.wait(store, env, task)
-            }
-        }
-    }
-
-    fn sync_blob<E: Env>(
-        &mut self,
-        store: &mut S,
-        env: &mut E,
-        task: u64,
-    ) -> Result<Poll<()>, Error>
-        requires { is_started self.old.held.state ≡ false }
-        ensures syncs { Notes (E.noted env.old) (λ x. SyncsBlob ⟦<S as Called>⟧.calls self.old.blob task (writer store.old self.old.held) result (writer store.new self.new.held) x) (E.noted env.new) }
-        ensures blob { self.new.blob ≡ self.old.blob }
-        ensures spent { E.spare env.old ≤ E.spare env.new + 2 * S.most }
-    {
-        let done = store.sync(env, &self.blob)?;
-        self.keep(store, env, done, task)
-    }
-
-    fn write_durably<E: Env>(
-        &mut self,
-        store: &mut S,
-        env: &mut E,
-        offset: u64,
-        bufs: IoBufs,
-        task: u64,
-    ) -> Result<Poll<()>, Error>
-        requires { is_started self.old.held.state ≡ false }
-        ensures writes { Notes (E.noted env.old) (λ x. WritesDurably ⟦<S as Called>⟧.calls self.old.blob task offset bufs (writer store.old self.old.held) result (writer store.new self.new.held) x) (E.noted env.new) }
-        ensures blob { self.new.blob ≡ self.old.blob }
-        ensures spent { E.spare env.old ≤ E.spare env.new + 2 * S.most }
-    {
-        let done = store.write_at(env, &self.blob, offset, bufs, WriteOptions::SYNC)?;
-        self.keep(store, env, done, task)
-    }
-
-    // Writes bytes that needn't be durable yet.
-    fn write_out<E: Env>(
-        &mut self,
-        store: &mut S,
-        env: &mut E,
-        offset: u64,
-        bufs: IoBufs,
-    ) -> Result<Poll<()>, Error>
-        requires { is_started self.old.held.state ≡ false }
-        ensures writes { Notes (E.noted env.old) (λ x. WritesOut ⟦<S as Called>⟧.calls self.old.blob offset bufs (writer store.old self.old.held) result (writer store.new self.new.held) x) (E.noted env.new) }
-        ensures settled { is_started self.new.held.state ≡ false }
-        ensures blob { self.new.blob ≡ self.old.blob }
-        ensures spent { E.spare env.old ≤ E.spare env.new + S.most }
-    {
-        self.held.set_state(SyncState::Dirty);
-        match store.write_at(env, &self.blob, offset, bufs, WriteOptions::default())? {
-            Done::Now => Ok(Poll::Ready(())),
-            Done::Gated(ticket) => {
-                store.give_up_sync(ticket);
-                Ok(Poll::Ready(()))
-            }
-        }
-    }
-
-    // The bytes of the tip, as buffers, and their offset.
-    fn take_tip(&mut self) -> Result<Option<(IoBufs, u64)>, Error>
-        ensures buffers { AreBuffers (bytes_to_write self.old.held.tip) result }
-        ensures drained { OnOk result (self.new.held ≡ with_tip self.old.held (drained self.old.held.tip)) }
-        ensures state { self.new.held.state ≡ self.old.held.state }
-        ensures blob { self.new.blob ≡ self.old.blob }
-    {
-        match self.held.tip.take()? {
-            Some((buf, offset)) => Ok(Some((IoBufs::from_buf(self.alloc, buf)?, offset))),
-            None => Ok(None),
-        }
-    }
-
-    // Writes the bytes of the tip out, where there are any.
-    fn drain<E: Env>(&mut self, store: &mut S, env: &mut E) -> Result<Poll<()>, Error>
-        requires { is_started self.old.held.state ≡ false }
-        ensures drains { Notes (E.noted env.old) (λ x. Drains ⟦<S as Called>⟧.calls self.old.blob (writer store.old self.old.held) result (writer store.new self.new.held) x) (E.noted env.new) }
-        ensures settled { is_started self.new.held.state ≡ false }
-        ensures blob { self.new.blob ≡ self.old.blob }
-        ensures spent { E.spare env.old ≤ E.spare env.new + S.most }
-    {
-        match self.take_tip() {
-            Err(error) => Err(error),
-            Ok(Some((bufs, offset))) => self.write_out(store, env, offset, bufs),
-            Ok(None) => Ok(Poll::Ready(())),
-        }
-    }
-
-    // Writes bytes, and then makes all changes durable.
-    #[tactic(auto, using(crate::proofs::Steps::then_done, crate::proofs::Steps::then_waits, crate::proofs::Steps::then_refused))]
-    fn write_and_sync<E: Env>(
-        &mut self,
-        store: &mut S,
-        env: &mut E,
-        offset: u64,
-        bufs: IoBufs,
-        task: u64,
-    ) -> Result<Poll<()>, Error>
-        requires { is_started self.old.held.state ≡ false }
-        ensures writes { Notes (E.noted env.old) (λ x. Then (WritesOut ⟦<S as Called>⟧.calls self.old.blob offset bufs) (SyncsBlob ⟦<S as Called>⟧.calls self.old.blob task) (writer store.old self.old.held) result (writer store.new self.new.held) x) (E.noted env.new) }
-        ensures blob { self.new.blob ≡ self.old.blob }
-        ensures spent { E.spare env.old ≤ E.spare env.new + 3 * S.most }
-    {
-        match self.write_out(store, env, offset, bufs) {
-            Err(error) => Err(error),
-            Ok(Poll::Pending) => Ok(Poll::Pending),
-            Ok(Poll::Ready(())) => self.sync_blob(store, env, task),
-        }
-    }
-
-    // Makes the tip and all changes durable, where no ticket is held.
-    fn save<E: Env>(&mut self, store: &mut S, env: &mut E, task: u64) -> Result<Poll<()>, Error>
-        requires { is_started self.old.held.state ≡ false }
-        ensures saves { Notes (E.noted env.old) (λ x. Saves ⟦<S as Called>⟧.calls self.old.blob task (writer store.old self.old.held) result (writer store.new self.new.held) x) (E.noted env.new) }
-        ensures blob { self.new.blob ≡ self.old.blob }
-        ensures spent { E.spare env.old ≤ E.spare env.new + 3 * S.most }
-    {
-        let taken = self.take_tip();
-        let is_clean = self.held.is_clean();
-        match taken {
-            Err(error) => Err(error),
-            Ok(Some((bufs, offset))) if is_clean => self.write_durably(
-                store, env, offset, bufs, task,
-            ),
-            Ok(Some((bufs, offset))) => self.write_and_sync(store, env, offset, bufs, task),
-            Ok(None) if is_clean => Ok(Poll::Ready(())),
-            Ok(None) => self.sync_blob(store, env, task),
-        }
-    }
-
-    // Starts a sync where a change is open.
-    fn begin<E: Env>(&mut self, store: &mut S, env: &mut E) -> Result<Poll<()>, Error>
-        ensures begins { Notes (E.noted env.old) (λ x. Begins ⟦<S as Called>⟧.calls self.old.blob (writer store.old self.old.held) result (writer store.new self.new.held) x) (E.noted env.new) }
-        ensures blob { self.new.blob ≡ self.old.blob }
-        ensures spent { E.spare env.old ≤ E.spare env.new + S.most }
-    {
-        match self.held.state {
-            SyncState::Clean | SyncState::Started(_) => Ok(Poll::Ready(())),
-            SyncState::Dirty => {
-                let ticket = store.start_sync(env, &self.blob)?;
-                self.held.set_state(SyncState::Started(ticket));
-                self.held.syncs = self.held.syncs.saturating_add(1);
-                Ok(Poll::Ready(()))
-            }
-        }
-    }
-
-    // Writes the tip out, and starts a sync.
-    #[tactic(auto, using(crate::proofs::Steps::then_done, crate::proofs::Steps::then_waits, crate::proofs::Steps::then_refused))]
-    fn drain_and_begin<E: Env>(&mut self, store: &mut S, env: &mut E) -> Result<Poll<()>, Error>
-        requires { is_started self.old.held.state ≡ false }
-        ensures begins { Notes (E.noted env.old) (λ x. Then (Drains ⟦<S as Called>⟧.calls self.old.blob) (Begins ⟦<S as Called>⟧.calls self.old.blob) (writer store.old self.old.held) result (writer store.new self.new.held) x) (E.noted env.new) }
-        ensures blob { self.new.blob ≡ self.old.blob }
-        ensures spent { E.spare env.old ≤ E.spare env.new + 2 * S.most }
-    {
-        match self.drain(store, env) {
-            Err(error) => Err(error),
-            Ok(Poll::Pending) => Ok(Poll::Pending),
-            Ok(Poll::Ready(())) => self.begin(store, env),
-        }
-    }
-
-    fn resize_blob<E: Env>(
-        &mut self,
-        store: &mut S,
-        env: &mut E,
-        len: u64,
-    ) -> Result<Poll<()>, Error>
-        requires { is_started self.old.held.state ≡ false }
-        ensures resizes { Notes (E.noted env.old) (λ x. ResizesBlob ⟦<S as Called>⟧.calls self.old.blob len (writer store.old self.old.held) result (writer store.new self.new.held) x) (E.noted env.new) }
-        ensures blob { self.new.blob ≡ self.old.blob }
-        ensures spent { E.spare env.old ≤ E.spare env.new + S.most }
-    {
-        self.held.set_state(SyncState::Dirty);
-        match store.resize(env, &self.blob, len) {
-            Ok(()) => Ok(Poll::Ready(())),
-            Err(error) => Err(error),
-        }
-    }
-
-    // Follows a new length with the tip: the bytes that have to be written before it, as buffers, and their offset.
-    fn cut_tip(&mut self, len: u64) -> Result<Option<(IoBufs, u64)>, Error>
-        ensures buffers { AreBuffers (bytes_before self.old.held.tip len) result }
-        ensures resized { OnOk result (self.new.held ≡ with_tip self.old.held (resized_tip self.old.held.tip len)) }
-        ensures state { self.new.held.state ≡ self.old.held.state }
-        ensures blob { self.new.blob ≡ self.old.blob }
-    {
-        match self.held.tip.resize(len)? {
-            Some((buf, offset)) => Ok(Some((IoBufs::from_buf(self.alloc, buf)?, offset))),
-            None => Ok(None),
-        }
-    }
-
-    // Writes bytes, and then gives the blob another length.
-    #[tactic(auto, using(crate::proofs::Steps::then_done, crate::proofs::Steps::then_waits, crate::proofs::Steps::then_refused))]
-    fn write_and_resize<E: Env>(
-        &mut self,
-        store: &mut S,
-        env: &mut E,
-        offset: u64,
-        bufs: IoBufs,
-        len: u64,
-    ) -> Result<Poll<()>, Error>
-        requires { is_started self.old.held.state ≡ false }
-        ensures writes { Notes (E.noted env.old) (λ x. Then (WritesOut ⟦<S as Called>⟧.calls self.old.blob offset bufs) (ResizesBlob ⟦<S as Called>⟧.calls self.old.blob len) (writer store.old self.old.held) result (writer store.new self.new.held) x) (E.noted env.new) }
-        ensures blob { self.new.blob ≡ self.old.blob }
-        ensures spent { E.spare env.old ≤ E.spare env.new + 2 * S.most }
-    {
-        match self.write_out(store, env, offset, bufs) {
-            Err(error) => Err(error),
-            Ok(Poll::Pending) => Ok(Poll::Pending),
-            Ok(Poll::Ready(())) => self.resize_blob(store, env, len),
-        }
-    }
-
-    // Gives the tip and the blob another length, where no ticket is held.
-    fn resize_tip<E: Env>(
-        &mut self,
-        store: &mut S,
-        env: &mut E,
-        len: u64,
-    ) -> Result<Poll<()>, Error>
-        requires { is_started self.old.held.state ≡ false }
-        ensures resizes { Notes (E.noted env.old) (λ x. ResizesTip ⟦<S as Called>⟧.calls self.old.blob len (writer store.old self.old.held) result (writer store.new self.new.held) x) (E.noted env.new) }
-        ensures blob { self.new.blob ≡ self.old.blob }
-        ensures spent { E.spare env.old ≤ E.spare env.new + 2 * S.most }
-    {
-        match self.cut_tip(len) {
-            Err(error) => Err(error),
-            Ok(Some((bufs, offset))) => self.write_and_resize(store, env, offset, bufs, len),
-            Ok(None) => self.resize_blob(store, env, len),
-        }
-    }
-
-    // Puts a chunk into the tip, and answers whether it lies within its reach.
-    fn merge(&mut self, at: u64, chunk: &IoBuf) -> Result<bool, Error>
-        ensures within { IfOk result (λ yes. yes ≡ is_within self.old.held.tip at (length chunk.now)) }
-        ensures merged { OnOk result (self.new.held ≡ (if is_within self.old.held.tip at (length chunk.now) then with_tip self.old.held (merged self.old.held.tip chunk.now at) else self.old.held)) }
-        ensures beyond { result ≡ Ok false → self.new.held ≡ self.old.held }
-        ensures refused { OnErr result ((result ≡ Err Error.NoMemory) × (self.new.held ≡ self.old.held) × (is_within self.old.held.tip at (length chunk.now) ≡ true)) }
-        ensures blob { self.new.blob ≡ self.old.blob }
-    {
-        Ok(self.held.tip.merge(chunk.as_slice(), at)?)
-    }
-
-    // Writes a chunk to the blob. The tip follows it.
-    fn write_chunk<E: Env>(
-        &mut self,
-        store: &mut S,
-        env: &mut E,
-        at: u64,
-        chunk: IoBuf,
-    ) -> Result<Poll<()>, Error>
-        requires free { is_started self.old.held.state ≡ false }
-        requires fits { at + length chunk < 2 ^ 64 }
-        ensures writes { Notes (E.noted env.old) (λ x. WritesChunk ⟦<S as Called>⟧.calls self.old.blob at chunk (writer store.old self.old.held) result (writer store.new self.new.held) x) (E.noted env.new) }
-        ensures settled { is_started self.new.held.state ≡ false }
-        ensures blob { self.new.blob ≡ self.old.blob }
-        ensures spent { E.spare env.old ≤ E.spare env.new + S.most }
-    {
-        let end = at + chunk.len() as u64;
-        let bufs = IoBufs::from_buf(self.alloc, chunk)?;
-        match self.write_out(store, env, at, bufs) {
-            Err(error) => Err(error),
-            Ok(Poll::Pending) => Ok(Poll::Pending),
-            Ok(Poll::Ready(())) => {
-                self.held.tip.raise(end);
-                Ok(Poll::Ready(()))
-            }
-        }
-    }
-
-    // Puts a chunk into the tip where it can, and writes it to the blob else.
-    fn put_again<E: Env>(
-        &mut self,
-        store: &mut S,
-        env: &mut E,
-        at: u64,
-        chunk: IoBuf,
-    ) -> Result<Poll<()>, Error>
-        requires free { is_started self.old.held.state ≡ false }
-        requires fits { at + length chunk < 2 ^ 64 }
-        ensures puts { Notes (E.noted env.old) (λ x. PutsAgain ⟦<S as Called>⟧.calls self.old.blob at chunk (writer store.old self.old.held) result (writer store.new self.new.held) x) (E.noted env.new) }
-        ensures settled { is_started self.new.held.state ≡ false }
-        ensures blob { self.new.blob ≡ self.old.blob }
-        ensures spent { E.spare env.old ≤ E.spare env.new + S.most }
-    {
-        match self.merge(at, &chunk) {
-            Err(error) => Err(error),
-            Ok(true) => Ok(Poll::Ready(())),
-            Ok(false) => self.write_chunk(store, env, at, chunk),
-        }
-    }
-
-    // Writes the tip out, and then puts a chunk.
-    #[tactic(auto, using(crate::proofs::Steps::then_done, crate::proofs::Steps::then_waits, crate::proofs::Steps::then_refused))]
-    fn drain_and_put<E: Env>(
-        &mut self,
-        store: &mut S,
-        env: &mut E,
-        at: u64,
-        chunk: IoBuf,
-    ) -> Result<Poll<()>, Error>
-        requires free { is_started self.old.held.state ≡ false }
-        requires fits { at + length chunk < 2 ^ 64 }
-        ensures puts { Notes (E.noted env.old) (λ x. Then (Drains ⟦<S as Called>⟧.calls self.old.blob) (PutsAgain ⟦<S as Called>⟧.calls self.old.blob at chunk) (writer store.old self.old.held) result (writer store.new self.new.held) x) (E.noted env.new) }
-        ensures settled { is_started self.new.held.state ≡ false }
-        ensures blob { self.new.blob ≡ self.old.blob }
-        ensures spent { E.spare env.old ≤ E.spare env.new + 2 * S.most }
-    {
-        match self.drain(store, env) {
-            Err(error) => Err(error),
-            Ok(Poll::Pending) => Ok(Poll::Pending),
-            Ok(Poll::Ready(())) => self.put_again(store, env, at, chunk),
-        }
-    }
-
-    // Puts a chunk: the bytes of a tip that begins before its end are written out first.
-    fn put<E: Env>(
-        &mut self,
-        store: &mut S,
-        env: &mut E,
-        at: u64,
-        chunk: IoBuf,
-    ) -> Result<Poll<()>, Error>
-        requires free { is_started self.old.held.state ≡ false }
-        requires fits { at + length chunk < 2 ^ 64 }
-        ensures puts { Notes (E.noted env.old) (λ x. Puts ⟦<S as Called>⟧.calls self.old.blob at chunk (writer store.old self.old.held) result (writer store.new self.new.held) x) (E.noted env.new) }
-        ensures settled { is_started self.new.held.state ≡ false }
-        ensures blob { self.new.blob ≡ self.old.blob }
-        ensures spent { E.spare env.old ≤ E.spare env.new + 2 * S.most }
-    {
-        let is_in_the_way = self.held.tip.is_in_the_way(at + chunk.len() as u64);
-        match self.merge(at, &chunk) {
-            Err(error) => Err(error),
-            Ok(true) => Ok(Poll::Ready(())),
-            Ok(false) if is_in_the_way => self.drain_and_put(store, env, at, chunk),
-            Ok(false) => self.write_chunk(store, env, at, chunk),
-        }
-    }
-
-    // Puts one chunk after the other.
-    fn put_all<E: Env>(
-        &mut self,
-        store: &mut S,
-        env: &mut E,
-        left: Pieces,
-    ) -> Result<Poll<()>, Error>
-        requires { is_started self.old.held.state ≡ false }
-        ensures puts { Notes (E.noted env.old) (λ x. PutsAll ⟦<S as Called>⟧.calls self.old.blob left (writer store.old self.old.held) result (writer store.new self.new.held) x) (E.noted env.new) }
-        ensures blob { self.new.blob ≡ self.old.blob }
-        ensures spent { E.spare env.old ≤ E.spare env.new + length left.chunks * (2 * S.most) }
-    {
-        let mut left = left;
-        let mut at = left.at();
-        while let Some(chunk) = left.next() {
-            match self.put(store, env, at, chunk)? {
-                Poll::Ready(()) => at = left.at(),
-                Poll::Pending => return Ok(Poll::Pending),
-            }
-        }
-        Ok(Poll::Ready(()))
     }
 }

@@ -3,12 +3,8 @@
 // A case is a function that makes its calls and says whether they came to what is written beside them, or how many did. The functions
 // are over any store where they can be, since those are proved in less time.
 
-ghost use Rattle.std.specs.Prelude.{◌≡◌, ℕ, IfOk, OnOk, List, take, drop};
-ghost use Rattle.rt_buffer.specs.Durable.{HoldsBytes, KnowsState};
+ghost use Rattle.std.specs.Prelude.{◌≡◌, IfOk, take, drop};
 ghost use Rattle.rt_buffer.specs.Flat.{StandsFor};
-ghost use Rattle.rt_buffer.specs.Memory.{CrashLeaves, MemoryKeeps, memory_bytes, memory_left, memory_promised};
-ghost use Rattle.rt_buffer.specs.Tip.{laid_over};
-ghost use Rattle.rt_buffer.specs.Writing.{LiesOver};
 ghost use Rattle.rt_store.specs.Calls.{blob_of};
 ghost use Rattle.rt_store.specs.Store.{content_at};
 
@@ -596,7 +592,7 @@ fn write_behind<S: Storage>(alloc: Global, store: &mut S) -> Result<(), Error> {
 }
 
 /// Crashes, and answers how many numbers that may draw.
-fn crash(alloc: Global, store: &mut MemStore) -> Result<usize, Error> {
+pub fn crash(alloc: Global, store: &mut MemStore) -> Result<usize, Error> {
     let mut env = NoEnv;
     let draws = store.crash_draws();
     env.reserve(draws)?;
@@ -684,63 +680,8 @@ fn sync_is_started(rt: HostRuntime) -> Result<(), Fail> {
     Ok(())
 }
 
-/// Asks for the sync of a handle, and closes the writer where it isn't done.
-fn ask(
-    mut writer: Write<MemStore>,
-    mut handle: SyncHandle,
-    store: &mut MemStore,
-) -> Result<Write<MemStore>, Error>
-    ensures memory { MemoryKeeps }
-    ensures crash { (content : List ℕ) → handle.number ≡ writer.held.syncs → HoldsBytes memory_bytes memory_left memory_promised content writer.held store.old writer.blob →
-        OnOk result (CrashLeaves content store.new writer.blob) }
-{
-    match handle.poll_in_memory(&mut writer, store, &mut NoEnv, 1) {
-        Poll::Ready(Ok(())) => Ok(writer),
-        Poll::Ready(Err(error)) => {
-            writer.close(store);
-            Err(error)
-        }
-        Poll::Pending => {
-            writer.close(store);
-            Err(Error::Timeout)
-        }
-    }
-}
-
-/// Starts a sync and asks for it. Once it is done, a crash leaves exactly the bytes that the writer stood for.
-fn save(writer: Write<MemStore>, store: &mut MemStore) -> Result<Write<MemStore>, Error>
-    ensures crash { LiesOver writer.held.tip (memory_bytes store.old writer.blob) → KnowsState memory_bytes memory_left memory_promised writer.held.state store.old writer.blob →
-        OnOk result (CrashLeaves (laid_over writer.held.tip (memory_bytes store.old writer.blob)) store.new writer.blob) }
-{
-    match writer.start_sync(store, &mut NoEnv, 1) {
-        Begun::Done(writer, handle) => ask(writer, handle, store),
-        Begun::Waiting(op) => {
-            op.give_up(store);
-            Err(Error::Timeout)
-        }
-        Begun::Failed(error) => Err(error),
-    }
-}
-
-/// Writes `ab`, and saves it where a crash would leave it.
-fn save_two(alloc: Global, store: &mut MemStore) -> Result<bool, Error> {
-    let writer = opened(alloc, store, b"a")?;
-    let writer = put(alloc, store, writer, 0, b"ab")?;
-    save(writer, store)?.close(store);
-    Ok(true)
-}
-
-#[test]
-fn crash_leaves_what_a_started_sync_saved(rt: HostRuntime) -> Result<(), Fail> {
-    let mut store = MemStore::new(rt.alloc(), FaultConfig::default())?;
-    let saved = came(save_two(rt.alloc(), &mut store), true);
-    let crashed = came(crash(rt.alloc(), &mut store), 0);
-    assert!(rt; saved & crashed & came(has_bytes(rt.alloc(), &mut store, b"a", b"ab"), true));
-    Ok(())
-}
-
 /// Whether the blob of a name has exactly these bytes.
-fn has_bytes<S: Storage>(
+pub fn has_bytes<S: Storage>(
     alloc: Global,
     store: &mut S,
     name: &[u8],
@@ -824,37 +765,5 @@ fn crash_leaves_what_each_writer_synced(rt: HostRuntime) -> Result<(), Fail> {
     let first = came(has_bytes(rt.alloc(), &mut store, b"a", b"abcd"), true);
     let second = came(has_bytes(rt.alloc(), &mut store, b"b", b"xyz!"), true);
     assert!(rt; written & crashed & first & second);
-    Ok(())
-}
-
-const MEBIBYTE: usize = 1_048_576;
-
-/// Writes a mebibyte into a tip that has room for it, syncs it, and answers what the writer has before that.
-fn write_large<S: Storage>(alloc: Global, store: &mut S) -> Result<u64, Error> {
-    let mut bytes = Vec::new(alloc);
-    bytes.resize(MEBIBYTE, 7)?;
-    let (blob, len) = store.open(&mut NoEnv, "p", b"a")?;
-    let writer = Write::new(alloc, blob, len, MEBIBYTE);
-    let writer = put(alloc, store, writer, 0, bytes.as_slice())?;
-    let size = writer.size();
-    synced(store, writer)?.close(store);
-    Ok(size)
-}
-
-/// Reads a mebibyte by one buffer, but for its last bytes: how many were read and are held.
-fn read_large<S: Storage>(alloc: Global, store: &mut S) -> Result<usize, Error> {
-    let (blob, len) = store.open(&mut NoEnv, "p", b"a")?;
-    let mut reader = Read::new(alloc, blob, len, MEBIBYTE);
-    let first = reader.read(store, &mut NoEnv, 1);
-    let held = reader.buffer_remaining();
-    reader.close(store);
-    Ok(first?.len().wrapping_add(held))
-}
-
-#[test]
-fn sizes(rt: HostRuntime) -> Result<(), Fail> {
-    let mut store = MemStore::new(rt.alloc(), FaultConfig::default())?;
-    let written = came(write_large(rt.alloc(), &mut store), 1_048_576);
-    assert!(rt; written & came(read_large(rt.alloc(), &mut store), MEBIBYTE));
     Ok(())
 }

@@ -9,8 +9,12 @@ mod counting;
 #[cfg(test)]
 mod delayed;
 #[cfg(test)]
+mod durable;
+#[cfg(test)]
 mod mock;
 #[cfg(test)]
 mod nested;
+#[cfg(test)]
+mod sizes;
 #[cfg(test)]
 mod waiting;

@@ -77,7 +77,7 @@ fn make<S: Storage>(alloc: Global, store: &mut S, writer: Write<S>, call: Call) 
 }
 
 /// The call, where it waits.
-fn waiting<S: Storage>(store: &mut S, step: Step<S>) -> Option<WriteOp<S>> {
+pub fn waiting<S: Storage>(store: &mut S, step: Step<S>) -> Option<WriteOp<S>> {
     match step {
         Stepped::Done(writer) => {
             writer.close(store);
@@ -96,7 +96,7 @@ fn ends<S: Storage>(store: &mut S, step: Step<S>, expected: &[u8]) -> Result<boo
 }
 
 /// Whether the call still waits at a poll, and is done at the next one once all that is held is released.
-fn polls_twice<S: Storage>(
+pub fn polls_twice<S: Storage>(
     store: &mut DelayedSyncContext<S>,
     op: WriteOp<DelayedSyncContext<S>>,
     expected: &[u8],

@@ -3,10 +3,7 @@
 // A case is a function that makes its calls and says whether they came to what is written beside them, or how many did. The functions
 // are over any store where they can be, since those are proved in less time.
 
-use rt_base::{
-    BlobVersion, Choice, Env, Error, Event, IoKind, NoEnv, NoMemory, Poll, ReadOptions,
-    WriteOptions,
-};
+use rt_base::{BlobVersion, Error, IoKind, NoEnv, NoMemory, Poll, ReadOptions, WriteOptions};
 use rt_bufs::{IoBuf, IoBufMut, IoBufs, IoBufsMut};
 use rt_store::{
     Blob, Done, FaultConfig, MemStore, PartialWriteMode, Storage, Ticket, WriteConfig,
@@ -21,7 +18,7 @@ fn same<T: Drop + PartialEq>(seen: T, wanted: T) -> bool {
 }
 
 /// Whether a call came to this.
-fn came<T: Drop + PartialEq, E: Drop>(answer: Result<T, E>, wanted: T) -> bool {
+pub fn came<T: Drop + PartialEq, E: Drop>(answer: Result<T, E>, wanted: T) -> bool {
     match answer {
         Ok(seen) => seen == wanted,
         Err(_) => false,
@@ -29,7 +26,7 @@ fn came<T: Drop + PartialEq, E: Drop>(answer: Result<T, E>, wanted: T) -> bool {
 }
 
 /// Whether a call was answered at all.
-fn went<T: Drop, E: Drop>(answer: Result<T, E>) -> bool {
+pub fn went<T: Drop, E: Drop>(answer: Result<T, E>) -> bool {
     answer.is_ok()
 }
 
@@ -42,7 +39,7 @@ fn failed<T: Drop, E: Drop + PartialEq>(answer: Result<T, E>, why: E) -> bool {
 }
 
 /// The answer of a call that is done at once.
-fn done(answer: Result<Done, Error>) -> Result<(), Error> {
+pub fn done(answer: Result<Done, Error>) -> Result<(), Error> {
     match answer {
         Ok(Done::Now) => Ok(()),
         Ok(Done::Gated(Ticket::Ready(held))) => held,
@@ -51,7 +48,7 @@ fn done(answer: Result<Done, Error>) -> Result<(), Error> {
     }
 }
 
-fn bufs(alloc: Global, bytes: Vec<u8>) -> Result<IoBufs, NoMemory> {
+pub fn bufs(alloc: Global, bytes: Vec<u8>) -> Result<IoBufs, NoMemory> {
     IoBufs::from_buf(alloc, IoBuf::from_vec(bytes)?)
 }
 
@@ -63,7 +60,7 @@ fn letters(alloc: Global) -> Result<IoBufs, NoMemory> {
 }
 
 /// Writes three bytes from an offset on.
-fn write<S: Storage>(
+pub fn write<S: Storage>(
     alloc: Global,
     store: &mut S,
     blob: &S::Blob,
@@ -74,7 +71,7 @@ fn write<S: Storage>(
     done(store.write_at(&mut NoEnv, blob, offset, bytes, options))
 }
 
-fn writes<S: Storage>(alloc: Global, store: &mut S, blob: &S::Blob, offset: u64) -> bool {
+pub fn writes<S: Storage>(alloc: Global, store: &mut S, blob: &S::Blob, offset: u64) -> bool {
     went(write(alloc, store, blob, offset, WriteOptions::SYNC))
 }
 
@@ -105,7 +102,7 @@ fn are(answer: Result<IoBufsMut, Error>, expected: &[u8]) -> bool {
     }
 }
 
-fn reads<S: Storage>(
+pub fn reads<S: Storage>(
     store: &mut S,
     blob: &S::Blob,
     offset: u64,
@@ -136,7 +133,7 @@ fn reads_in_place<S: Storage>(alloc: Global, store: &mut S, blob: &S::Blob) -> b
     }
 }
 
-fn syncs<S: Storage>(store: &mut S, blob: &S::Blob) -> bool {
+pub fn syncs<S: Storage>(store: &mut S, blob: &S::Blob) -> bool {
     went(done(store.sync(&mut NoEnv, blob)))
 }
 
@@ -205,7 +202,7 @@ fn surface(rt: HostRuntime) -> Result<(), Fail> {
 }
 
 /// A store whose writes come to this.
-fn store_of(alloc: Global, write: WriteConfig) -> Result<MemStore, NoMemory> {
+pub fn store_of(alloc: Global, write: WriteConfig) -> Result<MemStore, NoMemory> {
     let mut faults = FaultConfig::default();
     faults.write = write;
     MemStore::new(alloc, faults)
@@ -266,7 +263,7 @@ fn make<S: Storage>(store: &mut S, partition: &str, name: &[u8]) -> Result<u64, 
 }
 
 /// Whether there is a blob of that name, of that length.
-fn has<S: Storage>(store: &mut S, partition: &str, name: &[u8], len: u64) -> bool {
+pub fn has<S: Storage>(store: &mut S, partition: &str, name: &[u8], len: u64) -> bool {
     came(make(store, partition, name), len)
 }
 
@@ -361,12 +358,19 @@ const RANGES: &[(u64, usize)] = &[(2, 1), (0, 0), (0, 2)];
 
 const PIECES: &[&[u8]] = &[b"c", b"", b"ab"];
 
-fn reads_placed<S: Storage>(store: &mut S, blob: &S::Blob) -> bool {
-    let answer = store.read_many(&mut NoEnv, blob, RANGES, ReadOptions::default());
-    are_all(collected(answer, 3), PIECES)
+/// Whether the ranges are read with their places, and collected.
+pub fn reads_placed<S: Storage>(
+    store: &mut S,
+    blob: &S::Blob,
+    ranges: &[(u64, usize)],
+    pieces: &[&[u8]],
+) -> bool {
+    let answer = store.read_many(&mut NoEnv, blob, ranges, ReadOptions::default());
+    are_all(collected(answer, ranges.len()), pieces)
 }
 
-fn reads_each<S: Storage>(
+/// Whether they are read in their order.
+pub fn reads_each<S: Storage>(
     store: &mut S,
     blob: &S::Blob,
     ranges: &[(u64, usize)],
@@ -385,7 +389,7 @@ fn refuses_ranges<S: Storage>(store: &mut S, blob: &S::Blob) -> bool {
 
 fn reads_ranges<S: Storage>(alloc: Global, store: &mut S) -> Result<bool, Error> {
     let (blob, _) = store.open(&mut NoEnv, "p", b"a")?;
-    let placed = writes(alloc, store, &blob, 0) & reads_placed(store, &blob);
+    let placed = writes(alloc, store, &blob, 0) & reads_placed(store, &blob, RANGES, PIECES);
     let each = reads_each(store, &blob, RANGES, PIECES) & reads_each(store, &blob, &[], &[]);
     let refused = refuses_ranges(store, &blob);
     store.close(blob);
@@ -456,218 +460,9 @@ fn collected_reads(rt: HostRuntime) -> Result<(), Fail> {
     Ok(())
 }
 
-/// Draws this number, then the next ones.
-#[derive(Drop)]
-struct Numbers {
-    next: u64,
-}
-
-impl Env for Numbers {
-    ghost use Rattle.std.specs.Prelude.{None};
-
-    ghost noted = { λ _. None };
-
-    ghost spare = { λ _. 18446744073709551616 };
-
-    fn reserve(&mut self, entries: usize) -> Result<(), NoMemory> {
-        let _ = entries;
-        Ok(())
-    }
-
-    fn event(&mut self, event: Event) {
-        let _ = event;
-    }
-
-    fn draw(&mut self) -> u64 {
-        let drawn = self.next;
-        self.next = drawn.wrapping_add(1);
-        drawn
-    }
-}
-
-/// Crashes, and answers the choices.
-fn crash<E: Env>(alloc: Global, store: &mut MemStore, env: &mut E) -> Result<Vec<Choice>, Error> {
-    let draws = store.crash_draws();
-    env.reserve(draws)?;
-    let mut choices = Vec::new(alloc);
-    choices.reserve(draws)?;
-    store.crash(env, &mut choices);
-    Ok(choices)
-}
-
-fn chooses<E: Env>(alloc: Global, store: &mut MemStore, env: &mut E, expected: &[Choice]) -> bool {
-    match crash(alloc, store, env).ok() {
-        Some(choices) => choices.as_slice() == expected,
-        None => false,
-    }
-}
-
-fn syncs_or_not<S: Storage>(store: &mut S, blob: &S::Blob, is_synced: bool) -> bool {
-    if is_synced {
-        return syncs(store, blob);
-    }
-    true
-}
-
-/// Writes three bytes to a blob of a partition, and syncs them or not.
-fn keep<S: Storage>(
-    alloc: Global,
-    store: &mut S,
-    partition: &str,
-    is_synced: bool,
-) -> Result<bool, Error> {
-    let (blob, _) = store.open(&mut NoEnv, partition, b"n")?;
-    let written = went(write(alloc, store, &blob, 0, WriteOptions::default()));
-    let synced = syncs_or_not(store, &blob, is_synced);
-    store.close(blob);
-    Ok(written & synced)
-}
-
-fn keeps<S: Storage>(alloc: Global, store: &mut S, partition: &str, is_synced: bool) -> bool {
-    came(keep(alloc, store, partition, is_synced), true)
-}
-
-/// What a crash keeps of writes in a million, and else of their bytes; and from which number on it draws. Then how many of three
-/// bytes it leaves, how many numbers it drew, and the choices.
-type Crash = (u32, PartialWriteMode, u64, u64, u64, &'static [Choice]);
-
-fn leaves(alloc: Global, is_synced: bool, crash: &Crash) -> Result<bool, NoMemory> {
-    let (keep, partial, first, len, draws, choices) = *crash;
-    let write = WriteConfig {
-        rate: 0,
-        keep,
-        partial,
-    };
-    let mut store = store_of(alloc, write)?;
-    let mut numbers = Numbers { next: first };
-    let kept = keeps(alloc, &mut store, "p", is_synced);
-    let chosen = chooses(alloc, &mut store, &mut numbers, choices);
-    let drawn = numbers.next.wrapping_sub(first);
-    Ok(kept & chosen & (drawn == draws) & has(&mut store, "p", b"n", len))
-}
-
-/// How many crashes leave what is written.
-fn leaves_each(alloc: Global, is_synced: bool, crashes: &[Crash]) -> usize {
-    let mut right = 0_usize;
-    for crash in crashes {
-        if came(leaves(alloc, is_synced, crash), true) {
-            right = right.wrapping_add(1);
-        }
-    }
-    right
-}
-
-const OFF: PartialWriteMode = PartialWriteMode::Off;
-
-const UNSYNCED: &[Crash] = &[
-    (0, OFF, 7, 0, 0, &[Choice::Dropped]),
-    (1_000_000, OFF, 999_999, 3, 1, &[Choice::Kept]),
-    (u32::MAX, OFF, 999_999, 3, 1, &[Choice::Kept]),
-    (5, OFF, 1_000_004, 3, 1, &[Choice::Kept]),
-    (5, OFF, 5, 0, 1, &[Choice::Dropped]),
-];
-
-#[test]
-fn unsynced_bytes_are_lost(rt: HostRuntime) -> Result<(), Fail> {
-    assert!(rt; leaves_each(rt.alloc(), false, UNSYNCED) == 5);
-    Ok(())
-}
-
-const PREFIX: PartialWriteMode = PartialWriteMode::Prefix;
-
-const PREFIXES: &[Crash] = &[
-    (0, PREFIX, 5, 2, 2, &[Choice::Prefix(2)]),
-    (5, PREFIX, 6, 3, 2, &[Choice::Prefix(3)]),
-    (5, PREFIX, 7, 0, 2, &[Choice::Prefix(0)]),
-    (5, PREFIX, 4, 3, 1, &[Choice::Kept]),
-];
-
-#[test]
-fn prefixes_stay(rt: HostRuntime) -> Result<(), Fail> {
-    assert!(rt; leaves_each(rt.alloc(), false, PREFIXES) == 4);
-    Ok(())
-}
-
-const SYNCED: &[Crash] = &[(0, OFF, 7, 3, 0, &[])];
-
-#[test]
-fn synced_bytes_stay(rt: HostRuntime) -> Result<(), Fail> {
-    assert!(rt; leaves_each(rt.alloc(), true, SYNCED) == 1);
-    Ok(())
-}
-
-fn set(store: &mut MemStore, faults: FaultConfig) {
+/// Gives the store other settings.
+pub fn set(store: &mut MemStore, faults: FaultConfig) {
     *store.config_mut() = faults;
-}
-
-/// Two blobs crash in the order of their partitions.
-fn crashes_two(alloc: Global, store: &mut MemStore) -> bool {
-    let kept = keeps(alloc, store, "q", false) & keeps(alloc, store, "p", false);
-    let draws = store.crash_draws();
-    let mut numbers = Numbers { next: 0 };
-    kept & (draws == 4) & went(crash(alloc, store, &mut numbers))
-}
-
-/// What is left is in a store that is made of a snapshot.
-fn stays_in_snapshot(store: MemStore, faults: FaultConfig) -> bool {
-    let mut again = MemStore::from_snapshot(store.snapshot(), faults);
-    has(&mut again, "p", b"n", 3) & has(&mut again, "q", b"n", 0)
-}
-
-#[test]
-fn partitions_crash_in_order(rt: HostRuntime) -> Result<(), Fail> {
-    let mut faults = FaultConfig::default();
-    faults.write.keep = 1;
-    let mut store = MemStore::new(rt.alloc(), FaultConfig::default())?;
-    set(&mut store, faults);
-    let crashed = crashes_two(rt.alloc(), &mut store);
-    assert!(rt; crashed & stays_in_snapshot(store, faults));
-    Ok(())
-}
-
-fn admit(store: &mut MemStore) {
-    store.admit("p", b"n");
-    store.admit("p", b"m");
-    store.admit("q", b"n");
-}
-
-#[test]
-fn admitted_bytes_stay(rt: HostRuntime) -> Result<(), Fail> {
-    let mut store = MemStore::new(rt.alloc(), FaultConfig::default())?;
-    let kept = keeps(rt.alloc(), &mut store, "p", false);
-    admit(&mut store);
-    let chosen = chooses(rt.alloc(), &mut store, &mut NoEnv, &[]);
-    assert!(rt; kept & chosen & has(&mut store, "p", b"n", 3));
-    Ok(())
-}
-
-/// Three bytes are cut to one, and others are written behind it.
-fn cut_and_write<S: Storage>(alloc: Global, store: &mut S) -> Result<bool, Error> {
-    let (blob, _) = store.open(&mut NoEnv, "p", b"n")?;
-    let cut = went(store.resize(&mut NoEnv, &blob, 1));
-    let written = went(write(alloc, store, &blob, 2, WriteOptions::default()));
-    let seen = reads(store, &blob, 0, 5, b"a\0abc");
-    store.close(blob);
-    Ok(cut & written & seen)
-}
-
-/// Whether the blob has exactly these bytes.
-fn shows<S: Storage>(store: &mut S, expected: &[u8]) -> Result<bool, Error> {
-    let (blob, len) = store.open(&mut NoEnv, "p", b"n")?;
-    let seen = reads(store, &blob, 0, expected.len(), expected);
-    store.close(blob);
-    Ok(seen & (len == expected.len() as u64))
-}
-
-#[test]
-fn cut_bytes_come_back(rt: HostRuntime) -> Result<(), Fail> {
-    let mut store = MemStore::new(rt.alloc(), FaultConfig::default())?;
-    let kept = keeps(rt.alloc(), &mut store, "p", true);
-    let changed = came(cut_and_write(rt.alloc(), &mut store), true);
-    let both = &[Choice::Dropped, Choice::Dropped];
-    let chosen = chooses(rt.alloc(), &mut store, &mut NoEnv, both);
-    assert!(rt; kept & changed & chosen & came(shows(&mut store, b"abc"), true));
-    Ok(())
 }
 
 /// Reads that may fault.
@@ -722,166 +517,34 @@ fn has_faults(alloc: Global, faults: FaultConfig, count: u64) -> bool {
     }
 }
 
-#[test]
-fn each_rate_of_names(rt: HostRuntime) -> Result<(), Fail> {
+/// The rates of the calls by name, one after the other.
+fn faults_by_name(alloc: Global) -> bool {
     let mut faults = FaultConfig::default();
-    let none = has_faults(rt.alloc(), faults, 0);
+    let none = has_faults(alloc, faults, 0);
     faults.open_rate = HEIGHT;
-    let open = has_faults(rt.alloc(), faults, 1);
+    let open = has_faults(alloc, faults, 1);
     faults.scan_rate = HEIGHT;
-    let scan = has_faults(rt.alloc(), faults, 2);
+    let scan = has_faults(alloc, faults, 2);
     faults.remove_rate = HEIGHT;
-    let remove = has_faults(rt.alloc(), faults, 3);
-    assert!(rt; none & open & scan & remove);
-    Ok(())
+    none & open & scan & has_faults(alloc, faults, 3)
 }
 
-#[test]
-fn each_rate_of_bytes(rt: HostRuntime) -> Result<(), Fail> {
+/// The rates of the calls on bytes, one after the other.
+fn faults_on_bytes(alloc: Global) -> bool {
     let mut faults = FaultConfig::default();
     faults.read_rate = HEIGHT;
-    let read = has_faults(rt.alloc(), faults, 3);
+    let read = has_faults(alloc, faults, 3);
     faults.sync_rate = HEIGHT;
-    let sync = has_faults(rt.alloc(), faults, 5);
+    let sync = has_faults(alloc, faults, 5);
     faults.write.rate = HEIGHT;
-    let write = has_faults(rt.alloc(), faults, 6);
+    let write = has_faults(alloc, faults, 6);
     faults.resize.rate = HEIGHT;
-    let resize = has_faults(rt.alloc(), faults, 7);
-    assert!(rt; read & sync & write & resize);
-    Ok(())
+    read & sync & write & has_faults(alloc, faults, 7)
 }
-
-/// A chunk of this many bytes.
-fn chunk_of(alloc: Global, len: usize) -> Result<IoBufs, NoMemory> {
-    let mut bytes = Vec::new(alloc);
-    bytes.resize(len, 7)?;
-    bufs(alloc, bytes)
-}
-
-fn writes_chunk<S: Storage>(
-    alloc: Global,
-    store: &mut S,
-    blob: &S::Blob,
-    offset: u64,
-    chunk: usize,
-) -> bool {
-    match chunk_of(alloc, chunk) {
-        Ok(bytes) => went(done(store.write_at(
-            &mut NoEnv,
-            blob,
-            offset,
-            bytes,
-            WriteOptions::default(),
-        ))),
-        Err(_) => false,
-    }
-}
-
-/// Writes so many chunks of this many bytes, one behind the other, and answers how many went in.
-fn write_chunks<S: Storage>(
-    alloc: Global,
-    store: &mut S,
-    blob: &S::Blob,
-    chunk: usize,
-    count: usize,
-) -> usize {
-    let mut offset = 0_u64;
-    let mut right = 0_usize;
-    for _ in 0..count {
-        if writes_chunk(alloc, store, blob, offset, chunk) {
-            right = right.wrapping_add(1);
-        }
-        offset = offset.saturating_add(chunk as u64);
-    }
-    right
-}
-
-fn fill<S: Storage>(
-    alloc: Global,
-    store: &mut S,
-    chunk: usize,
-    count: usize,
-) -> Result<usize, Error> {
-    let (blob, _) = store.open(&mut NoEnv, "p", b"n")?;
-    let written = write_chunks(alloc, store, &blob, chunk, count);
-    store.close(blob);
-    Ok(written)
-}
-
-/// How many changes a crash decided over.
-fn count_choices(alloc: Global, store: &mut MemStore) -> Result<usize, Error> {
-    let choices = crash(alloc, store, &mut NoEnv)?;
-    Ok(choices.len())
-}
-
-/// The length of chunks, how many there are, and their length in all.
-type Size = (usize, usize, u64);
-
-/// Whether a blob has all these chunks, and a crash decides over each and keeps none.
-fn holds(alloc: Global, store: &mut MemStore, size: &Size) -> bool {
-    let (chunk, count, len) = *size;
-    let filled = came(fill(alloc, store, chunk, count), count) & has(store, "p", b"n", len);
-    let choices = came(count_choices(alloc, store), count);
-    filled & choices & has(store, "p", b"n", 0)
-}
-
-fn holds_anew(alloc: Global, size: &Size) -> bool {
-    match MemStore::new(alloc, FaultConfig::default()) {
-        Ok(mut store) => holds(alloc, &mut store, size),
-        Err(_) => false,
-    }
-}
-
-fn holds_each(alloc: Global, sizes: &[Size]) -> usize {
-    let mut right = 0_usize;
-    for size in sizes {
-        if holds_anew(alloc, size) {
-            right = right.wrapping_add(1);
-        }
-    }
-    right
-}
-
-/// Makes a blob and a partition of this name.
-fn makes_both<S: Storage>(store: &mut S, name: &str) -> bool {
-    has(store, "q", name.as_bytes(), 0) & has(store, name, b"a", 0)
-}
-
-fn makes_numbered<S: Storage>(alloc: Global, store: &mut S, number: usize) -> bool {
-    match format!(in alloc; "{number}") {
-        Ok(name) => makes_both(store, name.as_str()),
-        Err(_) => false,
-    }
-}
-
-/// Makes so many blobs in one partition, and as many partitions.
-fn makes_each<S: Storage>(alloc: Global, store: &mut S, count: usize) -> usize {
-    let mut right = 0_usize;
-    for number in 0..count {
-        if makes_numbered(alloc, store, number) {
-            right = right.wrapping_add(1);
-        }
-    }
-    right
-}
-
-/// How many blobs are in the partition.
-fn count_names<S: Storage>(store: &mut S) -> Result<usize, Error> {
-    let names = store.scan(&mut NoEnv, "q")?;
-    Ok(names.len())
-}
-
-const SIZES: &[Size] = &[
-    (1_048_576, 1, 1_048_576),
-    (1, 65_536, 65_536),
-    (64, 1_000, 64_000),
-];
 
 #[test]
-fn sizes(rt: HostRuntime) -> Result<(), Fail> {
-    let held = holds_each(rt.alloc(), SIZES);
-    let mut store = MemStore::new(rt.alloc(), FaultConfig::default())?;
-    let made = makes_each(rt.alloc(), &mut store, 1_000);
-    assert!(rt; (held == 3) & (made == 1_000) & came(count_names(&mut store), 1_000));
+fn each_rate_at_its_height(rt: HostRuntime) -> Result<(), Fail> {
+    let names = faults_by_name(rt.alloc());
+    assert!(rt; names & faults_on_bytes(rt.alloc()));
     Ok(())
 }

@@ -3,7 +3,7 @@ use Rattle.std.proofs.Common.{subst}
 use Rattle.rt_buffer.specs.Memory.{CrashLeaves, memory_bytes, memory_left, memory_promised}
 use Rattle.rt_buffer.specs.Tip.{laid_over}
 use Rattle.rt_store.specs.declared.blob.Blob.{Blob}
-use Rattle.rt_buffer_tests.proofs.buffers.save.Goals as goal
+use Rattle.rt_buffer_tests.proofs.durable.save.Goals as goal
 
 pub returns-in-Done : goal.returns-in-Done
 returns-in-Done c = record {
