@@ -12,7 +12,7 @@ ghost use Rattle.rt_laws.specs.Examples.{small_begin, begin_by};
 ghost use Rattle.rt_laws.specs.Supervised.{handle};
 ghost use Rattle.rt_laws.specs.Refusals.{asked, spawn_asked, last_number, last_spawn_asked};
 
-/// A wake of a number that no task has, an abort of the root or of nobody, a join of nobody, a child and a task of a node
+/// A wake of a number that no task has, an abort of the root, a join of nobody, a child and a task of a node
 /// that isn't there, a child with a bad or a reserved label, and a task for which no number is left are refused. The node
 /// comes before the label.
 pub fn calls_are_refused_for_their_cause()
@@ -26,8 +26,9 @@ pub fn calls_are_refused_for_their_cause()
     ensures numbers { IsLawful (begun (begin_by 1000000 None last_number)) (last_spawn_asked (Refused TooManyTasks)) }
 {}
 
-/// None of them is granted, and none is refused for another cause or without one. No spawn is answered as on an ended node
-/// where the node hasn't ended.
+/// Of these a wake, an abort, a child with a bad label and a task without a number aren't granted. A call that nothing speaks
+/// against isn't refused, and a bad label isn't told before a missing node. No spawn is answered as on an ended node where the
+/// node hasn't ended.
 pub fn near_misses_of_refusals_are_not_lawful()
     ensures wake { IsLawful (begun small_begin) (asked (Wake 1) Done) → ⊥ }
     ensures wake_of_a_task { IsLawful (begun small_begin) (asked (Wake 0) (Refused UnknownToken)) → ⊥ }

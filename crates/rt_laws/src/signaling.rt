@@ -30,8 +30,7 @@ pub fn a_root_that_stops_has_its_run()
 {}
 
 /// In each run a signal that `stopped` gives is one of the shutdown (`given`), whose group stays the same (`group`). A copy of a
-/// signal is of its group (`copied`). An open signal stays open and of its group until it's given up, and isn't open any more
-/// behind that (`kept`). The shutdown has no value before the first stop (`before`), and behind it the value of that (`first`),
+/// signal is of its group (`copied`). An open signal stays open and of its group unless it's given up (`kept`). The shutdown has no value before the first stop (`before`), and behind it the value of that (`first`),
 /// which stays (`stays`). An open signal of the shutdown shows what that has (`shown`): a poll of it behind the first stop is
 /// told the value (`polled`), and so is each later `stopped` (`later`), while an earlier one is given a signal (`open`).
 pub fn each_signal_of_the_shutdown_shows_the_first_value()
@@ -51,7 +50,7 @@ pub fn each_signal_of_the_shutdown_shows_the_first_value()
 /// No value is shown before it was given (`early`), and no other than that (`value`, `second_stop`). A signal wakes who waits
 /// (`missing_wake`, `silent_stop`). No completion is met while a signal is open (`completion`). A call comes with the
 /// event that it announces, with no other and not without it (`unannounced`, `announced`), and no event without its call (`stray`).
-/// Where calls are made no event comes that is of none (`of_no_call`), and no second one before a call (`event_twice`).
+/// In a poll no event comes that is of no call (`of_no_call`), and no second one before a call (`event_twice`).
 pub fn near_misses_of_signals_are_not_lawful()
     ensures early { IsLawful (begun small_begin) (signal_polled (Shows (pos 5))) → ⊥ }
     ensures missing_wake { IsLawful (begun small_begin) (signal_given []) → ⊥ }
