@@ -41,7 +41,9 @@ fn are_word_bytes(text: &[u8]) -> bool
 pub fn prefixed_name(alloc: Global, prefix: &str, name: &str) -> Result<String, NoMemory>
     ensures { IfOk result (λ full. string_bytes full ≡ prefixed prefix.now name.now) }
 {
-    let mut full = String::from_str(alloc, prefix)?;
+    let most = prefix.len().saturating_add(1).saturating_add(name.len());
+    let mut full = String::with_capacity(alloc, most)?;
+    full.push_str(prefix)?;
     if !prefix.is_empty() {
         full.push_str("_")?;
     }

@@ -1,6 +1,6 @@
 //! The groups of signals of a run, the shutdown's among them, and the entries for which each may ask.
 
-ghost use Rattle.std.specs.Prelude.{◌≡◌, ◌≤◌, ◌<◌, ◌+◌, ◌^◌, ◌-◌, [], IfErr, IfOk, IfSome, OnErr, OnOk, is_some, None, Ok, true, length, slice_get, drop};
+ghost use Rattle.std.specs.Prelude.{◌≡◌, ◌≤◌, ◌<◌, ◌+◌, ◌^◌, ◌-◌, [], IfErr, IfOk, IfSome, OnErr, OnOk, is_some, None, Ok, true, not, length, slice_get, drop};
 ghost use Rattle.std.specs.Option.{option_map_or};
 ghost use Rattle.rt_super.specs.Signals.{completion_answer, completion_closed, completion_polled, signal_answer, signal_closed, signal_polled, signaled, signaler_closed, stop_after, stopped_after, stopped_answer, with_clone, with_group, with_stop, woken_by_closing, woken_by_last, woken_by_stop, woken_by_value, is_waited};
 ghost use Rattle.rt_model.specs.Lists.{find};
@@ -121,6 +121,7 @@ impl Groups {
         requires pending { signal_answer self.old.told signal ≡ Ok Poll.Pending }
         requires fits { IfSome by (λ task. task < 2 ^ 64 - 1) }
         ensures told { self.new ≡ grouped (signal_polled self.old.told signal by) self.old.stop [] }
+        ensures first { result ≡ not (is_waited signal self.old.told.signals) }
         ensures places { signal_places self.new.told ≤ signal_places self.old.told + ones result }
     {
         let waited = self.signals.is_signal_waited(signal);
@@ -162,6 +163,7 @@ impl Groups {
         requires pending { completion_answer self.old.told completion ≡ Ok Poll.Pending }
         requires fits { IfSome by (λ task. task < 2 ^ 64 - 1) }
         ensures told { self.new ≡ grouped (completion_polled self.old.told completion by) self.old.stop [] }
+        ensures first { result ≡ not (is_waited completion self.old.told.completions) }
         ensures places { signal_places self.new.told ≤ signal_places self.old.told + ones result }
     {
         let waited = self.signals.is_completion_waited(completion);

@@ -7,8 +7,14 @@ use Rattle.rt_audit.specs.declared.call.Call.TheVariants.{Child, CloseNode, Spaw
 use Rattle.rt_audit.specs.declared.reply.CallReply.{CallReply}
 use Rattle.rt_audit.specs.declared.reply.CallReply.TheVariants.{Done, NodeAt, TaskAt, Closed, SlotAt, SignalAt, CompletionAt, Value, ClosedWith, Pending, PendingAt, Ready, Refused}
 use Rattle.rt_model.specs.State.{Stood, Turn}
-use Rattle.rt_model.specs.Turns.{Ask, Plainly, Sleeping, Sending, Spawning, Held, Asks, IsPlain, IsPlainly, IsSpending, call_of, Frees, FreesOne, freed_by, heard_of, moved, moved_by}
+use Rattle.rt_model.specs.Turns.{Ask, Plainly, Sleeping, Sending, Spawning, Held, Asks, IsPlain, IsPlainly, call_of, Frees, FreesOne, freed_by, heard_of, moved, moved_by}
 use Rattle.rt_model.specs.Walk.{Step, Does, Spends, Gives, Gave, Goes, Walks, Fronts, Lacks, Stops, then, stood_before}
+
+-- a call that spends a token, of which nothing is told
+abbrev pub IsSpending : {A O : Type 0} → Ask A O → Type 0
+IsSpending (Plainly call) = IsPlain call
+IsSpending (Sending slot sent) = Unit {0}
+IsSpending _ = ⊥
 
 -- what is said of a step and of what follows from it is said, behind the next turn, of both
 goes-then : {A L O R M Q : Type 0} (more : R → L → Step A M O Q) (on : Held A O → Step A L O R → Type 0) (end : Held A O → Step A M O Q → Type 0) → ((held : Held A O) (step : Step A L O R) → on held step → end held (then step more)) → (held : Held A O) (step : Step A L O R) (t : Turn) → Goes on held step t → Goes end held (then step more) t

@@ -54,12 +54,6 @@ IsPlain (Spawn node) = ⊥
 IsPlain (SlotSend slot) = ⊥
 IsPlain _ = Unit {0}
 
--- a call that spends a token, of which nothing is told
-abbrev pub IsSpending : {A O : Type 0} → Ask A O → Type 0
-IsSpending (Plainly call) = IsPlain call
-IsSpending (Sending slot sent) = Unit {0}
-IsSpending _ = ⊥
-
 -- what was sent into a slot decides what its poll answers: it is ready with a value, and refused with the error that was sent
 abbrev pub IsAnswerOf : {O : Type 0} → Option (Result O Error) → CallReply → Type 0
 IsAnswerOf None reply = Unit {0}

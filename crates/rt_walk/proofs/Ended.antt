@@ -7,8 +7,18 @@ use Rattle.std.proofs.lemmas.List.Folds.{list_any-append, find-append}
 use Rattle.std.proofs.lemmas.Bool.Decides.{nat_tests}
 use Rattle.rt_super.specs.Ancestry.{NodeState, TreeRecord, is_child, is_known, links, nodes_below, subtree, stands_in, was_born_ended, is_ended, newly_ended, new_node}
 use Rattle.rt_model.specs.Lists.{has_number}
-use Rattle.rt_walk.specs.Nodes.{AreEnded, given_up, on_number, put_on, told_by}
+use Rattle.rt_walk.specs.Nodes.{AreEnded, told_by}
 use Rattle.rt_walk.proofs.Members.{list_any-number}
+
+-- this change of the nodes with this number
+abbrev pub on_number : ℕ → (NodeState → NodeState) → NodeState → NodeState
+on_number n change x = cond (eqb x.number n) (change x) x
+
+abbrev pub given_up : NodeState → NodeState
+given_up x = record x { live = false }
+
+abbrev pub put_on : ℕ → NodeState → NodeState
+put_on task x = record x { task = Some task }
 
 -- a change that keeps numbers, parents and births
 

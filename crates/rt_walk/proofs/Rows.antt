@@ -6,11 +6,11 @@ use Rattle.std.proofs.lemmas.List.{map-append}
 use Rattle.std.specs.List.{find, slice_get, slice_set}
 use Rattle.rt_super.specs.Ancestry.{NodeState}
 use Rattle.rt_walk.specs.Places.{first_place, AreDistinct}
-use Rattle.rt_walk.specs.Nodes.{links_of, numbers_of, on_number}
+use Rattle.rt_walk.specs.Nodes.{links_of, numbers_of}
 use Rattle.rt_model.specs.Lists.{has_number}
 use Rattle.rt_super.specs.Ancestry.{is_known, is_ended, new_node}
 use Rattle.rt_walk.specs.Nodes.{told_by, AreEnded}
-use Rattle.rt_walk.proofs.Ended.{ended-born, ended-child, links-kept, same-on}
+use Rattle.rt_walk.proofs.Ended.{on_number, ended-born, ended-child, links-kept, same-on}
 use Rattle.rt_walk.proofs.Placed.{none-suc, pred-of, has-none, distinct-more}
 
 pub row-none : (k : ℕ) (xs : List NodeState) → first_place k (numbers_of xs) ≡ None → find (λ x. eqb x.number k) xs ≡ None

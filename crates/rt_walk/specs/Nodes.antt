@@ -1,5 +1,5 @@
 -- How the nodes of a tree are kept: as rows, with the numbers of those that have ended.
-use Rattle.std.specs.Prelude.{◌≡◌, false, ℕ, Option, Some, [], ◌∷◌, List, map, ◌==◌, if◌then◌else◌}
+use Rattle.std.specs.Prelude.{◌≡◌, false, ℕ, Option, [], ◌∷◌, List, map, if◌then◌else◌}
 use Rattle.std.specs.List.{list_any}
 use Rattle.rt_super.specs.Ancestry.{NodeState, TreeRecord, is_child, is_ended}
 use Rattle.rt_model.specs.Lists.{has_number}
@@ -42,13 +42,3 @@ pub record IsRight (t : Inside) : Type 0 where
   pub distinct : AreDistinct t.places.numbers
   pub children : (node : ℕ) → children_in t.family node ≡ children_of (links_of t.rows.items) node
   pub elders : AreElders (links_of t.rows.items)
-
--- this change of the nodes with this number
-abbrev pub on_number : ℕ → (NodeState → NodeState) → NodeState → NodeState
-on_number n change x = if x.number == n then change x else x
-
-abbrev pub given_up : NodeState → NodeState
-given_up x = record x { live = false }
-
-abbrev pub put_on : ℕ → NodeState → NodeState
-put_on task x = record x { task = Some task }

@@ -15,11 +15,11 @@ use Rattle.rt_model.specs.State.{Phase, Making, Polling, Ending, Closing, Stood,
 use Rattle.rt_model.specs.Causes.{ends_next}
 use Rattle.rt_model.specs.Rules.{CallsAt, MayCall}
 use Rattle.rt_model.specs.Alarms.{alarm_of}
-use Rattle.rt_model.specs.Turns.{Frees, IsAnswerOf, Ask, Heard, Plainly, Sleeping, Spawning, Plain, Handed, Held, Asks, IsOwn, IsSpending, FreesOne, call_of, heard_of, moved, has_place}
+use Rattle.rt_model.specs.Turns.{Frees, IsAnswerOf, Ask, Heard, Plainly, Sleeping, Spawning, Plain, Handed, Held, Asks, IsOwn, FreesOne, call_of, heard_of, moved, has_place}
 use Rattle.rt_model.specs.Lists.{find}
 use Rattle.rt_world.specs.Receiving.{heard_result, polled}
 use Rattle.rt_model.specs.Walk.{Step, Last, Does, Spends, Gives, Walks, Fronts, Lacks, Stops, Breaks, then, followed_by, stood_before}
-use Rattle.rt_model.proofs.Walks.{walks-then, fronts-then, stops-then, stops-first, frees-append, frees-moved, frees-spent}
+use Rattle.rt_model.proofs.Walks.{IsSpending, walks-then, fronts-then, stops-then, stops-first, frees-append, frees-moved, frees-spent}
 use Rattle.rt_machine.specs.Calls.{turn_in, marked, sleep_reply, slept_number, spawn_reply}
 use Rattle.rt_world.specs.World.{World}
 use Rattle.rt_world.specs.Calls.{Stays, Grows, Kept, Made, IsRefused, IsUnreceived, IsUnsent, SpentBy, Joined, Received, lacking}
