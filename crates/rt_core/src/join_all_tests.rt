@@ -220,16 +220,37 @@ impl<R: Abort + Drop> RootMaker<Gatherer> for RootParent<R> {
     }
 }
 
-/// Whether a group gives its numbers in their order.
-fn joins_numbers<R: Abort + Drop>(rt: R, alloc: Global) -> bool {
+/// Whether a group of two numbers and a third gives them in their order, without a call.
+fn joins_numbers<R: Abort + Drop>(rt: R, alloc: Global) -> Result<bool, NoMemory> {
+    let expected = "\
+start 0 - 1000000 0
+root 0
+round 0
+visit 0
+event process_task 00000000000000000000000000000000 -
+answer 0 ready
+cleanup
+nodeend 0
+call 0 close-node 0 -> ok
+answer 0 ended
+crash
+finish ok
+";
     let maker = RootNumbers {
         rt,
         alloc,
         takes: Takes,
     };
-    match Runner::default().start::<Gatherer, RootNumbers<R>>(alloc, maker) {
-        Ok(Gathered::Numbers(numbers)) => numbers.as_slice() == [1, 2, 3].as_slice(),
-        Ok(_) | Err(_) => false,
+    let run = Runner::seeded(3).start_and_recover::<Gatherer, RootNumbers<R>>(alloc, maker);
+    let Ok(finished) = run else {
+        return Ok(false);
+    };
+    let text = lines(alloc, finished.checkpoint.journal())?;
+    match &finished.output {
+        Gathered::Numbers(numbers) => {
+            Ok(numbers.as_slice() == [1, 2, 3].as_slice() && text.as_str() == expected)
+        }
+        Gathered::Number(_) | Gathered::Failed(_) => Ok(false),
     }
 }
 
@@ -329,8 +350,13 @@ finish stalled
 }
 
 #[test]
-fn groups(rt: HostRuntime) -> Result<(), Fail> {
-    assert!(rt; joins_numbers(rt.clone()?, rt.alloc()));
+fn join_all_in_order(rt: HostRuntime) -> Result<(), Fail> {
+    assert!(rt; joins_numbers(rt.clone()?, rt.alloc())?);
+    Ok(())
+}
+
+#[test]
+fn join_all_aborts_the_rest(rt: HostRuntime) -> Result<(), Fail> {
     assert!(rt; aborts_a_child(rt.clone()?, rt.alloc())?);
     assert!(rt; gives_a_group_up(rt.clone()?, rt.alloc())?);
     Ok(())

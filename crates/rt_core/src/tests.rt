@@ -6,9 +6,9 @@ ghost use Rattle.rt_world.specs.Calls.{Kept};
 
 use crate::utils::reschedule;
 use crate::{
-    Answer, Config, ConfigError, Context, Cx, Error, Execution, Failure, Handle, HandleOf,
+    Answer, Cell, Config, ConfigError, Context, Cx, Error, Execution, Failure, Handle, HandleOf,
     MAX_TIME, Name, NoMemory, Outcome, Poller, Refused, Rng, RootMaker, RunError, Runner, Sleep,
-    Task, Timeout, World,
+    Task, Timeout, World, spawn_cell,
 };
 use rand_chacha::ChaCha12Rng;
 use rand_core::SeedableRng;
@@ -452,19 +452,25 @@ fn has_name(alloc: Global, context: &Context, expected: &str) -> bool {
     }
 }
 
-/// Spawns a probe, and aborts it twice before its handle is given up. Answers whether it was spawned.
+/// Spawns a probe on the context of a cell, and aborts it twice before its handle is given up. Answers whether it was spawned.
 #[tactic(auto, using(rt_world::proofs::Walked::close_laws))]
 fn spawns_aborted(context: Context, world: &mut Making) -> bool
     requires { MayCall world.old.told.state world.old.out }
     ensures { Kept world.old world.new }
 {
-    let spawned = context.spawn(
+    let mut cell = Cell::new(context);
+    let spawned = spawn_cell!(
+        cell,
         world,
-        |context| Probe {
-            context,
+        |fresh| Probe {
+            context: fresh.into_present(),
             calls: false,
-        },
+        }
     );
+    match cell {
+        Cell::Missing => {}
+        Cell::Present(_left) => unreachable!(),
+    }
     match spawned {
         Ok(mut handle) => {
             handle.abort(world);

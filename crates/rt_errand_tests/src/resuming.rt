@@ -2,6 +2,7 @@
 
 use crate::errands::{Expected, is_as_expected, naps, root};
 use rand_chacha::ChaCha12Rng;
+use rand_core::SeedableRng;
 use rt_core::{Config, Finished, Nanos, NoMemory, RunError, Runner};
 use rt_errand::{Errand, RootErrand, Stage};
 use std::alloc::Global;
@@ -137,7 +138,8 @@ crash
 finish timeout
 ",
     };
-    let config = Config::new().with_timeout(Some(10_000_000));
+    let rng = ChaCha12Rng::seed_from_u64(7);
+    let config = Config::new().with_rng(rng).with_timeout(Some(10_000_000));
     assert!(rt; goes_on(rt.alloc(), config, 6_000_000, 4_000_000, expected)?);
     Ok(())
 }
