@@ -10,10 +10,10 @@ use Rattle.rt_model.specs.Walk.{Step, Last, Gives, then, followed_by}
 use Rattle.rt_core.specs.Handles.{TaskHandle, task_polls}
 use Rattle.rt_world.specs.World.{World}
 use Rattle.rt_world.specs.Walked.{Goes, Spends}
-use Rattle.rt_world.proofs.Walked.{goes-on, spends-on, spent-nothing, walked-gives, walked-then}
+use Rattle.rt_world.proofs.Walked.{goes-on, spends-on, spent-nothing, walked-followed, walked-gives, walked-then}
 use Rattle.rt_scenario.specs.declared.scenario.ScriptText.{ScriptText}
 use Rattle.rt_sim.specs.Program.{choice_at, choices_in, some_choices}
-use Rattle.rt_sim.specs.Script.{Choosing, Script, Tries, aborted_at, aborts_chosen, aborts_of, as_handle, bound, handle_at, loosed, polls_chosen, polls_name, unless_ready, put_back, releases, releases_chosen, tried, tried_by}
+use Rattle.rt_sim.specs.Script.{Choosing, Script, Tries, aborted_at, aborts_chosen, aborts_of, as_handle, bound, decides, handle_at, leaves_choice, loosed, polls_choice, polls_chosen, polls_name, unless_ready, put_back, releases, releases_chosen, tried, tried_by, unchosen}
 use Rattle.rt_sim.specs.declared.held.Held.{Held}
 use Rattle.rt_sim.specs.declared.held.Held.TheVariants.{Handle}
 
@@ -26,7 +26,7 @@ choices-more text first past some =
     let count : past - first ≡ suc (past - (first + 1)) = omega (arith, some) in
     ap (some_choices text first) count
 
-without-free : (k at : ℕ) (xs : List (ℕ × Held)) → find k xs ≡ None → find k (without at xs) ≡ None
+pub without-free : (k at : ℕ) (xs : List (ℕ × Held)) → find k xs ≡ None → find k (without at xs) ≡ None
 without-free k at [] none = refl
 without-free k at (x ∷ xs) none = grind (arith, without-free k at xs)
 
@@ -128,3 +128,16 @@ polls-ready at ats s left old new told other one =
     given : (told : Poll (Result ℤ Error)) → (told ≡ IsPending → ⊥) → Goes (unless_ready (polls_chosen ats) told left) new new told left
     given IsPending other = absurd (other refl)
     given (IsReady answer) other = goes-on new new (Gives (IsReady answer) left) (IsReady answer) left (walked-gives new (IsReady answer) left)
+
+-- a choice is pending, or it is left where one of its handles is ready
+module _ {G : Type 0} (ats : List ℕ) (s mid : Script) (old now new : World Script ℤ G) where
+  pub choice-pending : Goes (polls_chosen ats s) old now IsPending mid → Goes (polls_choice ats s) old now IsPending mid
+  unfolding polls_choice
+  choice-pending one = goes-both old now now (polls_chosen ats s) (decides ats) IsPending mid IsPending mid one (goes-on now now (Gives IsPending mid) IsPending mid (walked-gives now IsPending mid))
+
+  pub choice-ready : (answer : Result ℤ Error) → Goes (polls_chosen ats s) old now (IsReady answer) mid → Spends (leaves_choice ats mid.held) now new → Goes (polls_choice ats s) old new (IsReady answer) (unchosen ats mid)
+  unfolding polls_choice
+  choice-ready answer one two =
+      goes-both old now new (polls_chosen ats s) (decides ats) (IsReady answer) mid (IsReady answer) (unchosen ats mid) one
+      (goes-on now new (followed_by (leaves_choice ats mid.held) (Gives (IsReady answer) (unchosen ats mid))) (IsReady answer) (unchosen ats mid)
+      (walked-followed now new new (leaves_choice ats mid.held) (Gives (IsReady answer) (unchosen ats mid)) (IsReady answer) (unchosen ats mid) two.spent (walked-gives new (IsReady answer) (unchosen ats mid))))

@@ -1,4 +1,5 @@
 pub mod Choices
+pub mod Chosen
 pub mod Ends
 pub mod Makings
 pub mod Programs

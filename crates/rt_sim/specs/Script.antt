@@ -352,19 +352,26 @@ leaves_choice ats held = followed_by (aborts_chosen ats held) (releases_chosen a
 abbrev pub unchosen : List ℕ → Script → Script
 unchosen ats s = record s { held = freed_of ats (aborted_in ats s.held) }
 
+-- a choice whose handles were polled so: where one is ready all are let go
+abbrev pub decides : List ℕ → Poll (Result ℤ Error) → Script → Choosing
+decides ats IsPending s = Gives IsPending s
+decides ats (IsReady answer) s = followed_by (leaves_choice ats s.held) (Gives (IsReady answer) (unchosen ats s))
+
+unfoldable pub polls_choice : List ℕ → Script → Choosing
+polls_choice ats s = then (polls_chosen ats s) (decides ats)
+
 -- past a line that was answered so
 abbrev pub settled : Script → (Script → Next) → Result ℤ Error → Next
 settled s on (Ok value) = on (passed s value)
 settled s on (Err error) = refused s on error
 
--- the handles of a choice were polled so
+-- a choice was polled so
 abbrev pub chosen : (Script → Next) → ℕ → ℕ → Poll (Result ℤ Error) → Script → Next
 chosen on first past IsPending s = Gives Pending (waiting s (Chooses first past))
-chosen on first past (IsReady answer) s =
-    followed_by (leaves_choice (choices_in s.text first past) s.held) (settled (unchosen (choices_in s.text first past) s) on answer)
+chosen on first past (IsReady answer) s = settled s on answer
 
 unfoldable pub goes_choosing : Script → (Script → Next) → ℕ → ℕ → Next
-goes_choosing s on first past = then (polls_chosen (choices_in s.text first past) s) (chosen on first past)
+goes_choosing s on first past = then (polls_choice (choices_in s.text first past) s) (chosen on first past)
 
 -- a choice begins where its names differ and all hold handles
 abbrev pub begun_choice : Script → (Script → Next) → ℕ → ℕ → Bool × List (ℕ × Held) → Next
@@ -379,7 +386,7 @@ range_of waits = None
 -- it goes on, or a new one begins
 abbrev pub chooses_by : Script → (Script → Next) → ℕ → ℕ → Option (ℕ × ℕ) → Next
 chooses_by s on first past None = begun_choice s on first past (tried (choices_in s.text first past) s.held)
-chooses_by s on first past (Some range) = goes_choosing s on first past
+chooses_by s on first past (Some range) = goes_choosing s on range.0 range.1
 
 unfoldable pub chooses : Script → (Script → Next) → ℕ → ℕ → Next
 chooses s on first past = chooses_by s on first past (range_of s.waits)

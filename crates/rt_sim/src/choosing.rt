@@ -5,7 +5,7 @@ ghost use Rattle.rt_model.specs.Rules.{MayCall};
 ghost use Rattle.rt_world.specs.Calls.{IsPolling, Kept};
 ghost use Rattle.rt_world.specs.Walked.{Advanced, Goes, Spends};
 ghost use Rattle.rt_sim.specs.Program.{choices_in};
-ghost use Rattle.rt_sim.specs.Script.{Next, Script, Tries, aborted_at, aborted_in, aborts_chosen, aborts_of, choice_in, chooses, freed_of, goes_choosing, handle_at, leaves_choice, polls_chosen, polls_name, range_of, releases_chosen, unchosen};
+ghost use Rattle.rt_sim.specs.Script.{Next, Script, Tries, aborted_at, aborted_in, aborts_chosen, aborts_of, choice_in, chooses, freed_of, goes_choosing, handle_at, leaves_choice, polls_choice, polls_chosen, polls_name, range_of, releases_chosen, unchosen};
 
 use crate::Script;
 use crate::held::Held;
@@ -30,14 +30,17 @@ impl Script {
         ensures text { self.new.text ≡ self.old.text }
         ensures steps { (on : Script → Next) → Advanced (chooses self.old on first past) (on self.new) world.old world.new result self.new }
     {
-        if self.choosing().is_none() && !self.hold_handles(first, past) {
+        if let Some((first, past)) = self.choosing() {
+            return self.choose(world, cx, first, past);
+        }
+        if !self.hold_handles(first, past) {
             self.pass(UNHELD);
             return None;
         }
         self.choose(world, cx, first, past)
     }
 
-    /// Polls the handles of a choice, and leaves it where one of them is ready. Answers none where the script goes on.
+    /// Goes on with a choice. Answers none where the script goes on.
     #[tactic(auto, using(rt_world::proofs::Walked::task_laws), unfolding(crate::specs::Script::goes_choosing))]
     fn choose<G: Rng>(
         &mut self,
@@ -53,19 +56,38 @@ impl Script {
         ensures text { self.new.text ≡ self.old.text }
         ensures steps { (on : Script → Next) → Advanced (goes_choosing self.old on first past) (on self.new) world.old world.new result self.new }
     {
-        match self.poll_chosen(world, cx, first, past) {
+        match self.poll_choice(world, cx, first, past) {
             Poll::Pending => {
                 self.wait_for_choice(first, past);
                 Some(Answer::Pending)
             }
             Poll::Ready(Ok(value)) => {
-                self.leave_choice(world, first, past);
                 self.pass(value);
                 None
             }
-            Poll::Ready(Err(error)) => {
+            Poll::Ready(Err(error)) => self.refuse(error),
+        }
+    }
+
+    /// Polls the handles of these names, and lets them all go where one is ready.
+    #[tactic(auto, using(rt_world::proofs::Walked::poller_laws))]
+    fn poll_choice<G: Rng>(
+        &mut self,
+        world: &mut World<Script, i64, G>,
+        cx: &Cx,
+        first: usize,
+        past: usize,
+    ) -> Poll<Result<i64, Error>>
+        requires polling { IsPolling world.old cx.now.task }
+        ensures kept { Kept world.old world.new }
+        ensures rest { self.new ≡ record self.old { held = self.new.held } }
+        ensures steps { Goes (polls_choice (choices_in self.old.text first past) self.old) world.old world.new result self.new }
+    {
+        match self.poll_chosen(world, cx, first, past) {
+            Poll::Pending => Poll::Pending,
+            Poll::Ready(answer) => {
                 self.leave_choice(world, first, past);
-                self.refuse(error)
+                Poll::Ready(answer)
             }
         }
     }

@@ -648,6 +648,45 @@ digest 7f1bd155
     expect_report(&rt, rt.alloc(), input, 0, report)
 }
 
+/// A limit past the last moment gives the handle up unpolled. One of no time polls it once.
+#[test]
+fn within_no_time(rt: HostRuntime) -> Result<(), Fail> {
+    let input =
+        "script w\npend\ndone\nscript main\nspawn h w\nwithin 9223372036854775808000000000 h\nspawn h w\nwithin 0 h\nend last\ndone\nrun main\n";
+    let report = "\
+run main
+start 0 - 1000000 0
+root 0
+round 0
+visit 0
+event process_task 00000000000000000000000000000000 -
+call 0 child 0 h -> node 1
+call 0 spawn 1 -> task 1 node 2
+call 0 give-up 1 -> ok
+call 0 child 0 h -> node 3
+call 0 spawn 3 -> task 2 node 4
+call 0 join 2 -> pending
+call 0 sleep-poll 0 -> ready
+call 0 give-up 2 -> ok
+answer 0 ready
+cleanup
+nodeend 0
+call 1 close-node 2 -> ok
+answer 1 ended
+call 2 close-node 4 -> ok
+answer 2 ended
+call 0 close-node 0 -> ok
+answer 0 ended
+crash
+finish ok
+result ok -4
+time 0
+rounds 1
+digest 32ffd0c0
+";
+    expect_report(&rt, rt.alloc(), input, 0, report)
+}
+
 /// The task is first: the alarm of the limit stays, and wakes the root once more.
 #[test]
 fn given_up_sleep_still_fires(rt: HostRuntime) -> Result<(), Fail> {
