@@ -4,6 +4,7 @@ pub mod Cut
 pub mod DelayedKept
 pub mod DelayedOthers
 pub mod Durable
+pub mod FaultKept
 pub mod Flat
 pub mod Framed
 pub mod Holding

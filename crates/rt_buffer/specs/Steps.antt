@@ -71,7 +71,7 @@ durably = record { sync = true; dont_cache = false }
 abbrev pub Rests : {S : Type 0} → Act S
 Rests old r new x = (r ≡ is_done) × (new ≡ old) × (x ≡ [])
 
--- nothing was called, for want of memory
+-- nothing was called, for lack of memory
 abbrev pub Lacks : {S : Type 0} → Act S
 Lacks old r new x = (r ≡ Err NoMemory) × (new.store ≡ old.store) × (new.held.state ≡ old.held.state) × (x ≡ [])
 

@@ -6,6 +6,7 @@ ghost use Rattle.rt_base.specs.declared.poll.Poll.{Poll};
 ghost use Rattle.rt_buffer.specs.Delayed.{AnswersInner, ClosesAll, CountsAnswer, Finishes, GivesUpAll, GivesUpStage, LetsGo, PollsInner, PollsStage, Settles, SyncsAt, SyncsReleased, Writes, blob_at, delayed, gate_has_place, refused, without_ticket};
 ghost use Rattle.rt_buffer.specs.DelayedBytes.{context_apart, context_bytes, context_left, context_opened, context_promised};
 ghost use Rattle.rt_buffer.specs.Durable.{KeepsBytes, LeavesOthers, OpensApart, ReadsLeave};
+ghost use Rattle.rt_buffer.specs.Flat.{HasBytes};
 ghost use Rattle.rt_buffer.specs.Mocks.{one_more};
 ghost use Rattle.rt_buffer.specs.Pending.{gate_of, none_pending};
 ghost use Rattle.rt_store.specs.Answered.{CountsDone, PollsTicket, is_numbered};
@@ -80,6 +81,7 @@ impl<S: Storage> DelayedSyncContext<S> {
         ensures reads { (bytes : S → S.Blob → List ℕ) → (left : S → S.Blob → Option (List ℕ)) → (promised : S → Ticket → S.Blob → Option (List ℕ)) → (apart : S → S.Blob → S.Blob → Bool) → (opened : S → S.Blob → Bool) →
             ReadsLeave S.reads bytes left promised apart opened →
             ReadsLeave ⟦<DelayedSyncContext<S> as Storage>⟧.reads (context_bytes bytes) (context_left left) (context_promised bytes promised) (context_apart apart) (context_opened opened) }
+        ensures has { (bytes : S → S.Blob → List ℕ) → HasBytes S.reads bytes → HasBytes ⟦<DelayedSyncContext<S> as Storage>⟧.reads (context_bytes bytes) }
     {
         DelayedSyncContext {
             inner,

@@ -1,9 +1,13 @@
 // A store whose syncs fail in one partition.
-ghost use Rattle.std.specs.Prelude.{◌≡◌, ◌<◌, ◌^◌, ◌↔◌, IsTrue, string_bytes};
+ghost use Rattle.std.specs.Prelude.{◌≡◌, ◌<◌, ◌^◌, ◌↔◌, ℕ, Bool, List, Option, IsTrue, string_bytes};
 ghost use Rattle.rt_base.specs.declared.error.Error.{Error};
 ghost use Rattle.rt_base.specs.declared.io_kind.IoKind.{IoKind};
-ghost use Rattle.rt_buffer.specs.Mocks.{one_more};
+ghost use Rattle.rt_buffer.specs.Durable.{KeepsBytes, LeavesOthers, OpensApart, ReadsLeave};
+ghost use Rattle.rt_buffer.specs.Flat.{HasBytes};
+ghost use Rattle.rt_buffer.specs.Mocks.{one_more, or_failed};
+ghost use Rattle.rt_store.specs.declared.ticket.Ticket.{Ticket};
 
+use crate::called::Called;
 use rt_base::{BlobVersion, Env, Error, IoKind, NoMemory, Poll, ReadOptions, WriteOptions};
 use rt_bufs::{IoBufs, IoBufsMut};
 use rt_store::{BlobOf, Done, Storage, Ticket};
@@ -24,6 +28,33 @@ pub struct SyncFaultBlob<S: Storage> {
 }
 
 impl<S: Storage> SyncFaultContext<S> {
+    /// No sync was refused yet. Where the inner store keeps the bytes of its blobs, so does this one; and where the inner store's calls
+    /// leave the other blobs as they were, so do those of this one, and so of its opens and reads.
+    pub fn new(inner: S, fail_partition: String) -> SyncFaultContext<S>
+        ensures inner { result.inner ≡ inner }
+        ensures partition { result.fail_partition ≡ fail_partition }
+        ensures refusals { result.refusals ≡ 0 }
+        ensures keeps { (bytes : S → S.Blob → List ℕ) → (left : S → S.Blob → Option (List ℕ)) → (promised : S → Ticket → S.Blob → Option (List ℕ)) →
+            KeepsBytes ⟦<S as Called>⟧.calls bytes left promised →
+            KeepsBytes ⟦<SyncFaultContext<S> as Called>⟧.calls (λ s k. bytes s.inner k.inner) (λ s k. left s.inner k.inner) (λ s t k. or_failed bytes promised s.inner t k.inner) }
+        ensures others { (bytes : S → S.Blob → List ℕ) → (left : S → S.Blob → Option (List ℕ)) → (promised : S → Ticket → S.Blob → Option (List ℕ)) → (apart : S → S.Blob → S.Blob → Bool) → (opened : S → S.Blob → Bool) →
+            LeavesOthers ⟦<S as Called>⟧.calls bytes left promised apart opened →
+            LeavesOthers ⟦<SyncFaultContext<S> as Called>⟧.calls (λ s k. bytes s.inner k.inner) (λ s k. left s.inner k.inner) (λ s t k. or_failed bytes promised s.inner t k.inner) (λ s k j. apart s.inner k.inner j.inner) (λ s k. opened s.inner k.inner) }
+        ensures opens { (bytes : S → S.Blob → List ℕ) → (left : S → S.Blob → Option (List ℕ)) → (promised : S → Ticket → S.Blob → Option (List ℕ)) → (apart : S → S.Blob → S.Blob → Bool) → (opened : S → S.Blob → Bool) →
+            OpensApart S.opens bytes left promised apart opened →
+            OpensApart ⟦<SyncFaultContext<S> as Storage>⟧.opens (λ s k. bytes s.inner k.inner) (λ s k. left s.inner k.inner) (λ s t k. or_failed bytes promised s.inner t k.inner) (λ s k j. apart s.inner k.inner j.inner) (λ s k. opened s.inner k.inner) }
+        ensures reads { (bytes : S → S.Blob → List ℕ) → (left : S → S.Blob → Option (List ℕ)) → (promised : S → Ticket → S.Blob → Option (List ℕ)) → (apart : S → S.Blob → S.Blob → Bool) → (opened : S → S.Blob → Bool) →
+            ReadsLeave S.reads bytes left promised apart opened →
+            ReadsLeave ⟦<SyncFaultContext<S> as Storage>⟧.reads (λ s k. bytes s.inner k.inner) (λ s k. left s.inner k.inner) (λ s t k. or_failed bytes promised s.inner t k.inner) (λ s k j. apart s.inner k.inner j.inner) (λ s k. opened s.inner k.inner) }
+        ensures has { (bytes : S → S.Blob → List ℕ) → HasBytes S.reads bytes → HasBytes ⟦<SyncFaultContext<S> as Storage>⟧.reads (λ s k. bytes s.inner k.inner) }
+    {
+        SyncFaultContext {
+            inner,
+            fail_partition,
+            refusals: 0,
+        }
+    }
+
     // Whether syncs of blobs of this partition fail.
     fn is_faulty(&self, partition: &str) -> bool
         ensures { IsTrue result ↔ (partition.now ≡ string_bytes self.now.fail_partition) }
@@ -47,8 +78,9 @@ impl<S: Storage> SyncFaultContext<S> {
 impl<S: Storage> Storage for SyncFaultContext<S> {
     type Blob = SyncFaultBlob<S>;
 
-    ghost use Rattle.std.specs.Prelude.{◌≡◌, ◌+◌, ◌↔◌, IsTrue, IfOk, string_bytes};
+    ghost use Rattle.std.specs.Prelude.{◌≡◌, ◌+◌, ◌↔◌, IsTrue, IfOk, false, string_bytes};
     ghost use Rattle.rt_buffer.specs.Mocks.{FaultyCall, failed_sync, failed_start, inside};
+    ghost use Rattle.rt_store.specs.Answered.{PollsTicket, is_numbered};
 
     ghost refusals = { λ s. S.refusals s.inner + s.refusals };
 
@@ -80,9 +112,9 @@ impl<S: Storage> Storage for SyncFaultContext<S> {
 
     ghost starts_sync = { λ s k r t x. FaultyCall failed_start (S.starts_sync s.inner k.inner) k.is_faulty s.inner s.refusals r t.inner t.refusals x × (t.fail_partition ≡ s.fail_partition) };
 
-    ghost polls_sync = { λ s ticket task p t u x. S.polls_sync s.inner ticket task p t.inner u x × (t.fail_partition ≡ s.fail_partition) × (t.refusals ≡ s.refusals) };
+    ghost polls_sync = { λ s ticket task p t u x. S.polls_sync s.inner ticket task p t.inner u x × PollsTicket ticket p u × (is_numbered ticket ≡ false → t ≡ s) × (t.fail_partition ≡ s.fail_partition) × (t.refusals ≡ s.refusals) };
 
-    ghost gives_sync_up = { λ s ticket t. S.gives_sync_up s.inner ticket t.inner × (t.fail_partition ≡ s.fail_partition) × (t.refusals ≡ s.refusals) };
+    ghost gives_sync_up = { λ s ticket t. S.gives_sync_up s.inner ticket t.inner × (is_numbered ticket ≡ false → t ≡ s) × (t.fail_partition ≡ s.fail_partition) × (t.refusals ≡ s.refusals) };
 
     ghost closes = { λ s k t. S.closes s.inner k.inner t.inner × (t.fail_partition ≡ s.fail_partition) × (t.refusals ≡ s.refusals) };
 

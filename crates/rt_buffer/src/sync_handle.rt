@@ -31,7 +31,8 @@ pub struct SyncHandle {
 
 impl SyncHandle {
     /// Polls the sync where the writer still holds it. A sync that it holds no longer is done. So once it answers Ok, and
-    /// nothing was changed since its start, each crash leaves the bytes that the writer had then.
+    /// nothing was changed since its start, each crash leaves the bytes that the writer had then. A writer knows its syncs by their
+    /// numbers: a handle of another writer is taken for its own sync of that number.
     ///
     /// Errors: that of the sync. The writer keeps it, so that a later call meets it too.
     pub fn poll<S: Storage, E: Env>(

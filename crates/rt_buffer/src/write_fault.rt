@@ -1,7 +1,11 @@
 // A store whose writes a test lets fail.
-ghost use Rattle.std.specs.Prelude.{◌≡◌, ◌<◌, ◌^◌, false, true};
-ghost use Rattle.rt_buffer.specs.Mocks.{counted_write, refused_write};
+ghost use Rattle.std.specs.Prelude.{◌≡◌, ◌<◌, ◌^◌, ℕ, Bool, List, Option, false, true};
+ghost use Rattle.rt_buffer.specs.Durable.{KeepsBytes, LeavesOthers, OpensApart, ReadsLeave};
+ghost use Rattle.rt_buffer.specs.Flat.{HasBytes};
+ghost use Rattle.rt_buffer.specs.Mocks.{counted_write, no_faults, or_failed, refused_write};
+ghost use Rattle.rt_store.specs.declared.ticket.Ticket.{Ticket};
 
+use crate::called::Called;
 use rt_base::{BlobVersion, Env, Error, IoKind, NoMemory, Poll, ReadOptions, WriteOptions};
 use rt_bufs::{IoBufs, IoBufsMut};
 use rt_store::{BlobOf, Done, Storage, Ticket};
@@ -66,11 +70,39 @@ pub struct WriteFaultBlob<S: Storage> {
     inner: BlobOf<S>,
 }
 
+impl<S: Storage> WriteFaultContext<S> {
+    /// No write fails yet, and none was counted. Where the inner store keeps the bytes of its blobs, so does this one; and where the inner
+    /// store's calls leave the other blobs as they were, so do those of this one, and so of its opens and reads.
+    pub fn new(inner: S) -> WriteFaultContext<S>
+        ensures inner { result.inner ≡ inner }
+        ensures faults { result.faults ≡ no_faults }
+        ensures keeps { (bytes : S → S.Blob → List ℕ) → (left : S → S.Blob → Option (List ℕ)) → (promised : S → Ticket → S.Blob → Option (List ℕ)) →
+            KeepsBytes ⟦<S as Called>⟧.calls bytes left promised →
+            KeepsBytes ⟦<WriteFaultContext<S> as Called>⟧.calls (λ s k. bytes s.inner k.inner) (λ s k. left s.inner k.inner) (λ s t k. or_failed bytes promised s.inner t k.inner) }
+        ensures others { (bytes : S → S.Blob → List ℕ) → (left : S → S.Blob → Option (List ℕ)) → (promised : S → Ticket → S.Blob → Option (List ℕ)) → (apart : S → S.Blob → S.Blob → Bool) → (opened : S → S.Blob → Bool) →
+            LeavesOthers ⟦<S as Called>⟧.calls bytes left promised apart opened →
+            LeavesOthers ⟦<WriteFaultContext<S> as Called>⟧.calls (λ s k. bytes s.inner k.inner) (λ s k. left s.inner k.inner) (λ s t k. or_failed bytes promised s.inner t k.inner) (λ s k j. apart s.inner k.inner j.inner) (λ s k. opened s.inner k.inner) }
+        ensures opens { (bytes : S → S.Blob → List ℕ) → (left : S → S.Blob → Option (List ℕ)) → (promised : S → Ticket → S.Blob → Option (List ℕ)) → (apart : S → S.Blob → S.Blob → Bool) → (opened : S → S.Blob → Bool) →
+            OpensApart S.opens bytes left promised apart opened →
+            OpensApart ⟦<WriteFaultContext<S> as Storage>⟧.opens (λ s k. bytes s.inner k.inner) (λ s k. left s.inner k.inner) (λ s t k. or_failed bytes promised s.inner t k.inner) (λ s k j. apart s.inner k.inner j.inner) (λ s k. opened s.inner k.inner) }
+        ensures reads { (bytes : S → S.Blob → List ℕ) → (left : S → S.Blob → Option (List ℕ)) → (promised : S → Ticket → S.Blob → Option (List ℕ)) → (apart : S → S.Blob → S.Blob → Bool) → (opened : S → S.Blob → Bool) →
+            ReadsLeave S.reads bytes left promised apart opened →
+            ReadsLeave ⟦<WriteFaultContext<S> as Storage>⟧.reads (λ s k. bytes s.inner k.inner) (λ s k. left s.inner k.inner) (λ s t k. or_failed bytes promised s.inner t k.inner) (λ s k j. apart s.inner k.inner j.inner) (λ s k. opened s.inner k.inner) }
+        ensures has { (bytes : S → S.Blob → List ℕ) → HasBytes S.reads bytes → HasBytes ⟦<WriteFaultContext<S> as Storage>⟧.reads (λ s k. bytes s.inner k.inner) }
+    {
+        WriteFaultContext {
+            inner,
+            faults: WriteFaults::default(),
+        }
+    }
+}
+
 impl<S: Storage> Storage for WriteFaultContext<S> {
     type Blob = WriteFaultBlob<S>;
 
-    ghost use Rattle.std.specs.Prelude.{◌≡◌, ◌+◌};
+    ghost use Rattle.std.specs.Prelude.{◌≡◌, ◌+◌, false};
     ghost use Rattle.rt_buffer.specs.Mocks.{FaultyWrites, inside};
+    ghost use Rattle.rt_store.specs.Answered.{PollsTicket, is_numbered};
 
     ghost refusals = { λ s. S.refusals s.inner + s.faults.refusals };
 
@@ -102,9 +134,9 @@ impl<S: Storage> Storage for WriteFaultContext<S> {
 
     ghost starts_sync = { λ s k r t x. S.starts_sync s.inner k.inner r t.inner x × (t.faults ≡ s.faults) };
 
-    ghost polls_sync = { λ s ticket task p t u x. S.polls_sync s.inner ticket task p t.inner u x × (t.faults ≡ s.faults) };
+    ghost polls_sync = { λ s ticket task p t u x. S.polls_sync s.inner ticket task p t.inner u x × PollsTicket ticket p u × (is_numbered ticket ≡ false → t ≡ s) × (t.faults ≡ s.faults) };
 
-    ghost gives_sync_up = { λ s ticket t. S.gives_sync_up s.inner ticket t.inner × (t.faults ≡ s.faults) };
+    ghost gives_sync_up = { λ s ticket t. S.gives_sync_up s.inner ticket t.inner × (is_numbered ticket ≡ false → t ≡ s) × (t.faults ≡ s.faults) };
 
     ghost closes = { λ s k t. S.closes s.inner k.inner t.inner × (t.faults ≡ s.faults) };
 

@@ -121,19 +121,24 @@ fn took(taken: Option<(IoBuf, u64)>, offset: u64, bytes: &[u8]) -> bool {
     }
 }
 
-#[test]
-fn tip_is_taken(rt: HostRuntime) -> Result<(), Fail> {
-    let mut tip = Buffer::new(rt.alloc(), 3, 4);
+/// Whether `abc` is taken out of a tip that had nothing.
+pub fn takes_tip(alloc: Global) -> Result<bool, NoMemory> {
+    let mut tip = Buffer::new(alloc, 3, 4);
     let nothing = took(tip.take()?, 3, b"");
-    let merged = tip.merge(b"abc", 3)?;
+    let merged = tip.merge(b"abc", 3)? & (tip.size() == 6);
     let cut = tip.slice(1, 3)?;
     let all = took(tip.take()?, 3, b"abc");
-    assert!(rt; nothing & merged & (cut.as_slice() == b"bc".as_slice()) & all & has(&tip, 6, b""));
+    Ok(nothing & merged & (cut.as_slice() == b"bc".as_slice()) & all & has(&tip, 6, b""))
+}
+
+#[test]
+fn tip_is_taken(rt: HostRuntime) -> Result<(), Fail> {
+    assert!(rt; came(takes_tip(rt.alloc()), true));
     Ok(())
 }
 
 /// A new length, what is to be written out before it, and the tip after it.
-type Resize = (u64, &'static [u8], u64, &'static [u8]);
+pub type Resize = (u64, &'static [u8], u64, &'static [u8]);
 
 /// Whether a tip of `abc` at 3 comes to what is written.
 fn resizes(alloc: Global, resize: &Resize) -> Result<bool, NoMemory> {
@@ -145,7 +150,7 @@ fn resizes(alloc: Global, resize: &Resize) -> Result<bool, NoMemory> {
 }
 
 /// How many come to what is written.
-fn resizes_each(alloc: Global, each: &[Resize]) -> usize {
+pub fn resizes_each(alloc: Global, each: &[Resize]) -> usize {
     let mut right = 0_usize;
     for resize in each {
         if came(resizes(alloc, resize), true) {
@@ -155,7 +160,7 @@ fn resizes_each(alloc: Global, each: &[Resize]) -> usize {
     right
 }
 
-const RESIZES: &[Resize] = &[
+pub const RESIZES: &[Resize] = &[
     (7, b"abc", 7, b""),
     (6, b"abc", 6, b""),
     (5, b"", 3, b"ab"),
@@ -282,7 +287,7 @@ fn seeks_text<S: Storage>(store: &mut S, reader: &mut Read<S>) -> bool {
     back & (first == 1) & on & past & (reader.position() == 5)
 }
 
-fn read_text<S: Storage>(alloc: Global, store: &mut S) -> Result<bool, Error> {
+pub fn read_text<S: Storage>(alloc: Global, store: &mut S) -> Result<bool, Error> {
     let (blob, _) = store.open(&mut NoEnv, "p", b"a")?;
     let written = writes(alloc, store, &blob, b"hello world!");
     let mut reader = Read::new(alloc, blob, 12, 8);
@@ -329,7 +334,7 @@ fn lacks_memory<S: Storage>(alloc: Global, store: &mut S) -> Result<bool, Error>
 }
 
 /// Cuts the text of a reader's blob.
-fn cut_text<S: Storage>(alloc: Global, store: &mut S) -> Result<bool, Error> {
+pub fn cut_text<S: Storage>(alloc: Global, store: &mut S) -> Result<bool, Error> {
     let (blob, _) = store.open(&mut NoEnv, "p", b"a")?;
     let written = writes(alloc, store, &blob, b"hello world!");
     let answer = Read::new(alloc, blob, 12, 8).resize(store, &mut NoEnv, 5);
@@ -392,7 +397,7 @@ fn extends<S: Storage>(writer: &mut Write<S>) -> bool {
     first & tries(writer, 0, b"", true) & (writer.size() == 11) & writer.needs_sync()
 }
 
-fn look_over<S: Storage>(alloc: Global, store: &mut S) -> Result<bool, Error> {
+pub fn look_over<S: Storage>(alloc: Global, store: &mut S) -> Result<bool, Error> {
     let (blob, _) = store.open(&mut NoEnv, "p", b"a")?;
     let written = writes(alloc, store, &blob, b"hello");
     let mut writer = Write::new(alloc, blob, 5, 16);
@@ -476,7 +481,7 @@ fn put_text<S: Storage>(alloc: Global, store: &mut S) -> Result<Write<S>, Error>
 }
 
 /// Syncs it where a crash would leave it.
-fn write_text(alloc: Global, store: &mut MemStore) -> Result<(), Error> {
+pub fn write_text(alloc: Global, store: &mut MemStore) -> Result<(), Error> {
     let writer = put_text(alloc, store)?;
     let step = writer.sync_in_memory(store, &mut NoEnv, 1);
     let writer = done(store, step)?;
@@ -518,7 +523,7 @@ fn resized<S: Storage>(store: &mut S, writer: Write<S>, len: u64) -> Result<Writ
 }
 
 /// Cuts and extends a writer whose bytes are held back, in the end to a length for which there is no memory.
-fn resize_text<S: Storage>(alloc: Global, store: &mut S) -> Result<bool, Error> {
+pub fn resize_text<S: Storage>(alloc: Global, store: &mut S) -> Result<bool, Error> {
     let mut writer = opened(alloc, store, b"a")?;
     let went = tries(&mut writer, 0, b"hello", true);
     let writer = resized(store, writer, 3)?;
@@ -661,7 +666,7 @@ fn is_done<S: Storage>(store: &mut S, writer: &mut Write<S>, handle: SyncHandle)
 }
 
 /// Starts a sync, asks for it, and starts one where nothing is to be synced.
-fn start_syncs<S: Storage>(alloc: Global, store: &mut S) -> Result<bool, Error> {
+pub fn start_syncs<S: Storage>(alloc: Global, store: &mut S) -> Result<bool, Error> {
     let writer = opened(alloc, store, b"a")?;
     let writer = put(alloc, store, writer, 0, b"ab")?;
     let (mut writer, first) = start(store, writer)?;

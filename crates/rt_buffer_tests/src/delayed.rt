@@ -265,6 +265,17 @@ const RELEASES: &[(Release, SyncEnd)] = &[
     (Release::First, SyncEnd::Failure),
 ];
 
+/// Whether each call on what is held goes once.
+pub fn calls_on_pending<S: Storage>(store: &mut DelayedSyncContext<S>) -> bool {
+    let none = counts(store.pending(), 0, 0, 0, 0);
+    let armed = arms(store.pending_mut()) & (store.pending().calls() == 0);
+    let unblocked = came(
+        starts_and_releases(store, Release::Unblock, SyncEnd::Failure),
+        true,
+    );
+    none & armed & unblocked & counts(store.pending(), 1, 1, 0, 0)
+}
+
 /// How many releases, one after the other, come to what is written.
 fn releases_each<S: Storage>(
     store: &mut DelayedSyncContext<S>,

@@ -60,7 +60,7 @@ fn save(writer: Write<MemStore>, store: &mut MemStore) -> Result<Write<MemStore>
 }
 
 /// Writes `ab`, and saves it where a crash would leave it.
-fn save_two(alloc: Global, store: &mut MemStore) -> Result<bool, Error> {
+pub fn save_two(alloc: Global, store: &mut MemStore) -> Result<bool, Error> {
     let writer = opened(alloc, store, b"a")?;
     let writer = put(alloc, store, writer, 0, b"ab")?;
     save(writer, store)?.close(store);

@@ -1,21 +1,23 @@
 // The stores that a test lets fail: the worked examples, and each call once.
 
-use crate::buffers::{bufs, came, is_now, is_refused, opened, put, same, synced, went};
-use crate::delayed::{poll_and_end, started};
+use crate::buffers::{
+    RESIZES, bufs, came, cut_text, is_now, is_refused, look_over, opened, put, read_text,
+    resize_text, resizes_each, same, start_syncs, synced, takes_tip, went, write_text,
+};
+use crate::delayed::{calls_on_pending, poll_and_end, started};
+use crate::durable::save_two;
 use rt_base::{
     DEFAULT_BLOB_VERSION, Error, IoKind, NoEnv, NoMemory, Poll, ReadOptions, WriteOptions,
 };
-use rt_buffer::{DelayedSyncContext, SyncFaultContext, Write, WriteFaultContext, WriteFaults};
+use rt_buffer::{DelayedSyncContext, SyncFaultContext, Write, WriteFaultContext};
 use rt_bufs::IoBufsMut;
 use rt_store::{FaultConfig, MemStore, Storage};
 use std::alloc::Global;
 use std::test::Fail;
 
 fn write_faults(alloc: Global) -> Result<WriteFaultContext<MemStore>, NoMemory> {
-    Ok(WriteFaultContext {
-        inner: MemStore::new(alloc, FaultConfig::default())?,
-        faults: WriteFaults::default(),
-    })
+    let inner = MemStore::new(alloc, FaultConfig::default())?;
+    Ok(WriteFaultContext::new(inner))
 }
 
 /// Writes `ab` and syncs, and then `c`.
@@ -156,11 +158,8 @@ fn syncs_in_other<S: Storage>(alloc: Global, store: &mut S) -> Result<bool, Erro
 fn sync_faults(alloc: Global, partition: &str) -> Result<SyncFaultContext<MemStore>, NoMemory> {
     let mut fail_partition = String::new(alloc);
     fail_partition.push_str(partition)?;
-    Ok(SyncFaultContext {
-        inner: MemStore::new(alloc, FaultConfig::default())?,
-        fail_partition,
-        refusals: 0,
-    })
+    let inner = MemStore::new(alloc, FaultConfig::default())?;
+    Ok(SyncFaultContext::new(inner, fail_partition))
 }
 
 #[test]
@@ -230,6 +229,23 @@ fn calls_of<S: Storage>(alloc: Global, store: &mut S) -> Result<bool, Error> {
     Ok(came(finds_one(store), true) & read)
 }
 
+/// Whether each call of a tip goes once.
+fn calls_of_tip(alloc: Global) -> bool {
+    came(takes_tip(alloc), true) & (resizes_each(alloc, RESIZES) == 6)
+}
+
+/// Whether each call of a writer and its handles goes once.
+fn calls_of_writer(alloc: Global, store: &mut MemStore) -> bool {
+    let resized = came(resize_text(alloc, store), true) & came(look_over(alloc, store), true);
+    let started = came(start_syncs(alloc, store), true) & came(save_two(alloc, store), true);
+    resized & started & went(write_text(alloc, store))
+}
+
+/// Whether each call of a reader goes once.
+fn calls_of_reader<S: Storage>(alloc: Global, store: &mut S) -> bool {
+    came(read_text(alloc, store), true) & came(cut_text(alloc, store), true)
+}
+
 #[test]
 fn surface(rt: HostRuntime) -> Result<(), Fail> {
     let mut writes = write_faults(rt.alloc())?;
@@ -238,8 +254,11 @@ fn surface(rt: HostRuntime) -> Result<(), Fail> {
     let mut delays = DelayedSyncContext::new(rt.alloc(), inner);
     let first = came(calls_of(rt.alloc(), &mut writes), true) & came(syncs_both(&mut writes), true);
     let second = came(calls_of(rt.alloc(), &mut syncs), true);
-    let third = came(calls_of(rt.alloc(), &mut delays), true);
-    let _inner = delays.into_inner();
+    let third = came(calls_of(rt.alloc(), &mut delays), true) & calls_on_pending(&mut delays);
+    let mut inner = delays.into_inner();
     assert!(rt; first & second & third);
+    let written = calls_of_writer(rt.alloc(), &mut inner);
+    let read = calls_of_reader(rt.alloc(), &mut inner);
+    assert!(rt; written & read & calls_of_tip(rt.alloc()));
     Ok(())
 }

@@ -135,12 +135,19 @@ fn long_halves_block(rt: HostRuntime) -> Result<(), Fail> {
     Ok(())
 }
 
+#[test]
+fn empty_receive(rt: HostRuntime) -> Result<(), Fail> {
+    let mut net = Net::new(rt.alloc())?;
+    let steps = [(Step::Recv(0), Ending::Got(0), None)];
+    takes_on_new(&rt, rt.alloc(), &mut net, 10, &steps, (None, None));
+    Ok(())
+}
+
 // Its bytes stay, and the sink is spent.
 #[test]
-fn calls_after_a_given_up_send(rt: HostRuntime) -> Result<(), Fail> {
+fn send_after_a_given_up_send(rt: HostRuntime) -> Result<(), Fail> {
     let mut net = Net::new(rt.alloc())?;
     let steps = [
-        (Step::Recv(0), Ending::Got(0), None),
         (Step::Send(20), Ending::Waits, None),
         (Step::GiveUpSend, Ending::Done, None),
         (Step::Recv(20), Ending::Got(20), None),
@@ -248,12 +255,18 @@ fn outlives<N: Network, E: Env>(
     let _ = net.close_stream(stream);
 }
 
-// What an empty stream gives once its sink has closed.
-const NOTHING_LEFT: [(usize, Ending); 2] = [(1, Ending::RecvFailed), (1, Ending::Closed)];
-
-// All bytes, then too few, then nothing more. With no byte the first `recv` fails.
 #[test]
-fn receives_after_the_sink_closed(rt: HostRuntime) -> Result<(), Fail> {
+fn receive_after_the_sink_closed(rt: HostRuntime) -> Result<(), Fail> {
+    let mut net = Net::new(rt.alloc())?;
+    let line = line_of(&rt, rt.alloc(), &mut net, 10);
+    let receives = [(1, Ending::RecvFailed), (1, Ending::Closed)];
+    outlives(&rt, &mut net, &mut NoEnv, line, None, &receives);
+    Ok(())
+}
+
+// All bytes, then too few, then nothing more.
+#[test]
+fn bytes_left_by_a_closed_sink(rt: HostRuntime) -> Result<(), Fail> {
     let mut net = Net::new(rt.alloc())?;
     let mut line = line_of(&rt, rt.alloc(), &mut net, 10);
     let steps = [(Step::Send(5), Ending::Done, None)];
@@ -264,8 +277,6 @@ fn receives_after_the_sink_closed(rt: HostRuntime) -> Result<(), Fail> {
     ];
     takes(&rt, &mut net, &mut NoEnv, &mut line, &steps);
     outlives(&rt, &mut net, &mut NoEnv, line, None, &receives);
-    let empty = line_of(&rt, rt.alloc(), &mut net, 10);
-    outlives(&rt, &mut net, &mut NoEnv, empty, None, &NOTHING_LEFT);
     Ok(())
 }
 
@@ -497,6 +508,9 @@ fn surface(rt: HostRuntime) -> Result<(), Fail> {
     hears_at_home(&rt, &mut net, &mut Net::new(rt.alloc())?);
     assert!(rt; (net.waiting_acceptor(0), net.waiting_acceptor(1)) == (None, None));
     assert!(rt; !net.anyone_waits());
+    let (sink, stream) = Channel::init(&mut net).expect(&rt, "room");
+    assert!(rt; close(&mut net, sink, stream) == (None, None));
+    assert!(rt; net.next_woken().is_none());
     Ok(())
 }
 

@@ -46,7 +46,7 @@ PollsTicket (Ready held) p new = IsCopy held p × (new ≡ Ready held)
 PollsTicket (Numbered n) poll.Pending new = new ≡ Numbered n
 PollsTicket (Numbered n) (poll.Ready r) new = (held : Result Unit Error) × (new ≡ Ready held) × IsCopy held (poll.Ready r)
 
--- a polled sync: the error that a numbered ticket is ready with, but for want of memory, comes only where the count rose
+-- a polled sync: the error that a numbered ticket is ready with, but for a lack of memory, comes only where the count rose
 abbrev pub CountsPoll : ℕ → ℕ → Ticket → Ticket → Type 0
 CountsPoll old new (Numbered n) (Ready held) = Counts old new held
 CountsPoll old new (Numbered n) (Numbered m) = old ≤ new

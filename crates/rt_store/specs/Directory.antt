@@ -2,7 +2,7 @@
 use Rattle.std.specs.Prelude.{ℕ, Bool, List, [], ◌∷◌, ◌++◌, length, map, Option, None, Some, slice_get, slice_set}
 use Rattle.std.specs.Cmp.Lexicographic.{slice_cmp}
 use Rattle.std.specs.Ordering.{is_eq, nat_cmp}
-use Rattle.std.specs.Map.{lookup, set_value, remove_entry}
+use Rattle.std.specs.Map.{lookup, remove_entry}
 use Rattle.std.specs.BTreeMap.{insert_entry}
 use Rattle.std.specs.List.Sorted.{IsStrictlySortedBy}
 
@@ -13,10 +13,6 @@ is_name q n = is_eq (slice_cmp nat_cmp q n)
 -- what stands at a name
 abbrev pub at_name : {X : Type 0} → List ℕ → List (List ℕ × X) → Option X
 at_name q es = lookup (is_name q) es
-
--- something else at a name that is there
-abbrev pub with_name : {X : Type 0} → List ℕ → X → List (List ℕ × X) → List (List ℕ × X)
-with_name q x es = set_value (is_name q) es x
 
 -- something at a name, in its place in the order
 abbrev pub put_name : {X : Type 0} → List ℕ → X → List (List ℕ × X) → List (List ℕ × X)

@@ -208,7 +208,7 @@ pub trait Storage {
         ensures spent { E.spare env.old ≤ E.spare env.new + most }
         ensures counts { CountsDone (refusals self.old) (refusals self.new) result };
 
-    /// Starts a sync. An answer that is there at once stands in the ticket: so the call itself is refused only for want of memory, or
+    /// Starts a sync. An answer that is there at once stands in the ticket: so the call itself is refused only where memory lacks, or
     /// because the token isn't live.
     fn start_sync<E: Env>(&mut self, env: &mut E, blob: &Self::Blob) -> Result<Ticket, Error>
         ensures gives { Notes (E.noted env.old) (λ x. starts_sync self.old blob.now result self.new x) (E.noted env.new) }

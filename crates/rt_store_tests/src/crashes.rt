@@ -115,15 +115,12 @@ const OFF: PartialWriteMode = PartialWriteMode::Off;
 
 const UNSYNCED: &[Crash] = &[
     (0, OFF, 7, 0, 0, &[Choice::Dropped]),
-    (1_000_000, OFF, 999_999, 3, 1, &[Choice::Kept]),
-    (u32::MAX, OFF, 999_999, 3, 1, &[Choice::Kept]),
-    (5, OFF, 1_000_004, 3, 1, &[Choice::Kept]),
     (5, OFF, 5, 0, 1, &[Choice::Dropped]),
 ];
 
 #[test]
 fn unsynced_bytes_are_lost(rt: HostRuntime) -> Result<(), Fail> {
-    assert!(rt; leaves_each(rt.alloc(), false, UNSYNCED) == 5);
+    assert!(rt; leaves_each(rt.alloc(), false, UNSYNCED) == 2);
     Ok(())
 }
 
@@ -135,11 +132,16 @@ fn crash_drops_without_a_draw(rt: HostRuntime) -> Result<(), Fail> {
     Ok(())
 }
 
-const KEPT: &[Crash] = &[(8, OFF, 7, 3, 1, &[Choice::Kept])];
+const KEPT: &[Crash] = &[
+    (8, OFF, 7, 3, 1, &[Choice::Kept]),
+    (5, OFF, 1_000_004, 3, 1, &[Choice::Kept]),
+    (1_000_000, OFF, 999_999, 3, 1, &[Choice::Kept]),
+    (u32::MAX, OFF, 999_999, 3, 1, &[Choice::Kept]),
+];
 
 #[test]
 fn crash_keeps_by_a_draw(rt: HostRuntime) -> Result<(), Fail> {
-    assert!(rt; leaves_each(rt.alloc(), false, KEPT) == 1);
+    assert!(rt; leaves_each(rt.alloc(), false, KEPT) == 4);
     Ok(())
 }
 
@@ -189,6 +191,14 @@ fn partitions_crash_in_order(rt: HostRuntime) -> Result<(), Fail> {
     let crashed = crashes_two(rt.alloc(), &mut store);
     assert!(rt; crashed & stays_in_snapshot(store, faults));
     Ok(())
+}
+
+/// Whether a crash leaves the one of two blobs whose bytes stay, and what is left is in a store that is made of a snapshot.
+pub fn begins_anew(alloc: Global, mut store: MemStore) -> bool {
+    let kept = keeps(alloc, &mut store, "q", false) & keeps(alloc, &mut store, "p", false);
+    store.admit("p", b"n");
+    let crashed = went(crash(alloc, &mut store, &mut NoEnv));
+    kept & crashed & stays_in_snapshot(store, FaultConfig::default())
 }
 
 fn admit(store: &mut MemStore) {

@@ -3,11 +3,12 @@
 // A case is a function that makes its calls and says whether they came to what is written beside them, or how many did. The functions
 // are over any store where they can be, since those are proved in less time.
 
+use crate::crashes::begins_anew;
 use rt_base::{BlobVersion, Error, IoKind, NoEnv, NoMemory, Poll, ReadOptions, WriteOptions};
 use rt_bufs::{IoBuf, IoBufMut, IoBufs, IoBufsMut};
 use rt_store::{
     Blob, Done, FaultConfig, MemStore, PartialWriteMode, Storage, Ticket, WriteConfig,
-    collect_reads,
+    collect_reads, copy_of,
 };
 use std::alloc::Global;
 use std::test::Fail;
@@ -151,12 +152,22 @@ fn syncs_later<S: Storage>(store: &mut S, blob: &S::Blob) -> bool {
     }
 }
 
+/// The last of four bytes.
+const LAST: &[(u64, usize)] = &[(2, 2)];
+
+/// Reads them in each way.
+fn reads_last<S: Storage>(alloc: Global, store: &mut S, blob: &S::Blob) -> bool {
+    let placed = reads_placed(store, blob, LAST, &[b"ab"]);
+    let each = reads_each(store, blob, LAST, &[b"ab"]);
+    placed & each & reads_in_place(alloc, store, blob)
+}
+
 /// Writes, reads, cuts and syncs a blob.
 fn changes<S: Storage>(alloc: Global, store: &mut S, blob: &S::Blob) -> bool {
     let written = writes(alloc, store, blob, 2) & reads(store, blob, 0, 5, b"\0\0abc");
     let cut = went(store.resize(&mut NoEnv, blob, 4));
     let synced = syncs(store, blob) & syncs_later(store, blob);
-    written & cut & synced & reads_in_place(alloc, store, blob)
+    written & cut & synced & reads_last(alloc, store, blob)
 }
 
 /// Writes and lengths past the end of numbers, and past what there is memory for.
@@ -169,6 +180,7 @@ fn refuses_ends<S: Storage>(alloc: Global, store: &mut S, blob: &S::Blob) -> boo
 }
 
 fn opens_first<S: Storage<Blob = Blob>>(alloc: Global, store: &mut S) -> Result<bool, Error> {
+    S::take_room(&mut NoEnv, 16, 2, 0)?;
     let (blob, len) = store.open(&mut NoEnv, "p", b"a")?;
     let is_first = (blob.number() == 0) & (len == 0);
     let changed = changes(alloc, store, &blob);
@@ -185,6 +197,22 @@ fn opens_again<S: Storage<Blob = Blob>>(store: &mut S) -> Result<bool, Error> {
     Ok(is_second)
 }
 
+/// Lists the one blob, and removes it.
+fn removes_listed<S: Storage>(store: &mut S) -> bool {
+    let listed = names_are(store, "p", &[b"a"]);
+    listed & removes(store, "p", Some(b"a")) & names_are(store, "p", &[])
+}
+
+/// Whether a ticket has the answer that it is settled with.
+fn settles() -> bool {
+    let mut ticket = Ticket::Numbered(0);
+    ticket.settle(Ok(()));
+    match ticket {
+        Ticket::Ready(held) => came(copy_of(&held), ()),
+        Ticket::Numbered(_) => false,
+    }
+}
+
 fn has_no_faults(store: &MemStore) -> bool {
     (*store.config() == FaultConfig::default()) & (store.injected() == 0)
 }
@@ -194,10 +222,15 @@ const DIGEST: [u8; 4] = [0x48, 0x44, 0x42, 0x9a];
 
 #[test]
 fn surface(rt: HostRuntime) -> Result<(), Fail> {
-    let mut store = MemStore::new(rt.alloc(), FaultConfig::default())?;
+    let mut faults = FaultConfig::default();
+    faults.open_rate = HEIGHT;
+    let mut store = MemStore::new(rt.alloc(), faults)?;
+    set(&mut store, FaultConfig::default());
     let first = came(opens_first(rt.alloc(), &mut store), true);
     let again = came(opens_again(&mut store), true);
     assert!(rt; first & again & has_no_faults(&store) & (store.audit() == DIGEST));
+    let removed = removes_listed(&mut store);
+    assert!(rt; removed & settles() & begins_anew(rt.alloc(), store));
     Ok(())
 }
 
@@ -466,10 +499,13 @@ pub fn set(store: &mut MemStore, faults: FaultConfig) {
 }
 
 /// Reads that may fault.
-fn read_each<S: Storage>(store: &mut S, blob: &S::Blob) {
+fn read_each<S: Storage>(alloc: Global, store: &mut S, blob: &S::Blob) {
     drop(store.read_at(&mut NoEnv, blob, 0, 0, ReadOptions::default()));
     drop(store.read_many(&mut NoEnv, blob, &[], ReadOptions::default()));
     drop(store.start_read_many(&mut NoEnv, blob, &[], ReadOptions::default()));
+    if let Ok(room) = room(alloc) {
+        drop(store.read_at_buf(&mut NoEnv, blob, 0, 0, room, ReadOptions::default()));
+    }
 }
 
 /// Changes that may fault.
@@ -496,7 +532,7 @@ fn opened<S: Storage>(store: &mut S) -> Result<S::Blob, Error> {
 
 /// Makes each of these calls, and closes the blob.
 fn call_each<S: Storage>(alloc: Global, store: &mut S, blob: S::Blob) {
-    read_each(store, &blob);
+    read_each(alloc, store, &blob);
     change_each(alloc, store, &blob);
     name_each(store);
     store.close(blob);
@@ -533,13 +569,13 @@ fn faults_by_name(alloc: Global) -> bool {
 fn faults_on_bytes(alloc: Global) -> bool {
     let mut faults = FaultConfig::default();
     faults.read_rate = HEIGHT;
-    let read = has_faults(alloc, faults, 3);
+    let read = has_faults(alloc, faults, 4);
     faults.sync_rate = HEIGHT;
-    let sync = has_faults(alloc, faults, 5);
+    let sync = has_faults(alloc, faults, 6);
     faults.write.rate = HEIGHT;
-    let write = has_faults(alloc, faults, 6);
+    let write = has_faults(alloc, faults, 7);
     faults.resize.rate = HEIGHT;
-    read & sync & write & has_faults(alloc, faults, 7)
+    read & sync & write & has_faults(alloc, faults, 8)
 }
 
 #[test]
