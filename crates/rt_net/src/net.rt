@@ -301,6 +301,10 @@ impl Network for Net {
 
     ghost tells_woken = { λ v r w. (r ≡ next_told v.state) × (w ≡ moved_to v (told v.state)) };
 
+    fn most_entries() -> Option<usize> {
+        Some(0)
+    }
+
     fn take_room<E: Env>(env: &mut E, more: usize) -> Result<(), NoMemory> {
         env.reserve(more)
     }

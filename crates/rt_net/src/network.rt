@@ -3,7 +3,7 @@
 // Code over any `N: Network` is proved from this trait alone. There is one relation for each call, over the network
 // and the token before it, the arguments, the answer, the network and the token after it, and what the call noted in
 // the environment. So a wrapper states its own relations by those of what it wraps.
-ghost use Rattle.std.specs.Prelude.{◌≡◌, ◌≤◌, ◌+◌, ℕ, true, false, List, Option, Result, OnOk, IfOk};
+ghost use Rattle.std.specs.Prelude.{◌≡◌, ◌≤◌, ◌+◌, ◌^◌, ℕ, true, false, List, Option, Result, OnOk, IfOk, IfSome, IfNone};
 ghost use Rattle.rt_base.specs.declared.addr.Addr.{Addr};
 ghost use Rattle.rt_base.specs.declared.error.Error.{Error};
 ghost use Rattle.rt_base.specs.declared.poll.Poll.{Poll};
@@ -81,6 +81,11 @@ pub trait Network {
     ghost closes_listener: { Self → Self.Listener → Self → Type 0 };
 
     ghost tells_woken: { Self → Option ℕ → Self → Type 0 };
+
+    /// How many entries of its environment a call uses at most, where a `usize` can say it.
+    fn most_entries() -> Option<usize>
+        ensures some { IfSome result (λ entries. entries ≡ most) }
+        ensures none { IfNone result (2 ^ 64 ≤ most) };
 
     /// Takes the room in an environment of one call, and of `more` entries beside it.
     fn take_room<E: Env>(env: &mut E, more: usize) -> Result<(), NoMemory>

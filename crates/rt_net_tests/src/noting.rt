@@ -1,7 +1,7 @@
 // A network over any other. It notes an event where a `bind`, `dial`, `accept`, `send` or `recv` starts and where it ends,
 // though none where it was out of memory, counts bytes, and has tokens of its own, which know the other end's address. The event of a receive has
 // the bytes that came. All room is taken before the inner call. It is proved from the trait alone.
-ghost use Rattle.std.specs.Prelude.{◌≡◌, ◌+◌, ◌≤◌, ◌<◌, IfOk, OnOk, OnErr, ◌∷◌, ◌++◌, [], length, vec_capacity};
+ghost use Rattle.std.specs.Prelude.{◌≡◌, ◌+◌, ◌*◌, ◌≤◌, ◌<◌, IfOk, OnOk, OnErr, ◌∷◌, ◌++◌, [], length, vec_capacity};
 ghost use Rattle.rt_base.specs.Noted.{Adds, Happened};
 ghost use Rattle.rt_net.specs.Asked.{HasLength};
 ghost use Rattle.rt_net_tests.specs.Noting.{named, refusal, ending, closing_event, receipt, count_if_ok, bytes_in, with_taken, KnowDialer};
@@ -239,6 +239,20 @@ impl<N: Network> Noting<N> {
     }
 }
 
+// Takes the room of so many calls, as a network over another needs that tries again.
+pub fn take_room_of_calls<N: Network, E: Env>(env: &mut E, calls: usize) -> Result<(), NoMemory>
+    ensures room { OnOk result (calls * N.most ≤ E.spare env.new) }
+    ensures noted { E.noted env.new ≡ E.noted env.old }
+{
+    let Some(entries) = N::most_entries() else {
+        return Err(NoMemory);
+    };
+    let Some(all) = calls.checked_mul(entries) else {
+        return Err(NoMemory);
+    };
+    env.reserve(all)
+}
+
 impl<N: Network> Network for Noting<N> {
     type Listener = NotingListener<N::Listener>;
 
@@ -306,6 +320,10 @@ impl<N: Network> Network for Noting<N> {
     ghost closes_listener = { λ s k u. N.closes_listener s.inner k.inner u.inner × (u ≡ record s { inner = u.inner }) };
 
     ghost tells_woken = { λ s r u. N.tells_woken s.inner r u.inner × (u ≡ record s { inner = u.inner }) };
+
+    fn most_entries() -> Option<usize> {
+        N::most_entries()?.checked_add(2)
+    }
 
     fn take_room<E: Env>(env: &mut E, more: usize) -> Result<(), NoMemory> {
         match more.checked_add(2) {

@@ -3,7 +3,7 @@
 use crate::ending::{Ending, got, seen, seen_error};
 use crate::line::{Line, Step, poll_put, takes};
 use crate::notebook::Notebook;
-use crate::noting::{Noting, NotingSink, NotingStream};
+use crate::noting::{Noting, NotingSink, NotingStream, take_room_of_calls};
 use rt_base::{Addr, Env, Error, Ip, NoEnv, Poll};
 use rt_bufs::{IoBuf, IoBufs};
 use rt_net::{Channel, Net, Network, Receiving, Reply, Sending, Sink, Stream};
@@ -545,6 +545,22 @@ fn surface_of_what_passes_on(rt: HostRuntime) -> Result<(), Fail> {
     let (_, sent, received) = net.into_parts();
     assert!(rt; (sent, received) == (9, 5));
     Ok(())
+}
+
+// How many entries a call of a network uses at most, and whether this many calls get their room.
+fn room_of<N: Network>(alloc: Global, calls: usize) -> (Option<usize>, bool) {
+    let mut book = Notebook::new(alloc);
+    let taken = take_room_of_calls::<N, Notebook>(&mut book, calls);
+    (N::most_entries(), taken.is_ok())
+}
+
+#[test]
+fn room_of_several_calls(rt: HostRuntime) {
+    let alloc = rt.alloc();
+    assert!(rt; room_of::<Net>(alloc, usize::MAX) == (Some(0), true));
+    assert!(rt; room_of::<Noting<Net>>(alloc, 1_000) == (Some(2), true));
+    assert!(rt; room_of::<Noting<Noting<Net>>>(alloc, 1_000) == (Some(4), true));
+    assert!(rt; room_of::<Noting<Net>>(alloc, usize::MAX) == (Some(2), false));
 }
 
 // Dials, receives so many bytes for one task and sends these for another, which ends so.
