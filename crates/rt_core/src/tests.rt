@@ -7,8 +7,8 @@ ghost use Rattle.rt_world.specs.Calls.{Kept};
 use crate::utils::reschedule;
 use crate::{
     Answer, Cell, Config, ConfigError, Context, Cx, Error, Execution, Failure, Handle, HandleOf,
-    MAX_TIME, Name, NoMemory, Outcome, Poller, Refused, Rng, RootMaker, RunError, Runner, Sleep,
-    Task, Timeout, World, spawn_cell,
+    MAX_TIME, Name, NoMemory, Outcome, Poller, Refused, Rng, RootMaker, RunError, Runner, Select,
+    Sleep, Task, Timeout, World, spawn_cell,
 };
 use rand_chacha::ChaCha12Rng;
 use rand_core::SeedableRng;
@@ -524,6 +524,34 @@ fn spawns_on_a_child(alloc: Global, context: &Context, world: &mut Making) -> bo
     named && spawned
 }
 
+/// Gives up a stop that wasn't polled, and a choice among no handles. Answers whether the stop had a context.
+#[tactic(auto, using(rt_world::proofs::Walked::close_laws))]
+fn gives_pollers_up(alloc: Global, context: &Context, world: &mut Making) -> bool
+    requires { MayCall world.old.told.state world.old.out }
+    ensures { Kept world.old world.new }
+{
+    let choice: Select<Probe> = HandleOf::select(Vec::new(alloc));
+    choice.give_up(world);
+    match context.child(world, "stop") {
+        Ok(child) => {
+            child.stop(7, Some(1)).give_up(world);
+            true
+        }
+        Err(_error) => false,
+    }
+}
+
+/// Whether a task is spawned on a child, and the pollers are given up.
+#[tactic(auto, using(rt_world::proofs::Walked::close_laws))]
+fn works_on_children(alloc: Global, context: &Context, world: &mut Making) -> bool
+    requires { MayCall world.old.told.state world.old.out }
+    ensures { Kept world.old world.new }
+{
+    let spawned = spawns_on_a_child(alloc, context, world);
+    let given_up = gives_pollers_up(alloc, context, world);
+    spawned && given_up
+}
+
 /// Whether contexts are named, refused and spawned on as they should be.
 #[tactic(auto, using(rt_world::proofs::Walked::close_laws))]
 fn answers_contexts(alloc: Global, world: &mut Making) -> bool
@@ -533,12 +561,12 @@ fn answers_contexts(alloc: Global, world: &mut Making) -> bool
     let (context, attributes) = takes_attributes(alloc);
     let timed = context.current(world) == 3;
     let reserved = refusal(&context, world, "runtime");
-    let spawned = spawns_on_a_child(alloc, &context, world);
+    let worked = works_on_children(alloc, &context, world);
     context.close(world);
     let unknown = world.abort_task(9) == Err(Error::UnknownToken);
     let hinted = world.executions() == [(0, Execution::Dedicated)].as_slice();
     let refused = reserved == Some(Error::Metric(MetricError::Reserved));
-    attributes && timed && refused && spawned && unknown && hinted
+    attributes && timed && refused && worked && unknown && hinted
 }
 
 /// Whether the calls of contexts and handles in a maker are answered and written as they should be.
@@ -551,6 +579,8 @@ call - child 0 left -> node 1
 call - spawn 1 -> task 0 node 2
 call - abort 0 -> ok
 call - give-up 0 -> ok
+call - child 0 stop -> node 3
+call - close-node 3 -> ok
 call - close-node 0 -> ok
 call - abort-task 9 -> err 12
 cleanup

@@ -1,6 +1,7 @@
 pub mod Texts
 pub mod Walked
 pub mod Places
+pub mod Blocks
 pub mod Seats
 pub mod Follows
 pub mod Coming

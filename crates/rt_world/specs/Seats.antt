@@ -1,10 +1,12 @@
 -- The tasks whose states are in.
-use Rattle.std.specs.Prelude.{◌≡◌, ◌≤◌, ◌<◌, ◌+◌, ◌^◌, ℕ, List, [], ◌∷◌, true, false, Option, Some, None, map, is_some, get_or, length}
+use Rattle.std.specs.Global.{Global}
+use Rattle.std.specs.Prelude.{◌≡◌, ◌≤◌, ◌<◌, ◌+◌, ◌^◌, ℕ, List, [], ◌∷◌, true, false, Option, Some, None, Vec, map, is_some, get_or, length}
 use Rattle.rt_model.specs.declared.result.Outcome.TheVariants.{There}
 use Rattle.rt_model.specs.declared.result.TaskResult.{TaskResult}
 use Rattle.rt_model.specs.Lists.{find, has_number, without_number}
 use Rattle.rt_model.specs.Slots.{Slotted, is_open, is_there}
 use Rattle.rt_model.specs.State.{Phase, Ending, State}
+use Rattle.rt_model.specs.Turns.{Held, with_task}
 
 -- a list, the first number that has a place, the next that will have one, and how many more have room
 pub record Roomed (V : Type 0) : Type 0 where
@@ -28,6 +30,29 @@ pub record ArePlaced {A : Type 0} (first : ℕ) (places : List (Option A)) (ende
   pub fit : first + length places ≤ 2 ^ 64
   pub within : ended ≤ length places
   pub passed : ArePassed last first ended places
+
+-- the state that a block holds, under its number
+abbrev pub held_by : {A : Type 0} → ℕ → List A → List (ℕ × A) → List (ℕ × A)
+held_by n [] rest = rest
+held_by n (a ∷ more) rest = (n, a) ∷ rest
+
+-- the states that blocks hold
+unfoldable pub held_in : {A : Type 0} → List (ℕ × Vec A Global) → List (ℕ × A)
+held_in [] = []
+held_in (b ∷ bs) = held_by b.0 b.1.items (held_in bs)
+
+-- each block holds one
+unfoldable pub AreFull : {A : Type 0} → List (ℕ × Vec A Global) → Type 0
+AreFull [] = Unit {0}
+AreFull (b ∷ bs) = (length b.1.items ≡ 1) × AreFull bs
+
+-- the state of a block is put in
+abbrev pub with_top : {A : Type 0} → ℕ → List A → List (ℕ × A) → List (ℕ × A)
+with_top k [] tasks = tasks
+with_top k (a ∷ more) tasks = with_task k a tasks
+
+abbrev pub put_top : {A O : Type 0} → ℕ → List A → Held A O → Held A O
+put_top task block held = record held { tasks = with_top task block held.tasks }
 
 abbrev pub numbers_of : {A : Type 0} → List (ℕ × A) → List ℕ
 numbers_of tasks = map (λ x. x.0) tasks

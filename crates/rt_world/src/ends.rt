@@ -85,7 +85,11 @@ impl<T: Task, G: Rng> World<T, T::Output, G> {
         ensures agrees { (first : First T T.Output) (whole : Bool) (output : Option T.Output) (unmade : Option T) → AgreesWith (with_first T.steps first) whole self.old output unmade → AgreesWith (with_first T.steps first) (unless result whole) self.new output unmade }
     {
         let task = self.ends_next()?;
-        let state = self.take_state(task);
+        let mut block = self.take_state(task);
+        let Some(state) = block.pop() else {
+            unreachable!();
+        };
+        block.destroy_empty();
         state.end(self);
         self.facts();
         let lacked = self.take_short();

@@ -11,6 +11,7 @@ mod rounds;
 mod signals;
 mod slots;
 mod spawning;
+mod states;
 mod task;
 mod tasks;
 mod visits;

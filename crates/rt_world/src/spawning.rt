@@ -1,6 +1,6 @@
 //! Spawning tasks.
 
-ghost use Rattle.std.specs.Prelude.{ℕ, ◌≡◌, ◌<◌, IfOk, IfErr, OnOk, None, Some, true, false, vec_len, vec_capacity};
+ghost use Rattle.std.specs.Prelude.{ℕ, ◌≡◌, ◌<◌, IfOk, IfErr, OnOk, None, Some, [], true, false, vec_len, vec_capacity};
 ghost use Rattle.rt_model.specs.Rules.{MayCall};
 ghost use Rattle.rt_model.specs.Turns.{Spawning};
 ghost use Rattle.rt_machine.specs.Calls.{spawn_reply};
@@ -8,8 +8,10 @@ ghost use Rattle.rt_world.specs.Calls.{Kept, Made, IsMadeBy, IsRefused, IsTakenI
 ghost use Rattle.rt_world.specs.Walked.{Called, spawn_told};
 
 use crate::World;
+use crate::states::{States, block_of};
 use crate::tasks::Tasks;
 use rt_base::{Error, Execution, NoMemory};
+use std::alloc::Global;
 
 #[tactic(auto, using(crate::proofs::Walked::call_laws, crate::proofs::Walked::stay_laws, crate::proofs::Calling::seated_laws, crate::proofs::Slotted::slotted_laws))]
 impl<T, O, G> World<T, O, G> {
@@ -35,17 +37,29 @@ impl<T, O, G> World<T, O, G> {
         ensures err { (made : ℕ → T) → IfErr result (λ back. IsRefused self.old self.new (Spawning node execution made) back.0) }
         ensures called { (made : ℕ → T) → IsMadeBy (F.post make) given made → Called (Spawning node execution made) self.old self.new (spawn_told result) }
     {
-        let Ok(()) = reserve_places(&mut self.tasks, &mut self.outputs, &mut self.executions) else {
+        let reserved = reserve_places(
+            self.machine.allocator(),
+            &mut self.tasks,
+            &mut self.outputs,
+            &mut self.executions,
+        );
+        let Ok(block) = reserved else {
             self.machine.lack();
             return Err((Error::NoMemory, given));
         };
         self.machine.facts();
         match self.machine.spawn(self.out, node) {
-            Err(error) => Err((error, given)),
-            Ok(None) => Ok(None),
+            Err(error) => {
+                block.destroy_empty();
+                Err((error, given))
+            }
+            Ok(None) => {
+                block.destroy_empty();
+                Ok(None)
+            }
             Ok(Some((task, number))) => {
                 let state = make((given, number));
-                self.tasks.add(state);
+                self.tasks.add(block, state);
                 self.outputs.skip();
                 self.executions.push_reserved((task, execution));
                 Ok(Some((task, number)))
@@ -54,12 +68,15 @@ impl<T, O, G> World<T, O, G> {
     }
 }
 
-/// Takes room for a further task, its output and where it asked to run.
+/// Takes room for a further task, its output and where it asked to run. Answers the block of its state.
 pub(crate) fn reserve_places<T, O>(
-    tasks: &mut Tasks<T>,
+    alloc: Global,
+    tasks: &mut States<T>,
     outputs: &mut Tasks<O>,
     executions: &mut Vec<(u64, Execution)>,
-) -> Result<(), NoMemory>
+) -> Result<Vec<T>, NoMemory>
+    ensures empty { IfOk result (λ block. block.items ≡ []) }
+    ensures fits { IfOk result (λ block. vec_len block < vec_capacity block) }
     ensures tasks { tasks.new.items ≡ tasks.old.items }
     ensures tasks_first { tasks.new.first ≡ tasks.old.first }
     ensures tasks_next { tasks.new.next ≡ tasks.old.next }
@@ -74,5 +91,5 @@ pub(crate) fn reserve_places<T, O>(
     tasks.reserve(1)?;
     outputs.reserve(1)?;
     executions.reserve(1)?;
-    Ok(())
+    block_of(alloc)
 }

@@ -1,6 +1,6 @@
 //! The visits of a round.
 
-ghost use Rattle.std.specs.Prelude.{◌≡◌, ◌≢◌, ◌∷◌, [], true, false, Option, ℕ, List, drop, None, Some, Ok, Err, OnOk, IfErr, is_some};
+ghost use Rattle.std.specs.Prelude.{◌≡◌, ◌≢◌, ◌∷◌, [], true, false, Option, ℕ, List, drop, None, Some, Ok, Err, OnOk, IfErr, is_some, length};
 ghost use Rattle.rt_audit.specs.declared.finish.FinishCause.TheVariants.{NoMemory};
 ghost use Rattle.rt_model.specs.Lists.{find, has_number, is_some_number};
 ghost use Rattle.rt_model.specs.State.{Visiting, Entered, Polling, Ending, Halted};
@@ -8,11 +8,11 @@ ghost use Rattle.rt_model.specs.Causes.{from_running};
 ghost use Rattle.rt_model.specs.Effects.{left_of};
 ghost use Rattle.rt_model.specs.Rules.{MayAnswer};
 ghost use Rattle.rt_model.specs.Tied.{First, with_first, with_result, kept_text};
-ghost use Rattle.rt_model.specs.Turns.{put};
 ghost use Rattle.rt_machine.specs.Ends.{Calmly, open_in};
 ghost use Rattle.rt_machine.specs.Steps.{IsCut};
 ghost use Rattle.rt_machine.specs.Told.{pushed};
 ghost use Rattle.rt_world.specs.Follows.{Agrees, AgreesAtLeast};
+ghost use Rattle.rt_world.specs.Seats.{put_top};
 ghost use Rattle.rt_world.specs.Visits.{StandsAfter, TurnoutStands, AgreesAfter, TurnoutAgrees, EndedAgrees, IsFresh, Passes, RoundStands};
 
 use crate::{Cx, Task, World};
@@ -44,26 +44,28 @@ impl<T, O, G> World<T, O, G> {
     }
 
     /// Ends the poll of a root that has finished, and puts its state back.
-    fn answer_root(&mut self, task: u64, state: T)
+    fn answer_root(&mut self, task: u64, block: Vec<T>)
         requires may { MayAnswer self.old.told.state task AnswerKind.Ready }
         requires root { is_some_number task self.old.told.state.root ≡ true }
         requires out { self.old.out ≡ Some task }
-        ensures { self.new ≡ record self.old { told = pushed self.old.told (Entry.Answer task AnswerKind.Ready); held = put task state self.old.held; out = None } }
+        requires one { length block.items ≡ 1 }
+        ensures { self.new ≡ record self.old { told = pushed self.old.told (Entry.Answer task AnswerKind.Ready); held = put_top task block.items self.old.held; out = None } }
     {
         self.machine.answer(task, AnswerKind::Ready);
-        self.tasks.put(task, state);
+        self.tasks.put(task, block);
         self.out = None;
     }
 
     /// Ends the poll of a task that has panicked, and puts its state back. The text of the root's own panic is the run's.
     /// Another's is kept where none is caught and none is kept.
-    fn answer_panicked(&mut self, task: u64, state: T, text: Text)
+    fn answer_panicked(&mut self, task: u64, block: Vec<T>, text: Text)
         requires may { MayAnswer self.old.told.state task AnswerKind.Panicked }
         requires out { self.old.out ≡ Some task }
-        ensures { self.new ≡ record self.old { told = pushed self.old.told (Entry.Answer task AnswerKind.Panicked); held = put task state self.old.held; panic = kept_text self.old.told.state task text self.old.panic; out = None } }
+        requires one { length block.items ≡ 1 }
+        ensures { self.new ≡ record self.old { told = pushed self.old.told (Entry.Answer task AnswerKind.Panicked); held = put_top task block.items self.old.held; panic = kept_text self.old.told.state task text self.old.panic; out = None } }
     {
         let keeps = self.is_root(task) || self.machine.keeps_next_panic();
-        self.answer(task, state, AnswerKind::Panicked);
+        self.answer(task, block, AnswerKind::Panicked);
         if keeps {
             self.panic = Some(text);
         }
@@ -74,14 +76,15 @@ impl<T, O, G> World<T, O, G> {
 impl<T, O: Drop, G> World<T, O, G> {
     /// Ends the poll of a spawned task that has finished, and puts its state back. Its output is its result, if that
     /// wasn't given up.
-    fn answer_result(&mut self, task: u64, state: T, output: O)
+    fn answer_result(&mut self, task: u64, block: Vec<T>, output: O)
         requires may { MayAnswer self.old.told.state task AnswerKind.Ready }
         requires spawned { is_some_number task self.old.told.state.root ≡ false }
         requires out { self.old.out ≡ Some task }
-        ensures { self.new ≡ record self.old { told = pushed self.old.told (Entry.Answer task AnswerKind.Ready); held = with_result (is_some (find task self.old.told.state.results)) task output (put task state self.old.held); out = None } }
+        requires one { length block.items ≡ 1 }
+        ensures { self.new ≡ record self.old { told = pushed self.old.told (Entry.Answer task AnswerKind.Ready); held = with_result (is_some (find task self.old.told.state.results)) task output (put_top task block.items self.old.held); out = None } }
     {
         self.machine.answer(task, AnswerKind::Ready);
-        self.tasks.put(task, state);
+        self.tasks.put(task, block);
         self.out = None;
         if self.machine.has_result(task) {
             self.outputs.replace(task, output);
@@ -168,18 +171,18 @@ impl<T: Task, G: Rng> World<T, T::Output, G> {
         ensures runs { has_number task self.new.told.state.running ≡ true }
         ensures agrees { (first : First T T.Output) → Agrees (with_first T.steps first) true self.old None → TurnoutAgrees (with_first T.steps first) self.new result }
     {
-        let mut state = self.take_state(task);
+        let mut block = self.take_state(task);
         let cx = Cx::new(task);
-        let answer = state.poll(self, &cx);
+        let answer = block[0].poll(self, &cx);
         self.facts();
         if self.is_short() {
-            self.answer(task, state, AnswerKind::NoMemory);
+            self.answer(task, block, AnswerKind::NoMemory);
             return Err(FinishCause::NoMemory);
         }
         match answer {
             Answer::Pending => {
                 let flagged = self.is_flagged(task);
-                self.answer(task, state, AnswerKind::Pending);
+                self.answer(task, block, AnswerKind::Pending);
                 if flagged {
                     return Ok(Turnout::Ends(None));
                 }
@@ -187,22 +190,22 @@ impl<T: Task, G: Rng> World<T, T::Output, G> {
             }
             Answer::Ready(output) => {
                 if self.is_root(task) {
-                    self.answer_root(task, state);
+                    self.answer_root(task, block);
                     return Ok(Turnout::Gave(output));
                 }
-                self.answer_result(task, state, output);
+                self.answer_result(task, block, output);
                 Ok(Turnout::Ends(Some(Outcome::There)))
             }
             Answer::Panicked(text) => {
                 let root = self.is_root(task);
-                self.answer_panicked(task, state, text);
+                self.answer_panicked(task, block, text);
                 if root {
                     return Err(FinishCause::TaskPanicked);
                 }
                 Ok(Turnout::Ends(Some(Outcome::Exited)))
             }
             Answer::NoMemory => {
-                self.answer(task, state, AnswerKind::NoMemory);
+                self.answer(task, block, AnswerKind::NoMemory);
                 Err(FinishCause::NoMemory)
             }
         }
@@ -222,7 +225,11 @@ impl<T: Task, G: Rng> World<T, T::Output, G> {
         ensures cause { IfErr result (λ cause. cause ≡ NoMemory) }
         ensures agrees { (first : First T T.Output) → Agrees (with_first T.steps first) true self.old None → EndedAgrees (with_first T.steps first) self.new result }
     {
-        let state = self.take_state(task);
+        let mut block = self.take_state(task);
+        let Some(state) = block.pop() else {
+            unreachable!();
+        };
+        block.destroy_empty();
         state.end(self);
         self.facts();
         let lacked = self.take_short();

@@ -1,6 +1,6 @@
 //! The world of a run, and the calls of its tasks.
 
-ghost use Rattle.std.specs.Prelude.{ℕ, ◌≡◌, ◌≢◌, ◌≤◌, ◌<◌, ◌∷◌, ◌^◌, ◌-◌, ◌++◌, ◌&&◌, [], IfOk, IfErr, OnErr, OnOk, IfSome, IfNone, IsTrue, is_some, drop, ◌↔◌, None, Some, true, false};
+ghost use Rattle.std.specs.Prelude.{ℕ, ◌≡◌, ◌≢◌, ◌≤◌, ◌<◌, ◌∷◌, ◌^◌, ◌-◌, ◌++◌, ◌&&◌, [], IfOk, IfErr, OnErr, OnOk, IfSome, IfNone, IsTrue, is_some, drop, ◌↔◌, None, Some, length, slice_get, true, false};
 ghost use Rattle.rt_model.specs.Lists.{find, has_number, is_some_number};
 ghost use Rattle.rt_model.specs.State.{begun, Making, Visiting, Ending, Closing};
 ghost use Rattle.rt_model.specs.Causes.{is_late, from_running, ends_next};
@@ -13,8 +13,10 @@ ghost use Rattle.rt_model.specs.Turns.{put};
 ghost use Rattle.rt_machine.specs.Ends.{Calmly, Visited, open_in};
 ghost use Rattle.rt_machine.specs.Told.{Told, AreCalls, fresh, pushed, own};
 ghost use Rattle.rt_world.specs.Follows.{Follows, Agrees, IsMade};
+ghost use Rattle.rt_world.specs.Seats.{put_top};
 
 use crate::Outcome;
+use crate::states::{States, block_of};
 use crate::tasks::Tasks;
 use rt_audit::{AnswerKind, Entry, Journal};
 use rt_base::{Error, Execution, MAX_TIME, Nanos, NoMemory, Text};
@@ -32,7 +34,7 @@ pub type WorldOf<T, G> = World<T, <T as Outcome>::Output, G>;
 /// the text of a panic that is kept, whose state is out because it is polled or ended, and its generator.
 pub struct World<T, O, G> {
     pub(crate) machine: Machine,
-    pub(crate) tasks: Tasks<T>,
+    pub(crate) tasks: States<T>,
     pub(crate) outputs: Tasks<O>,
     /// What was sent into slots and wasn't taken, by the slots' numbers.
     pub(crate) sent: Tasks<Result<O, Error>>,
@@ -79,7 +81,7 @@ impl<T, O, G> World<T, O, G> {
             Err(journal) => Err((journal, rng)),
             Ok(machine) => Ok(World {
                 machine,
-                tasks: Tasks::new(alloc, begin.first),
+                tasks: States::new(alloc, begin.first),
                 outputs: Tasks::new(alloc, begin.first),
                 sent: Tasks::new(alloc, 0),
                 executions: Vec::new(alloc),
@@ -152,14 +154,21 @@ impl<T, O, G> World<T, O, G> {
         ensures ok { IfOk result (λ task. self.new ≡ record self.old { told = pushed self.old.told (Entry.Root task); held = put task root self.old.held }) }
         ensures err { IfErr result (λ back. (back ≡ root) × (self.new ≡ self.old)) }
     {
+        let Ok(block) = block_of(self.machine.allocator()) else {
+            return Err(root);
+        };
         if self.tasks.reserve(1).is_err() || self.outputs.reserve(1).is_err() {
+            block.destroy_empty();
             return Err(root);
         }
         self.machine.facts();
         match self.machine.register_root() {
-            Err(_) => Err(root),
+            Err(_) => {
+                block.destroy_empty();
+                Err(root)
+            }
             Ok(task) => {
-                self.tasks.add(root);
+                self.tasks.add(block, root);
                 self.outputs.skip();
                 Ok(task)
             }
@@ -198,32 +207,34 @@ impl<T, O, G> World<T, O, G> {
         self.machine.root() == Some(task)
     }
 
-    /// Takes the state of a running task out.
-    pub(crate) fn take_state(&mut self, task: u64) -> T
+    /// Takes the state of a running task out, with its block.
+    pub(crate) fn take_state(&mut self, task: u64) -> Vec<T>
         requires runs { has_number task self.old.told.state.running ≡ true }
         requires none_out { self.old.out ≡ None }
-        ensures state { find task self.old.held.tasks ≡ Some result }
+        ensures state { find task self.old.held.tasks ≡ slice_get result.items 0 }
+        ensures one { length result.items ≡ 1 }
         ensures rest { self.new ≡ record self.old { held = taken task self.old.held; out = Some task } }
     {
         match self.tasks.take(task) {
-            Some(state) => {
+            Some(block) => {
                 self.out = Some(task);
-                state
+                block
             }
             None => unreachable!(),
         }
     }
 
     /// Ends the poll of a visit, and puts the state of its task back.
-    pub(crate) fn answer(&mut self, task: u64, state: T, kind: AnswerKind)
+    pub(crate) fn answer(&mut self, task: u64, block: Vec<T>, kind: AnswerKind)
         requires may { MayAnswer self.old.told.state task kind }
         requires kind { kind ≢ AnswerKind.Ended }
         requires ready { kind ≢ AnswerKind.Ready }
         requires out { self.old.out ≡ Some task }
-        ensures { self.new ≡ record self.old { told = pushed self.old.told (Entry.Answer task kind); held = put task state self.old.held; out = None } }
+        requires one { length block.items ≡ 1 }
+        ensures { self.new ≡ record self.old { told = pushed self.old.told (Entry.Answer task kind); held = put_top task block.items self.old.held; out = None } }
     {
         self.machine.answer(task, kind);
-        self.tasks.put(task, state);
+        self.tasks.put(task, block);
         self.out = None;
     }
 

@@ -1,6 +1,7 @@
 use Rattle.std.proofs.Common.{◌≡◌, sym, ◌∙◌, refl}
 use Rattle.rt_model.specs.Tied.{with_first, Steps}
 use Rattle.rt_machine.specs.Places.{number_of}
+use Rattle.rt_world.proofs.Blocks.{popped}
 use Rattle.rt_world.proofs.Follows.{ended-tied, ended-broken}
 use Rattle.rt_world.proofs.Fronts.{front-ended}
 use Rattle.rt_world.proofs.Walked.{spent-fresh, spent-short, long}
@@ -9,28 +10,32 @@ use Rattle.rt_world.proofs.ends.World+T+T+Output+G.end_task.Goals as goal
 pub returns-then-lacked-clause-agrees : goal.returns-then-lacked-clause-agrees
 returns-then-lacked-clause-agrees g c first whole output unmade f =
     let p : Steps g.row.T.Denot g.row.T-Output.Denot = with_first g.T.Task.steps first in
-    let taken = rw c.ends_next.ensures.same at c.take_state-state.ensures.rest in
-    let state = rw c.ends_next.ensures.same at c.take_state-state.ensures.state in
-    let number : number_of c.take_state-state.new.self.out ≡ c.in_ok-task.task = rw taken refl in
+    let block = c.take_state-block in
+    let there = block.ensures.state ∙ popped block.result.items c.pop.new.self.items c.in-Some.state block.ensures.one c.in-Some.ensures.items in
+    let taken = rw c.ends_next.ensures.same at c.take_state-block.ensures.rest in
+    let state = rw c.ends_next.ensures.same at there in
+    let number : number_of c.take_state-block.new.self.out ≡ c.in_ok-task.task = rw taken refl in
     rw (c.task_ended.ensures, c.take_short-lacked.ensures.gone)
-    (ended-broken p c.args.self.now c.take_state-state.new.self c.end.new.world c.in_ok-task.task c.take_state-state.result taken c.requires.calls c.end.ensures.kept c.facts.ensures.calls c.facts.ensures.state output unmade whole state
-    (rw number at (spent-short c.take_state-state.new.self c.end.new.world _ (rw taken c.requires.turns) (rw taken c.requires.lacked) (sym c.take_short-lacked.ensures.was ∙ c.if-lacked.true) c.end.ensures.steps)) f)
+    (ended-broken p c.args.self.now c.take_state-block.new.self c.end.new.world c.in_ok-task.task c.in-Some.state taken c.requires.calls c.end.ensures.kept c.facts.ensures.calls c.facts.ensures.state output unmade whole state
+    (rw number at (spent-short c.take_state-block.new.self c.end.new.world _ (rw taken c.requires.turns) (rw taken c.requires.lacked) (sym c.take_short-lacked.ensures.was ∙ c.if-lacked.true) c.end.ensures.steps)) f)
 
 pub returns-clause-agrees : goal.returns-clause-agrees
 returns-clause-agrees g c first whole output unmade f =
     let p : Steps g.row.T.Denot g.row.T-Output.Denot = with_first g.T.Task.steps first in
-    let taken = rw c.ends_next.ensures.same at c.take_state-state.ensures.rest in
-    let state = rw c.ends_next.ensures.same at c.take_state-state.ensures.state in
-    let number : number_of c.take_state-state.new.self.out ≡ c.in_ok-task.task = rw taken refl in
+    let block = c.take_state-block in
+    let there = block.ensures.state ∙ popped block.result.items c.pop.new.self.items c.in-Some.state block.ensures.one c.in-Some.ensures.items in
+    let taken = rw c.ends_next.ensures.same at c.take_state-block.ensures.rest in
+    let state = rw c.ends_next.ensures.same at there in
+    let number : number_of c.take_state-block.new.self.out ≡ c.in_ok-task.task = rw taken refl in
     rw (c.task_ended.ensures, c.take_short-lacked.ensures.gone)
-    (ended-tied p c.args.self.now c.take_state-state.new.self c.end.new.world c.in_ok-task.task c.take_state-state.result taken c.requires.calls c.end.ensures.kept c.facts.ensures.calls c.facts.ensures.state output unmade whole state (rw number at (spent-fresh c.take_state-state.new.self c.end.new.world _ (rw taken c.requires.turns) (long (sym c.if-lacked.false ∙ c.take_short-lacked.ensures.was)) c.end.ensures.steps)) f)
+    (ended-tied p c.args.self.now c.take_state-block.new.self c.end.new.world c.in_ok-task.task c.in-Some.state taken c.requires.calls c.end.ensures.kept c.facts.ensures.calls c.facts.ensures.state output unmade whole state (rw number at (spent-fresh c.take_state-block.new.self c.end.new.world _ (rw taken c.requires.turns) (long (sym c.if-lacked.false ∙ c.take_short-lacked.ensures.was)) c.end.ensures.steps)) f)
 
 pub returns-then-lacked-clause-front : goal.returns-then-lacked-clause-front
 returns-then-lacked-clause-front g c =
-    front-ended c.args.self.now c.take_state-state.new.self c.end.new.world c.in_ok-task.task c.requires.calls (rw c.ends_next.ensures.same at c.take_state-state.ensures.rest) c.end.ensures.kept c.task_ended.new.self.told
+    front-ended c.args.self.now c.take_state-block.new.self c.end.new.world c.in_ok-task.task c.requires.calls (rw c.ends_next.ensures.same at c.take_state-block.ensures.rest) c.end.ensures.kept c.task_ended.new.self.told
     (rw (c.task_ended.ensures, c.take_short-lacked.ensures.gone) refl)
 
 pub returns-clause-front : goal.returns-clause-front
 returns-clause-front g c =
-    front-ended c.args.self.now c.take_state-state.new.self c.end.new.world c.in_ok-task.task c.requires.calls (rw c.ends_next.ensures.same at c.take_state-state.ensures.rest) c.end.ensures.kept c.task_ended.new.self.told
+    front-ended c.args.self.now c.take_state-block.new.self c.end.new.world c.in_ok-task.task c.requires.calls (rw c.ends_next.ensures.same at c.take_state-block.ensures.rest) c.end.ensures.kept c.task_ended.new.self.told
     (rw (c.task_ended.ensures, c.take_short-lacked.ensures.gone) refl)

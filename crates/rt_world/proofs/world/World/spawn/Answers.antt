@@ -14,24 +14,24 @@ use Rattle.rt_world.proofs.world.World.spawn.Goals as goal
 pub returns-in-Err-clause-err : goal.returns-in-Err-clause-err
 returns-in-Err-clause-err g c made =
     let w = c.self.inside in
-    rw (← c.self.view_is) (refused-spawn w.machine c.spawn.new.self _ _ w.panic w.out w.rng c.args.node c.args.execution made c.in-Err.error (rw (c.reserve_places.ensures.tasks, c.reserve_places.ensures.outputs, c.reserve_places.ensures.executions) refl) c.in-Err.ensures.err)
+    rw (← c.self.view_is) (refused-spawn w.machine c.spawn.new.self _ _ w.panic w.out w.rng c.args.node c.args.execution made c.in-Err.error (rw (c.reserve_places-reserved.ensures.tasks, c.reserve_places-reserved.ensures.outputs, c.reserve_places-reserved.ensures.executions) refl) c.in-Err.ensures.err)
 
 pub returns-in-Err-clause-called : goal.returns-in-Err-clause-called
 returns-in-Err-clause-called g c made by =
     let w = c.self.inside in
-    rw (← c.self.view_is) (refused-calls w.machine c.spawn.new.self _ _ w.panic w.out w.rng c.args.node c.args.execution made (c.in-Err.error, c.args.given) (rw (c.reserve_places.ensures.tasks, c.reserve_places.ensures.outputs, c.reserve_places.ensures.executions) refl) c.in-Err.ensures.err)
+    rw (← c.self.view_is) (refused-calls w.machine c.spawn.new.self _ _ w.panic w.out w.rng c.args.node c.args.execution made (c.in-Err.error, c.args.given) (rw (c.reserve_places-reserved.ensures.tasks, c.reserve_places-reserved.ensures.outputs, c.reserve_places-reserved.ensures.executions) refl) c.in-Err.ensures.err)
 
 pub returns-in-Ok-None-clause-called : goal.returns-in-Ok-None-clause-called
 returns-in-Ok-None-clause-called g c made by =
     let w = c.self.inside in
-    rw (← c.self.view_is) (spawned-calls w.machine c.spawn.new.self _ _ w.panic w.out w.rng c.args.node c.args.execution made None (made-noted w.machine c.spawn.new.self _ _ w.panic w.out w.rng (Spawning c.args.node c.args.execution made) Closed (rw c.in-Ok-None.field-0-is at c.in-Ok-None.ensures.ok) (rw (c.reserve_places.ensures.tasks, c.reserve_places.ensures.outputs, c.reserve_places.ensures.executions) refl)))
+    rw (← c.self.view_is) (spawned-calls w.machine c.spawn.new.self _ _ w.panic w.out w.rng c.args.node c.args.execution made None (made-noted w.machine c.spawn.new.self _ _ w.panic w.out w.rng (Spawning c.args.node c.args.execution made) Closed (rw c.in-Ok-None.field-0-is at c.in-Ok-None.ensures.ok) (rw (c.reserve_places-reserved.ensures.tasks, c.reserve_places-reserved.ensures.outputs, c.reserve_places-reserved.ensures.executions) refl)))
 
 pub invariant_of-self-in-Ok-Some : goal.invariant_of-self-in-Ok-Some
 invariant_of-self-in-Ok-Some g c =
     let w = c.self.inside in
     let s = w.machine.told.state in
     let i = c.self.invariant.0 in
-    let r = c.reserve_places.ensures in
+    let r = c.reserve_places-reserved.ensures in
     let noted : Noted w.out w.machine c.spawn.new.self (Spawn c.args.node) (TaskAt c.in-Ok-Some.task c.in-Ok-Some.number) = rw c.in-Ok-Some.field-0-is at c.in-Ok-Some.ensures.ok in
     let task : c.in-Ok-Some.task ≡ w.tasks.next = spawns-next s c.args.node c.in-Ok-Some.task c.in-Ok-Some.number noted.answers ∙ sym i.next in
     let calls = rw (← c.self.view_is) at c.requires.calling in (
@@ -72,7 +72,7 @@ returns-in-Ok-Some-clause-kept g c =
 pub returns-in-Ok-Some-clause-called : goal.returns-in-Ok-Some-clause-called
 returns-in-Ok-Some-clause-called g c made by =
     let w = c.self.inside in
-    let r = c.reserve_places.ensures in
+    let r = c.reserve_places-reserved.ensures in
     let noted : Noted w.out w.machine c.spawn.new.self (Spawn c.args.node) (TaskAt c.in-Ok-Some.task c.in-Ok-Some.number) = rw c.in-Ok-Some.field-0-is at c.in-Ok-Some.ensures.ok in
     let task : c.in-Ok-Some.task ≡ w.tasks.next = spawns-next w.machine.told.state c.args.node c.in-Ok-Some.task c.in-Ok-Some.number noted.answers ∙ sym c.self.invariant.0.next in
     let state : c.make-state.result ≡ made c.in-Ok-Some.number = by c.in-Ok-Some.number c.make-state.result c.make-state.ensures in
@@ -84,5 +84,5 @@ returns-in-Ok-Some-clause-called g c made by =
 pub returns-in_default-clause-called : goal.returns-in_default-clause-called
 returns-in_default-clause-called g c made by =
     let w = c.self.inside in
-    let r = c.reserve_places.ensures in
+    let r = c.reserve_places-reserved.ensures in
     rw (← c.self.view_is) (refused-calls w.machine c.lack.new.self _ _ w.panic w.out w.rng c.args.node c.args.execution made (NoMemory, c.args.given) (rw (r.tasks, r.outputs, r.executions) refl) (inl (refl, c.lack.ensures)))
