@@ -27,7 +27,7 @@ abbrev pub begin_by : ℕ → Option ℕ → ℕ → Begin
 begin_by cycle deadline first = record { start = 0; cycle = cycle; deadline = deadline; first = first; catch = false }
 
 -- an end that closes the root's node
-abbrev pub closes_node : {A : Type 0} → Last A ℕ
+abbrev pub closes_node : {A O : Type 0} → Last A O
 closes_node = Spends (Plainly (CloseNode 0)) (Gives tt tt)
 
 -- a root that is ready with this number at its first poll

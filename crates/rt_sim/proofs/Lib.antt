@@ -6,3 +6,4 @@ pub mod Programs
 pub mod Runs
 pub mod Scripts
 pub mod Written
+pub mod Worked
