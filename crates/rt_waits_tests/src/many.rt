@@ -1,0 +1,156 @@
+// Many things that wait at once, made before a root.
+
+ghost use Rattle.rt_model.specs.Rules.{MayCall};
+ghost use Rattle.rt_world.specs.Calls.{Kept};
+
+use crate::nap::Napper;
+use rand_chacha::ChaCha12Rng;
+use rand_core::SeedableRng;
+use rt_audit::{FinishCause, Journal};
+use rt_core::{
+    AbortOnDrop, AbortOnDropOf, Convert, Error, HandleOf, JoinAll, NoMemory, NoPoller, Poller,
+    Signaler,
+};
+use rt_model::Begin;
+use rt_super::Stopped;
+use rt_world::WorldOf;
+use std::alloc::Global;
+use std::process::Abort;
+use std::test::Fail;
+
+/// How many of each there are at once.
+const MANY: usize = 1_000;
+
+/// The world of a run whose maker is under way.
+type Making = WorldOf<Napper, ChaCha12Rng>;
+
+/// Makes so many slots, and gives their ends up once all are made. Answers whether all were made.
+#[tactic(auto, using(rt_world::proofs::Walked::close_laws))]
+fn makes_slots(world: &mut Making, left: usize) -> bool
+    requires { MayCall world.old.told.state world.old.out }
+    ensures { Kept world.old world.new }
+{
+    if left == 0 {
+        return true;
+    }
+    let Ok((sender, receiver)) = world.result_slot() else {
+        return false;
+    };
+    let all = makes_slots(world, left - 1);
+    sender.give_up(world);
+    receiver.give_up(world);
+    all
+}
+
+/// Makes so many groups of signals, and gives them up once all are made. Answers whether all were made.
+#[tactic(auto, using(rt_world::proofs::Walked::close_laws))]
+fn makes_groups(world: &mut Making, left: usize) -> bool
+    requires { MayCall world.old.told.state world.old.out }
+    ensures { Kept world.old world.new }
+{
+    if left == 0 {
+        return true;
+    }
+    let Ok((signaler, signal)) = Signaler::new(world) else {
+        return false;
+    };
+    let all = makes_groups(world, left - 1);
+    signaler.give_up(world);
+    signal.give_up(world);
+    all
+}
+
+/// Makes so many signals of the shutdown, and gives them up once all are made. Answers whether all were made.
+#[tactic(auto, using(rt_world::proofs::Walked::close_laws))]
+fn waits_for_the_shutdown(world: &mut Making, left: usize) -> bool
+    requires { MayCall world.old.told.state world.old.out }
+    ensures { Kept world.old world.new }
+{
+    if left == 0 {
+        return true;
+    }
+    let Ok(Stopped::Waiting(signal)) = world.stopped() else {
+        return false;
+    };
+    let all = waits_for_the_shutdown(world, left - 1);
+    world.close_signal(signal);
+    all
+}
+
+/// Takes each number.
+#[derive(Clone, Copy)]
+struct Takes;
+
+impl Convert<u64, u64> for Takes {
+    ghost use Rattle.std.specs.Prelude.{Ok};
+
+    ghost converted = { λ takes number. Ok number };
+
+    fn convert(&self, output: u64) -> Result<u64, Error> {
+        Ok(output)
+    }
+}
+
+/// A group of so many numbers.
+fn grouped<R: Abort>(rt: &R, alloc: Global, count: usize) -> JoinAll<Napper, NoPoller, u64, Takes> {
+    let mut guards: Vec<AbortOnDrop<Napper>> = Vec::new(alloc);
+    for number in 0..count {
+        match guards.push(HandleOf::ready(Ok(number as u64)).abort_on_drop()) {
+            Ok(()) => {}
+            Err(_left) => panic!(rt; "out of memory"),
+        }
+    }
+    match AbortOnDropOf::join_all(guards, Takes) {
+        Ok(group) => group,
+        Err(_refused) => panic!(rt; "out of memory"),
+    }
+}
+
+/// Makes a group of many, and gives it up.
+#[tactic(auto, using(rt_world::proofs::Walked::close_laws))]
+fn joins<R: Abort>(rt: &R, alloc: Global, world: &mut Making)
+    requires { MayCall world.old.told.state world.old.out }
+    ensures { Kept world.old world.new }
+{
+    grouped(rt, alloc, MANY).give_up(world);
+}
+
+/// Makes many of each. Answers whether all were made.
+#[tactic(auto, using(rt_world::proofs::Walked::close_laws))]
+fn makes_many<R: Abort>(rt: &R, alloc: Global, world: &mut Making) -> bool
+    requires { MayCall world.old.told.state world.old.out }
+    ensures { Kept world.old world.new }
+{
+    let slots = makes_slots(world, MANY);
+    let groups = makes_groups(world, MANY);
+    let signals = waits_for_the_shutdown(world, MANY);
+    joins(rt, alloc, world);
+    slots & groups & signals
+}
+
+/// Whether many of each are made, and how many entries their run has.
+#[tactic(auto, unfolding(rt_model::specs::Effects::after, rt_model::specs::State::begun))]
+fn made<R: Abort>(rt: &R, alloc: Global) -> Result<(bool, usize), NoMemory> {
+    let begin = Begin {
+        start: 0,
+        cycle: 1_000_000,
+        deadline: None,
+        first: 0,
+        catch: false,
+    };
+    let rng = ChaCha12Rng::seed_from_u64(1);
+    let Ok(mut world) = Making::begin(alloc, Journal::new(alloc), begin, rng) else {
+        return Err(NoMemory);
+    };
+    let made = makes_many(rt, alloc, &mut world);
+    let cause = world.cleanup_unmade(None, FinishCause::NoMemory);
+    let (journal, _, _) = world.into_parts();
+    Ok((made && cause == FinishCause::NoMemory, journal.len()))
+}
+
+#[test]
+fn many_of_each(rt: HostRuntime) -> Result<(), Fail> {
+    // the start, three entries for each slot, each group and each signal, and five of the cleanup
+    assert!(rt; made(&rt, rt.alloc())? == (true, 9_005));
+    Ok(())
+}

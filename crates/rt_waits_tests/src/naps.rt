@@ -1,0 +1,94 @@
+// A run of a task that polls a poller of one's own.
+
+use crate::nap::{Nap, Napper};
+use rt_audit::Journal;
+use rt_core::utils::reschedule;
+use rt_core::{Context, NoMemory, Rng, RootMaker, Runner, World};
+use std::alloc::Global;
+use std::test::Fail;
+
+/// Makes a napper whose sleep ends at 5 ms.
+#[derive(Clone, Copy)]
+struct RootNapper;
+
+#[tactic(auto, using(rt_world::proofs::Walked::maker_laws), unfolding(rt_core::specs::Pollers::sleep_until))]
+impl RootMaker<Napper> for RootNapper {
+    ghost use Rattle.rt_model.specs.Walk.{Gives};
+    ghost use Rattle.rt_core.specs.Contexts.{root_context};
+    ghost use Rattle.rt_core.specs.Pollers.{until, unqueued};
+
+    ghost first = { λ maker now. Gives tt (record { context = root_context; nap = record { sleep = until 5000000; turn = unqueued } }) };
+
+    fn make<G: Rng>(
+        self,
+        context: Context,
+        _world: &mut World<Napper, u64, G>,
+    ) -> Result<Napper, NoMemory> {
+        let Ok(sleep) = context.sleep_until(5_000_000) else {
+            unreachable!();
+        };
+        let turn = reschedule();
+        Ok(Napper {
+            context,
+            nap: Nap { sleep, turn },
+        })
+    }
+}
+
+/// The lines of a journal.
+pub(crate) fn lines(alloc: Global, journal: &Journal) -> Result<String, NoMemory> {
+    let mut text = String::new(alloc);
+    for entry in journal.entries() {
+        entry.add_to(alloc, &mut text)?;
+        text.push('\n')?;
+    }
+    Ok(text)
+}
+
+/// Whether the nap is over once its sleep is and the others had their turn.
+fn naps(alloc: Global) -> Result<bool, NoMemory> {
+    let expected = "\
+start 0 - 1000000 0
+root 0
+round 0
+visit 0
+event process_task 00000000000000000000000000000000 -
+call 0 sleep-poll 5000000 -> pending 0
+answer 0 pending
+advance 1000000
+skip 5000000
+fire 0
+wake 0
+round 0
+visit 0
+event process_task 00000000000000000000000000000000 -
+call 0 sleep-poll 5000000 -> ready
+call 0 wake 0 -> ok
+wake 0
+answer 0 pending
+advance 6000000
+round 0
+visit 0
+event process_task 00000000000000000000000000000000 -
+call 0 sleep-poll 5000000 -> ready
+answer 0 ready
+cleanup
+nodeend 0
+call 0 close-node 0 -> ok
+answer 0 ended
+crash
+finish ok
+";
+    let Ok(finished) = Runner::default().start_and_recover::<Napper, RootNapper>(alloc, RootNapper)
+    else {
+        return Ok(false);
+    };
+    let text = lines(alloc, finished.checkpoint.journal())?;
+    Ok(finished.output == 7 && text.as_str() == expected)
+}
+
+#[test]
+fn a_poller_of_ones_own(rt: HostRuntime) -> Result<(), Fail> {
+    assert!(rt; naps(rt.alloc())?);
+    Ok(())
+}
