@@ -41,6 +41,15 @@ impl Order {
         Ok(Order { kind })
     }
 
+    /// These numbers. It takes no memory.
+    pub fn from_vec(numbers: Vec<u64>) -> Order
+        ensures { result ≡ numbers.items }
+    {
+        Order {
+            kind: OrderKind::Many(Items::of(numbers)),
+        }
+    }
+
     /// The numbers.
     #[inline(always)]
     pub fn as_slice(&self) -> &[u64]

@@ -1,27 +1,34 @@
 -- How a run has come to its outcome.
-use Rattle.std.proofs.Common.{◌≡◌, ◌⊎◌, ◌≢◌, ◌++◌, inl, inr, ℕ, List, refl, ap, ◌∙◌, sym, Bool, true, Option, Some, None, is_some, IfSome, Result, Ok, Err}
+use Rattle.std.proofs.Common.{◌≡◌, ◌⊎◌, ◌≢◌, ◌++◌, inl, inr, ℕ, List, [], refl, ap, ◌∙◌, sym, Bool, true, Option, Some, None, is_some, IfSome, Result, Ok, Err}
+use Rattle.rand_core.specs.Stream.{Stream}
 use Rattle.rt_audit.specs.declared.entry.Entry.{Entry}
+use Rattle.rt_audit.specs.declared.entry.Entry.TheVariants.{Root}
 use Rattle.rt_audit.specs.declared.finish.FinishCause.{FinishCause}
 use Rattle.rt_audit.specs.declared.finish.FinishCause.TheVariants.{Completed, Timeout, Stalled, TaskPanicked, TimeOverflow, TooManyTasks, NoMemory}
 use Rattle.rt_model.specs.declared.begin.Begin.{Begin}
 use Rattle.rt_model.specs.State.{State, Clock, Finished, begun, stood_in}
-use Rattle.rt_model.specs.Effects.{after_all}
+use Rattle.rt_model.specs.Draws.{drawn_in}
+use Rattle.rt_model.specs.Effects.{after, after_all}
 use Rattle.rt_model.specs.Rules.{IsLawful}
 use Rattle.rt_model.specs.Walk.{Walks, Fronts, Breaks}
 use Rattle.rt_model.specs.Causes.{reached}
 use Rattle.rt_model.specs.Tied.{Steps, Value}
 use Rattle.rt_model.specs.Run.{IsRun, IsCutOff, IsValidInput}
-use Rattle.rt_machine.specs.Told.{own}
+use Rattle.rt_model.specs.Turns.{Held}
+use Rattle.rt_model.proofs.Append.{drawn_in-append}
+use Rattle.rt_machine.specs.Draws.{Gave}
+use Rattle.rt_machine.specs.Told.{Told, AreCalls, own, pushed}
 use Rattle.rt_core.specs.Failures.{finish_of, text_of}
 use Rattle.rt_core.specs.declared.run_error.RunError.{RunError}
 use Rattle.rt_core.specs.declared.run_error.RunError.TheVariants.{Timeout as IsTimeout, Stalled as IsStalled, TaskPanicked as HasPanicked, TimeOverflow as IsTimeOverflow, TooManyTasks as AreTooManyTasks, NoMemory as IsNoMemory}
-use Rattle.rt_world.specs.World.{World}
+use Rattle.rt_world.specs.World.{World, Draws}
 use Rattle.rt_world.specs.Calls.{Kept}
 use Rattle.rt_world.specs.Follows.{Follows, Agrees, IsMade, IsUnmade, unmade_of, value_of}
-use Rattle.rt_world.specs.Rounds.{EndAgrees}
-use Rattle.rt_world.specs.Ends.{EndsFor}
+use Rattle.rt_world.specs.Rounds.{EndAgrees, Runs}
+use Rattle.rt_world.specs.Ends.{EndsFor, IsFinal, Seals}
+use Rattle.rt_world.proofs.Fronts.{draws-draws, draws-front, front-kept, front-pushed}
 use Rattle.rt_world.proofs.Texts.{ends-with-text}
-use Rattle.rt_core.specs.Outcome.{Ended, Completes, FailedFor}
+use Rattle.rt_core.specs.Outcome.{Ended, Completes, FailedFor, Leaves}
 
 module _ {A O G : Type 0} (p : Steps A O) (w : World A O G) where
   -- a run that was whole up to its cleanup
@@ -65,7 +72,68 @@ made p old new root kept follows walks = record {
   walks = rw (ap (λ (c : Clock). c.time) kept.clock) walks;
 }
 
-pub ruleset outcome_laws = (ended-whole, ended-cut)
+-- what was drawn in all entries, where nothing was before
+pub gave-own : (from left : Stream) (t u : Told) → Draws from left t u → drawn_in (own t) ≡ [] → Gave from (drawn_in (own u)) left
+gave-own from left t u d none = rw (d.are, drawn_in-append (own t) d.more, none) d.gave
+
+module _ {A O G : Type 0} (stream : G → Stream) (a b c : World A O G) where
+  -- rounds were made, and then the run was cleaned up
+  pub leaves-rounds : (cause : FinishCause) → Runs stream a b → Seals b c → c.told.state.phase ≡ Finished cause → Leaves stream a c cause
+  leaves-rounds cause runs seals phase = record {
+    phase = phase;
+    given = seals.given ∙ runs.given;
+    begin = seals.begin ∙ runs.begin;
+    fixed = ap (λ (x : Clock). x.fixed) seals.clock ∙ runs.fixed;
+    draws = rw seals.rng (draws-draws (stream a.rng) (stream b.rng) (stream b.rng) a.told b.told c.told runs.draws (draws-front (stream b.rng) b.told c.told seals.front));
+    tasks = seals.tasks;
+  }
+
+  -- calls were made first
+  pub leaves-made : (cause : FinishCause) → a.told.calls ≡ [] → AreCalls b.told.calls → Kept a b → Leaves stream b c cause → Leaves stream a c cause
+  leaves-made cause none calls kept leaves = record {
+    phase = leaves.phase;
+    given = leaves.given ∙ kept.given;
+    begin = leaves.begin ∙ kept.begin;
+    fixed = leaves.fixed ∙ ap (λ (x : Clock). x.fixed) kept.clock;
+    draws = draws-draws (stream a.rng) (stream b.rng) (stream c.rng) a.told b.told c.told (rw kept.rng (draws-front (stream a.rng) a.told b.told (front-kept a b none calls kept))) leaves.draws;
+    tasks = leaves.tasks;
+  }
+
+  -- the root was taken in first
+  pub leaves-taken : (cause : FinishCause) (task : ℕ) (held : Held A O) → b ≡ record a { told = pushed a.told (Root task); held = held } → Leaves stream b c cause → Leaves stream a c cause
+  unfolding after
+  leaves-taken cause task held e leaves =
+      let rng : b.rng ≡ a.rng = ap (λ (w : World A O G). w.rng) e in
+      let told : b.told ≡ pushed a.told (Root task) = ap (λ (w : World A O G). w.told) e in
+      record {
+        phase = leaves.phase;
+        given = leaves.given ∙ ap (λ (t : Told). t.given) told;
+        begin = leaves.begin ∙ ap (λ (t : Told). t.begin) told;
+        fixed = leaves.fixed ∙ ap (λ (t : Told). t.state.clock.fixed) told;
+        draws = draws-draws (stream a.rng) (stream b.rng) (stream c.rng) a.told b.told c.told (rw rng (draws-front (stream a.rng) a.told b.told (front-pushed a.told b.told (Root task) refl told))) leaves.draws;
+        tasks = leaves.tasks;
+      }
+
+-- the run was cleaned up where it stood
+pub leaves-sealed : {A O G : Type 0} (stream : G → Stream) (a c : World A O G) (cause : FinishCause) → Seals a c → c.told.state.phase ≡ Finished cause → Leaves stream a c cause
+leaves-sealed stream a c cause seals phase = record {
+  phase = phase;
+  given = seals.given;
+  begin = seals.begin;
+  fixed = ap (λ (x : Clock). x.fixed) seals.clock;
+  draws = rw seals.rng (draws-front (stream a.rng) a.told c.told seals.front);
+  tasks = seals.tasks;
+}
+
+final-lacks : (final : FinishCause) → IsFinal NoMemory final → final ≡ NoMemory
+final-lacks final (inl e) = e
+final-lacks final (inr e) = e
+
+-- a maker that lacked memory, and the run was cleaned up
+pub leaves-unmade : {A O G : Type 0} (stream : G → Stream) (a b c : World A O G) (final : FinishCause) → a.told.calls ≡ [] → AreCalls b.told.calls → Kept a b → Seals b c → c.told.state.phase ≡ Finished final → IsFinal NoMemory final → Leaves stream a c NoMemory
+leaves-unmade stream a b c final none calls kept seals phase is = leaves-made stream a b c NoMemory none calls kept (leaves-sealed stream b c NoMemory seals (phase ∙ ap Finished (final-lacks final is)))
+
+pub ruleset outcome_laws = (ended-whole, ended-cut, leaves-rounds, leaves-made, leaves-taken, leaves-sealed)
 
 -- a world at the end of its run, which is lawful and began so
 module _ {A O G : Type 0} (p : Steps A O) (begin : Begin) (w : World A O G) (lawful : IsLawful (begun begin) (own w.told)) (state : w.told.state ≡ after_all (begun begin) (own w.told)) (is : w.told.begin ≡ begin) where
@@ -116,8 +184,8 @@ module _ {A O G : Type 0} (p : Steps A O) (begin : Begin) (w : World A O G) (law
       ends-with-text p begin (own w.told) (value_of w e.last None e.whole) lawful (rw is at e.agrees.tied)
       (ap reached (sym state) ∙ rw ends refl ∙ ap Some panicked)
 
-  pub completes : (given journal : List Entry) (rng : G) (output : O) (time cycle : ℕ) (deadline : Option ℕ) (catch : Bool) → w.told.state.phase ≡ Finished Completed → Ended p w Completed (Some output) → journal ≡ given ++ own w.told → time ≡ w.told.state.clock.time → w.told.state.clock.fixed ≡ begin → begin.cycle ≡ cycle → begin.deadline ≡ deadline → begin.catch ≡ catch → Completes p (record { begin = begin; given = given; rng = rng }) output (record { time = time; deadline = deadline; cycle = cycle; catch = catch; journal = journal; rng = rng })
-  completes given journal rng output time cycle deadline catch ends e extends at fixed one two three =
+  pub completes : (stream : G → Stream) (given journal : List Entry) (rng kept : G) (output : O) (time cycle : ℕ) (deadline : Option ℕ) (catch : Bool) → w.told.state.phase ≡ Finished Completed → Ended p w Completed (Some output) → journal ≡ given ++ own w.told → time ≡ w.told.state.clock.time → w.told.state.clock.fixed ≡ begin → Gave (stream rng) (drawn_in (own w.told)) (stream kept) → begin.cycle ≡ cycle → begin.deadline ≡ deadline → begin.catch ≡ catch → Completes stream p (record { begin = begin; given = given; rng = rng }) output (record { time = time; deadline = deadline; cycle = cycle; catch = catch; journal = journal; rng = kept })
+  completes stream given journal rng kept output time cycle deadline catch ends e extends at fixed draws one two three =
       let r = is_run Completed (Some output) ends e (λ h. cc) in
       record {
         entries = own w.told;
@@ -126,6 +194,7 @@ module _ {A O G : Type 0} (p : Steps A O) (begin : Begin) (w : World A O G) (law
         run = r.1;
         gives = r.2;
         keeps = rw (extends, at, ← one, ← two, ← three, ← fixed) refl;
+        draws = draws;
       }
 
 -- valid input fails only where it is out of memory

@@ -1,17 +1,20 @@
 -- What a run has come to.
 use Rattle.std.specs.Prelude.{◌≡◌, ◌≤◌, ◌⊎◌, ◌++◌, List, [], Bool, true, Option, Some, None, Result, Ok, Err}
+use Rattle.rand_core.specs.Stream.{Stream}
 use Rattle.rt_audit.specs.declared.entry.Entry.{Entry}
 use Rattle.rt_audit.specs.declared.finish.FinishCause.{FinishCause}
 use Rattle.rt_audit.specs.declared.finish.FinishCause.TheVariants.{Completed, TaskPanicked, NoMemory}
 use Rattle.rt_model.specs.declared.begin.Begin.{Begin}
 use Rattle.rt_model.specs.State.{State, Finished, begun}
+use Rattle.rt_model.specs.Draws.{drawn_in}
 use Rattle.rt_model.specs.Rules.{AreDrawn}
 use Rattle.rt_model.specs.Tied.{Steps, Value}
 use Rattle.rt_model.specs.Run.{IsRun, FailedBy}
 use Rattle.rt_core.specs.Failures.{finish_of}
 use Rattle.rt_core.specs.declared.run_error.RunError.{RunError}
 use Rattle.rt_core.specs.declared.run_error.RunError.TheVariants.{TaskPanicked as HasPanicked}
-use Rattle.rt_world.specs.World.{World}
+use Rattle.rt_machine.specs.Draws.{Gave}
+use Rattle.rt_world.specs.World.{World, Draws}
 use Rattle.rt_world.specs.Follows.{Agrees}
 use Rattle.rt_core.specs.Starting.{Starting, Kept}
 
@@ -26,14 +29,15 @@ kept_of end journal rng = record {
   rng = rng;
 }
 
--- a run from this beginning gave this output, and this is kept of it. Nothing was drawn from the generator
-pub record Completes {A O G : Type 0} (p : Steps A O) (s : Starting G) (output : O) (kept : Kept G) : Type 0 where
+-- a run from this beginning gave this output, and this is kept of it. The generator gave what was drawn, and is kept as that left it
+pub record Completes {A O G : Type 0} (stream : G → Stream) (p : Steps A O) (s : Starting G) (output : O) (kept : Kept G) : Type 0 where
   pub entries : List Entry
   pub end : State
   pub value : Value A O
   pub run : IsRun p s.begin entries Completed end value
   pub gives : value.output ≡ Some output
-  pub keeps : kept ≡ kept_of end (s.given ++ entries) s.rng
+  pub keeps : kept ≡ kept_of end (s.given ++ entries) kept.rng
+  pub draws : Gave (stream s.rng) (drawn_in entries) (stream kept.rng)
 
 -- a run failed so. Where it ended by a panic, this was its text
 abbrev pub FailedFor : {A O : Type 0} → Steps A O → Begin → List Entry → RunError → Type 0
@@ -47,11 +51,14 @@ pub record Fails {A O G : Type 0} (p : Steps A O) (s : Starting G) (journal : Li
   pub extends : journal ≡ s.given ++ entries
   pub failed : FailedFor p s.begin entries error
 
--- each round of the entries behind the given ones visits the ready list as it stands
-pub record DrawsNothing {G : Type 0} (s : Starting G) (journal : List Entry) : Type 0 where
+-- each round of the entries behind the given ones visits the ready list as the draws before it shuffle it, and these are the next
+-- that the generator gives
+pub record AreShuffled {G : Type 0} (stream : G → Stream) (s : Starting G) (journal : List Entry) : Type 0 where
   pub entries : List Entry
   pub extends : journal ≡ s.given ++ entries
   pub drawn : AreDrawn (begun s.begin) entries
+  pub left : Stream
+  pub draws : Gave (stream s.rng) (drawn_in entries) left
 
 -- a world that can go on: no task is out of it, no call has lacked memory, no panic is kept, and a cycle takes time
 pub record IsReady {A O G : Type 0} (w : World A O G) : Type 0 where
@@ -60,13 +67,13 @@ pub record IsReady {A O G : Type 0} (w : World A O G) : Type 0 where
   pub calm : w.panic ≡ None
   pub cycle : 1 ≤ w.told.state.clock.fixed.cycle
 
--- the run under way is finished for this cause, as the one that began so. No task is left
-pub record Leaves {A O G : Type 0} (old new : World A O G) (cause : FinishCause) : Type 0 where
+-- the run under way is finished for this cause, as the one that began so, and the generator gave what was drawn. No task is left
+pub record Leaves {A O G : Type 0} (stream : G → Stream) (old new : World A O G) (cause : FinishCause) : Type 0 where
   pub phase : new.told.state.phase ≡ Finished cause
   pub given : new.told.given ≡ old.told.given
   pub begin : new.told.begin ≡ old.told.begin
   pub fixed : new.told.state.clock.fixed ≡ old.told.state.clock.fixed
-  pub rng : new.rng ≡ old.rng
+  pub draws : Draws (stream old.rng) (stream new.rng) old.told new.told
   pub tasks : new.held.tasks ≡ []
 
 -- a world at the end of its run

@@ -1,7 +1,9 @@
 -- How a run begins, and the settings for which it may.
 use Rattle.std.specs.Prelude.{◌≡◌, ◌≤◌, ◌+◌, ℕ, List, Option, Some, None, Bool, ltb, eqb, if◌then◌else◌, Result, Ok, Err}
 use Rattle.rand_core.specs.Pcg32Seed.{pcg32_seed}
-use Rattle.rand_chacha.specs.ChaCha.{ChaCha, of_seed}
+use Rattle.rand_core.specs.Steps.{steps_u32, stream_of}
+use Rattle.rand_core.specs.Stream.{Stream}
+use Rattle.rand_chacha.specs.ChaCha.{ChaCha, of_seed, next_word}
 use Rattle.rt_base.specs.declared.time.TheConstants.{MAX_TIME}
 use Rattle.rt_audit.specs.declared.entry.Entry.{Entry}
 use Rattle.rt_model.specs.declared.begin.Begin.{Begin}
@@ -28,6 +30,10 @@ assert_of cycle start timeout =
 -- the generator of this seed
 abbrev pub seeded : ℕ → ChaCha
 seeded seed = of_seed (pcg32_seed 32 seed)
+
+-- what a generator of ChaCha with 12 rounds gives
+abbrev pub chacha_stream : ChaCha → Stream
+chacha_stream = stream_of (steps_u32 (next_word 6))
 
 -- the seed of a generator that nobody chose
 abbrev pub default_seed : ℕ

@@ -261,6 +261,7 @@ start 0 - 1000000 0
 call - child 0 left -> node 1
 call - spawn 1 -> task 0 node 2
 root 1
+draw 17971643333364160609
 round 0 1
 visit 0
 event process_task 00000000000000000000000000000000 6c656674
@@ -299,7 +300,7 @@ finish ok
         takes: Takes,
         fails: true,
     };
-    let Ok(finished) = Runner::default().start_and_recover::<Gatherer, RootParent<R>>(alloc, maker)
+    let Ok(finished) = Runner::seeded(1).start_and_recover::<Gatherer, RootParent<R>>(alloc, maker)
     else {
         return Ok(false);
     };
@@ -315,6 +316,7 @@ start 0 - 1000000 0
 call - child 0 left -> node 1
 call - spawn 1 -> task 0 node 2
 root 1
+draw 17971643333364160609
 round 0 1
 visit 0
 event process_task 00000000000000000000000000000000 6c656674
@@ -341,7 +343,7 @@ finish stalled
         takes: Takes,
         fails: false,
     };
-    let Err(failure) = Runner::default().start::<Gatherer, RootParent<R>>(alloc, maker) else {
+    let Err(failure) = Runner::seeded(1).start::<Gatherer, RootParent<R>>(alloc, maker) else {
         return Ok(false);
     };
     let Failure { cause, journal } = failure;

@@ -5,7 +5,7 @@ ghost use Rattle.rt_model.specs.Tied.{with_first};
 ghost use Rattle.rt_model.specs.Run.{IsValidInput};
 ghost use Rattle.rt_core.specs.Starting.{assert_of, deadline_of, default_seed, first_begin, resumed, seeded, IsWithin, Kept};
 ghost use Rattle.rt_core.specs.Given.{entries_of};
-ghost use Rattle.rt_core.specs.Outcome.{Completes, Fails, DrawsNothing};
+ghost use Rattle.rt_core.specs.Outcome.{Completes, Fails, AreShuffled};
 
 use crate::running::{error_of, run_maker};
 use crate::{Checkpoint, Config, ConfigError, Failure, Finished, RootMaker, RunError};
@@ -83,9 +83,9 @@ impl<G: Rng + Drop> Runner<G> {
         alloc: Global,
         maker: M,
     ) -> Result<Finished<T::Output, G>, Failure>
-        ensures run { IfOk result (λ f. Completes (with_first T.steps (M.first maker)) self f.output f.checkpoint) }
+        ensures run { IfOk result (λ f. Completes G.stream (with_first T.steps (M.first maker)) self f.output f.checkpoint) }
         ensures failure { IfErr result (λ f. Fails (with_first T.steps (M.first maker)) self f.journal.entries f.cause) }
-        ensures orders { MatchResult result (λ f. DrawsNothing self f.checkpoint.journal) (λ f. DrawsNothing self f.journal.entries) }
+        ensures orders { MatchResult result (λ f. AreShuffled G.stream self f.checkpoint.journal) (λ f. AreShuffled G.stream self f.journal.entries) }
         ensures complete { IsValidInput (with_first T.steps (M.first maker)) self.begin → IfErr result (λ f. f.cause ≡ RunError.NoMemory) }
     {
         let Runner {
@@ -127,6 +127,15 @@ impl<G: Rng + Drop> Runner<G> {
     }
 }
 
+impl<G: Drop> Runner<G> {
+    /// The entries of the runs before, where none is to follow.
+    pub fn into_journal(self, alloc: Global) -> Journal
+        ensures { result.entries ≡ self.given }
+    {
+        given_journal(alloc, self.journal)
+    }
+}
+
 impl<G: Rng + Drop> Runner<G> {
     /// The output of [`start_and_recover`](Self::start_and_recover), or its failure.
     pub fn start<T: Task, M: RootMaker<T> + Drop>(
@@ -134,9 +143,9 @@ impl<G: Rng + Drop> Runner<G> {
         alloc: Global,
         maker: M,
     ) -> Result<T::Output, Failure>
-        ensures run { IfOk result (λ output. (kept : Kept G) × Completes (with_first T.steps (M.first maker)) self output kept × DrawsNothing self kept.journal) }
+        ensures run { IfOk result (λ output. (kept : Kept G) × Completes G.stream (with_first T.steps (M.first maker)) self output kept × AreShuffled G.stream self kept.journal) }
         ensures failure { IfErr result (λ f. Fails (with_first T.steps (M.first maker)) self f.journal.entries f.cause) }
-        ensures orders { IfErr result (λ f. DrawsNothing self f.journal.entries) }
+        ensures orders { IfErr result (λ f. AreShuffled G.stream self f.journal.entries) }
         ensures complete { IsValidInput (with_first T.steps (M.first maker)) self.begin → IfErr result (λ f. f.cause ≡ RunError.NoMemory) }
     {
         match self.start_and_recover::<T, M>(alloc, maker) {

@@ -51,7 +51,7 @@ pub fn error_of(cause: FinishCause, panic: Option<Text>) -> RunError
 fn run_root<T: Task, G: Rng>(world: &mut World<T, T::Output, G>) -> Result<T::Output, FinishCause>
     requires phase { world.old.told.state.phase ≡ Between }
     requires ready { IsReady world.old }
-    ensures leaves { Leaves world.old world.new (cause_of_outcome result) }
+    ensures leaves { Leaves G.stream world.old world.new (cause_of_outcome result) }
     ensures failed { IfErr result (λ cause. cause ≢ FinishCause.Completed) }
     ensures agrees { (first : First T T.Output) → Agrees (with_first T.steps first) true world.old None → OutcomeEnds (with_first T.steps first) world.new result }
 {
@@ -71,7 +71,7 @@ fn take_in<T: Task, G: Rng>(
     requires phase { world.old.told.state.phase ≡ Making }
     requires root { world.old.told.state.root ≡ None }
     requires ready { IsReady world.old }
-    ensures leaves { Leaves world.old world.new (cause_of_outcome result) }
+    ensures leaves { Leaves G.stream world.old world.new (cause_of_outcome result) }
     ensures failed { IfErr result (λ cause. cause ≢ FinishCause.Completed) }
     ensures agrees { (first : First T T.Output) → IsMade (with_first T.steps first) world.old root → OutcomeEnds (with_first T.steps first) world.new result }
 {
@@ -102,7 +102,7 @@ pub fn run_maker<T: Task, M: RootMaker<T>, G: Rng>(
     requires turns { world.old.told.state.turns ≡ [] }
     requires root { world.old.told.state.root ≡ None }
     requires ready { IsReady world.old }
-    ensures leaves { Leaves world.old world.new (cause_of_outcome result) }
+    ensures leaves { Leaves G.stream world.old world.new (cause_of_outcome result) }
     ensures failed { IfErr result (λ cause. cause ≢ FinishCause.Completed) }
     ensures agrees { Agrees (with_first T.steps (M.first maker)) true world.old None → OutcomeEnds (with_first T.steps (M.first maker)) world.new result }
 {

@@ -293,6 +293,7 @@ call 0 wake 0 -> ok
 wake 0
 answer 0 pending
 advance 1000000
+draw 9713269763989775522
 round 0 0
 visit 0
 event process_task 00000000000000000000000000000000 -

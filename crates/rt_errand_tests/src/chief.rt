@@ -66,6 +66,7 @@ wake 0
 nodeend 1
 wake 1
 advance 5000000
+draw 17971643333364160609
 round 0 1
 visit 0
 event process_task 00000000000000000000000000000000 -
@@ -124,7 +125,7 @@ fn plays(
     for piece in pieces {
         lines.push_str(piece)?;
     }
-    let run = Runner::default().start_and_recover::<Chief, RootChief>(
+    let run = Runner::seeded(1).start_and_recover::<Chief, RootChief>(
         alloc,
         RootChief { plan, alloc },
     );

@@ -550,6 +550,7 @@ wake 0
 nodeend 1
 wake 1
 advance 3000000
+draw 17971643333364160609
 round 0 1
 visit 0
 event process_task 00000000000000000000000000000000 -
@@ -564,7 +565,7 @@ crash
 finish ok
 ",
     };
-    assert!(rt; crew_plays(rt.alloc(), Config::new(), expected)?);
+    assert!(rt; crew_plays(rt.alloc(), Config::new().with_seed(1), expected)?);
     Ok(())
 }
 
@@ -617,6 +618,7 @@ call - child 0 worker -> node 1
 call - spawn 1 -> task 0 node 2
 call - give-up 0 -> ok
 root 1
+draw 13982025701276292197
 round 0 1
 visit 0
 event process_task 00000000000000000000000000000000 776f726b6572
@@ -631,6 +633,7 @@ answer 1 pending
 advance 1000000
 fire 0
 wake 0
+draw 12267876948901788567
 round 2 0
 visit 2
 event process_task 00000000000000000000000000000002 776f726b6572
@@ -647,6 +650,7 @@ wake 0
 advance 2000000
 fire 1
 wake 2
+draw 14716511478505298219
 round 0 2
 visit 2
 event process_task 00000000000000000000000000000002 776f726b6572
@@ -658,6 +662,7 @@ wake 1
 nodeend 3
 wake 2
 advance 3000000
+draw 10219258475357177909
 round 1 2
 visit 1
 event process_task 00000000000000000000000000000001 -
@@ -673,7 +678,7 @@ finish ok
 ",
     };
     let root = RootPair { number: 7 };
-    let run = Runner::default().start_and_recover::<Crew, RootPair>(rt.alloc(), root);
+    let run = Runner::seeded(35).start_and_recover::<Crew, RootPair>(rt.alloc(), root);
     assert!(rt; is_as_expected(rt.alloc(), run, expected)?);
     Ok(())
 }

@@ -145,4 +145,4 @@ short_drawn due = search rules
 
 pub no_draw : (value : ℕ) → AreDrawn (begun small_begin) (drawn value) → ⊥
 unfolding begun after
-no_draw value d = d.1.1.0
+no_draw value d = let e = d.1.1.1.0.1 in cc

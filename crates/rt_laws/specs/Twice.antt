@@ -1,12 +1,12 @@
 -- A run in which a task is woken twice and ends at the first of its two visits, and what comes near to it.
-use Rattle.std.specs.Prelude.{ℕ, List, [], ◌∷◌, ◌++◌, Some, false}
+use Rattle.std.specs.Prelude.{ℕ, List, [], ◌∷◌, ◌++◌, map, Some, false}
 use Rattle.rt_base.specs.declared.execution.Execution.TheVariants.{Shared}
 use Rattle.rt_audit.specs.declared.call.Call.TheVariants.{Child, Join, GiveUp, Wake as WakeCall}
 use Rattle.rt_audit.specs.declared.reply.CallReply.TheVariants.{Done, NodeAt, TaskAt}
 use Rattle.rt_audit.specs.declared.answer.AnswerKind.TheVariants.{Pending as AnswersPending, Ready as AnswersReady}
 use Rattle.rt_audit.specs.declared.finish.FinishCause.TheVariants.{Completed}
 use Rattle.rt_audit.specs.declared.entry.Entry.{Entry}
-use Rattle.rt_audit.specs.declared.entry.Entry.TheVariants.{Call, Event, Wake, Round, Visit, Answer as Answered, NodeEnd, Advance}
+use Rattle.rt_audit.specs.declared.entry.Entry.TheVariants.{Call, Event, Wake, Draw, Round, Visit, Answer as Answered, NodeEnd, Advance}
 use Rattle.rt_model.specs.declared.answer.Answer.{Answer}
 use Rattle.rt_model.specs.declared.answer.Answer.TheVariants.{Pending, Ready}
 use Rattle.rt_model.specs.Events.{process_task, task_fields}
@@ -74,9 +74,9 @@ woken_twice =
     ++ visiting_task
     ++ (Call (Some 1) (WakeCall 1) Done ∷ Wake 1 ∷ Call (Some 1) (WakeCall 1) Done ∷ Wake 1 ∷ Answered 1 AnswersPending ∷ Advance 2000000 ∷ [])
 
--- the next round has this order
+-- this is drawn for the next round, and it has this order
 abbrev pub woken_in : List ℕ → List Entry
-woken_in order = woken_twice ++ (Round order ∷ [])
+woken_in order = woken_twice ++ (Draw 6 ∷ Round order ∷ [])
 
 -- its first visit in that round begins. Its number stands there once more
 abbrev pub visited_once : List Entry
@@ -86,9 +86,13 @@ visited_once = woken_in (1 ∷ 1 ∷ []) ++ visiting_task
 abbrev pub ended_behind : List Entry → List Entry
 ended_behind rest = visited_once ++ (Answered 1 AnswersReady ∷ []) ++ aborter_closes ++ (Wake 0 ∷ NodeEnd 1 ∷ rest)
 
--- where its number stands in this round again it is passed over, and the next round has this order
+-- where its number stands in this round again it is passed over. These are drawn for the next round, and it has this order
+abbrev pub passed_by : List ℕ → List ℕ → List Entry
+passed_by draws order = ended_behind (Wake 1 ∷ Advance 3000000 ∷ map Draw draws ++ Round order ∷ [])
+
+-- an odd draw leaves the last place as it is
 abbrev pub passed_in : List ℕ → List Entry
-passed_in order = ended_behind (Wake 1 ∷ Advance 3000000 ∷ Round order ∷ [])
+passed_in order = passed_by (7 ∷ []) order
 
 -- the root is handed the value, and waits for one round more
 abbrev pub waits_on : List Entry

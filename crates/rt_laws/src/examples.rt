@@ -66,7 +66,7 @@ pub fn each_other_cause_ends_a_run()
     ensures no_number { let b = begin_by 1000000 None (2 ^ 64 - 1) in IsRun pending_root b no_number_journal TooManyTasks (after_all (begun b) no_number_journal) nothing }
 {}
 
-/// The rounds of these runs follow the ready list as it stands, and none does that had a draw.
+/// The rounds of these runs have one number each and no draw, and none is drawn that has one.
 pub fn small_rounds_are_not_drawn()
     ensures ready { AreDrawn (begun small_begin) ready_journal }
     ensures skipped { (due : ℕ) → AreDrawn (begun small_begin) (skipped_journal due) }

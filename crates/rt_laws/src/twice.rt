@@ -1,6 +1,6 @@
 //! The definitions tried on a task that is woken twice.
 
-ghost use Rattle.std.specs.Prelude.{[], ◌∷◌};
+ghost use Rattle.std.specs.Prelude.{[], ◌∷◌, ℕ, List};
 ghost use Rattle.rt_audit.specs.declared.entry.Entry.TheVariants.{Wake, Visit, Advance};
 ghost use Rattle.rt_audit.specs.declared.finish.FinishCause.TheVariants.{Completed};
 ghost use Rattle.rt_model.specs.State.{begun};
@@ -9,7 +9,7 @@ ghost use Rattle.rt_model.specs.Rules.{IsLawful, AreDrawn};
 ghost use Rattle.rt_model.specs.Run.{IsRun};
 ghost use Rattle.rt_laws.specs.Examples.{small_begin};
 ghost use Rattle.rt_laws.specs.Supervised.{gave_beside};
-ghost use Rattle.rt_laws.specs.Twice.{twice_root, twice_journal, woken_in, ended_behind, passed_in, behind_root, pending_behind};
+ghost use Rattle.rt_laws.specs.Twice.{twice_root, twice_journal, woken_in, ended_behind, passed_by, passed_in, behind_root, pending_behind};
 
 /// A task that is woken twice stands twice in the next round. It is ready at its first visit, and its number is passed over
 /// at the second. It was left pending before, so the end of its node queues it: its number stands in the order of the round
@@ -19,8 +19,8 @@ pub fn a_task_that_is_woken_twice_has_its_run()
     ensures drawn { AreDrawn (begun small_begin) twice_journal }
 {}
 
-/// A round has the number of a task as often as that was woken, also of one that has ended, and without draws in its place. The
-/// end of the node of a task that was left pending wakes it. A task that has ended isn't visited again, neither in that round
+/// A round has the number of a task as often as that was woken, also of one that has ended, and in the place that the draws
+/// give it: one draw for each place but the first. The end of the node of a task that was left pending wakes it. A task that has ended isn't visited again, neither in that round
 /// nor in the next, and one that hasn't isn't passed over.
 pub fn near_misses_of_double_wakes_are_not_lawful()
     ensures queued_once { IsLawful (begun small_begin) (woken_in (1 ∷ [])) → ⊥ }
@@ -28,18 +28,22 @@ pub fn near_misses_of_double_wakes_are_not_lawful()
     ensures visited_again { IsLawful (begun small_begin) (ended_behind (Wake 1 ∷ Visit 1 ∷ [])) → ⊥ }
     ensures missing_number { IsLawful (begun small_begin) (passed_in (0 ∷ [])) → ⊥ }
     ensures other_place { AreDrawn (begun small_begin) (passed_in (1 ∷ 0 ∷ [])) → ⊥ }
+    ensures unshuffled { AreDrawn (begun small_begin) (passed_by (6 ∷ []) (0 ∷ 1 ∷ [])) → ⊥ }
+    ensures missing_draw { (order : List ℕ) → AreDrawn (begun small_begin) (passed_by [] order) → ⊥ }
+    ensures second_draw { (one two : ℕ) (order : List ℕ) → AreDrawn (begun small_begin) (passed_by (one ∷ two ∷ []) order) → ⊥ }
     ensures visited_later { IsLawful (begun small_begin) (behind_root (Visit 1 ∷ [])) → ⊥ }
     ensures passed_over { IsLawful (begun small_begin) (pending_behind (Advance 3000000)) → ⊥ }
 {}
 
 /// Each of those differs in one place from what may come: the number stands twice in the round, the wake comes, the clock goes on
-/// in place of each visit, the number of the ended task stands in the next round behind the root's, and the task that
-/// hasn't ended is visited again.
+/// in place of each visit, the number of the ended task stands in the next round behind the root's, or before it where the draw is
+/// even, and the task that hasn't ended is visited again.
 pub fn near_misses_of_double_wakes_are_lawful_but_for_one_place()
     ensures queued_twice { IsLawful (begun small_begin) (woken_in (1 ∷ 1 ∷ [])) }
     ensures wake { IsLawful (begun small_begin) (ended_behind (Wake 1 ∷ Advance 3000000 ∷ [])) }
     ensures number { IsLawful (begun small_begin) (passed_in (0 ∷ 1 ∷ [])) }
     ensures place { AreDrawn (begun small_begin) (passed_in (0 ∷ 1 ∷ [])) }
+    ensures shuffled { AreDrawn (begun small_begin) (passed_by (6 ∷ []) (1 ∷ 0 ∷ [])) }
     ensures later { IsLawful (begun small_begin) (behind_root (Advance 4000000 ∷ [])) }
     ensures visited_twice { IsLawful (begun small_begin) (pending_behind (Visit 1)) }
 {}

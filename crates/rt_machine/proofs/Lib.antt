@@ -13,6 +13,7 @@ pub mod Grouped
 pub mod Fine
 pub mod Seats
 pub mod Turning
+pub mod Shuffled
 pub mod Ended
 pub mod Visits
 pub mod Over

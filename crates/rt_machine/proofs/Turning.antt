@@ -7,9 +7,17 @@ use Rattle.rt_model.specs.Alarms.{fires, ahead, skip_to}
 use Rattle.rt_machine.specs.Told.{Told, pushed, pushed_all, is_quiet, AreQuiet, Quietly}
 use Rattle.rt_machine.specs.Steps.{Turns}
 
-pushed-append : (t : Told) (xs ys : List Entry) → pushed_all (pushed_all t xs) ys ≡ pushed_all t (xs ++ ys)
+pub pushed-append : (t : Told) (xs ys : List Entry) → pushed_all (pushed_all t xs) ys ≡ pushed_all t (xs ++ ys)
 pushed-append t [] ys = refl
 pushed-append t (x ∷ xs) ys = pushed-append (pushed t x) xs ys
+
+pub all-begin : (t : Told) (es : List Entry) → (pushed_all t es).begin ≡ t.begin
+all-begin t [] = refl
+all-begin t (e ∷ es) = all-begin (pushed t e) es
+
+pub all-given : (t : Told) (es : List Entry) → (pushed_all t es).given ≡ t.given
+all-given t [] = refl
+all-given t (e ∷ es) = all-given (pushed t e) es
 
 quiet-append : (xs ys : List Entry) → AreQuiet xs → AreQuiet ys → AreQuiet (xs ++ ys)
 quiet-append [] ys h k = k

@@ -2,6 +2,7 @@ pub mod Told
 pub mod Labels
 pub mod Groups
 pub mod Places
+pub mod Draws
 pub mod News
 pub mod Causes
 pub mod Calls

@@ -1,7 +1,7 @@
 -- What the journal of a run tells.
 use Rattle.std.specs.Prelude.{◌≡◌, ◌≤◌, ℕ, List, [], ◌∷◌, ◌++◌, take, drop, length, Bool, true, false, Option, Some, None, option_map}
 use Rattle.rt_audit.specs.declared.entry.Entry.{Entry}
-use Rattle.rt_audit.specs.declared.entry.Entry.TheVariants.{Call, Event, Wake, Root, Answer, Cleanup, Crash}
+use Rattle.rt_audit.specs.declared.entry.Entry.TheVariants.{Call, Event, Wake, Draw, Root, Answer, Cleanup, Crash}
 use Rattle.rt_model.specs.declared.begin.Begin.{Begin}
 use Rattle.rt_model.specs.State.{State, Turn, begun}
 use Rattle.rt_model.specs.Effects.{after, after_all}
@@ -48,8 +48,9 @@ abbrev pub AreCalls : List Entry → Type 0
 AreCalls [] = Unit {0}
 AreCalls (e ∷ es) = (is_call e ≡ true) × AreCalls es
 
--- the steps of no task decide the entry
+-- the steps of no task decide the entry, and nothing is drawn by it
 abbrev pub is_quiet : Entry → Bool
+is_quiet (Draw value) = false
 is_quiet (Root task) = false
 is_quiet (Answer task kind) = false
 is_quiet Cleanup = false
@@ -60,7 +61,7 @@ abbrev pub AreQuiet : List Entry → Type 0
 AreQuiet [] = Unit {0}
 AreQuiet (e ∷ es) = (is_quiet e ≡ true) × AreQuiet es
 
--- entries were added that the steps of no task decide
+-- entries were added that the steps of no task decide, and nothing was drawn
 pub record Quietly (old new : Told) : Type 0 where
   pub entries : List Entry
   pub quiet : AreQuiet entries

@@ -13,6 +13,7 @@ mod marks;
 mod results;
 mod room;
 mod run_journal;
+mod shuffle;
 mod signals;
 mod slots;
 mod tokens;

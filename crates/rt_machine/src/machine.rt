@@ -1,6 +1,6 @@
 //! The state that a run's journal tells, kept beside it.
 
-ghost use Rattle.std.specs.Prelude.{ℕ, ◌≡◌, ◌≢◌, ◌≤◌, ◌<◌, ◌+◌, ◌∷◌, ◌++◌, ◌^◌, ◌-◌, ◌&&◌, not, [], IfOk, IfErr, OnErr, OnOk, IsTrue, drop, is_some, None, ◌↔◌};
+ghost use Rattle.std.specs.Prelude.{ℕ, ◌≡◌, ◌≢◌, ◌≤◌, ◌<◌, ◌+◌, ◌∷◌, ◌++◌, ◌^◌, ◌-◌, ◌&&◌, not, [], length, IfOk, IfErr, OnErr, OnOk, IsTrue, drop, is_some, None, ◌↔◌};
 ghost use Rattle.rt_base.specs.declared.time.TheConstants.{MAX_TIME};
 ghost use Rattle.rt_super.specs.Ancestry.{first_record};
 ghost use Rattle.rt_model.specs.Lists.{find, is_some_number};
@@ -10,6 +10,7 @@ ghost use Rattle.rt_model.specs.Causes.{is_late, from_running};
 ghost use Rattle.rt_model.specs.Effects.{after_all, left_of, task_label};
 ghost use Rattle.rt_model.specs.Events.{process_task, task_fields};
 ghost use Rattle.rt_model.specs.Rules.{IsLawful, AreDrawn, MayAnswer, MayRound, MayCrash, MayFinish};
+ghost use Rattle.rt_machine.specs.Draws.{Drains};
 ghost use Rattle.rt_machine.specs.Told.{AreCalls, fresh, pushed, own};
 
 use crate::RunJournal;
@@ -17,7 +18,9 @@ use crate::event::task_event;
 use crate::groups::Groups;
 use crate::labels::Labels;
 use crate::marks::{is_flagged, leave};
-use crate::room::take_places;
+use crate::room::{take_entries, take_places};
+use crate::shuffle::shuffle;
+use rand_core::Rng;
 use rt_audit::{AnswerKind, Entry, FinishCause, Journal, Order};
 use rt_base::{Items, Nanos, NoMemory, Text};
 use rt_model::{Begin, Mark, Table, TaskResult};
@@ -219,18 +222,52 @@ impl Machine {
         Ok(task)
     }
 
-    /// Drains the ready list into a round, and puts its numbers into `order`.
-    pub fn round(&mut self, order: &mut Vec<u64>) -> Result<(), NoMemory>
+    /// Drains the ready list into a round, whose order the generator's next draws decide, and puts its numbers into `order`.
+    /// The draws are written before it.
+    pub fn round<G: Rng>(&mut self, order: &mut Vec<u64>, rng: &mut G) -> Result<(), NoMemory>
         requires { MayRound self.old.told.state.phase self.old.told.state }
-        ensures ok { OnOk result (order.new.items ≡ self.old.told.state.ready) }
-        ensures told { OnOk result (self.new ≡ record { told = pushed self.old.told (Entry.Round self.old.told.state.ready); lacked = self.old.lacked }) }
-        ensures err { OnErr result (self.new ≡ self.old) }
+        ensures ok { OnOk result (Drains (G.stream rng.old) (G.stream rng.new) self.old.told self.new.told order.new.items) }
+        ensures lacked { self.new.lacked ≡ self.old.lacked }
+        ensures err { OnErr result ((self.new ≡ self.old) × (rng.new ≡ rng.old)) }
     {
-        take_places(&mut self.journal, &mut self.ready, self.promised, 1)?;
-        let kept = Order::of(*self.ready.allocator(), self.ready.as_slice())?;
         order.clear();
         order.extend_from_slice(self.ready.as_slice())?;
+        if self.ready.len() < 2 {
+            return self.plain_round(order);
+        }
+        self.shuffled_round(order, rng)
+    }
+
+    /// A round of at most one number, for which nothing is drawn.
+    fn plain_round(&mut self, order: &[u64]) -> Result<(), NoMemory>
+        requires may { MayRound self.old.told.state.phase self.old.told.state }
+        requires order { order.now ≡ self.old.told.state.ready }
+        requires one { length order.now < 2 }
+        ensures ok { OnOk result (self.new ≡ record { told = pushed self.old.told (Entry.Round order.now); lacked = self.old.lacked }) }
+        ensures err { OnErr result (self.new ≡ self.old) }
+    {
+        take_entries(&mut self.journal, self.promised, 1)?;
+        let kept = Order::of(*self.ready.allocator(), order)?;
         self.journal.push(Entry::Round { order: kept });
+        self.ready.clear();
+        Ok(())
+    }
+
+    /// A round of several numbers.
+    fn shuffled_round<G: Rng>(&mut self, order: &mut Vec<u64>, rng: &mut G) -> Result<(), NoMemory>
+        requires may { MayRound self.old.told.state.phase self.old.told.state }
+        requires order { order.old.items ≡ self.old.told.state.ready }
+        ensures ok { OnOk result (Drains (G.stream rng.old) (G.stream rng.new) self.old.told self.new.told order.new.items) }
+        ensures lacked { self.new.lacked ≡ self.old.lacked }
+        ensures err { OnErr result ((self.new ≡ self.old) × (rng.new ≡ rng.old)) }
+    {
+        take_entries(&mut self.journal, self.promised, order.len())?;
+        let mut kept = order.as_slice().to_vec(*self.ready.allocator())?;
+        shuffle(&mut self.journal, order, rng);
+        kept.copy_from_slice(order.as_slice());
+        self.journal.push(Entry::Round {
+            order: Order::from_vec(kept),
+        });
         self.ready.clear();
         Ok(())
     }

@@ -1,3 +1,4 @@
 pub mod Append
+pub mod Draws
 pub mod Walks
 pub mod Time

@@ -1,5 +1,5 @@
 -- What may come next in a journal.
-use Rattle.std.specs.Prelude.{◌≡◌, ◌≢◌, ◌⊎◌, ◌<◌, ◌≤◌, ◌+◌, ◌-◌, ◌^◌, ℕ, List, [], ◌∷◌, Option, Some, None, is_some, option_map, Bool, true, false, not, ◌&&◌, leb, if◌then◌else◌, drop, Result, Ok, Err}
+use Rattle.std.specs.Prelude.{◌≡◌, ◌≢◌, ◌⊎◌, ◌<◌, ◌≤◌, ◌+◌, ◌-◌, ◌^◌, ℕ, List, [], ◌∷◌, Option, Some, None, is_some, option_map, Bool, true, false, not, ◌&&◌, leb, if◌then◌else◌, drop, length, Result, Ok, Err}
 use Rattle.std.specs.List.Sorted.{IsPermutation}
 use Rattle.rt_base.specs.declared.error.Error.{Error}
 use Rattle.rt_base.specs.declared.error.Error.TheVariants.{UnknownToken, TooManyTasks, Exited as HasExited, Closed as ErrClosed, Aborted, Metric}
@@ -249,10 +249,9 @@ abbrev pub IsLawful : State → List Entry → Type 0
 IsLawful s [] = Unit {0}
 IsLawful s (e ∷ es) = May s e × IsLawful (after s e) es
 
--- Nothing is drawn yet, and a round's order is the ready list as its draws shuffle it. This is what decides among the permutations
+-- A round's order is the ready list as its draws shuffle it, one draw for each place but the first. This is what decides among the permutations
 abbrev pub IsDrawn : State → Entry → Type 0
-IsDrawn s (Draw value) = ⊥
-IsDrawn s (Round order) = order ≡ shuffled s.ready s.draws
+IsDrawn s (Round order) = (order ≡ shuffled s.ready s.draws) × (length s.draws ≡ length s.ready - 1)
 IsDrawn s _ = Unit {0}
 
 abbrev pub AreDrawn : State → List Entry → Type 0

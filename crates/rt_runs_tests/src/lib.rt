@@ -12,4 +12,6 @@ mod reading;
 #[cfg(test)]
 mod replay;
 #[cfg(test)]
+mod steady;
+#[cfg(test)]
 mod world;

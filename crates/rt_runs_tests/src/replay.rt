@@ -11,6 +11,7 @@ ghost use Rattle.rt_model.specs.Rules.{MayCall, MayClose, MayRound};
 ghost use Rattle.rt_machine.specs.Ends.{open_in};
 
 use crate::numbers::{add_number, ends_next, has_number, remove_number};
+use crate::steady::Steady;
 use rt_audit::{AnswerKind, FinishCause, Journal};
 use rt_base::{Error, MAX_TIME, Nanos, NoMemory};
 use rt_machine::Machine;
@@ -408,7 +409,7 @@ impl<'a> Replay<'a> {
     {
         let mut order = Vec::new(self.machine.allocator());
         for _ in 0..10_000 {
-            self.machine.round(&mut order)?;
+            self.machine.round(&mut order, &mut Steady)?;
             if let Some(cause) = self.round(order.as_slice())? {
                 return Ok(cause);
             }

@@ -5,44 +5,14 @@ ghost use Rattle.rt_model.specs.State.{Between};
 ghost use Rattle.rt_model.specs.Rules.{MayCall};
 ghost use Rattle.rt_world.specs.Calls.{Kept};
 
-use rand_core::utils::NextWord;
-use rand_core::{Rng, utils};
+use crate::steady::Steady;
+use rand_core::Rng;
 use rt_audit::{FinishCause, Journal};
 use rt_base::{Error, Execution, NoMemory};
 use rt_model::Begin;
 use rt_world::{Answer, Cx, Outcome, Task, World, WorldOf};
 use std::alloc::Global;
 use std::test::Fail;
-
-/// A generator that draws zeros.
-#[derive(Drop)]
-struct Zeros;
-
-impl NextWord<u32> for Zeros {
-    ghost step = { λ zeros. (0, zeros) };
-
-    fn next_word(&mut self) -> u32 {
-        0
-    }
-}
-
-impl Rng for Zeros {
-    ghost use Rattle.rand_core.specs.Steps.{steps_u32, stream_of};
-
-    ghost stream = { stream_of (steps_u32 (λ zeros. (0, zeros))) };
-
-    fn next_u32(&mut self) -> u32 {
-        self.next_word()
-    }
-
-    fn next_u64(&mut self) -> u64 {
-        utils::next_u64_via_u32(self)
-    }
-
-    fn fill_bytes(&mut self, dst: &mut [u8]) {
-        utils::fill_bytes_via_u32(self, dst)
-    }
-}
 
 /// A task that is ready at once.
 #[derive(Drop)]
@@ -79,7 +49,7 @@ struct Came {
 }
 
 /// What a world came to that was cleaned up.
-fn taken_apart(world: WorldOf<Probe, Zeros>, output: Option<u64>, cause: FinishCause) -> Came
+fn taken_apart(world: WorldOf<Probe, Steady>, output: Option<u64>, cause: FinishCause) -> Came
     requires { world.held.tasks ≡ [] }
 {
     let (journal, _, _) = world.into_parts();
@@ -92,7 +62,7 @@ fn taken_apart(world: WorldOf<Probe, Zeros>, output: Option<u64>, cause: FinishC
 
 /// Runs a root that was taken in to its end.
 #[tactic(auto, using(rt_world::proofs::Running::run_laws), unfolding(rt_model::specs::Effects::after))]
-fn run_root(mut world: WorldOf<Probe, Zeros>) -> Came
+fn run_root(mut world: WorldOf<Probe, Steady>) -> Came
     requires phase { world.told.state.phase ≡ Between }
     requires none_out { world.out ≡ None }
     requires unmarked { world.lacked ≡ None }
@@ -120,7 +90,7 @@ fn run(alloc: Global, taken_in: bool) -> Result<Came, NoMemory> {
         first: 0,
         catch: false,
     };
-    let Ok(mut world) = WorldOf::<Probe, Zeros>::begin(alloc, Journal::new(alloc), begin, Zeros)
+    let Ok(mut world) = WorldOf::<Probe, Steady>::begin(alloc, Journal::new(alloc), begin, Steady)
     else {
         return Err(NoMemory);
     };
@@ -138,7 +108,7 @@ fn run(alloc: Global, taken_in: bool) -> Result<Came, NoMemory> {
 }
 
 /// What comes of spawning a probe.
-fn spawns(world: &mut WorldOf<Probe, Zeros>, node: u64) -> Result<Option<(u64, u64)>, Error>
+fn spawns(world: &mut WorldOf<Probe, Steady>, node: u64) -> Result<Option<(u64, u64)>, Error>
     requires { MayCall world.old.told.state world.old.out }
     ensures { Kept world.old world.new }
 {
@@ -212,7 +182,7 @@ fn polled(answer: Result<Option<u64>, Error>) -> Heard {
 
 /// Makes a call on a slot.
 #[tactic(auto, using(rt_world::proofs::Walked::close_laws))]
-fn call_slot(world: &mut WorldOf<Probe, Zeros>, call: &SlotCall) -> Heard
+fn call_slot(world: &mut WorldOf<Probe, Steady>, call: &SlotCall) -> Heard
     requires { MayCall world.old.told.state world.old.out }
     ensures { Kept world.old world.new }
 {
@@ -233,7 +203,7 @@ fn call_slot(world: &mut WorldOf<Probe, Zeros>, call: &SlotCall) -> Heard
 
 /// Whether calls on slots are answered as they should be.
 #[tactic(auto, using(rt_world::proofs::Walked::loop_laws))]
-fn answers_on_slots(world: &mut WorldOf<Probe, Zeros>, calls: &[(SlotCall, Heard)]) -> bool
+fn answers_on_slots(world: &mut WorldOf<Probe, Steady>, calls: &[(SlotCall, Heard)]) -> bool
     requires { MayCall world.old.told.state world.old.out }
     ensures { Kept world.old world.new }
 {
@@ -255,7 +225,7 @@ fn answers_calls(alloc: Global) -> Result<bool, NoMemory> {
         first: 0,
         catch: false,
     };
-    let Ok(mut world) = WorldOf::<Probe, Zeros>::begin(alloc, Journal::new(alloc), begin, Zeros)
+    let Ok(mut world) = WorldOf::<Probe, Steady>::begin(alloc, Journal::new(alloc), begin, Steady)
     else {
         return Err(NoMemory);
     };
@@ -303,7 +273,7 @@ fn slots_answer(alloc: Global, calls: &[(SlotCall, Heard)]) -> Result<(bool, usi
         first: 0,
         catch: false,
     };
-    let Ok(mut world) = WorldOf::<Probe, Zeros>::begin(alloc, Journal::new(alloc), begin, Zeros)
+    let Ok(mut world) = WorldOf::<Probe, Steady>::begin(alloc, Journal::new(alloc), begin, Steady)
     else {
         return Err(NoMemory);
     };

@@ -10,9 +10,10 @@ use Rattle.std.specs.List.Sorted.{IsStrictlySortedBy}
 use Rattle.rt_base.specs.Attributes.{text_cmp}
 use Rattle.rt_scenario.specs.Indexed.{HasIndex, in_order, name_at, named_by, placed_at, with_name}
 use Rattle.rt_scenario.specs.Scripts.{all_names, handle_of, handles_of, place_of, placed, with_handle, with_handles}
+use Rattle.rt_scenario.specs.declared.line.Line.{Line}
 use Rattle.rt_scenario.specs.declared.line.Line.TheVariants as step
 use Rattle.rt_scenario.specs.declared.named_line.NamedLine.{NamedLine}
-use Rattle.rt_scenario.specs.declared.named_line.NamedLine.TheVariants.{Plain, Spawn, Abort, Drop, Join, Within, Stopped, Wait}
+use Rattle.rt_scenario.specs.declared.named_line.NamedLine.TheVariants.{Spawn, Abort, Drop, Join, Within, Stopped, Wait}
 use Rattle.rt_scenario.proofs.FirstUse.{in_order_more, key_first, none_sorted, sorted_with}
 
 -- the names that were there keep their indices
@@ -32,35 +33,53 @@ longer names (Some name) = by (list_any (bytes_eq name) names)
     by true = omega arith
     by false = omega (arith, length_push names name)
 
-named_same : (names more : List (List ℕ)) → ((i : ℕ) → i < length names → get_or more i [] ≡ get_or names i []) → (line : NamedLine ℕ) → HasIndex (length names) line → named_by more line ≡ named_by names line
-named_same names more h (Plain line) inside = refl
-named_same names more h (Spawn index script) inside = ap (λ n. Spawn n script) (h index inside)
-named_same names more h (Abort index) inside = ap Abort (h index inside)
-named_same names more h (Drop index) inside = ap Drop (h index inside)
-named_same names more h (Join index) inside = ap Join (h index inside)
-named_same names more h (Within index limit) inside = ap (λ n. Within n limit) (h index inside)
-named_same names more h (Stopped index) inside = ap Stopped (h index inside)
-named_same names more h (Wait index) inside = ap Wait (h index inside)
+named_same : (names more : List (List ℕ)) → ((i : ℕ) → i < length names → get_or more i [] ≡ get_or names i []) → (line : Line) → HasIndex (length names) line → named_by more line ≡ named_by names line
+named_same names more h (step.Spawn index script) inside = ap (λ n. Spawn n script) (h index inside)
+named_same names more h (step.Abort index) inside = ap Abort (h index inside)
+named_same names more h (step.Drop index) inside = ap Drop (h index inside)
+named_same names more h (step.Join index) inside = ap Join (h index inside)
+named_same names more h (step.Within index limit) inside = ap (λ n. Within n limit) (h index inside)
+named_same names more h (step.Stopped index) inside = ap Stopped (h index inside)
+named_same names more h (step.Wait index) inside = ap Wait (h index inside)
+named_same names more h (step.Panic word) inside = refl
+named_same names more h (step.Sleep time) inside = refl
+named_same names more h (step.Until time) inside = refl
+named_same names more h step.Yield inside = refl
+named_same names more h step.Pend inside = refl
+named_same names more h (step.End v) inside = refl
+named_same names more h step.EndLast inside = refl
+named_same names more h step.AbortSelf inside = refl
+named_same names more h (step.Select start past) inside = refl
+named_same names more h (step.Stop v limit) inside = refl
 
 -- the lines so far stay where a name more is taken in
-named_kept : (names : List (List ℕ)) (o : Option (List ℕ)) (lines : List (NamedLine ℕ)) → All (HasIndex (length names)) lines → map (named_by (with_name names o)) lines ≡ map (named_by names) lines
+named_kept : (names : List (List ℕ)) (o : Option (List ℕ)) (lines : List Line) → All (HasIndex (length names)) lines → map (named_by (with_name names o)) lines ≡ map (named_by names) lines
 named_kept names o [] inside = refl
 named_kept names o (line ∷ lines) inside =
     let one : named_by (with_name names o) line ≡ named_by names line = named_same names (with_name names o) (kept_at names o) line (inside 0 line (omega arith)) in
     let rest : map (named_by (with_name names o)) lines ≡ map (named_by names) lines = named_kept names o lines (All-tail (HasIndex (length names)) line lines inside) in
     ap (λ l. l ∷ map (named_by (with_name names o)) lines) one ∙ ap (λ ls. named_by names line ∷ ls) rest
 
-index_more : (n m : ℕ) (line : NamedLine ℕ) → n ≤ m → HasIndex n line → HasIndex m line
-index_more n m (Plain line) h inside = tt
-index_more n m (Spawn index script) h inside = omega (arith, h, inside)
-index_more n m (Abort index) h inside = omega (arith, h, inside)
-index_more n m (Drop index) h inside = omega (arith, h, inside)
-index_more n m (Join index) h inside = omega (arith, h, inside)
-index_more n m (Within index limit) h inside = omega (arith, h, inside)
-index_more n m (Stopped index) h inside = omega (arith, h, inside)
-index_more n m (Wait index) h inside = omega (arith, h, inside)
+index_more : (n m : ℕ) (line : Line) → n ≤ m → HasIndex n line → HasIndex m line
+index_more n m (step.Spawn index script) h inside = omega (arith, h, inside)
+index_more n m (step.Abort index) h inside = omega (arith, h, inside)
+index_more n m (step.Drop index) h inside = omega (arith, h, inside)
+index_more n m (step.Join index) h inside = omega (arith, h, inside)
+index_more n m (step.Within index limit) h inside = omega (arith, h, inside)
+index_more n m (step.Stopped index) h inside = omega (arith, h, inside)
+index_more n m (step.Wait index) h inside = omega (arith, h, inside)
+index_more n m (step.Panic word) h inside = tt
+index_more n m (step.Sleep time) h inside = tt
+index_more n m (step.Until time) h inside = tt
+index_more n m step.Yield h inside = tt
+index_more n m step.Pend h inside = tt
+index_more n m (step.End v) h inside = tt
+index_more n m step.EndLast h inside = tt
+index_more n m step.AbortSelf h inside = tt
+index_more n m (step.Select start past) h inside = tt
+index_more n m (step.Stop v limit) h inside = tt
 
-indices_more : (n m : ℕ) (lines : List (NamedLine ℕ)) → n ≤ m → All (HasIndex n) lines → All (HasIndex m) lines
+indices_more : (n m : ℕ) (lines : List Line) → n ≤ m → All (HasIndex n) lines → All (HasIndex m) lines
 indices_more n m lines h inside = λ k d low. index_more n m (get_or lines k d) h (inside k d low)
 
 with_push : (names : List (List ℕ)) (lines : List (NamedLine (List ℕ))) (line : NamedLine (List ℕ)) → with_handles names (lines ++ line ∷ []) ≡ with_handle (with_handles names lines) (handle_of line)
@@ -98,7 +117,7 @@ choices_kept names o (i ∷ is) inside =
     ap (λ n. n ∷ map (name_at (with_name names o)) is) (kept_at names o i (inside 0 i (omega arith)))
     ∙ ap (λ ns. name_at names i ∷ ns) (choices_kept names o is (All-tail (λ index. index < length names) i is inside))
 
-module _ (names more : List (List ℕ)) (lines : List (NamedLine ℕ)) (choices : List ℕ) (line : NamedLine ℕ) (whole : NamedLine (List ℕ)) (taken : more ≡ with_name names (handle_of whole)) (inside : All (HasIndex (length names)) lines) (chosen : All (λ index. index < length names) choices) where
+module _ (names more : List (List ℕ)) (lines : List Line) (choices : List ℕ) (line : Line) (whole : NamedLine (List ℕ)) (taken : more ≡ with_name names (handle_of whole)) (inside : All (HasIndex (length names)) lines) (chosen : All (λ index. index < length names) choices) where
   kept : map (named_by more) lines ≡ map (named_by names) lines
   kept = ap (λ m. map (named_by m) lines) taken ∙ named_kept names (handle_of whole) lines inside
 
@@ -127,7 +146,7 @@ module _ (names more : List (List ℕ)) (lines : List (NamedLine ℕ)) (choices 
       ∙ handles_push names (map (named_by names) lines) (map (name_at names) choices) whole h
       ∙ ap in_order (sym taken)
 
-module _ (names more : List (List ℕ)) (lines : List (NamedLine ℕ)) (choices : List ℕ) (index : ℕ) (name : List ℕ) (taken : more ≡ with_name names (Some name)) (inside : All (HasIndex (length names)) lines) (chosen : All (λ i. i < length names) choices) (is : name_at more index ≡ name) where
+module _ (names more : List (List ℕ)) (lines : List Line) (choices : List ℕ) (index : ℕ) (name : List ℕ) (taken : more ≡ with_name names (Some name)) (inside : All (HasIndex (length names)) lines) (chosen : All (λ i. i < length names) choices) (is : name_at more index ≡ name) where
   -- the lines and choices with a choice more
   pub lines_same : map (named_by more) lines ≡ map (named_by names) lines
   lines_same = ap (λ m. map (named_by m) lines) taken ∙ named_kept names (Some name) lines inside
@@ -157,18 +176,27 @@ module _ (names more : List (List ℕ)) (lines : List (NamedLine ℕ)) (choices 
       ∙ in_order_with names (Some name)
       ∙ ap in_order (sym taken)
 
-placed_one : (names order : List (List ℕ)) (line : NamedLine ℕ) → HasIndex (length names) line → placed_at (map (place_of order) names) line ≡ placed order (named_by names line)
-placed_one names order (Plain line) inside = refl
-placed_one names order (Spawn index script) inside = ap (λ p. step.Spawn p script) (get_or-map (place_of order) names index [] 0 inside)
-placed_one names order (Abort index) inside = ap step.Abort (get_or-map (place_of order) names index [] 0 inside)
-placed_one names order (Drop index) inside = ap step.Drop (get_or-map (place_of order) names index [] 0 inside)
-placed_one names order (Join index) inside = ap step.Join (get_or-map (place_of order) names index [] 0 inside)
-placed_one names order (Within index limit) inside = ap (λ p. step.Within p limit) (get_or-map (place_of order) names index [] 0 inside)
-placed_one names order (Stopped index) inside = ap step.Stopped (get_or-map (place_of order) names index [] 0 inside)
-placed_one names order (Wait index) inside = ap step.Wait (get_or-map (place_of order) names index [] 0 inside)
+placed_one : (names order : List (List ℕ)) (line : Line) → HasIndex (length names) line → placed_at (map (place_of order) names) line ≡ placed order (named_by names line)
+placed_one names order (step.Spawn index script) inside = ap (λ p. step.Spawn p script) (get_or-map (place_of order) names index [] 0 inside)
+placed_one names order (step.Abort index) inside = ap step.Abort (get_or-map (place_of order) names index [] 0 inside)
+placed_one names order (step.Drop index) inside = ap step.Drop (get_or-map (place_of order) names index [] 0 inside)
+placed_one names order (step.Join index) inside = ap step.Join (get_or-map (place_of order) names index [] 0 inside)
+placed_one names order (step.Within index limit) inside = ap (λ p. step.Within p limit) (get_or-map (place_of order) names index [] 0 inside)
+placed_one names order (step.Stopped index) inside = ap step.Stopped (get_or-map (place_of order) names index [] 0 inside)
+placed_one names order (step.Wait index) inside = ap step.Wait (get_or-map (place_of order) names index [] 0 inside)
+placed_one names order (step.Panic word) inside = refl
+placed_one names order (step.Sleep time) inside = refl
+placed_one names order (step.Until time) inside = refl
+placed_one names order step.Yield inside = refl
+placed_one names order step.Pend inside = refl
+placed_one names order (step.End v) inside = refl
+placed_one names order step.EndLast inside = refl
+placed_one names order step.AbortSelf inside = refl
+placed_one names order (step.Select start past) inside = refl
+placed_one names order (step.Stop v limit) inside = refl
 
 -- the places of the names give the lines their places
-pub placed_named : (names order : List (List ℕ)) (lines : List (NamedLine ℕ)) → All (HasIndex (length names)) lines → map (placed_at (map (place_of order) names)) lines ≡ map (placed order) (map (named_by names) lines)
+pub placed_named : (names order : List (List ℕ)) (lines : List Line) → All (HasIndex (length names)) lines → map (placed_at (map (place_of order) names)) lines ≡ map (placed order) (map (named_by names) lines)
 placed_named names order [] inside = refl
 placed_named names order (line ∷ lines) inside =
     let one : placed_at (map (place_of order) names) line ≡ placed order (named_by names line) = placed_one names order line (inside 0 line (omega arith)) in

@@ -12,7 +12,7 @@ use Rattle.std.proofs.lemmas.List.Elements.{All-cons, All-map, All-push}
 use Rattle.rt_base.specs.Attributes.{text_cmp}
 use Rattle.rt_scenario.specs.Scenario.{with_line, with_panic, with_select}
 use Rattle.rt_scenario.specs.Scripts.{Begun, closed_script, handle_of, handles_of, names_of, place_of, placed, with_handle, with_handles}
-use Rattle.rt_scenario.specs.Within.{IsWithin, HasPlaces, HavePlaces, IsFree, IsNamed, IsBegun}
+use Rattle.rt_scenario.specs.Within.{IsWithin, HasPlaces, HavePlaces, IsClear, IsFree, IsNamed, IsBegun}
 use Rattle.rt_scenario.specs.declared.line.Line.{Line}
 use Rattle.rt_scenario.specs.declared.line.Line.TheVariants as step
 use Rattle.rt_scenario.specs.declared.named_line.NamedLine.{NamedLine}
@@ -202,6 +202,33 @@ free_named scripts words choices (Join handle) h = tt
 free_named scripts words choices (Within handle limit) h = tt
 free_named scripts words choices (Stopped signal) h = tt
 free_named scripts words choices (Wait signal) h = tt
+
+-- a free line is clear
+pub free_clear : (scripts : ℕ) (line : NamedLine (List ℕ)) → IsFree scripts line → IsClear line
+free_clear scripts (Plain (step.Spawn handle script)) h = absurd h
+free_clear scripts (Plain (step.Abort handle)) h = absurd h
+free_clear scripts (Plain (step.Drop handle)) h = absurd h
+free_clear scripts (Plain (step.Join handle)) h = absurd h
+free_clear scripts (Plain (step.Within handle limit)) h = absurd h
+free_clear scripts (Plain (step.Stopped signal)) h = absurd h
+free_clear scripts (Plain (step.Wait signal)) h = absurd h
+free_clear scripts (Plain (step.Panic word)) h = tt
+free_clear scripts (Plain (step.Sleep n)) h = tt
+free_clear scripts (Plain (step.Until n)) h = tt
+free_clear scripts (Plain step.Yield) h = tt
+free_clear scripts (Plain step.Pend) h = tt
+free_clear scripts (Plain (step.End v)) h = tt
+free_clear scripts (Plain step.EndLast) h = tt
+free_clear scripts (Plain step.AbortSelf) h = tt
+free_clear scripts (Plain (step.Select start past)) h = tt
+free_clear scripts (Plain (step.Stop v limit)) h = tt
+free_clear scripts (Spawn handle script) h = tt
+free_clear scripts (Abort handle) h = tt
+free_clear scripts (Drop handle) h = tt
+free_clear scripts (Join handle) h = tt
+free_clear scripts (Within handle limit) h = tt
+free_clear scripts (Stopped signal) h = tt
+free_clear scripts (Wait signal) h = tt
 
 -- a line more
 pub begun_line : (scripts : ℕ) (s : Begun) (line : NamedLine (List ℕ)) → IsBegun scripts s → IsFree scripts line → IsBegun scripts (with_line line s)

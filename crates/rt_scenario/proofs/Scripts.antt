@@ -1,17 +1,20 @@
-use Rattle.std.proofs.Common.{◌≡◌, ℕ, suc, ◌+◌, ◌<◌, Bool, true, false, cond, if◌then◌else◌, List, [], ◌∷◌, ◌++◌, length, Option, Some, None, is_some, Err, refl, sym, ap, subst, ◌∙◌, arith, add-one}
+use Rattle.std.proofs.Common.{◌≡◌, ℕ, suc, ◌+◌, ◌<◌, Bool, true, false, cond, if◌then◌else◌, List, [], ◌∷◌, ◌++◌, length, Option, Some, None, is_some, is_none, ◌&&◌, ◌==◌, Err, refl, sym, ap, subst, ◌∙◌, arith, add-one}
 use Rattle.std.specs.List.{All}
+use Rattle.std.proofs.lemmas.Bool.Decides.{nat_tests}
 use Rattle.std.proofs.lemmas.List.{length_push}
-use Rattle.std.proofs.lemmas.List.Elements.{All-cons}
+use Rattle.std.proofs.lemmas.List.Elements.{All-cons, All-head}
 use Rattle.std.specs.Option.{option_map, option_copied}
 use Rattle.std.specs.Borrow.{Bor}
 use Rattle.rt_scenario.specs.Words.{is_text}
-use Rattle.rt_scenario.specs.Scenario.{Draft, CanRun, script_at, scripts_at, onto_places, row, select_row}
+use Rattle.rt_scenario.specs.Scenario.{Draft, CanRun, CanRunLine, is_placed, is_runnable, script_at, scripts_at, onto_places, row, select_row}
 use Rattle.std.specs.Cmp.Lexicographic.{same_text}
-use Rattle.rt_scenario.specs.Answers.{IsBare}
+use Rattle.rt_scenario.specs.Answers.{IsBare, IsSetting}
 use Rattle.rt_scenario.specs.declared.kind.Kind.TheVariants as kind
+use Rattle.rt_scenario.specs.declared.scenario.RunLine.{RunLine}
 use Rattle.rt_scenario.specs.declared.scenario.ScriptText.{ScriptText}
+use Rattle.rt_scenario.specs.declared.scenario.Settings.{Settings}
 use Rattle.rt_scenario.specs.declared.word.Word.{Word}
-use Rattle.rt_scenario.specs.declared.word.Word.TheVariants.{Timeout, Catch, Script, Sleep, Until, Yield, Pend, End, Panic, Spawn, Abort, Drop, Join, Within, Select, Stopped, Wait, Stop, Done, Run}
+use Rattle.rt_scenario.specs.declared.word.Word.TheVariants.{Seed, Next, Cycle, Start, Timeout, Catch, Script, Sleep, Until, Yield, Pend, End, Panic, Spawn, Abort, Drop, Join, Within, Select, Stopped, Wait, Stop, Done, Run}
 
 -- the first place, or else the second
 abbrev pub place_or : Option ℕ → Option ℕ → Option ℕ
@@ -42,6 +45,10 @@ bare_count d word [] bare some = absurd (omega arith)
 bare_count d Yield (w ∷ ws) bare some = refl
 bare_count d Pend (w ∷ ws) bare some = refl
 bare_count d Done (w ∷ ws) bare some = refl
+bare_count d Seed (w ∷ ws) bare some = absurd bare
+bare_count d Next (w ∷ ws) bare some = absurd bare
+bare_count d Cycle (w ∷ ws) bare some = absurd bare
+bare_count d Start (w ∷ ws) bare some = absurd bare
 bare_count d Timeout (w ∷ ws) bare some = absurd bare
 bare_count d Script (w ∷ ws) bare some = absurd bare
 bare_count d Sleep (w ∷ ws) bare some = absurd bare
@@ -103,8 +110,13 @@ script_at_bound [] name place e = absurd (cc)
 script_at_bound (s ∷ ss) name place e = bound_by (is_text s.name name) (script_at ss name) (length ss) place (λ i h. script_at_bound ss name i h) e
 
 -- scripts that can be run can be run among more
-pub can_run_more : (ss : List ScriptText) (t : ScriptText) (timeout : Option ℕ) (places : List ℕ) → All (CanRun ss timeout) places → All (CanRun (ss ++ t ∷ []) timeout) places
-can_run_more ss t timeout places can k d inside = (omega (arith, (can k d inside).0, length_push ss t), (can k d inside).1)
+can_run_more : (ss : List ScriptText) (t : ScriptText) (settings : Settings) (places : List ℕ) → All (CanRun ss settings) places → All (CanRun (ss ++ t ∷ []) settings) places
+can_run_more ss t settings places can k d inside = (omega (arith, (can k d inside).0, length_push ss t), (can k d inside).1)
+
+pub can_run_lines : (ss : List ScriptText) (t : ScriptText) (settings : Settings) (lines : List RunLine) → All (CanRunLine ss settings) lines → All (CanRunLine (ss ++ t ∷ []) settings) lines
+can_run_lines ss t settings lines can k d inside =
+    let line = can k d inside in
+    ((omega (arith, line.0.0, length_push ss t), line.0.1), can_run_more ss t settings _ line.1)
 
 onto_found : (o : Option ℕ) (p : ℕ) (more : Option (List ℕ)) (ps : List ℕ) → o ≡ Some p → option_map (λ qs. (p ∷ []) ++ qs) more ≡ Some ps → onto_places o more ≡ Some ps
 onto_found o p more ps e f = rw e f
@@ -112,6 +124,11 @@ onto_found o p more ps e f = rw e f
 -- the root's script is found, and then the others
 pub run_found : (ss : List ScriptText) (root : List ℕ) (words : List (List ℕ)) (p : ℕ) (ps : List ℕ) → script_at ss root ≡ Some p → option_map (λ qs. (p ∷ []) ++ qs) (scripts_at ss words) ≡ Some ps → scripts_at ss (root ∷ words) ≡ Some ps
 run_found ss root words p ps e f = onto_found (script_at ss root) p (scripts_at ss words) ps e f
+
+-- the root is among them
+pub some_found : (o : Option (List ℕ)) (p : ℕ) (places : List ℕ) → option_map (λ qs. (p ∷ []) ++ qs) o ≡ Some places → 0 < length places
+some_found None p places e = absurd (cc)
+some_found (Some qs) p places e = let same : p ∷ qs ≡ places = cc in omega (arith, ap length same)
 
 onto_bound : (o : Option ℕ) (more : Option (List ℕ)) (n : ℕ) (ps : List ℕ) → ((i : ℕ) → o ≡ Some i → i < n) → ((qs : List ℕ) → more ≡ Some qs → All (λ p. p < n) qs) → onto_places o more ≡ Some ps → All (λ p. p < n) ps
 onto_bound None more n ps one others e = absurd (cc)
@@ -127,3 +144,24 @@ scripts_at_bound ss [] ps e =
     subst (λ l. All (λ p. p < length ss) l) same (λ k d inside. absurd (omega (arith, inside)))
 scripts_at_bound ss (name ∷ names) ps e =
     onto_bound (script_at ss name) (scripts_at ss names) (length ss) ps (λ i h. script_at_bound ss name i h) (λ qs h. scripts_at_bound ss names qs h) e
+
+-- settings stand before the first run
+first_none : (b c : Bool) (runs : List RunLine) → ((b && (length runs == 0)) && c) ≡ true → runs ≡ []
+first_none b c [] h = refl
+first_none true true (run ∷ runs) h = absurd (grind (arith, nat_tests))
+first_none true false (run ∷ runs) h = absurd (grind (arith, nat_tests))
+first_none false c (run ∷ runs) h = cc
+
+pub setting_none : (d : Draft) (word : Word) → IsSetting word → is_placed d word ≡ true → d.runs ≡ []
+setting_none d Seed s h = first_none (is_none d.current) (length d.scripts == 0) d.runs h
+setting_none d Next s h = first_none (is_none d.current) (length d.scripts == 0) d.runs h
+setting_none d Cycle s h = first_none (is_none d.current) (length d.scripts == 0) d.runs h
+setting_none d Start s h = first_none (is_none d.current) (length d.scripts == 0) d.runs h
+setting_none d Timeout s h = first_none (is_none d.current) (length d.scripts == 0) d.runs h
+setting_none d Catch s h = first_none (is_none d.current) (length d.scripts == 0) d.runs h
+setting_none d _ s h = absurd s
+
+-- a line that can be run has settings that can be kept
+pub runnable_of : (ss : List ScriptText) (settings : Settings) (lines : List RunLine) → (lines ≡ [] → ⊥) → All (CanRunLine ss settings) lines → is_runnable settings ≡ true
+runnable_of ss settings [] some can = absurd (some refl)
+runnable_of ss settings (line ∷ lines) some can = (All-head (CanRunLine ss settings) line lines can).0.1

@@ -9,7 +9,7 @@ use Rattle.rt_scenario.specs.declared.scenario.Scenario.{Scenario}
 use Rattle.rt_scenario.specs.declared.reader.Refusal.{Refusal}
 use Rattle.rt_scenario.specs.declared.reader.Refusal.TheVariants.{Broken as Breaks', NoMemory as NoMemory'}
 use Rattle.rt_scenario.specs.declared.word.Word.{Word}
-use Rattle.rt_scenario.specs.declared.word.Word.TheVariants.{Yield, Pend, Done}
+use Rattle.rt_scenario.specs.declared.word.Word.TheVariants.{Seed, Next, Cycle, Start, Timeout, Catch, Yield, Pend, Done}
 use Rattle.rt_scenario.specs.declared.stop.Stop.{Stop}
 use Rattle.rt_scenario.specs.declared.stop.Stop.TheVariants.{Breaks, NoMemory}
 
@@ -25,6 +25,16 @@ IsBare Yield = Unit {0}
 IsBare Pend = Unit {0}
 IsBare Done = Unit {0}
 IsBare word = ⊥
+
+-- a line that gives a setting
+abbrev pub IsSetting : Word → Type 0
+IsSetting Seed = Unit {0}
+IsSetting Next = Unit {0}
+IsSetting Cycle = Unit {0}
+IsSetting Start = Unit {0}
+IsSetting Timeout = Unit {0}
+IsSetting Catch = Unit {0}
+IsSetting word = ⊥
 
 -- the word is this name, or no name
 abbrev pub Named : List ℕ → Result (Bor (List ℕ)) Stop → Type 0

@@ -1,7 +1,8 @@
--- Numbers: decimal, without sign or leading zero, below 2^128; and values: an i64, or an i32 for a shutdown, where a
--- minus sign may stand before a number other than 0.
+-- Numbers: decimal, without sign or leading zero, below 2^128, or 2^64 where that is said; and values: an i64, or an i32
+-- for a shutdown, where a minus sign may stand before a number other than 0.
 use Rattle.std.specs.Prelude.{ℕ, ◌^◌, ◌==◌, ◌&&◌, ◌||◌, not, nat_lt, nat_le, Bool, false, if◌then◌else◌, List, [], ◌∷◌, length, Option, Some, None, ℤ, pos, neg_ℤ, int_lt}
 use Rattle.std.specs.List.{list_all}
+use Rattle.std.specs.Option.{option_and_then}
 use Rattle.std.specs.Char.{is_ascii_digit}
 use Rattle.std.specs.Str.Parse.{digits_value}
 
@@ -14,6 +15,10 @@ below limit n = if nat_lt n limit then Some n else None
 
 abbrev pub number_of : List ℕ → Option ℕ
 number_of text = if is_decimal text then below (2 ^ 128) (digits_value 10 text) else None
+
+-- a number below 2^64
+abbrev pub small_number_of : List ℕ → Option ℕ
+small_number_of text = option_and_then (below (2 ^ 64)) (number_of text)
 
 -- minus a number other than 0
 abbrev pub minus : Option ℕ → Option ℤ

@@ -1,11 +1,11 @@
 -- How a scenario is read: line by line from the top, up to the first line that breaks a rule.
-use Rattle.std.specs.Prelude.{◌≡◌, ◌<◌, ℕ, ◌+◌, ◌-◌, ◌==◌, ◌&&◌, ◌||◌, not, nat_lt, nat_le, Bool, true, false, if◌then◌else◌, List, [], ◌∷◌, ◌++◌, length, take, slice_index, codes, Option, Some, None, is_some, is_none, Result, Ok, Err, ℤ}
+use Rattle.std.specs.Prelude.{◌≡◌, ◌<◌, ℕ, ◌+◌, ◌-◌, ◌==◌, ◌&&◌, ◌||◌, not, nat_lt, nat_le, Bool, true, if◌then◌else◌, List, [], ◌∷◌, ◌++◌, length, take, slice_index, codes, Option, Some, None, is_some, is_none, Result, Ok, Err, ℤ}
 use Rattle.std.specs.Option.{option_map, unwrap_or}
-use Rattle.std.specs.List.{list_all, list_any}
+use Rattle.std.specs.List.{All, list_all, list_any}
 use Rattle.rt_base.specs.Label.{is_label}
 use Rattle.rt_base.specs.declared.time.TheConstants.{MAX_TIME}
 use Rattle.rt_scenario.specs.Lines.{lines_of, words_of}
-use Rattle.rt_scenario.specs.Numbers.{number_of, small_value_of, value_of}
+use Rattle.rt_scenario.specs.Numbers.{number_of, small_number_of, small_value_of, value_of}
 use Rattle.rt_scenario.specs.Scripts.{Begun, closed_script, tasks_at, tasks_of}
 use Rattle.rt_scenario.specs.Words.{is_text, switch_of, word_of}
 use Rattle.rt_scenario.specs.declared.kind.Kind.{Kind}
@@ -13,22 +13,25 @@ use Rattle.rt_scenario.specs.declared.kind.Kind.TheVariants as kind
 use Rattle.rt_scenario.specs.declared.line.Line.TheVariants as step
 use Rattle.rt_scenario.specs.declared.named_line.NamedLine.{NamedLine}
 use Rattle.rt_scenario.specs.declared.named_line.NamedLine.TheVariants.{Plain, Spawn, Abort, Drop, Join, Within, Stopped, Wait}
+use Rattle.rt_scenario.specs.declared.scenario.RunLine.{RunLine}
 use Rattle.rt_scenario.specs.declared.scenario.Scenario.{Scenario}
 use Rattle.rt_scenario.specs.declared.scenario.ScriptText.{ScriptText}
+use Rattle.rt_scenario.specs.declared.scenario.Settings.{Settings}
 use Rattle.rt_scenario.specs.declared.word.Word.{Word}
-use Rattle.rt_scenario.specs.declared.word.Word.TheVariants.{Timeout, Catch, Script, Sleep, Until, Yield, Pend, End, Panic, Spawn as SpawnWord, Abort as AbortWord, Drop as DropWord, Join as JoinWord, Within as WithinWord, Select as SelectWord, Stopped as StoppedWord, Wait as WaitWord, Stop as StopWord, Done, Run}
+use Rattle.rt_scenario.specs.declared.word.Word.TheVariants.{Seed, Next, Cycle, Start, Timeout, Catch, Script, Sleep, Until, Yield, Pend, End, Panic, Spawn as SpawnWord, Abort as AbortWord, Drop as DropWord, Join as JoinWord, Within as WithinWord, Select as SelectWord, Stopped as StoppedWord, Wait as WaitWord, Stop as StopWord, Done, Run}
 
--- what the lines so far say: the settings, the scripts, the one whose `done` hasn't come, and the places
--- of the scripts that are run, the root first
+-- what the lines so far say: the settings, the scripts, the one whose `done` hasn't come, and the runs
 pub record Draft : Type 0 where
-  pub timeout : Option ℕ
-  pub catch : Option Bool
+  pub settings : Settings
   pub scripts : List ScriptText
   pub current : Option Begun
-  pub run : List ℕ
+  pub runs : List RunLine
+
+abbrev pub no_settings : Settings
+no_settings = record { seed = None; next = None; cycle = None; start = None; timeout = None; catch = None }
 
 abbrev pub blank : Draft
-blank = record { timeout = None; catch = None; scripts = []; current = None; run = [] }
+blank = record { settings = no_settings; scripts = []; current = None; runs = [] }
 
 -- the place of the script of this name
 abbrev pub script_at : List ScriptText → List ℕ → Option ℕ
@@ -50,25 +53,36 @@ is_name word = is_label word && nat_le (length word) 32
 
 -- no script is open, and nothing is run
 abbrev pub is_between : Draft → Bool
-is_between d = is_none d.current && length d.run == 0
+is_between d = is_none d.current && length d.runs == 0
 
--- where each word may stand: settings before the first script, steps within a script, and the run
+-- and no script stands above
+abbrev pub is_first : Draft → Bool
+is_first d = is_between d && length d.scripts == 0
+
+-- where each word may stand: settings before the first script, steps within a script, and runs
 -- after the scripts
 abbrev pub is_placed : Draft → Word → Bool
-is_placed d Timeout = is_between d && length d.scripts == 0
-is_placed d Catch = is_between d && length d.scripts == 0
+is_placed d Seed = is_first d
+is_placed d Next = is_first d
+is_placed d Cycle = is_first d
+is_placed d Start = is_first d
+is_placed d Timeout = is_first d
+is_placed d Catch = is_first d
 is_placed d Script = is_between d
-is_placed d Run = is_between d
+is_placed d Run = is_none d.current
 is_placed d word = is_some d.current
 
 -- what each word does with its numbers, names and values, or the rule that it breaks
-abbrev pub timeout_row : Draft → Option ℕ → Result Draft Kind
-timeout_row d None = Err kind.Number
-timeout_row d (Some n) = if is_some d.timeout then Err kind.Twice else Ok (record d { timeout = Some n })
 
-abbrev pub catch_row : Draft → Option Bool → Result Draft Kind
-catch_row d None = Err kind.Name
-catch_row d (Some b) = if is_some d.catch then Err kind.Twice else Ok (record d { catch = Some b })
+-- what stands for a setting after a line, or the rule that the line breaks: it may stand once, and a word that isn't its value
+-- is wrong
+abbrev pub once : {A : Type 0} → Option A → Option A → Kind → Result (Option A) Kind
+once stood None wrong = Err wrong
+once stood (Some value) wrong = if is_some stood then Err kind.Twice else Ok (Some value)
+
+abbrev pub setting_row : {A : Type 0} → Draft → (A → Settings) → Result A Kind → Result Draft Kind
+setting_row d put (Err k) = Err k
+setting_row d put (Ok value) = Ok (record d { settings = put value })
 
 abbrev pub script_row : Draft → List ℕ → Result Draft Kind
 script_row d name =
@@ -155,21 +169,33 @@ with_closed d (Some s) = record d { scripts = d.scripts ++ closed_script s ∷ [
 abbrev pub done_row : Draft → Result Draft Kind
 done_row d = Ok (with_closed d d.current)
 
--- time begins at 0, so a limit past its end can't be kept
-abbrev pub is_runnable : Option ℕ → Bool
-is_runnable None = true
-is_runnable (Some n) = nat_le n MAX_TIME
+abbrev pub takes_time : Option ℕ → Bool
+takes_time None = true
+takes_time (Some cycle) = nat_lt 0 cycle
 
--- the script at this place can be run: it is there, and the limit can be kept
-abbrev pub CanRun : List ScriptText → Option ℕ → ℕ → Type 0
-CanRun scripts timeout place = (place < length scripts) × (is_runnable timeout ≡ true)
+-- the cycle isn't 0; and the start, which is 0 where none is given, is at most MAX_TIME, also with the timeout added
+abbrev pub is_runnable : Settings → Bool
+is_runnable s = takes_time s.cycle && nat_le (unwrap_or s.start 0 + unwrap_or s.timeout 0) MAX_TIME
+
+-- the script at this place can be run: it is there, and the settings can be kept
+abbrev pub CanRun : List ScriptText → Settings → ℕ → Type 0
+CanRun scripts settings place = (place < length scripts) × (is_runnable settings ≡ true)
+
+-- and so can the scripts that a line runs
+abbrev pub CanRunLine : List ScriptText → Settings → RunLine → Type 0
+CanRunLine scripts settings line = CanRun scripts settings line.root × All (CanRun scripts settings) line.with
+
+-- the places of the scripts that are run, the root first
+abbrev pub run_at : List ℕ → List RunLine
+run_at [] = []
+run_at (root ∷ with) = record { root = root; with = with } ∷ []
 
 -- a run has at most 100,000 tasks
 abbrev pub found_row : Draft → Option (List ℕ) → Result Draft Kind
 found_row d None = Err kind.Missing
 found_row d (Some places) =
     if nat_lt 100000 (tasks_at (tasks_of d.scripts) places) then Err kind.Tasks
-    else (if is_runnable d.timeout then Ok (record d { run = places }) else Err kind.Config)
+    else (if is_runnable d.settings then Ok (record d { runs = d.runs ++ run_at places }) else Err kind.Config)
 
 -- the names in a run, `NAME` or `NAME with NAME ..`
 abbrev pub names_run : List (List ℕ) → Option (List (List ℕ))
@@ -183,8 +209,12 @@ run_row d (Some names) = if not (list_all is_name names) then Err kind.Name else
 
 -- the rows with their numbers of words
 abbrev pub row : Draft → Word → List (List ℕ) → Result Draft Kind
-row d Timeout (w ∷ []) = timeout_row d (number_of w)
-row d Catch (w ∷ []) = catch_row d (switch_of w)
+row d Seed (w ∷ []) = setting_row d (λ value. record d.settings { seed = value }) (once d.settings.seed (small_number_of w) kind.Number)
+row d Next (w ∷ []) = setting_row d (λ value. record d.settings { next = value }) (once d.settings.next (small_number_of w) kind.Number)
+row d Cycle (w ∷ []) = setting_row d (λ value. record d.settings { cycle = value }) (once d.settings.cycle (number_of w) kind.Number)
+row d Start (w ∷ []) = setting_row d (λ value. record d.settings { start = value }) (once d.settings.start (number_of w) kind.Number)
+row d Timeout (w ∷ []) = setting_row d (λ value. record d.settings { timeout = value }) (once d.settings.timeout (number_of w) kind.Number)
+row d Catch (w ∷ []) = setting_row d (λ value. record d.settings { catch = value }) (once d.settings.catch (switch_of w) kind.Name)
 row d Script (w ∷ []) = script_row d w
 row d Sleep (w ∷ []) = sleep_row d (number_of w)
 row d Until (w ∷ []) = until_row d (number_of w)
@@ -242,14 +272,13 @@ pub data Reading : Type 0 where
   Whole : Scenario → Reading
   BrokenAt : ℕ → Kind → Reading
 
-abbrev pub run_or_none : ℕ → Draft → List ℕ → Reading
+abbrev pub run_or_none : ℕ → Draft → List RunLine → Reading
 run_or_none n d [] = BrokenAt n kind.NoRun
-run_or_none n d (root ∷ with) =
-    Whole (record { timeout = d.timeout; catch = unwrap_or d.catch false; scripts = d.scripts; root = root; with = with })
+run_or_none n d (run ∷ runs) = Whole (record { settings = d.settings; scripts = d.scripts; runs = run ∷ runs })
 
 -- after the last line, whose number is below n
 abbrev pub ending : ℕ → Draft → Reading
-ending n d = if is_some d.current then BrokenAt n kind.NoRun else run_or_none n d d.run
+ending n d = if is_some d.current then BrokenAt n kind.NoRun else run_or_none n d d.runs
 
 abbrev pub reading_on : ℕ → Result Draft Kind → (Draft → Reading) → Reading
 reading_on n (Ok d) rest = rest d

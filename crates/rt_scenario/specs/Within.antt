@@ -28,19 +28,23 @@ HasPlaces scripts s = All (IsWithin scripts s) s.lines
 abbrev pub HavePlaces : List ScriptText → Type 0
 HavePlaces scripts = All (HasPlaces (length scripts)) scripts
 
+-- a line that is plain has no handle and no signal
+abbrev pub IsClear : NamedLine (List ℕ) → Type 0
+IsClear (Plain (step.Spawn handle script)) = ⊥
+IsClear (Plain (step.Abort handle)) = ⊥
+IsClear (Plain (step.Drop handle)) = ⊥
+IsClear (Plain (step.Join handle)) = ⊥
+IsClear (Plain (step.Within handle limit)) = ⊥
+IsClear (Plain (step.Stopped signal)) = ⊥
+IsClear (Plain (step.Wait signal)) = ⊥
+IsClear line = Unit {0}
+
 -- a line without a word or a choice, whose name has no place yet, and whose script is among so many
 abbrev pub IsFree : ℕ → NamedLine (List ℕ) → Type 0
 IsFree scripts (Plain (step.Panic word)) = ⊥
-IsFree scripts (Plain (step.Spawn handle script)) = ⊥
-IsFree scripts (Plain (step.Abort handle)) = ⊥
-IsFree scripts (Plain (step.Drop handle)) = ⊥
-IsFree scripts (Plain (step.Join handle)) = ⊥
-IsFree scripts (Plain (step.Within handle limit)) = ⊥
 IsFree scripts (Plain (step.Select start past)) = ⊥
-IsFree scripts (Plain (step.Stopped signal)) = ⊥
-IsFree scripts (Plain (step.Wait signal)) = ⊥
 IsFree scripts (Spawn handle script) = script < scripts
-IsFree scripts line = Unit {0}
+IsFree scripts line = IsClear line
 
 -- such a line, or one whose word or choice is among so many
 abbrev pub IsNamed : ℕ → ℕ → ℕ → NamedLine (List ℕ) → Type 0

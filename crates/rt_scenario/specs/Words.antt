@@ -2,14 +2,18 @@
 use Rattle.std.specs.Prelude.{ℕ, Bool, true, false, nat_eq, List, codes, if◌then◌else◌, Option, Some, None}
 use Rattle.std.specs.Cmp.Lexicographic.{pointwise}
 use Rattle.rt_scenario.specs.declared.word.Word.{Word}
-use Rattle.rt_scenario.specs.declared.word.Word.TheVariants.{Timeout, Catch, Script, Sleep, Until, Yield, Pend, End, Panic, Spawn, Abort, Drop, Join, Within, Select, Stopped, Wait, Stop, Done, Run}
+use Rattle.rt_scenario.specs.declared.word.Word.TheVariants.{Seed, Next, Cycle, Start, Timeout, Catch, Script, Sleep, Until, Yield, Pend, End, Panic, Spawn, Abort, Drop, Join, Within, Select, Stopped, Wait, Stop, Done, Run}
 
 abbrev pub is_text : List ℕ → List ℕ → Bool
 is_text = pointwise nat_eq
 
 abbrev pub word_of : List ℕ → Option Word
 word_of text =
-    if is_text text (codes "timeout") then Some Timeout
+    if is_text text (codes "seed") then Some Seed
+    else (if is_text text (codes "next") then Some Next
+    else (if is_text text (codes "cycle") then Some Cycle
+    else (if is_text text (codes "start") then Some Start
+    else (if is_text text (codes "timeout") then Some Timeout
     else (if is_text text (codes "catch") then Some Catch
     else (if is_text text (codes "script") then Some Script
     else (if is_text text (codes "sleep") then Some Sleep
@@ -29,7 +33,7 @@ word_of text =
     else (if is_text text (codes "stop") then Some Stop
     else (if is_text text (codes "done") then Some Done
     else (if is_text text (codes "run") then Some Run
-    else None)))))))))))))))))))
+    else None)))))))))))))))))))))))
 
 abbrev pub switch_of : List ℕ → Option Bool
 switch_of word =

@@ -4,9 +4,8 @@ ghost use Rattle.std.specs.Option.{option_map};
 ghost use Rattle.std.specs.List.{All, list_all};
 ghost use Rattle.rt_scenario.specs.Lines.{words_of, words_in};
 ghost use Rattle.rt_scenario.specs.Numbers.{number_of, small_value_of, value_of};
-ghost use Rattle.rt_scenario.specs.Words.{switch_of};
-ghost use Rattle.rt_scenario.specs.Scenario.{Draft, blank, CanRun, is_between, is_name, is_placed, is_printable, names_run, row, after_line, after_text, after_words, timeout_row, catch_row, script_row, step_row, sleep_row, until_row, end_row, panic_row, spawn_row, spawned_row, abort_row, handle_row, within_row, stop_row, limited_stop_row, select_row, with_select, done_row, found_row, run_row, script_at, scripts_at};
-ghost use Rattle.rt_scenario.specs.Answers.{Answers, Finishes, IsBare, Lacks, found_at, or_missing};
+ghost use Rattle.rt_scenario.specs.Scenario.{Draft, blank, CanRun, CanRunLine, is_between, is_name, is_placed, is_printable, is_runnable, names_run, once, row, after_line, after_text, after_words, script_row, step_row, sleep_row, until_row, end_row, panic_row, spawn_row, spawned_row, abort_row, handle_row, within_row, stop_row, limited_stop_row, select_row, with_select, done_row, found_row, run_row, script_at, scripts_at};
+ghost use Rattle.rt_scenario.specs.Answers.{Answers, Finishes, IsBare, IsSetting, Lacks, found_at, or_missing};
 ghost use Rattle.rt_scenario.specs.Indexed.{read};
 ghost use Rattle.rt_scenario.specs.Scripts.{tasks_of, tasks_at as total_at};
 ghost use Rattle.rt_scenario.specs.Within.{HasPlaces, HavePlaces, IsFree};
@@ -20,12 +19,12 @@ use crate::named_line::NamedLine;
 use crate::names::{are_names, name_of, named, text_of};
 use crate::numbers;
 use crate::open_script::OpenScript;
-use crate::scenario::{Scenario, ScriptText};
+use crate::scenario::{RunLine, Scenario, ScriptText, Settings};
 use crate::split::{is_passed_over, only_word, run_words, split_word, test_text, two_words};
 use crate::stop::Stop;
 use crate::tasks::{MAX_TASKS, tasks_at, tasks_of};
 use crate::word::{Word, switch_of};
-use rt_base::{Items, MAX_TIME, Nanos, Text};
+use rt_base::{Items, MAX_TIME, Text};
 use std::alloc::Global;
 use std::collections::HashMap;
 use std::marker::Model;
@@ -37,16 +36,14 @@ const LINE_LEN: usize = 4096;
 /// The settings and scripts so far, with the places of the scripts by their names and the tasks of each.
 #[derive(Drop)]
 pub struct Draft {
-    timeout: Option<Nanos>,
-    catch: Option<bool>,
+    settings: Settings,
     closed: Vec<ScriptText>,
     tasks: Vec<u64>,
     places: HashMap<String, usize>,
     current: Option<OpenScript>,
     /// Room for the lines of the next script.
-    spare: Vec<NamedLine<usize>>,
-    /// The places of the scripts that are run, the root first.
-    run: Vec<usize>,
+    spare: Vec<Line>,
+    runs: Vec<RunLine>,
 }
 
 impl Model for Draft {
@@ -54,14 +51,14 @@ impl Model for Draft {
     ghost use Rattle.std.specs.HashMap.{get_by_text};
     ghost use Rattle.std.specs.List.{All};
     ghost use Rattle.rt_scenario.specs.Capped.{capped_tasks};
-    ghost use Rattle.rt_scenario.specs.Scenario.{Draft, script_at, CanRun};
+    ghost use Rattle.rt_scenario.specs.Scenario.{Draft, script_at, CanRunLine};
     ghost use Rattle.rt_scenario.specs.Within.{HavePlaces, IsBegun};
 
     ghost Value = { Draft };
 
-    ghost view = { λ d. record { timeout = d.timeout; catch = d.catch; scripts = d.closed.items; current = d.current; run = d.run.items } };
+    ghost view = { λ d. record { settings = d.settings; scripts = d.closed.items; current = d.current; runs = d.runs.items } };
 
-    ghost invariant = { λ d. ((name : List ℕ) → get_by_text d.places name ≡ script_at d.closed.items name) × (d.tasks.items ≡ capped_tasks d.closed.items) × All (CanRun d.closed.items d.timeout) d.run.items × IfSome d.current (λ s. script_at d.closed.items s.name ≡ None) × HavePlaces d.closed.items × IfSome d.current (IsBegun (length d.closed.items)) };
+    ghost invariant = { λ d. ((name : List ℕ) → get_by_text d.places name ≡ script_at d.closed.items name) × (d.tasks.items ≡ capped_tasks d.closed.items) × All (CanRunLine d.closed.items d.settings) d.runs.items × IfSome d.current (λ s. script_at d.closed.items s.name ≡ None) × HavePlaces d.closed.items × IfSome d.current (IsBegun (length d.closed.items)) };
 }
 
 impl Draft {
@@ -69,45 +66,46 @@ impl Draft {
         ensures { result ≡ blank }
     {
         Draft {
-            timeout: None,
-            catch: None,
+            settings: Settings {
+                seed: None,
+                next: None,
+                cycle: None,
+                start: None,
+                timeout: None,
+                catch: None,
+            },
             closed: Vec::new(alloc),
             tasks: Vec::new(alloc),
             places: HashMap::new(alloc),
             current: None,
             spare: Vec::new(alloc),
-            run: Vec::new(alloc),
+            runs: Vec::new(alloc),
         }
     }
 
     /// The scenario, or `None` where a script isn't closed or nothing is run.
     pub fn finish(self) -> Option<Scenario>
         ensures says { Finishes self result }
-        ensures runs { IfSome result (λ s. CanRun s.scripts s.timeout s.root) }
-        ensures spawns { IfSome result (λ s. All (CanRun s.scripts s.timeout) s.with) }
+        ensures runs { IfSome result (λ s. All (CanRunLine s.scripts s.settings) s.runs) }
+        ensures settings { IfSome result (λ s. is_runnable s.settings ≡ true) }
         ensures places { IfSome result (λ s. HavePlaces s.scripts) }
     {
         let Draft {
-            timeout,
-            catch,
+            settings,
             closed,
             tasks: _,
             places: _,
             current,
             spare: _,
-            run,
+            runs,
         } = self;
-        if current.is_some() || run.is_empty() {
+        if current.is_some() || runs.is_empty() {
             return None;
         }
-        let mut with = run;
-        let root = with.remove(0);
         Some(Scenario {
-            timeout,
-            catch: catch.unwrap_or(false),
+            settings,
             scripts: Items::of(closed),
-            root,
-            with: Items::of(with),
+            runs: Items::of(runs),
         })
     }
 
@@ -176,8 +174,10 @@ impl Draft {
         ensures { result ≡ is_placed self.now word }
     {
         match word {
-            Word::Timeout | Word::Catch => self.is_between() && self.closed.is_empty(),
-            Word::Script | Word::Run => self.is_between(),
+            Word::Seed | Word::Next | Word::Cycle | Word::Start | Word::Timeout | Word::Catch =>
+                self.is_between() && self.closed.is_empty(),
+            Word::Script => self.is_between(),
+            Word::Run => self.current.is_none(),
             _ => self.current.is_some(),
         }
     }
@@ -185,7 +185,7 @@ impl Draft {
     fn is_between(&self) -> bool
         ensures { result ≡ is_between self.now }
     {
-        self.current.is_none() && self.run.is_empty()
+        self.current.is_none() && self.runs.is_empty()
     }
 
     /// Takes a line in, by its first word and what stands after it.
@@ -196,8 +196,8 @@ impl Draft {
     {
         match word {
             Word::Yield | Word::Pend | Word::Done => self.take_bare(word, args),
-            Word::Timeout => self.set_timeout(one(args)?),
-            Word::Catch => self.set_catch(one(args)?),
+            Word::Seed | Word::Next | Word::Cycle | Word::Start | Word::Timeout | Word::Catch =>
+                self.set(word, one(args)?),
             Word::Script => self.open_script(one(args)?),
             Word::Sleep => self.sleep(one(args)?),
             Word::Until => self.until(one(args)?),
@@ -237,30 +237,33 @@ impl Draft {
         }
     }
 
-    fn set_timeout(&mut self, word: &[u8]) -> Result<(), Stop>
-        requires { self.old.run ≡ [] }
-        ensures { Answers (timeout_row self.old (number_of word.now)) result self.new }
+    /// Takes a setting in.
+    fn set(&mut self, word: Word, value: &[u8]) -> Result<(), Stop>
+        requires placed { is_placed self.old word ≡ true }
+        requires setting { IsSetting word }
+        ensures { Answers (row self.old word (value.now ∷ [])) result self.new }
     {
-        let Some(timeout) = numbers::number_of(word) else {
-            return Err(Stop::Breaks(Kind::Number));
-        };
-        if self.timeout.is_some() {
-            return Err(Stop::Breaks(Kind::Twice));
+        let settings = &mut self.settings;
+        match word {
+            Word::Seed => put(
+                &mut settings.seed,
+                numbers::small_number_of(value),
+                Kind::Number,
+            )?,
+            Word::Next => put(
+                &mut settings.next,
+                numbers::small_number_of(value),
+                Kind::Number,
+            )?,
+            Word::Cycle => put(&mut settings.cycle, numbers::number_of(value), Kind::Number)?,
+            Word::Start => put(&mut settings.start, numbers::number_of(value), Kind::Number)?,
+            Word::Timeout => put(
+                &mut settings.timeout,
+                numbers::number_of(value),
+                Kind::Number,
+            )?,
+            _ => put(&mut settings.catch, switch_of(value), Kind::Name)?,
         }
-        self.timeout = Some(timeout);
-        Ok(())
-    }
-
-    fn set_catch(&mut self, word: &[u8]) -> Result<(), Stop>
-        ensures { Answers (catch_row self.old (switch_of word.now)) result self.new }
-    {
-        let Some(catch) = switch_of(word) else {
-            return Err(Stop::Breaks(Kind::Name));
-        };
-        if self.catch.is_some() {
-            return Err(Stop::Breaks(Kind::Twice));
-        }
-        self.catch = Some(catch);
         Ok(())
     }
 
@@ -511,21 +514,28 @@ impl Draft {
             return Err(Stop::Breaks(Kind::Name));
         }
         let places = self.find_run(root, with)?;
-        self.set_run(places)
+        self.add_run(places)
     }
 
     /// Runs the scripts at these places.
-    fn set_run(&mut self, places: Vec<usize>) -> Result<(), Stop>
-        requires { All (λ place. place < length self.old.scripts) places.items }
+    fn add_run(&mut self, places: Vec<usize>) -> Result<(), Stop>
+        requires places { All (λ place. place < length self.old.scripts) places.items }
+        requires some { 0 < length places.items }
         ensures { Answers (found_row self.old (Some places.items)) result self.new }
     {
         if self.has_too_many(places.as_slice()) {
             return Err(Stop::Breaks(Kind::Tasks));
         }
-        if self.timeout.is_some_and(|timeout| timeout > MAX_TIME) {
+        if !is_runnable(self.settings) {
             return Err(Stop::Breaks(Kind::Config));
         }
-        self.run = places;
+        self.runs.reserve(1)?;
+        let mut with = places;
+        let root = with.remove(0);
+        self.runs.push_reserved(RunLine {
+            root,
+            with: Items::of(with),
+        });
         Ok(())
     }
 
@@ -542,6 +552,7 @@ impl Draft {
         requires with { list_all is_name (words_in with) ≡ true }
         ensures found { MatchResult result (λ places. scripts_at self.now.scripts (root.now ∷ words_in with.entry) ≡ Some places.items) (Lacks self.now.scripts (root.now ∷ words_in with.entry)) }
         ensures there { IfOk result (λ places. All (λ place. place < length self.now.scripts) places.items) }
+        ensures some { IfOk result (λ places. 0 < length places.items) }
     {
         let mut places = Vec::new(*self.closed.allocator());
         places.push(self.find(root)?)?;
@@ -602,4 +613,27 @@ fn two<'a>(args: Option<&'a [u8]>) -> Result<(&'a [u8], &'a [u8]), Stop>
         Some(words) => Ok(words),
         None => Err(Stop::Breaks(Kind::Count)),
     }
+}
+
+/// Puts the value of a setting, which stands once at most; `wrong` is the rule that a word without a value breaks.
+fn put<T: Copy>(setting: &mut Option<T>, value: Option<T>, wrong: Kind) -> Result<(), Kind>
+    ensures { MatchResult result (λ _. once setting.old value wrong ≡ Ok setting.new) (λ kind. once setting.old value wrong ≡ Err kind) }
+{
+    if value.is_none() {
+        return Err(wrong);
+    }
+    if setting.is_some() {
+        return Err(Kind::Twice);
+    }
+    *setting = value;
+    Ok(())
+}
+
+/// Whether a run can keep the settings.
+fn is_runnable(settings: Settings) -> bool
+    ensures { result ≡ is_runnable settings }
+{
+    let start = settings.start.unwrap_or(0);
+    let timeout = settings.timeout.unwrap_or(0);
+    settings.cycle != Some(0) && start <= MAX_TIME && timeout <= MAX_TIME - start
 }

@@ -1,4 +1,4 @@
-//! Reads the text of a scenario: its settings, its scripts and the run that it names.
+//! Reads the text of a scenario: its settings, its scripts and its runs.
 #![tactic(auto)]
 
 mod common;
@@ -20,4 +20,4 @@ mod word;
 pub use kind::Kind;
 pub use line::Line;
 pub use reader::{Broken, Refusal, read_scenario};
-pub use scenario::{Scenario, ScriptText};
+pub use scenario::{RunLine, Scenario, ScriptText, Settings};

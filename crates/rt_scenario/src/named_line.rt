@@ -2,13 +2,13 @@
 ghost use Rattle.std.specs.Prelude.{◌≡◌, length, slice_index, IfOk, OnOk, OnErr};
 ghost use Rattle.rt_scenario.specs.Indexed.{HasIndex, named_by, placed_at, read, with_name};
 ghost use Rattle.rt_scenario.specs.Scripts.{handle_of};
+ghost use Rattle.rt_scenario.specs.Within.{IsClear};
 
 use crate::handles::Handles;
 use crate::line::Line;
 use rt_base::{Nanos, NoMemory};
 
-/// What a line says, where an `N` stands for its handle or signal: the name, or the index of the name among a script's
-/// names.
+/// What a line says, where an `N` stands for the name of its handle or signal.
 #[derive(Clone, Copy)]
 pub enum NamedLine<N> {
     /// A line without a name.
@@ -24,38 +24,39 @@ pub enum NamedLine<N> {
     Wait(N),
 }
 
-/// The line by the index of its name, which goes behind the others if it is new.
-pub fn indexed(line: NamedLine<&str>, handles: &mut Handles) -> Result<NamedLine<usize>, NoMemory>
+/// The line with the index of its name, which goes behind the others if it is new.
+pub fn indexed(line: NamedLine<&str>, handles: &mut Handles) -> Result<Line, NoMemory>
+    requires { IsClear (read line) }
     ensures line { IfOk result (λ indexed. named_by handles.new indexed ≡ read line.entry) }
     ensures index { IfOk result (HasIndex (length handles.new)) }
     ensures names { OnOk result (handles.new ≡ with_name handles.old (handle_of (read line.entry))) }
     ensures refused { OnErr result (handles.new ≡ handles.old) }
 {
     match line {
-        NamedLine::Plain(line) => Ok(NamedLine::Plain(line)),
-        NamedLine::Spawn(name, script) => Ok(NamedLine::Spawn(handles.index_of(name)?, script)),
-        NamedLine::Abort(name) => Ok(NamedLine::Abort(handles.index_of(name)?)),
-        NamedLine::Drop(name) => Ok(NamedLine::Drop(handles.index_of(name)?)),
-        NamedLine::Join(name) => Ok(NamedLine::Join(handles.index_of(name)?)),
-        NamedLine::Within(name, limit) => Ok(NamedLine::Within(handles.index_of(name)?, limit)),
-        NamedLine::Stopped(name) => Ok(NamedLine::Stopped(handles.index_of(name)?)),
-        NamedLine::Wait(name) => Ok(NamedLine::Wait(handles.index_of(name)?)),
+        NamedLine::Plain(line) => Ok(line),
+        NamedLine::Spawn(name, script) => Ok(Line::Spawn(handles.index_of(name)?, script)),
+        NamedLine::Abort(name) => Ok(Line::Abort(handles.index_of(name)?)),
+        NamedLine::Drop(name) => Ok(Line::Drop(handles.index_of(name)?)),
+        NamedLine::Join(name) => Ok(Line::Join(handles.index_of(name)?)),
+        NamedLine::Within(name, limit) => Ok(Line::Within(handles.index_of(name)?, limit)),
+        NamedLine::Stopped(name) => Ok(Line::Stopped(handles.index_of(name)?)),
+        NamedLine::Wait(name) => Ok(Line::Wait(handles.index_of(name)?)),
     }
 }
 
 /// The line with the place of its name, by the places of the names.
-pub fn placed(line: NamedLine<usize>, places: &[usize]) -> Line
+pub fn placed(line: Line, places: &[usize]) -> Line
     ensures { result ≡ placed_at places.now line }
 {
     match line {
-        NamedLine::Plain(line) => line,
-        NamedLine::Spawn(index, script) => Line::Spawn(place_at(places, index), script),
-        NamedLine::Abort(index) => Line::Abort(place_at(places, index)),
-        NamedLine::Drop(index) => Line::Drop(place_at(places, index)),
-        NamedLine::Join(index) => Line::Join(place_at(places, index)),
-        NamedLine::Within(index, limit) => Line::Within(place_at(places, index), limit),
-        NamedLine::Stopped(index) => Line::Stopped(place_at(places, index)),
-        NamedLine::Wait(index) => Line::Wait(place_at(places, index)),
+        Line::Spawn(index, script) => Line::Spawn(place_at(places, index), script),
+        Line::Abort(index) => Line::Abort(place_at(places, index)),
+        Line::Drop(index) => Line::Drop(place_at(places, index)),
+        Line::Join(index) => Line::Join(place_at(places, index)),
+        Line::Within(index, limit) => Line::Within(place_at(places, index), limit),
+        Line::Stopped(index) => Line::Stopped(place_at(places, index)),
+        Line::Wait(index) => Line::Wait(place_at(places, index)),
+        _ => line,
     }
 }
 

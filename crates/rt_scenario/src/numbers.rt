@@ -3,7 +3,7 @@ ghost use Rattle.std.specs.Prelude.{◌≡◌, ◌+◌, ◌*◌, ◌<◌, ◌≤
 ghost use Rattle.std.specs.List.{list_all};
 ghost use Rattle.std.specs.Char.{is_ascii_digit, digit_value};
 ghost use Rattle.std.specs.Str.Parse.{digits_value, digits_value_after};
-ghost use Rattle.rt_scenario.specs.Numbers.{number_of, value_of, small_value_of, is_decimal, minus, narrow, below};
+ghost use Rattle.rt_scenario.specs.Numbers.{number_of, small_number_of, value_of, small_value_of, is_decimal, minus, narrow, below};
 
 /// A decimal number without sign or leading zero, below `2^128`.
 pub fn number_of(text: &[u8]) -> Option<u128>
@@ -14,6 +14,13 @@ pub fn number_of(text: &[u8]) -> Option<u128>
     } else {
         None
     }
+}
+
+/// Such a number below `2^64`.
+pub fn small_number_of(text: &[u8]) -> Option<u64>
+    ensures { result ≡ small_number_of text.now }
+{
+    u64::try_from(number_of(text)?).ok()
 }
 
 /// The number that digits write, by 64 bits as long as it fits them.

@@ -4,6 +4,7 @@ ghost use Rattle.std.specs.List.{list_all};
 ghost use Rattle.rt_scenario.specs.Indexed.{placed_at, read};
 ghost use Rattle.rt_scenario.specs.Scripts.{closed_script};
 ghost use Rattle.rt_scenario.specs.Lines.{words_in};
+ghost use Rattle.rt_scenario.specs.Within.{IsClear};
 ghost use Rattle.rt_scenario.specs.Scenario.{is_name, with_choices, with_line, with_panic, with_select};
 
 use crate::handles::Handles;
@@ -16,12 +17,15 @@ use rt_base::{Items, NoMemory, Text};
 use std::alloc::Global;
 use std::marker::Model;
 
-/// The lines of a script so far, the names of what they hold, the words of its panics, and the indices of the names that
-/// its choices take.
+/// A script with more lines than these is long.
+const LONG: usize = 1024;
+
+/// The lines of a script so far, with the indices of the names of what they hold, these names, the words of its panics, and
+/// the indices of the names that its choices take.
 #[derive(Drop)]
 pub struct OpenScript {
     name: Text,
-    lines: Vec<NamedLine<usize>>,
+    lines: Vec<Line>,
     handles: Handles,
     words: Vec<Text>,
     choices: Vec<usize>,
@@ -42,7 +46,7 @@ impl Model for OpenScript {
 
 impl OpenScript {
     /// A script without lines, which keeps them in the room of `spare`.
-    pub fn new(alloc: Global, name: Text, spare: Vec<NamedLine<usize>>) -> OpenScript
+    pub fn new(alloc: Global, name: Text, spare: Vec<Line>) -> OpenScript
         ensures { result ≡ record { name = name; lines = []; words = []; choices = [] } }
     {
         let mut lines = spare;
@@ -57,6 +61,7 @@ impl OpenScript {
     }
 
     pub fn push(&mut self, line: NamedLine<&str>) -> Result<(), NoMemory>
+        requires { IsClear (read line) }
         ensures line { OnOk result (self.new ≡ with_line (read line.entry) self.old) }
         ensures refused { OnErr result (self.new ≡ self.old) }
     {
@@ -70,7 +75,7 @@ impl OpenScript {
         ensures line { OnOk result (self.new ≡ with_panic word self.old) }
         ensures refused { OnErr result (self.new ≡ self.old) }
     {
-        let line = NamedLine::Plain(Line::Panic(self.words.len()));
+        let line = Line::Panic(self.words.len());
         self.lines.reserve(1)?;
         self.words.push(word)?;
         self.lines.push_reserved(line);
@@ -113,21 +118,23 @@ impl OpenScript {
         Ok(())
     }
 
-    /// The script as it stands, with the places of its names; and the room of its lines.
-    pub fn close(self) -> Result<(ScriptText, Vec<NamedLine<usize>>), NoMemory>
+    /// The script as it stands, with the places of its names; and room for the lines of the next.
+    pub fn close(self) -> Result<(ScriptText, Vec<Line>), NoMemory>
         ensures { IfOk result (λ closed. closed.0 ≡ closed_script self) }
     {
         let OpenScript {
             name,
-            lines: kept,
+            lines,
             handles,
             words,
             choices,
         } = self;
-        let alloc = *kept.allocator();
         let (handles, places) = handles.in_order()?;
-        let lines = placed_lines(alloc, kept.as_slice(), places.as_slice())?;
-        let choices = placed_choices(alloc, choices.as_slice(), places.as_slice())?;
+        let mut lines = lines;
+        place_lines(lines.as_mut_slice(), places.as_slice());
+        let (lines, spare) = lines_and_room(lines)?;
+        let mut choices = choices;
+        place_choices(choices.as_mut_slice(), places.as_slice());
         let script = ScriptText {
             name,
             lines: Items::of(lines),
@@ -135,38 +142,35 @@ impl OpenScript {
             words: Items::of(words),
             choices: Items::of(choices),
         };
-        Ok((script, kept))
+        Ok((script, spare))
     }
 }
 
-fn placed_lines(
-    alloc: Global,
-    lines: &[NamedLine<usize>],
-    places: &[usize],
-) -> Result<Vec<Line>, NoMemory>
-    ensures { IfOk result (λ list. list.items ≡ map (placed_at places.now) lines.now) }
+/// The lines for the script, and room for those of the next. A long script takes the room itself: a large block that is
+/// given back makes the C library's allocator copy the large blocks that grow after it.
+fn lines_and_room(lines: Vec<Line>) -> Result<(Vec<Line>, Vec<Line>), NoMemory>
+    ensures { IfOk result (λ both. both.0.items ≡ lines.items) }
 {
-    let mut list = Vec::with_capacity(alloc, lines.len())?;
-    let mut rest = lines;
-    while let Some((line, tail)) = rest.split_first() {
-        list.push(placed(*line, places))?;
-        rest = tail;
+    let alloc = *lines.allocator();
+    if lines.len() > LONG {
+        return Ok((lines, Vec::new(alloc)));
     }
-    Ok(list)
+    Ok((Vec::from_slice(alloc, lines.as_slice())?, lines))
 }
 
-fn placed_choices(
-    alloc: Global,
-    choices: &[usize],
-    places: &[usize],
-) -> Result<Vec<usize>, NoMemory>
-    ensures { IfOk result (λ list. list.items ≡ map (slice_index places.now) choices.now) }
+/// Puts the places of the names in for their indices.
+fn place_lines(lines: &mut [Line], places: &[usize])
+    ensures { lines.new ≡ map (placed_at places.now) lines.old }
 {
-    let mut list = Vec::with_capacity(alloc, choices.len())?;
-    let mut rest = choices;
-    while let Some((index, tail)) = rest.split_first() {
-        list.push(place_at(places, *index))?;
-        rest = tail;
+    for line in lines.iter_mut() {
+        *line = placed(*line, places);
     }
-    Ok(list)
+}
+
+fn place_choices(choices: &mut [usize], places: &[usize])
+    ensures { choices.new ≡ map (slice_index places.now) choices.old }
+{
+    for choice in choices.iter_mut() {
+        *choice = place_at(places, *choice);
+    }
 }

@@ -1,7 +1,7 @@
 // Reads a whole scenario.
-ghost use Rattle.std.specs.Prelude.{IfOk};
+ghost use Rattle.std.specs.Prelude.{◌≡◌, true, IfOk};
 ghost use Rattle.std.specs.List.{All};
-ghost use Rattle.rt_scenario.specs.Scenario.{scenario_of, CanRun};
+ghost use Rattle.rt_scenario.specs.Scenario.{scenario_of, is_runnable, CanRunLine};
 ghost use Rattle.rt_scenario.specs.Answers.{Reads};
 ghost use Rattle.rt_scenario.specs.Within.{HavePlaces};
 
@@ -32,8 +32,8 @@ pub enum Refusal {
 /// Where a script isn't closed at the end, or nothing is run, the line after the last is broken.
 pub fn read_scenario(alloc: Global, bytes: &[u8]) -> Result<Scenario, Refusal>
     ensures says { Reads (scenario_of bytes.now) result }
-    ensures runs { IfOk result (λ s. CanRun s.scripts s.timeout s.root) }
-    ensures spawns { IfOk result (λ s. All (CanRun s.scripts s.timeout) s.with) }
+    ensures runs { IfOk result (λ s. All (CanRunLine s.scripts s.settings) s.runs) }
+    ensures settings { IfOk result (λ s. is_runnable s.settings ≡ true) }
     ensures places { IfOk result (λ s. HavePlaces s.scripts) }
 {
     let mut draft = Draft::new(alloc);

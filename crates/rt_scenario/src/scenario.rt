@@ -6,16 +6,37 @@ use rt_base::{Items, Nanos, Text};
 /// A scenario that breaks no rule.
 #[derive(Debug, Drop)]
 pub struct Scenario {
-    /// The length of the run in nanoseconds, where it is limited.
-    pub timeout: Option<Nanos>,
-    /// Whether panics are caught; not if no line says so.
-    pub catch: bool,
+    pub settings: Settings,
     /// The scripts in order; each has a name of its own.
     pub scripts: Items<ScriptText>,
-    /// The place among them of the script that is run.
+    /// The runs in order, each behind the one before it.
+    pub runs: Items<RunLine>,
+}
+
+/// A run: the places of scripts among those of the scenario.
+#[derive(Debug, Drop)]
+pub struct RunLine {
+    /// The script of the root.
     pub root: usize,
-    /// The places of the scripts that are spawned beside it, in order; one may stand there often.
+    /// The scripts that are spawned beside it, in order; one may stand there often.
     pub with: Items<usize>,
+}
+
+/// What the lines before the first script say of a run. Each is `None` where no line says it.
+#[derive(Clone, Copy, Debug)]
+pub struct Settings {
+    /// The seed of the generator.
+    pub seed: Option<u64>,
+    /// The number of the first task.
+    pub next: Option<u64>,
+    /// How far time moves on after each round, in nanoseconds.
+    pub cycle: Option<Nanos>,
+    /// When the run begins, in nanoseconds.
+    pub start: Option<Nanos>,
+    /// How long the run lasts at most, in nanoseconds from its start on.
+    pub timeout: Option<Nanos>,
+    /// Whether panics are caught.
+    pub catch: Option<bool>,
 }
 
 /// The lines of a script.

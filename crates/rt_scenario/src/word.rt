@@ -5,6 +5,10 @@ ghost use Rattle.rt_scenario.specs.Words.{switch_of, word_of};
 /// What a line begins with, where that is known.
 #[derive(Clone, Copy, Debug, PartialEq, Eq)]
 pub enum Word {
+    Seed,
+    Next,
+    Cycle,
+    Start,
     Timeout,
     Catch,
     Script,
@@ -33,6 +37,10 @@ impl Word {
         ensures { result ≡ word_of text.now }
     {
         match text {
+            b"seed" => Some(Word::Seed),
+            b"next" => Some(Word::Next),
+            b"cycle" => Some(Word::Cycle),
+            b"start" => Some(Word::Start),
             b"timeout" => Some(Word::Timeout),
             b"catch" => Some(Word::Catch),
             b"script" => Some(Word::Script),

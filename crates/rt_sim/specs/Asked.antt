@@ -4,7 +4,7 @@ use Rattle.rt_audit.specs.declared.entry.Entry.{Entry}
 use Rattle.rt_base.specs.Outside.{Appends}
 use Rattle.rt_scenario.specs.Words.{is_text}
 use Rattle.rt_scenario.specs.Scenario.{Reading, Whole, BrokenAt, scenario_of}
-use Rattle.rt_sim.specs.Ran.{Simulates, Halts, starting, status_of}
+use Rattle.rt_sim.specs.Ran.{Simulates, Chain, starting, last_status}
 use Rattle.rt_sim.specs.Report.{IsPart, reports_text, usage_text, too_long_text, refusal_text}
 use Rattle.rt_sim.specs.declared.outcome.RunReport.{RunReport}
 use Rattle.rt_sim.specs.declared.outcome.Outcome.{Outcome}
@@ -34,9 +34,9 @@ IsAsked words told asked = (bytes : List ℕ) × IfSome told (λ left. bytes ≡
 abbrev pub Refuses : ℕ → Outcome → Type 0
 Refuses status o = (o.status ≡ status) × (o.runs ≡ []) × (o.journal.entries ≡ [])
 
--- this run is reported, with these entries
-abbrev pub Reports : RunReport → List Entry → Outcome → Type 0
-Reports run entries o = (o.status ≡ status_of run.result) × (o.runs ≡ run ∷ []) × (o.journal.entries ≡ entries)
+-- these runs are reported, with these entries
+abbrev pub Reports : List RunReport → List Entry → Outcome → Type 0
+Reports runs entries o = (o.status ≡ last_status runs) × (o.runs ≡ runs) × (o.journal.entries ≡ entries)
 
 -- the outcome where nothing fails
 abbrev pub Answers : Asked → Outcome → Type 0
@@ -69,14 +69,14 @@ IsBare o before after = ((o.status ≡ 4) ⊎ (o.status ≡ 7)) × (o.runs ≡ [
 abbrev pub EndsAs : (Outcome → Type 0) → List ℕ → Outcome → Option (List ℕ) → Option (List ℕ) → Type 0
 EndsAs is text o before after = IsDone is text o before after ⊎ (IsCut is text o before after ⊎ IsBare o before after)
 
--- a run of what was asked lacked memory and left these entries
-abbrev pub Lacks : Asked → List Entry → Type 0
-Lacks (Reads (Whole s)) entries = Halts s s.root (starting s) entries
-Lacks asked entries = ⊥
+-- behind these runs of what was asked one lacked memory, and these are all entries
+abbrev pub Lacks : Asked → List RunReport → List Entry → Type 0
+Lacks (Reads (Whole s)) runs entries = Chain false s.scripts (starting s.settings) s.runs runs entries
+Lacks asked runs entries = ⊥
 
--- a run lacked memory: it isn't reported, its entries stand in the journal, and nothing was written
+-- a run lacked memory: its entries stand in the journal behind those of the runs before it, and nothing was written
 abbrev pub IsHalted : Asked → Outcome → Option (List ℕ) → Option (List ℕ) → Type 0
-IsHalted asked o before after = (o.status ≡ 7) × (o.runs ≡ []) × Lacks asked o.journal.entries × (after ≡ before)
+IsHalted asked o before after = (o.status ≡ 7) × Lacks asked o.runs o.journal.entries × (after ≡ before)
 
 abbrev pub Ends : Asked → Outcome → Option (List ℕ) → Option (List ℕ) → Type 0
 Ends asked o before after = EndsAs (Answers asked) (text_of asked o) o before after ⊎ IsHalted asked o before after

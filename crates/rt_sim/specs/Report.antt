@@ -1,5 +1,5 @@
 -- The text of a report.
-use Rattle.std.specs.Prelude.{◌≡◌, ℕ, List, [], ◌∷◌, ◌++◌, Option, codes}
+use Rattle.std.specs.Prelude.{◌≡◌, ◌≤◌, ℕ, List, [], ◌∷◌, ◌++◌, slice_range, Option, codes}
 use Rattle.std.specs.Fmt.{decimal, signed_decimal}
 use Rattle.hex.specs.Hex.{encode_lower}
 use Rattle.rt_base.specs.Outside.{Appends}
@@ -41,10 +41,14 @@ entries_text (entry ∷ entries) = (line_of entry ++ codes "\n") ++ entries_text
 abbrev pub report_text : RunReport → List Entry → List ℕ
 report_text run entries = (codes "run " ++ (run.root ++ codes "\n")) ++ (entries_text entries ++ (result_text run.result ++ numbers_text run))
 
--- one report after another, each with all entries of the journal
+-- one report after another, each with its own entries of the journal
 abbrev pub reports_text : List RunReport → List Entry → List ℕ
 reports_text [] entries = []
-reports_text (run ∷ runs) entries = report_text run entries ++ reports_text runs entries
+reports_text (run ∷ runs) entries = report_text run (slice_range entries run.from run.to) ++ reports_text runs entries
+
+-- the entries of a run are among so many
+abbrev pub StandsIn : ℕ → RunReport → Type 0
+StandsIn entries run = (run.from ≤ run.to) × (run.to ≤ entries)
 
 -- a text was written from the one place to the other, up to what is still in the buffer
 abbrev pub IsWritten : Option (List ℕ) → List ℕ → Option (List ℕ) → List ℕ → Type 0

@@ -22,30 +22,23 @@ call 0 join 1 -> pending
 call 0 join 2 -> pending
 answer 0 pending
 advance 1000000
-round 1 2
-visit 1
-event process_task 00000000000000000000000000000001 61
-call 1 sleep-poll 2000000 -> pending 0
-answer 1 pending
+draw 9713269763989775522
+round 2 1
 visit 2
 event process_task 00000000000000000000000000000002 62
-call 2 sleep-poll 2000000 -> pending 1
+call 2 sleep-poll 2000000 -> pending 0
 answer 2 pending
-advance 2000000
-fire 0
-wake 1
-fire 1
-wake 2
-round 1 2
 visit 1
 event process_task 00000000000000000000000000000001 61
-call 1 sleep-poll 2000000 -> ready
-answer 1 ready
-call 1 close-node 2 -> ok
-answer 1 ended
-wake 0
-nodeend 1
+call 1 sleep-poll 2000000 -> pending 1
+answer 1 pending
+advance 2000000
+fire 0
+wake 2
+fire 1
 wake 1
+draw 10011513049433592189
+round 2 1
 visit 2
 event process_task 00000000000000000000000000000002 62
 call 2 sleep-poll 2000000 -> ready
@@ -55,8 +48,20 @@ answer 2 ended
 wake 0
 nodeend 3
 wake 2
+visit 1
+event process_task 00000000000000000000000000000001 61
+call 1 sleep-poll 2000000 -> ready
+answer 1 ready
+call 1 close-node 2 -> ok
+answer 1 ended
+wake 0
+nodeend 1
+wake 1
 advance 3000000
-round 0 1 0 2
+draw 11740708795755607249
+draw 7487565853151867058
+draw 633513173585076202
+round 1 0 0 2
 visit 0
 event process_task 00000000000000000000000000000000 -
 call 0 join 1 -> ready
@@ -74,7 +79,7 @@ finish ok
 result ok 1
 time 3000000
 rounds 4
-digest 64765a09
+digest d3846b3a
 ";
     expect_report(&rt, rt.alloc(), input, 0, report)
 }
@@ -148,10 +153,8 @@ call 0 join 1 -> pending
 call 0 join 2 -> pending
 answer 0 pending
 advance 1000000
-round 1 2
-visit 1
-event process_task 00000000000000000000000000000001 61
-answer 1 pending
+draw 9713269763989775522
+round 2 1
 visit 2
 event process_task 00000000000000000000000000000002 62
 answer 2 ready
@@ -159,6 +162,9 @@ call 2 close-node 4 -> ok
 answer 2 ended
 wake 0
 nodeend 3
+visit 1
+event process_task 00000000000000000000000000000001 61
+answer 1 pending
 advance 2000000
 round 0
 visit 0
@@ -196,7 +202,7 @@ finish ok
 result ok -99
 time 4000000
 rounds 5
-digest f0968c55
+digest 6bf08c15
 ";
     expect_report(&rt, rt.alloc(), input, 0, report)
 }
@@ -233,6 +239,8 @@ call 1 join 4 -> pending
 call 1 join 2 -> pending
 answer 1 pending
 advance 2000000
+draw 9713269763989775522
+draw 10011513049433592189
 round 2 3 4
 visit 2
 event process_task 00000000000000000000000000000002 685f61
@@ -271,7 +279,13 @@ answer 1 ended
 nodeend 1
 wake 3
 advance 5000000
-round 4 2 3
+draw 11740708795755607249
+draw 7487565853151867058
+round 3 4 2
+visit 3
+event process_task 00000000000000000000000000000003 685f62
+call 3 close-node 6 -> ok
+answer 3 ended
 visit 4
 event process_task 00000000000000000000000000000004 685f63
 call 4 close-node 8 -> ok
@@ -280,10 +294,6 @@ visit 2
 event process_task 00000000000000000000000000000002 685f61
 call 2 close-node 4 -> ok
 answer 2 ended
-visit 3
-event process_task 00000000000000000000000000000003 685f62
-call 3 close-node 6 -> ok
-answer 3 ended
 advance 6000000
 fire 1
 wake 0
@@ -302,7 +312,7 @@ finish ok
 result ok 3
 time 6000000
 rounds 7
-digest ed7be80c
+digest 95213009
 ";
     expect_report(&rt, rt.alloc(), input, 0, report)
 }
@@ -328,16 +338,17 @@ call 0 join 2 -> pending
 call 0 join 1 -> pending
 answer 0 pending
 advance 1000000
-round 1 2
+draw 9713269763989775522
+round 2 1
+visit 2
+event process_task 00000000000000000000000000000002 62
+answer 2 pending
 visit 1
 event process_task 00000000000000000000000000000001 61
 call 1 close-node 2 -> ok
 answer 1 ended
 nodeend 1
 wake 0
-visit 2
-event process_task 00000000000000000000000000000002 62
-answer 2 pending
 advance 2000000
 round 0
 visit 0
@@ -360,7 +371,7 @@ finish ok
 result ok -2
 time 2000000
 rounds 3
-digest 5db4539d
+digest cb0d0883
 ";
     expect_report(&rt, rt.alloc(), input, 0, report)
 }

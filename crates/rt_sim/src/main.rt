@@ -1,4 +1,4 @@
-//! `rt_sim`: a script runs as the root of a run, and its journal, result, time and rounds are reported.
+//! `rt_sim`: the runs of a scenario, each of a script as its root, and their reports: journal, result, time, rounds and digest.
 #![tactic(auto)]
 
 mod choosing;
@@ -10,6 +10,8 @@ mod outcome;
 mod program;
 mod report;
 mod script;
+#[cfg(test)]
+mod seeded_tests;
 mod shutdown;
 #[cfg(test)]
 mod shutdown_tests;

@@ -1,9 +1,10 @@
-//! The report of a run, written through a buffer.
+//! The reports of runs, each written through a buffer.
 
-ghost use Rattle.std.specs.Prelude.{◌≡◌, ◌≤◌, ◌++◌, Err, OnOk, OnErr, codes, string_bytes};
+ghost use Rattle.std.specs.Prelude.{◌≡◌, ◌≤◌, ◌++◌, length, Err, OnOk, OnErr, codes, string_bytes};
+ghost use Rattle.std.specs.List.{All};
 ghost use Rattle.rt_base.specs.Outside.{Appends, HasRisen};
 ghost use Rattle.rt_audit.specs.Lines.{line_of};
-ghost use Rattle.rt_sim.specs.Report.{report_text, entries_text, result_text, numbers_text, word_of, detail_of, IsWritten, IsPart};
+ghost use Rattle.rt_sim.specs.Report.{StandsIn, reports_text, report_text, entries_text, result_text, numbers_text, word_of, detail_of, IsWritten, IsPart};
 
 use crate::{RunReport, RunResult};
 use rt_audit::Entry;
@@ -58,11 +59,34 @@ impl From<Failed> for Unwritten {
     }
 }
 
+/// Writes the reports of runs, one after another, each with its own of these entries.
+///
+/// Where they aren't written whole, the first bytes have been.
+pub fn write_reports<K: Sink8>(
+    alloc: Global,
+    sink: &mut K,
+    runs: &[RunReport],
+    entries: &[Entry],
+) -> Result<(), Unwritten>
+    requires { All (StandsIn (length entries.now)) runs.now }
+    ensures whole { OnOk result (Appends (K.held sink.old) (reports_text runs.now entries.now) (K.held sink.new)) }
+    ensures part { OnErr result (IsPart (K.held sink.old) (reports_text runs.now entries.now) (K.held sink.new)) }
+    ensures cause { result ≡ Err Unwritten.Failed → HasRisen (K.faults sink.old) (K.faults sink.new) }
+    ensures counted { K.faults sink.old ≤ K.faults sink.new }
+{
+    let mut rest = runs;
+    while let Some((run, tail)) = rest.split_first() {
+        write_report(alloc, sink, run, &entries[run.from..run.to])?;
+        rest = tail;
+    }
+    Ok(())
+}
+
 /// Writes the report of a run, whose entries these are.
 ///
 /// Where it isn't written whole, its first bytes have been.
 #[tactic(auto, using(crate::proofs::Written::unwritten))]
-pub fn write_report<K: Sink8>(
+fn write_report<K: Sink8>(
     alloc: Global,
     sink: &mut K,
     run: &RunReport,

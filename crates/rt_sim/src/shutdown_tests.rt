@@ -52,7 +52,8 @@ answer 1 ended
 nodeend 1
 wake 1
 advance 4000000
-round 0 1
+draw 9713269763989775522
+round 1 0
 visit 0
 event process_task 00000000000000000000000000000000 -
 call 0 completion-poll 2 -> ok

@@ -1,21 +1,22 @@
 //! The call of the program.
 
-ghost use Rattle.std.specs.Prelude.{◌≡◌, ◌≢◌, ◌<◌, ◌≤◌, ◌⊎◌, ◌∷◌, [], false, Some, IfSome, length, map, vec_len, vec_capacity, string_bytes};
+ghost use Rattle.std.specs.Prelude.{◌≡◌, ◌≢◌, ◌<◌, ◌≤◌, ◌⊎◌, [], true, false, not, Some, IfSome, IfOk, length, take, drop, map, vec_capacity, string_bytes};
 ghost use Rattle.rt_base.specs.Outside.{HasRisen};
 ghost use Rattle.std.specs.List.{All};
-ghost use Rattle.rt_scenario.specs.Scenario.{scenario_of, CanRun, Whole, BrokenAt};
+ghost use Rattle.rt_scenario.specs.Scenario.{scenario_of, is_runnable, CanRunLine, Whole, BrokenAt};
 ghost use Rattle.rt_scenario.specs.Within.{HavePlaces};
-ghost use Rattle.rt_audit.specs.Journal.{digest_of};
 ghost use Rattle.rt_sim.specs.Asked.{Asked, Reads, IsAsked, Refuses, Reports, EndsAs, Ends, says_run};
-ghost use Rattle.rt_sim.specs.Ran.{report_of, rounds_in, status_of};
-ghost use Rattle.rt_sim.specs.Report.{reports_text};
+ghost use Rattle.rt_sim.specs.Program.{text_at};
+ghost use Rattle.rt_sim.specs.Ran.{CameOf, Chain, HasScripts, last_status, maker_of, report_of, rounds_in, starting, status_of};
+ghost use Rattle.rt_sim.specs.Report.{StandsIn, reports_text};
 
-use crate::report::{Unwritten, write_report};
+use crate::report::{Unwritten, write_reports};
 use crate::{Outcome, Program, RootScript, RunReport, RunResult, Script};
+use rand_chacha::ChaCha12Rng;
 use rt_audit::{Entry, Journal};
-use rt_base::{Items, Nanos, Sink8, Source, Text, Unread, read_whole, write_whole};
-use rt_core::{Config, Failure, Finished, RunError, Runner};
-use rt_scenario::{Broken, Refusal, Scenario, read_scenario};
+use rt_base::{Items, Nanos, NoMemory, Sink8, Source, Text, Unread, read_whole, write_whole};
+use rt_core::{Checkpoint, Config, Failure, Finished, RunError, Runner};
+use rt_scenario::{Broken, Refusal, RunLine, Scenario, Settings, read_scenario};
 use std::alloc::Global;
 
 /// How many bytes a scenario may have.
@@ -113,122 +114,248 @@ fn refuse_broken<K: Sink8>(alloc: Global, sink: &mut K, broken: Broken) -> Outco
     }
 }
 
-/// Runs the root of a scenario.
+/// Runs the lines of a scenario, one after another, and writes their reports.
 fn run_scenario<K: Sink8>(alloc: Global, scenario: Scenario, sink: &mut K) -> Outcome
-    requires root { CanRun scenario.scripts scenario.timeout scenario.root }
-    requires with { All (CanRun scenario.scripts scenario.timeout) scenario.with }
+    requires settings { is_runnable scenario.settings ≡ true }
+    requires lines { All (CanRunLine scenario.scripts scenario.settings) scenario.runs }
     requires places { HavePlaces scenario.scripts }
     ensures ends { Ends (Reads (Whole scenario)) result (K.held sink.old) (K.held sink.new) }
     ensures read { result.status ≢ 4 }
     ensures unwritten { result.status ≡ 5 → HasRisen (K.faults sink.old) (K.faults sink.new) }
 {
     let Scenario {
-        timeout,
-        catch,
+        settings,
         scripts,
-        root,
-        with,
+        runs: lines,
     } = scenario;
-    let Ok(place) = Vec::with_capacity(alloc, 1) else {
+    let Ok(room) = Vec::with_capacity(alloc, lines.as_slice().len()) else {
         return nothing(alloc, 7);
     };
-    let scripts = scripts.into_inner();
-    let Ok(name) = scripts[root].name.clone_value() else {
+    let Ok(program) = Program::new(alloc, scripts.into_inner()) else {
         return nothing(alloc, 7);
     };
-    let Ok(program) = Program::new(alloc, scripts) else {
-        return nothing(alloc, 7);
+    let first = first_runner(settings);
+    let ran = run_lines(alloc, &program, first, lines.as_slice(), room);
+    let Ran {
+        runs,
+        journal,
+        lacked,
+    } = ran;
+    if lacked {
+        return Outcome {
+            status: 7,
+            runs: Items::of(runs),
+            journal,
+        };
+    }
+    report_runs(alloc, sink, runs, journal)
+}
+
+/// The runner of a scenario's first run. What no line says is as [`Config::new`] has it.
+fn first_runner(settings: Settings) -> Runner<ChaCha12Rng>
+    requires { is_runnable settings ≡ true }
+    ensures { result ≡ starting settings }
+{
+    let config = Config::new()
+        .with_seed(settings.seed.unwrap_or(42))
+        .with_next_task(settings.next.unwrap_or(0))
+        .with_cycle(settings.cycle.unwrap_or(1_000_000))
+        .with_start_time(settings.start.unwrap_or(0))
+        .with_timeout(settings.timeout)
+        .with_catch_panics(settings.catch.unwrap_or(false));
+    match Runner::new(config) {
+        Ok(runner) => runner,
+        Err(_) => unreachable!(),
+    }
+}
+
+/// What the lines of a scenario have come to: the runs that are reported, all entries, and whether a run lacked memory.
+#[derive(Drop)]
+struct Ran {
+    runs: Vec<RunReport>,
+    journal: Journal,
+    lacked: bool,
+}
+
+/// Runs these lines, the first as this runner begins, and each later one from what is kept of the one before. One that fails
+/// is the last. There is room for their reports.
+fn run_lines(
+    alloc: Global,
+    program: &Program,
+    first: Runner<ChaCha12Rng>,
+    lines: &[RunLine],
+    room: Vec<RunReport>,
+) -> Ran
+    requires lines { All (HasScripts program.now) lines.now }
+    requires none { room.items ≡ [] }
+    requires places { length lines.now ≤ vec_capacity room }
+    requires fresh { first.given ≡ [] }
+    ensures { Chain (not result.lacked) program.now first lines.now result.runs.items result.journal.entries }
+{
+    let mut runs = room;
+    let mut runner = first;
+    let mut place = 0;
+    let mut rest = lines;
+    while let Some((line, tail)) = rest.split_first() {
+        match run_line(alloc, program, runner, line, place) {
+            Came::Completed { run, checkpoint } => {
+                place = run.to;
+                runs.push_reserved(run);
+                runner = Runner::from(checkpoint);
+            }
+            Came::Failed { run, journal } => {
+                runs.push_reserved(run);
+                return Ran {
+                    runs,
+                    journal,
+                    lacked: false,
+                };
+            }
+            Came::Lacked(journal) => {
+                return Ran {
+                    runs,
+                    journal,
+                    lacked: true,
+                };
+            }
+        }
+        rest = tail;
+    }
+    Ran {
+        runs,
+        journal: runner.into_journal(alloc),
+        lacked: false,
+    }
+}
+
+/// What the run of a line has come to.
+#[derive(Drop)]
+pub enum Came {
+    Completed {
+        run: RunReport,
+        checkpoint: Checkpoint<ChaCha12Rng>,
+    },
+    Failed {
+        run: RunReport,
+        journal: Journal,
+    },
+    /// It lacked memory. These are all entries.
+    Lacked(Journal),
+}
+
+/// The name of the script that a line runs, and the maker of its root.
+fn prepared(
+    alloc: Global,
+    program: &Program,
+    line: &RunLine,
+) -> Result<(Text, RootScript), NoMemory>
+    requires { HasScripts program.now line.now }
+    ensures { IfOk result (λ made. (made.0 ≡ (text_at program.now line.now.root).name) × (made.1 ≡ maker_of program.now line.now)) }
+{
+    let name = Text::of(program.script_name(line.root).to_owned(alloc)?);
+    let with = Items::of(line.with.as_slice().to_vec(alloc)?);
+    Ok((name, RootScript::new(program.share()?, line.root, with)))
+}
+
+/// Runs a line. The entries of the runs before it end at this place.
+fn run_line(
+    alloc: Global,
+    program: &Program,
+    runner: Runner<ChaCha12Rng>,
+    line: &RunLine,
+    place: usize,
+) -> Came
+    requires line { HasScripts program.now line.now }
+    requires place { place ≡ length runner.given }
+    ensures { CameOf program.now line.now runner result }
+{
+    let Ok((name, maker)) = prepared(alloc, program, line) else {
+        return Came::Lacked(runner.into_journal(alloc));
     };
-    let config = Config::new().with_timeout(timeout).with_catch_panics(catch);
-    let Ok(runner) = Runner::new(config) else {
-        unreachable!();
-    };
-    let maker = RootScript::new(program, root, with);
     match runner.start_and_recover::<Script, RootScript>(alloc, maker) {
         Ok(finished) => {
             let Finished { output, checkpoint } = finished;
             let time = checkpoint.time();
-            let journal = checkpoint.into_journal();
-            let run = report_of(name, RunResult::Ok(output), time, &journal);
-            report_run(alloc, sink, place, run, journal)
+            let run = report_of(
+                name,
+                RunResult::Ok(output),
+                time,
+                place,
+                checkpoint.journal(),
+            );
+            Came::Completed { run, checkpoint }
         }
         Err(failure) => {
             let Failure { cause, journal } = failure;
             if cause == RunError::NoMemory {
-                return halted(alloc, journal);
+                return Came::Lacked(journal);
             }
             let time = journal.last_time();
-            let run = report_of(name, RunResult::Failed(cause), time, &journal);
-            report_run(alloc, sink, place, run, journal)
+            let run = report_of(name, RunResult::Failed(cause), time, place, &journal);
+            Came::Failed { run, journal }
         }
     }
 }
 
-/// The outcome of a run that lacked memory.
-fn halted(alloc: Global, journal: Journal) -> Outcome
-    ensures status { result.status ≡ 7 }
-    ensures runs { result.runs ≡ [] }
-    ensures journal { result.journal ≡ journal }
-{
-    Outcome {
-        status: 7,
-        runs: Items::of(Vec::new(alloc)),
-        journal,
-    }
-}
-
-/// The report of a run whose entries are all of the journal.
-fn report_of(root: Text, ended: RunResult, time: Nanos, journal: &Journal) -> RunReport
-    ensures { result ≡ report_of root ended time 0 (digest_of journal.now.entries) journal.now.entries }
+/// The report of a run whose entries stand from a place of the journal on.
+fn report_of(
+    root: Text,
+    ended: RunResult,
+    time: Nanos,
+    place: usize,
+    journal: &Journal,
+) -> RunReport
+    requires { place ≤ length journal.now.entries }
+    ensures { result ≡ report_of root ended time (take place journal.now.entries) (drop place journal.now.entries) }
 {
     RunReport {
         root,
         result: ended,
-        from: 0,
+        from: place,
         to: journal.len(),
         digest: journal.digest(),
         time,
-        rounds: count_rounds(journal.entries()),
+        rounds: count_rounds(&journal.entries()[place..]),
     }
 }
 
-/// Writes the report of a run, for which there is a place.
-fn report_run<K: Sink8>(
+/// Writes the reports of runs, whose entries are those of the journal.
+fn report_runs<K: Sink8>(
     alloc: Global,
     sink: &mut K,
-    place: Vec<RunReport>,
-    run: RunReport,
+    runs: Vec<RunReport>,
     journal: Journal,
 ) -> Outcome
-    requires empty { vec_len place ≡ 0 }
-    requires room { 0 < vec_capacity place }
-    ensures ends { EndsAs (Reports run journal.entries) (reports_text result.runs result.journal.entries) result (K.held sink.old) (K.held sink.new) }
+    requires { All (StandsIn (length journal.entries)) runs.items }
+    ensures ends { EndsAs (Reports runs.items journal.entries) (reports_text result.runs result.journal.entries) result (K.held sink.old) (K.held sink.new) }
     ensures read { result.status ≢ 4 }
     ensures unwritten { result.status ≡ 5 → HasRisen (K.faults sink.old) (K.faults sink.new) }
 {
-    let status = status_of(&run.result);
-    match write_report(alloc, sink, &run, journal.entries()) {
-        Ok(()) => reported(place, run, status, journal),
-        Err(Unwritten::Failed) => reported(place, run, 5, journal),
-        Err(Unwritten::NoMemory) => reported(place, run, 7, journal),
-    }
-}
-
-/// An outcome with this run, for which there is a place.
-fn reported(place: Vec<RunReport>, run: RunReport, status: u8, journal: Journal) -> Outcome
-    requires empty { vec_len place ≡ 0 }
-    requires room { 0 < vec_capacity place }
-    ensures status { result.status ≡ status }
-    ensures runs { result.runs ≡ run ∷ [] }
-    ensures journal { result.journal ≡ journal }
-{
-    let mut runs = place;
-    runs.push_reserved(run);
+    let status = match write_reports(alloc, sink, runs.as_slice(), journal.entries()) {
+        Ok(()) => last_status(runs.as_slice()),
+        Err(Unwritten::Failed) => 5,
+        Err(Unwritten::NoMemory) => 7,
+    };
     Outcome {
         status,
         runs: Items::of(runs),
         journal,
     }
+}
+
+/// The status behind these reports: that of the last one.
+#[tactic(auto, using(crate::proofs::Runs::last_laws))]
+fn last_status(runs: &[RunReport]) -> u8
+    ensures is { result ≡ last_status runs.now }
+    ensures statuses { (result ≡ 0) ⊎ (result ≡ 6) }
+{
+    let mut status = 0;
+    let mut rest = runs;
+    while let Some((run, tail)) = rest.split_first() {
+        status = status_of(&run.result);
+        rest = tail;
+    }
+    status
 }
 
 /// The status of a run whose report was written.

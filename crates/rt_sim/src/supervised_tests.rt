@@ -31,18 +31,15 @@ call - child 0 side -> node 1
 call - spawn 1 -> task 0 node 2
 call - give-up 0 -> ok
 root 1
-round 0 1
-visit 0
-event process_task 00000000000000000000000000000000 73696465
-answer 0 ready
-call 0 close-node 2 -> ok
-answer 0 ended
-nodeend 1
+draw 9713269763989775522
+round 1 0
 visit 1
 event process_task 00000000000000000000000000000001 -
 answer 1 ready
 cleanup
 nodeend 0
+call 0 close-node 2 -> ok
+answer 0 ended
 call 1 close-node 0 -> ok
 answer 1 ended
 crash
@@ -50,7 +47,7 @@ finish ok
 result ok 1
 time 0
 rounds 1
-digest 90061b30
+digest c6c10688
 ";
     expect_report(&rt, rt.alloc(), input, 0, report)
 }
@@ -70,6 +67,8 @@ call - child 0 a -> node 3
 call - spawn 3 -> task 1 node 4
 call - give-up 1 -> ok
 root 2
+draw 9713269763989775522
+draw 10011513049433592189
 round 0 1 2
 visit 0
 event process_task 00000000000000000000000000000000 61
@@ -178,7 +177,8 @@ nodeend 1
 wake 1
 wake 0
 advance 2000000
-round 1 0
+draw 9713269763989775522
+round 0 1
 visit 0
 event process_task 00000000000000000000000000000000 -
 call 0 join 1 -> err 2
@@ -216,17 +216,18 @@ call 0 spawn 3 -> task 2 node 4
 call 0 join 1 -> pending
 answer 0 pending
 advance 1000000
-round 1 2
+draw 9713269763989775522
+round 2 1
+visit 2
+event process_task 00000000000000000000000000000002 73
+call 2 sleep-poll 10000000 -> pending 0
+answer 2 pending
 visit 1
 event process_task 00000000000000000000000000000001 70
 call 1 child 2 c -> node 5
 call 1 spawn 5 -> task 3 node 6
-call 1 sleep-poll 6000000 -> pending 0
+call 1 sleep-poll 6000000 -> pending 1
 answer 1 pending
-visit 2
-event process_task 00000000000000000000000000000002 73
-call 2 sleep-poll 10000000 -> pending 1
-answer 2 pending
 advance 2000000
 round 3
 visit 3
@@ -234,7 +235,7 @@ event process_task 00000000000000000000000000000003 705f63
 answer 3 pending
 advance 3000000
 skip 6000000
-fire 0
+fire 1
 wake 1
 round 1
 visit 1
@@ -249,20 +250,22 @@ nodeend 1
 wake 1
 wake 3
 advance 7000000
-round 0 1 3
+draw 10011513049433592189
+draw 11740708795755607249
+round 3 1 0
+visit 3
+event process_task 00000000000000000000000000000003 705f63
+call 3 close-node 6 -> ok
+answer 3 ended
 visit 0
 event process_task 00000000000000000000000000000000 -
 call 0 join 1 -> ready
 call 0 give-up 1 -> ok
 call 0 join 2 -> pending
 answer 0 pending
-visit 3
-event process_task 00000000000000000000000000000003 705f63
-call 3 close-node 6 -> ok
-answer 3 ended
 advance 8000000
 skip 10000000
-fire 1
+fire 0
 wake 2
 round 2
 visit 2
@@ -275,7 +278,8 @@ wake 0
 nodeend 3
 wake 2
 advance 11000000
-round 0 2
+draw 7487565853151867058
+round 2 0
 visit 0
 event process_task 00000000000000000000000000000000 -
 call 0 join 2 -> ready
@@ -290,7 +294,7 @@ finish ok
 result ok 3
 time 11000000
 rounds 7
-digest e7bb7cb5
+digest 18f847ba
 ";
     expect_report(&rt, rt.alloc(), input, 0, report)
 }
@@ -321,6 +325,7 @@ wake 0
 wake 0
 nodeend 1
 advance 2000000
+draw 9713269763989775522
 round 0 0
 visit 0
 event process_task 00000000000000000000000000000000 -
@@ -569,6 +574,8 @@ call - child 0 two -> node 3
 call - spawn 3 -> task 1 node 4
 call - give-up 1 -> ok
 root 2
+draw 9713269763989775522
+draw 10011513049433592189
 round 0 1 2
 visit 0
 event process_task 00000000000000000000000000000000 6f6e65
@@ -763,13 +770,14 @@ call 0 join 2 -> pending
 call 0 sleep-poll 9000000 -> pending 0
 answer 0 pending
 advance 1000000
-round 1 2
-visit 1
-event process_task 00000000000000000000000000000001 61
-answer 1 pending
+draw 9713269763989775522
+round 2 1
 visit 2
 event process_task 00000000000000000000000000000002 62
 answer 2 pending
+visit 1
+event process_task 00000000000000000000000000000001 61
+answer 1 pending
 advance 2000000
 skip 9000000
 cleanup
@@ -787,7 +795,7 @@ finish timeout
 result timeout
 time 9000000
 rounds 2
-digest 12d693a1
+digest 90e90385
 ";
     expect_report(&rt, rt.alloc(), input, 6, report)
 }
@@ -811,6 +819,6 @@ fn chain(alloc: Global, scripts: u64) -> Result<String, AllocError> {
 #[test]
 fn chain_ends_at_once(rt: HostRuntime) -> Result<(), Fail> {
     let alloc = rt.alloc();
-    let end = "finish ok\nresult ok -2\ntime 2002000000\nrounds 1004\ndigest 3d027316\n";
+    let end = "finish ok\nresult ok -2\ntime 2002000000\nrounds 1004\ndigest d04786e4\n";
     expect_end(&rt, alloc, "run", chain(alloc, 1_000)?.as_str(), 0, end)
 }

@@ -129,7 +129,7 @@ fn statuses_and_texts(rt: HostRuntime) -> Result<(), Fail> {
         ("run", "script a\nend 7\ndone\nrun a", 3, "error 4 cut\n"),
         (
             "run",
-            "script a\ndone\nrun a\nrun a\n",
+            "script a\ndone\nrun a\nscript b\n",
             3,
             "error 4 place\n",
         ),

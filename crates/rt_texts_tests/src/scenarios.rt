@@ -1,6 +1,6 @@
 // Which line is broken first and how, and what a whole scenario says.
 
-use rt_scenario::{Kind, Line, Refusal, read_scenario};
+use rt_scenario::{Kind, Line, Refusal, RunLine, Settings, read_scenario};
 use std::alloc::{AllocError, Global};
 use std::process::Abort;
 use std::test::Fail;
@@ -10,8 +10,13 @@ fn surface(rt: HostRuntime) -> Result<(), Fail> {
     let text =
         b"# two scripts\n\ntimeout 9223372036854775807999999999\nscript a\nsleep 0\nyield\npend\nend 7\ndone\nscript b_2\nsleep 340282366920938463463374607431768211455\nend -9223372036854775808\nend last\ndone\nscript c\ndone\nrun b_2\n";
     let scenario = read_scenario(rt.alloc(), text)?;
-    assert!(rt; scenario.timeout == Some(rt_base::MAX_TIME));
-    assert!(rt; scenario.root == 1);
+    assert!(rt; scenario.settings.timeout == Some(rt_base::MAX_TIME));
+    assert!(rt;
+        are_runs(
+            scenario.runs.as_slice(),
+            [(1usize, [].as_slice())].as_slice()
+        )
+    );
     let scripts = scenario.scripts.as_slice();
     assert!(rt; scripts.len() == 3);
     assert!(rt; scripts[0].name.as_str() == "a");
@@ -26,6 +31,15 @@ fn surface(rt: HostRuntime) -> Result<(), Fail> {
     );
     assert!(rt; scripts[2].lines.as_slice().len() == 0);
     Ok(())
+}
+
+/// Whether the runs are these, each by the place of its root and the places beside it.
+fn are_runs(runs: &[RunLine], wanted: &[(usize, &[usize])]) -> bool {
+    let mut same = runs.len() == wanted.len();
+    for (run, (root, with)) in runs.iter().zip(wanted) {
+        same &= run.root == *root && run.with.as_slice() == *with;
+    }
+    same
 }
 
 /// This line of the text is the first that breaks a rule, and the word of the rule is this.
@@ -51,6 +65,7 @@ fn first_broken_lines(rt: HostRuntime) -> Result<(), Fail> {
         ("", 1u64, "norun"),
         ("script a\nend", 2, "cut"),
         ("script a\nend 7\ndone\nrun a", 4, "cut"),
+        ("script a\ndone\nrun a\nrun a", 4, "cut"),
         ("# tab\there\n", 1, "byte"),
         ("\n pend\n", 2, "space"),
         ("pend \n", 1, "space"),
@@ -59,9 +74,12 @@ fn first_broken_lines(rt: HostRuntime) -> Result<(), Fail> {
         ("done\n", 1, "place"),
         ("script a\nscript b\n", 2, "place"),
         ("script a\ndone\ntimeout 1\n", 3, "place"),
-        ("script a\ndone\nrun a\nrun a\n", 4, "place"),
+        ("script a\nrun a\n", 2, "place"),
         ("script a\ndone\nrun a\nscript b\n", 4, "place"),
-        ("seed 7\n", 1, "unknown"),
+        ("script a\ndone\nrun a\nrun a\nscript a\n", 5, "place"),
+        ("script a\ndone\nrun a\nrun a\ndone\n", 5, "place"),
+        ("script a\ndone\nrun a\nruns a\n", 4, "unknown"),
+        ("seeds 7\n", 1, "unknown"),
         ("script a\nSleep 1\n", 2, "unknown"),
         ("timeout\n", 1, "count"),
         ("script a\nyield 1\n", 2, "count"),
@@ -70,6 +88,7 @@ fn first_broken_lines(rt: HostRuntime) -> Result<(), Fail> {
         ("script 9a\n", 1, "name"),
         ("script abcdefghijklmnopqrstuvwxyzabcdefg\n", 1, "name"),
         ("run a-b\n", 1, "name"),
+        ("script a\ndone\nrun a\nrun 9\n", 4, "name"),
     ] {
         expect_broken(&rt, rt.alloc(), text, line, word)?;
     }
@@ -102,6 +121,8 @@ fn refused_numbers_and_names(rt: HostRuntime) -> Result<(), Fail> {
         ("script a\ndone\nscript a\n", 3, "twice"),
         ("run a\n", 1, "missing"),
         ("script a\ndone\nrun b\n", 3, "missing"),
+        ("script a\ndone\nrun a\nrun b\n", 4, "missing"),
+        ("script a\ndone\nrun b\nrun a\n", 3, "missing"),
         (
             "timeout 9223372036854775808000000000\nscript a\ndone\nrun a\n",
             4,
@@ -116,14 +137,158 @@ fn refused_numbers_and_names(rt: HostRuntime) -> Result<(), Fail> {
 }
 
 #[test]
+fn surface_of_settings(rt: HostRuntime) -> Result<(), Fail> {
+    let text =
+        b"catch off\nnext 18446744073709551615\nstart 9223372036854775807999999998\nseed 0\ncycle 340282366920938463463374607431768211455\ntimeout 1\nscript a\ndone\nrun a\n";
+    let scenario = read_scenario(rt.alloc(), text)?;
+    let Settings {
+        seed,
+        next,
+        cycle,
+        start,
+        timeout,
+        catch,
+    } = scenario.settings;
+    assert!(rt; seed == Some(0));
+    assert!(rt; next == Some(u64::MAX));
+    assert!(rt; cycle == Some(u128::MAX));
+    assert!(rt; start == Some(rt_base::MAX_TIME - 1));
+    assert!(rt; timeout == Some(1));
+    assert!(rt; catch == Some(false));
+    Ok(())
+}
+
+#[test]
+fn no_settings(rt: HostRuntime) -> Result<(), Fail> {
+    let scenario = read_scenario(rt.alloc(), b"script a\ndone\nrun a\n")?;
+    let Settings {
+        seed,
+        next,
+        cycle,
+        start,
+        timeout,
+        catch,
+    } = scenario.settings;
+    assert!(rt; seed.is_none() && next.is_none());
+    assert!(rt; cycle.is_none() && start.is_none() && timeout.is_none());
+    assert!(rt; catch.is_none());
+    Ok(())
+}
+
+#[test]
+fn read_settings(rt: HostRuntime) -> Result<(), Fail> {
+    for text in [
+        "seed 18446744073709551615\nscript a\ndone\nrun a\n",
+        "next 0\nscript a\ndone\nrun a\n",
+        "cycle 1\nscript a\ndone\nrun a\n",
+        "start 9223372036854775807999999999\nscript a\ndone\nrun a\n",
+        "start 9223372036854775807999999999\ntimeout 0\nscript a\ndone\nrun a\n",
+        "timeout 9223372036854775807999999999\nstart 0\nscript a\ndone\nrun a\n",
+    ] {
+        expect_read(&rt, rt.alloc(), text);
+    }
+    Ok(())
+}
+
+#[test]
+fn refused_settings(rt: HostRuntime) -> Result<(), Fail> {
+    for (text, line, word) in [
+        ("seed 7", 1u64, "cut"),
+        ("start  7\n", 1, "space"),
+        ("script a\nseed 1\n", 2, "place"),
+        ("script a\ndone\nnext 1\n", 3, "place"),
+        ("script a\ncycle x\n", 2, "place"),
+        ("script a\ndone\nrun a\nstart 1\n", 4, "place"),
+        ("script a\ndone\nrun a\nrun a\ntimeout x\n", 5, "place"),
+        ("Seed 7\n", 1, "unknown"),
+        ("seed\n", 1, "count"),
+        ("next 1 2\n", 1, "count"),
+        ("cycle\n", 1, "count"),
+        ("start x 1\n", 1, "count"),
+        ("seed x\n", 1, "number"),
+        ("next -1\n", 1, "number"),
+        ("cycle 01\n", 1, "number"),
+        ("start 1s\n", 1, "number"),
+        ("seed 18446744073709551616\n", 1, "number"),
+        ("next 18446744073709551616\n", 1, "number"),
+        (
+            "seed 340282366920938463463374607431768211456\n",
+            1,
+            "number",
+        ),
+        (
+            "cycle 340282366920938463463374607431768211456\n",
+            1,
+            "number",
+        ),
+        (
+            "start 340282366920938463463374607431768211456\n",
+            1,
+            "number",
+        ),
+        ("seed 1\nseed 1\n", 2, "twice"),
+        ("next 1\nseed 1\nnext 2\n", 3, "twice"),
+        ("cycle 0\ncycle 1\n", 2, "twice"),
+        ("start 1\nstart 1\n", 2, "twice"),
+        ("seed 1\nseed 18446744073709551616\n", 2, "number"),
+        ("start 1\nstart x\n", 2, "number"),
+    ] {
+        expect_broken(&rt, rt.alloc(), text, line, word)?;
+    }
+    Ok(())
+}
+
+#[test]
+fn settings_that_can_not_be_run(rt: HostRuntime) -> Result<(), Fail> {
+    for (text, line, word) in [
+        ("cycle 0\nscript a\ndone\nrun a\n", 4u64, "config"),
+        (
+            "start 9223372036854775808000000000\nscript a\ndone\nrun a\n",
+            4,
+            "config",
+        ),
+        (
+            "start 9223372036854775807999999999\ntimeout 1\nscript a\ndone\nrun a\n",
+            5,
+            "config",
+        ),
+        (
+            "timeout 9223372036854775807999999999\nstart 1\nscript a\ndone\nrun a\n",
+            5,
+            "config",
+        ),
+        (
+            "start 340282366920938463463374607431768211455\ntimeout 1\nscript a\ndone\nrun a\n",
+            5,
+            "config",
+        ),
+        (
+            "start 1\ntimeout 340282366920938463463374607431768211455\nscript a\ndone\nrun a\n",
+            5,
+            "config",
+        ),
+        ("cycle 0\nscript a\ndone\nrun a\nrun b\n", 4, "config"),
+        ("cycle 0\nscript a\ndone\nrun b\n", 4, "missing"),
+        ("cycle 0\nscript a\n", 3, "norun"),
+    ] {
+        expect_broken(&rt, rt.alloc(), text, line, word)?;
+    }
+    Ok(())
+}
+
+#[test]
 fn surface_of_supervision(rt: HostRuntime) -> Result<(), Fail> {
     let text =
         b"catch on\nscript idle\npend\ndone\nscript self\npanic a~\ndone\nscript main\nspawn z idle\nspawn b_1 self\nuntil 340282366920938463463374607431768211455\npanic boom\nabort b_1\nabort self\ndrop self\nabort z\njoin z\njoin B\nwithin 7 b_1\npanic boom\nspawn z idle\ndone\nrun main with self idle self\n";
     let scenario = read_scenario(rt.alloc(), text)?;
-    assert!(rt; scenario.catch);
-    assert!(rt; scenario.timeout.is_none());
-    assert!(rt; scenario.root == 2);
-    assert!(rt; scenario.with.as_slice() == [1usize, 0, 1].as_slice());
+    assert!(rt; scenario.settings.catch == Some(true));
+    assert!(rt; scenario.settings.timeout.is_none());
+    assert!(rt;
+        are_runs(
+            scenario.runs.as_slice(),
+            [(2usize, [1usize, 0, 1].as_slice())].as_slice()
+        )
+    );
     let scripts = scenario.scripts.as_slice();
     assert!(rt; scripts.len() == 3);
     assert!(rt; scripts[1].lines.as_slice() == [Line::Panic(0)].as_slice());
@@ -168,6 +333,28 @@ fn expect_read(rt: &impl Abort, alloc: Global, text: &str) {
 }
 
 #[test]
+fn surface_of_runs(rt: HostRuntime) -> Result<(), Fail> {
+    for (text, wanted) in [
+        (
+            "script a\ndone\nrun a\nrun a\n",
+            [(0usize, [].as_slice()), (0, [].as_slice())].as_slice(),
+        ),
+        (
+            "script a\ndone\nscript b\ndone\nscript c\ndone\nrun c\nrun a with b c b\n",
+            [(2, [].as_slice()), (0, [1usize, 2, 1].as_slice())].as_slice(),
+        ),
+        (
+            "script a\ndone\nscript run\ndone\nrun run with a\n\n# again\nrun a with run\nrun run\n",
+            [(1, [0].as_slice()), (0, [1].as_slice()), (1, [].as_slice())].as_slice(),
+        ),
+    ] {
+        let scenario = read_scenario(rt.alloc(), text.as_bytes())?;
+        assert!(rt; are_runs(scenario.runs.as_slice(), wanted), "at {text}");
+    }
+    Ok(())
+}
+
+#[test]
 fn read_lines_of_supervision(rt: HostRuntime) -> Result<(), Fail> {
     for text in [
         "catch off\ntimeout 1\nscript a\ndone\nrun a\n",
@@ -193,6 +380,7 @@ fn refused_lines_of_supervision(rt: HostRuntime) -> Result<(), Fail> {
         ("script a\ndone \n", 2, "space"),
         ("script a\ncatch on\n", 2, "place"),
         ("script a\ndone\ncatch on\n", 3, "place"),
+        ("script a\ndone\nrun a\ncatch on\n", 4, "place"),
         ("until 1\n", 1, "place"),
         ("panic x\n", 1, "place"),
         ("spawn\n", 1, "place"),
@@ -216,6 +404,7 @@ fn refused_lines_of_supervision(rt: HostRuntime) -> Result<(), Fail> {
         ("script a\nwithin 1 h i\n", 2, "count"),
         ("run\n", 1, "count"),
         ("script a\ndone\nrun a with\n", 3, "count"),
+        ("script a\ndone\nrun a\nrun a with\n", 4, "count"),
         ("script a\ndone\nrun a a\n", 3, "count"),
         ("script a\ndone\nrun a and a\n", 3, "count"),
         ("run 9 a with a\n", 1, "count"),
@@ -248,6 +437,7 @@ fn refused_lines_of_supervision(rt: HostRuntime) -> Result<(), Fail> {
         ("script a\nspawn h a\n", 2, "missing"),
         ("script a\nspawn h b\ndone\nscript b\ndone\n", 2, "missing"),
         ("script a\ndone\nrun a with a b\n", 3, "missing"),
+        ("script a\ndone\nrun a\nrun a with a b\n", 4, "missing"),
         ("script a\ndone\nrun b with a\n", 3, "missing"),
         ("script a\nspawn h a\ndone\n", 2, "missing"),
     ] {
@@ -488,6 +678,11 @@ fn too_many_tasks(rt: HostRuntime) -> Result<(), Fail> {
         "tasks",
     )?;
     expect_read(&rt, alloc, spawns(alloc, 16, 2, 0)?.as_str());
+    let mut text = spawns(alloc, 16, 2, 0)?;
+    text.push_str("run s15\n")?;
+    expect_read(&rt, alloc, text.as_str());
+    text.push_str("run s15 with s15\n")?;
+    expect_broken(&rt, alloc, text.as_str(), 66, "tasks")?;
     expect_broken(&rt, alloc, spawns(alloc, 17, 2, 0)?.as_str(), 68, "tasks")?;
     expect_broken(
         &rt,
@@ -557,6 +752,11 @@ fn ten_thousand_scripts(rt: HostRuntime) -> Result<(), Fail> {
     let text = spawns(rt.alloc(), 10_000, 1, 0)?;
     let scenario = read_scenario(rt.alloc(), text.as_bytes())?;
     assert!(rt; scenario.scripts.as_slice().len() == 10_000);
-    assert!(rt; scenario.root == 9_999);
+    assert!(rt;
+        are_runs(
+            scenario.runs.as_slice(),
+            [(9_999usize, [].as_slice())].as_slice()
+        )
+    );
     Ok(())
 }

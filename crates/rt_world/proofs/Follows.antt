@@ -1,10 +1,11 @@
 -- How a journal goes on following the steps.
-use Rattle.std.proofs.Common.{◌≡◌, ◌⊎◌, inl, inr, ℕ, List, [], ◌∷◌, ◌++◌, refl, ap, ◌∙◌, Bool, true, false, Option, Some, None}
+use Rattle.std.proofs.Common.{◌≡◌, ◌⊎◌, inl, inr, ℕ, List, [], ◌∷◌, ◌++◌, map, refl, ap, ◌∙◌, Bool, true, false, Option, Some, None}
 use Rattle.std.proofs.lemmas.List.{append-nil}
+use Rattle.rand_core.specs.Stream.{Stream}
 use Rattle.rt_audit.specs.declared.answer.AnswerKind.TheVariants.{Pending as IsPending, Ready as IsReady, Panicked as IsPanicked, Stopped as IsStopped, NoMemory as LacksMemory, Ended as IsEnded}
 use Rattle.rt_audit.specs.declared.finish.FinishCause.{FinishCause}
 use Rattle.rt_audit.specs.declared.entry.Entry.{Entry}
-use Rattle.rt_audit.specs.declared.entry.Entry.TheVariants.{Start, Call, Event, Wake, Root, Round, Visit, Answer as AnswerEntry, NodeEnd, Advance, Skip, Fire, Cleanup, Crash, Finish}
+use Rattle.rt_audit.specs.declared.entry.Entry.TheVariants.{Start, Call, Event, Wake, Draw, Root, Round, Visit, Answer as AnswerEntry, NodeEnd, Advance, Skip, Fire, Cleanup, Crash, Finish}
 use Rattle.rt_model.specs.declared.begin.Begin.{Begin}
 use Rattle.rt_model.specs.declared.answer.Answer.{Answer}
 use Rattle.rt_model.specs.declared.answer.Answer.TheVariants.{Pending, Ready, Panicked}
@@ -17,6 +18,7 @@ use Rattle.rt_model.specs.Turns.{Held, put}
 use Rattle.rt_model.specs.Walk.{Walks, Fronts, Breaks}
 use Rattle.rt_model.specs.Tied.{Steps, Value, nothing, Moves, MovesCleanup, MakerBreaks, EndsState, IsTied, Polls, given, kept_text, taken, no_number}
 use Rattle.rt_model.proofs.Append.{after_all-append, IsTied-append}
+use Rattle.rt_machine.specs.Draws.{Drains}
 use Rattle.rt_machine.specs.Ends.{AreCalm, Calmly, cleanup_by, cleanup_entries}
 use Rattle.rt_machine.specs.Told.{Told, fresh, pushed, pushed_all, AreCalls, AreQuiet, Quietly, own}
 use Rattle.rt_world.specs.World.{World}
@@ -85,8 +87,17 @@ module _ {A O : Type 0} (p : Steps A O) where
   pub follows-calmly : (t u : Told) (v : Value A O) → Calmly t u → Follows p t v → Follows p u v
   follows-calmly t u v c f = rw c.is (follows-calm t v c.entries f c.calm)
 
-  pub agrees-round : {G : Type 0} (old new : World A O G) (order : List ℕ) → new ≡ record old { told = pushed old.told (Round order) } → Agrees p true old None → Agrees p true new None
-  agrees-round old new order e f = let v = value_of old None None true in rw e (follows-pushed old.told v v (Round order) f (refl, refl))
+  follows-draws : (t : Told) (v : Value A O) (draws : List ℕ) → Follows p t v → Follows p (pushed_all t (map Draw draws)) v
+  follows-draws t v [] f = f
+  follows-draws t v (value ∷ draws) f = follows-draws (pushed t (Draw value)) v draws (follows-pushed t v v (Draw value) f refl)
+
+  -- a round is drained, behind its draws
+  pub agrees-drained : {G : Type 0} (old new : World A O G) (from left : Stream) (order : List ℕ) → new ≡ record old { told = new.told; rng = new.rng } → Drains from left old.told new.told order → Agrees p true old None → Agrees p true new None
+  agrees-drained {G = G} old new from left order e d f =
+      let v = value_of old None None true in
+      let ends : Follows p new.told v = rw d.told (follows-pushed (pushed_all old.told (map Draw d.orders.draws)) v v (Round order) (follows-draws old.told v d.orders.draws f) (refl, refl)) in
+      let same : value_of new None None true ≡ v = ap (λ (w : World A O G). value_of w None None true) e in
+      rw same ends
 
   -- a visit begins
   pub agrees-entered : {G : Type 0} (old new : World A O G) (task : ℕ) (fields : List (List ℕ)) → new ≡ record old { told = pushed (pushed old.told (Visit task)) (Event process_task fields) } → Agrees p true old None → Agrees p true new None

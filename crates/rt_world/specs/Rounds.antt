@@ -1,24 +1,24 @@
 -- What the rounds of a run leave.
 use Rattle.std.specs.Prelude.{◌≡◌, ◌⊎◌, true, Some, None, Result, Ok, Err}
+use Rattle.rand_core.specs.Stream.{Stream}
 use Rattle.rt_audit.specs.declared.finish.FinishCause.{FinishCause}
 use Rattle.rt_audit.specs.declared.finish.FinishCause.TheVariants.{Completed}
 use Rattle.rt_model.specs.State.{State, Between, Turning, Over}
 use Rattle.rt_model.specs.Rules.{MayRound}
 use Rattle.rt_model.specs.Tied.{Steps}
 use Rattle.rt_machine.specs.Steps.{StandsFor}
-use Rattle.rt_world.specs.World.{World, IsFront}
+use Rattle.rt_world.specs.World.{World, Draws}
 use Rattle.rt_world.specs.Follows.{Agrees}
 use Rattle.rt_world.specs.Visits.{CauseAgrees}
 
--- what rounds and clock steps leave as it is
-pub record Runs {A O G : Type 0} (old new : World A O G) : Type 0 where
+-- what rounds and clock steps leave as it is, and what they draw
+pub record Runs {A O G : Type 0} (stream : G → Stream) (old new : World A O G) : Type 0 where
   pub begin : new.told.begin ≡ old.told.begin
   pub given : new.told.given ≡ old.told.given
-  pub front : IsFront old.told new.told
+  pub draws : Draws (stream old.rng) (stream new.rng) old.told new.told
   pub fixed : new.told.state.clock.fixed ≡ old.told.state.clock.fixed
   pub root : new.told.state.root ≡ old.told.state.root
   pub out : new.out ≡ None
-  pub rng : new.rng ≡ old.rng
 
 -- a round may begin, once the deadline was tested
 abbrev pub StandsBetween : State → Type 0

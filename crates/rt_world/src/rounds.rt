@@ -1,10 +1,12 @@
 //! The rounds of a run, and the clock steps between them.
 
-ghost use Rattle.std.specs.Prelude.{◌≡◌, ◌≤◌, ◌<◌, ◌+◌, true, false, [], Option, ℕ, List, None, OnOk};
+ghost use Rattle.std.specs.Prelude.{◌≡◌, ◌≤◌, ◌<◌, ◌+◌, true, false, [], Option, ℕ, List, None, OnOk, OnErr};
 ghost use Rattle.rt_model.specs.State.{Between, Visiting};
 ghost use Rattle.rt_model.specs.Causes.{from_running, is_late};
 ghost use Rattle.rt_model.specs.Effects.{left_of};
 ghost use Rattle.rt_model.specs.Tied.{First, with_first, Steps};
+ghost use Rattle.rt_model.specs.Rules.{MayRound};
+ghost use Rattle.rt_machine.specs.Draws.{Drains, Orders};
 ghost use Rattle.rt_machine.specs.Steps.{Turns, StepStands};
 ghost use Rattle.rt_world.specs.World.{IsFront};
 ghost use Rattle.rt_world.specs.Follows.{Agrees};
@@ -14,7 +16,7 @@ ghost use Rattle.rt_world.specs.Visits.{RoundStands, AgreesAfter};
 use crate::{Task, World};
 use rand_core::Rng;
 use rt_audit::FinishCause;
-use rt_base::MAX_TIME;
+use rt_base::{MAX_TIME, NoMemory};
 
 impl<T, O, G> World<T, O, G> {
     /// Moves time on by a cycle after a round, and then to where somebody is ready. Answers the cause that the run has
@@ -35,17 +37,30 @@ impl<T, O, G> World<T, O, G> {
     }
 }
 
+#[tactic(auto, using(crate::proofs::Seats::seat_laws, crate::proofs::Coming::coming_laws), unfolding(rt_model::specs::Effects::after))]
+impl<T, O, G: Rng> World<T, O, G> {
+    /// Drains the ready list into a round, whose order the generator's next draws decide, and puts its numbers into `order`.
+    fn drain(&mut self, order: &mut Vec<u64>) -> Result<(), NoMemory>
+        requires { MayRound self.old.told.state.phase self.old.told.state }
+        ensures ok { OnOk result (Drains (G.stream self.old.rng) (G.stream self.new.rng) self.old.told self.new.told order.new.items) }
+        ensures rest { self.new ≡ record self.old { told = self.new.told; rng = self.new.rng } }
+        ensures err { OnErr result (self.new ≡ self.old) }
+    {
+        self.machine.round(order, &mut self.rng)
+    }
+}
+
 impl<T: Task, G: Rng> World<T, T::Output, G> {
-    /// A round: the ready list is drained, and its numbers are visited in the order of the round's entry, which is put
-    /// into `order`. Answers the root's output, once it has one.
+    /// A round: the ready list is drained, and its numbers are visited in the order of the round's entry, which the next draws
+    /// of the generator decide, and which is put into `order`. Answers the root's output, once it has one.
     #[tactic(auto, using(crate::proofs::Running::run_laws), unfolding(rt_model::specs::Effects::after))]
     pub fn round(&mut self, order: &mut Vec<u64>) -> Result<Option<T::Output>, FinishCause>
         requires between { StandsBetween self.old.told.state }
         requires early { is_late self.old.told.state.clock ≡ false }
         requires none_out { self.old.out ≡ None }
         requires unmarked { self.old.lacked ≡ None }
-        ensures order { OnOk result (order.new.items ≡ self.old.told.state.ready) }
-        ensures runs { Runs self.old self.new }
+        ensures order { OnOk result (Orders (G.stream self.old.rng) (G.stream self.new.rng) self.old.told.state.ready order.new.items) }
+        ensures runs { Runs G.stream self.old self.new }
         ensures clock { self.new.told.state.clock ≡ self.old.told.state.clock }
         ensures stands { RoundStands self.new.told.state result }
         ensures unmarked { OnOk result (self.new.lacked ≡ None) }
@@ -65,7 +80,7 @@ impl<T: Task, G: Rng> World<T, T::Output, G> {
         requires none_out { self.old.out ≡ None }
         requires unmarked { self.old.lacked ≡ None }
         requires cycle { 1 ≤ self.old.told.state.clock.fixed.cycle }
-        ensures runs { Runs self.old self.new }
+        ensures runs { Runs G.stream self.old self.new }
         ensures stands { EndStands self.new.told.state result }
         ensures agrees { (first : First T T.Output) → Agrees (with_first T.steps first) true self.old None → EndAgrees (with_first T.steps first) self.new result }
     {

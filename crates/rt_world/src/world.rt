@@ -41,7 +41,7 @@ pub struct World<T, O, G> {
     pub(crate) executions: Vec<(u64, Execution)>,
     pub(crate) panic: Option<Text>,
     pub(crate) out: Option<u64>,
-    rng: G,
+    pub(crate) rng: G,
 }
 
 impl<T, O, G> Model for World<T, O, G> {
@@ -236,16 +236,6 @@ impl<T, O, G> World<T, O, G> {
         self.machine.answer(task, kind);
         self.tasks.put(task, block);
         self.out = None;
-    }
-
-    /// Drains the ready list into a round, and puts its numbers into `order`.
-    pub(crate) fn drain(&mut self, order: &mut Vec<u64>) -> Result<(), NoMemory>
-        requires { MayRound self.old.told.state.phase self.old.told.state }
-        ensures ok { OnOk result (order.new.items ≡ self.old.told.state.ready) }
-        ensures told { OnOk result (self.new ≡ record self.old { told = pushed self.old.told (Entry.Round self.old.told.state.ready) }) }
-        ensures err { OnErr result (self.new ≡ self.old) }
-    {
-        self.machine.round(order)
     }
 
     /// The allocator of the run.

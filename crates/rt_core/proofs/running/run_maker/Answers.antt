@@ -1,7 +1,7 @@
 use Rattle.std.proofs.Common.{◌∙◌, inl, None, false, refl, sym}
 use Rattle.rt_model.specs.Tied.{with_first, Steps}
 use Rattle.rt_world.proofs.Walked.{rooted-broken, rooted-short, rooted-fresh, long}
-use Rattle.rt_core.proofs.Outcomes.{ended-cut, unmade, none-made, made}
+use Rattle.rt_core.proofs.Outcomes.{ended-cut, leaves-unmade, unmade, none-made, made}
 use Rattle.rt_core.proofs.running.run_maker.Goals as goal
 
 pub returns-in_default-clause-agrees : goal.returns-in_default-clause-agrees
@@ -32,3 +32,11 @@ returns-clause-agrees g c f =
     let walks = rooted-fresh c.args.world.now c.make.new.world _ c.requires.turns _ (long (sym c.if-is_short.false ∙ c.is_short.ensures)) (rw c.in-Ok.is at c.make.ensures.steps) in
     c.take_in.ensures.agrees first
     (made p c.args.world.now c.make.new.world _ kept (c.facts-2.ensures.follows p c.args.world.now.told _ (rw c.requires.ready.calm at f) c.requires.calls kept.begin kept.past) walks)
+
+pub returns-in_default-clause-leaves : goal.returns-in_default-clause-leaves
+returns-in_default-clause-leaves g c =
+    leaves-unmade _ c.args.world.now c.make.new.world c.cleanup_unmade.new.self _ c.requires.calls c.facts.ensures.calls c.make.ensures.kept c.cleanup_unmade.ensures.seals c.cleanup_unmade.ensures.phase c.cleanup_unmade.ensures.cause
+
+pub returns-then-is_short-clause-leaves : goal.returns-then-is_short-clause-leaves
+returns-then-is_short-clause-leaves g c =
+    leaves-unmade _ c.args.world.now c.make.new.world c.cleanup_unmade-then-is_short.new.self _ c.requires.calls c.facts-2.ensures.calls c.make.ensures.kept c.cleanup_unmade-then-is_short.ensures.seals c.cleanup_unmade-then-is_short.ensures.phase c.cleanup_unmade-then-is_short.ensures.cause

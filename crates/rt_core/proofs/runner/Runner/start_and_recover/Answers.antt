@@ -5,7 +5,7 @@ use Rattle.rt_model.specs.Effects.{after}
 use Rattle.rt_model.specs.Tied.{with_first, Steps}
 use Rattle.rt_machine.specs.Told.{own}
 use Rattle.rt_world.specs.World.{World}
-use Rattle.rt_core.proofs.Outcomes.{completes, failed_by, has_text, only_memory}
+use Rattle.rt_core.proofs.Outcomes.{completes, gave-own, failed_by, has_text, only_memory}
 use Rattle.rt_core.proofs.runner.Runner.start_and_recover.Goals as goal
 
 pub run_maker-outcome-requires-clause-root : goal.run_maker-outcome-requires-clause-root
@@ -20,10 +20,11 @@ returns-in-Ok-outcome-clause-run g c =
     let begin : w.told.begin ≡ c.self.inside.begin = c.run_maker-outcome.ensures.leaves.begin ∙ ap (λ (u : World g.row.T.Denot g.row.T-Output.Denot g.row.G.Denot). u.told.begin) c.in-Ok.ensures.ok in
     let fixed : w.told.state.clock.fixed ≡ c.self.inside.begin = c.run_maker-outcome.ensures.leaves.fixed ∙ ap (λ (u : World g.row.T.Denot g.row.T-Output.Denot g.row.G.Denot). u.told.state.clock.fixed) c.in-Ok.ensures.ok in
     let given = c.run_maker-outcome.ensures.leaves.given ∙ ap (λ (u : World g.row.T.Denot g.row.T-Output.Denot g.row.G.Denot). u.told.given) c.in-Ok.ensures.ok ∙ c.given_journal-given.ensures in
-    let rng = c.into_parts-journal.ensures.rng ∙ c.run_maker-outcome.ensures.leaves.rng ∙ ap (λ (u : World g.row.T.Denot g.row.T-Output.Denot g.row.G.Denot). u.rng) c.in-Ok.ensures.ok in
+    let began = c.in-Ok.ensures.ok in
+    let draws = gave-own _ _ _ w.told c.run_maker-outcome.ensures.leaves.draws (rw began refl) in
     let extends = c.into_parts-journal.ensures.entries ∙ ap (λ (ys : List Entry). ys ++ own w.told) given in
-    rw (← c.self.view_is, rng)
-    (completes p c.self.inside.begin w (rw begin at c.facts.ensures.lawful) (rw begin at c.facts.ensures.state) begin _ _ _ c.in-Ok-outcome.output _ _ _ _ c.in-Ok-outcome.ensures.leaves.phase (c.in-Ok-outcome.ensures.agrees (c.in-Ok.ensures.agrees p)) extends c.now-time.ensures.time fixed refl refl refl)
+    rw (← c.self.view_is, c.into_parts-journal.ensures.rng)
+    (completes p c.self.inside.begin w (rw begin at c.facts.ensures.lawful) (rw begin at c.facts.ensures.state) begin g.G.Rng.stream _ _ _ _ c.in-Ok-outcome.output _ _ _ _ c.in-Ok-outcome.ensures.leaves.phase (c.in-Ok-outcome.ensures.agrees (c.in-Ok.ensures.agrees p)) extends c.now-time.ensures.time fixed (rw began at draws) refl refl refl)
 
 pub returns-in-Err-outcome-clause-failure : goal.returns-in-Err-outcome-clause-failure
 unfolding after begun
@@ -50,10 +51,14 @@ returns-in-Ok-outcome-clause-orders g c =
     let w : World g.row.T.Denot g.row.T-Output.Denot g.row.G.Denot = c.run_maker-outcome.new.world in
     let begin : w.told.begin ≡ c.self.inside.begin = c.run_maker-outcome.ensures.leaves.begin ∙ ap (λ (u : World g.row.T.Denot g.row.T-Output.Denot g.row.G.Denot). u.told.begin) c.in-Ok.ensures.ok in
     let given = c.run_maker-outcome.ensures.leaves.given ∙ ap (λ (u : World g.row.T.Denot g.row.T-Output.Denot g.row.G.Denot). u.told.given) c.in-Ok.ensures.ok ∙ c.given_journal-given.ensures in
+    let began = c.in-Ok.ensures.ok in
+    let draws = rw began at (gave-own _ _ _ w.told c.run_maker-outcome.ensures.leaves.draws (rw began refl)) in
     rw (← c.self.view_is) (record {
       entries = own w.told;
       extends = c.into_parts-journal.ensures.entries ∙ ap (λ (ys : List Entry). ys ++ own w.told) given;
       drawn = rw begin at c.facts.ensures.drawn;
+      left = g.G.Rng.stream w.rng;
+      draws = draws;
     })
 
 pub returns-in-Err-outcome-clause-orders : goal.returns-in-Err-outcome-clause-orders
@@ -62,10 +67,14 @@ returns-in-Err-outcome-clause-orders g c =
     let w : World g.row.T.Denot g.row.T-Output.Denot g.row.G.Denot = c.run_maker-outcome.new.world in
     let begin : w.told.begin ≡ c.self.inside.begin = c.run_maker-outcome.ensures.leaves.begin ∙ ap (λ (u : World g.row.T.Denot g.row.T-Output.Denot g.row.G.Denot). u.told.begin) c.in-Ok.ensures.ok in
     let given = c.run_maker-outcome.ensures.leaves.given ∙ ap (λ (u : World g.row.T.Denot g.row.T-Output.Denot g.row.G.Denot). u.told.given) c.in-Ok.ensures.ok ∙ c.given_journal-given.ensures in
+    let began = c.in-Ok.ensures.ok in
+    let draws = rw began at (gave-own _ _ _ w.told c.run_maker-outcome.ensures.leaves.draws (rw began refl)) in
     rw (← c.self.view_is) (record {
       entries = own w.told;
       extends = c.into_parts-journal.ensures.entries ∙ ap (λ (ys : List Entry). ys ++ own w.told) given;
       drawn = rw begin at c.facts.ensures.drawn;
+      left = g.G.Rng.stream w.rng;
+      draws = draws;
     })
 
 pub error_of-requires-clause-text : goal.error_of-requires-clause-text

@@ -4,11 +4,11 @@ use Rattle.std.specs.List.{All}
 use Rattle.std.specs.Option.{IfSome}
 use Rattle.std.proofs.lemmas.Map.Text.{hash_map_updates_text}
 use Rattle.rt_scenario.specs.Capped.{capped, capped_tasks}
-use Rattle.rt_scenario.specs.Scenario.{CanRun, script_at}
+use Rattle.rt_scenario.specs.Scenario.{CanRunLine, script_at}
 use Rattle.rt_scenario.specs.Scripts.{Begun, tasks_at, spawned_in}
 use Rattle.rt_scenario.specs.Within.{HasPlaces, HavePlaces, IsBegun}
 use Rattle.rt_scenario.proofs.Placed.{have_push}
-use Rattle.rt_scenario.proofs.Scripts.{opened, can_run_more}
+use Rattle.rt_scenario.proofs.Scripts.{opened, can_run_lines}
 use Rattle.rt_scenario.proofs.Totals.{capped_push}
 use Rattle.rt_scenario.proofs.draft.Draft.declare.Goals as goal
 
@@ -39,8 +39,19 @@ invariant_of-self-2 c =
           ∙ ap (λ n. capped_tasks closed ++ n ∷ []) own
           ∙ sym (capped_push closed script)
           ∙ ap capped_tasks (sym pushed)),
-      subst (λ l. All (CanRun l c.self.inside.timeout) c.self.inside.run.items) (sym pushed) (can_run_more closed script c.self.inside.timeout c.self.inside.run.items c.self.invariant.2),
+      subst (λ l. All (CanRunLine l c.self.inside.settings) c.self.inside.runs.items) (sym pushed) (can_run_lines closed script c.self.inside.settings c.self.inside.runs.items c.self.invariant.2),
       subst (λ o. IfSome o (λ (s : Begun). script_at c.push_reserved.new.self.items s.name ≡ None)) (sym none) tt,
       subst HavePlaces (sym pushed) (have_push closed script c.self.invariant.4 (subst (λ d. HasPlaces (length d.scripts) script) (sym c.self.view_is) c.requires.places)),
       subst (λ o. IfSome o (IsBegun (length c.push_reserved.new.self.items))) (sym none) tt,
     )
+
+pub invariant_of-self : goal.invariant_of-self
+invariant_of-self c = rw c.reserve.ensures.items c.self.invariant
+
+pub invariant_of-self-in_err-reserve-2 : goal.invariant_of-self-in_err-reserve-2
+invariant_of-self-in_err-reserve-2 c = rw (c.reserve.ensures.items, c.reserve-2.ensures.items) c.self.invariant
+
+pub invariant_of-self-in_err-insert : goal.invariant_of-self-in_err-insert
+invariant_of-self-in_err-insert c =
+    let kept : c.insert.new.self.entries ≡ c.self.inside.places.entries = c.in_err-insert.ensures.err in
+    rw (kept, c.reserve.ensures.items, c.reserve-2.ensures.items) c.self.invariant

@@ -2,7 +2,7 @@ use Rattle.std.proofs.Common.{◌≡◌, None, length, subst, sym, rules}
 use Rattle.rt_scenario.specs.Indexed.{read}
 use Rattle.rt_scenario.specs.Scenario.{script_at, with_line}
 use Rattle.rt_scenario.specs.Within.{IsBegun, IsFree}
-use Rattle.rt_scenario.proofs.Placed.{begun_line}
+use Rattle.rt_scenario.proofs.Placed.{begun_line, free_clear}
 use Rattle.rt_scenario.proofs.draft.Draft.push.Goals as goal
 
 pub invariant_of-self-2 : goal.invariant_of-self-2
@@ -21,3 +21,6 @@ invariant_of-self-2 c =
       c.self.invariant.4,
       subst (λ s. IsBegun (length closed) s) (sym pushed) (begun_line (length closed) script line begun free),
     )
+
+pub push-requires : goal.push-requires
+push-requires c = free_clear (length c.args.self.now.scripts) (read c.args.line) c.requires.free

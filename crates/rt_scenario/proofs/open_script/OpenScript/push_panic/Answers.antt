@@ -2,6 +2,7 @@ use Rattle.std.proofs.Common.{◌≡◌, ℕ, List, ◌∷◌, [], ◌++◌, len
 use Rattle.std.specs.List.{All}
 use Rattle.rt_scenario.specs.Indexed.{HasIndex, name_at, named_by}
 use Rattle.rt_scenario.specs.Scripts.{all_names}
+use Rattle.rt_scenario.specs.declared.line.Line.{Line}
 use Rattle.rt_scenario.specs.declared.line.Line.TheVariants.{Panic}
 use Rattle.rt_scenario.specs.declared.named_line.NamedLine.{NamedLine}
 use Rattle.rt_scenario.specs.declared.named_line.NamedLine.TheVariants.{Plain}
@@ -13,7 +14,7 @@ invariant_of-self-2 c =
     let names = c.self.inside.handles in
     let lines = c.self.inside.lines.items in
     let choices = c.self.inside.choices.items in
-    let line : NamedLine ℕ = Plain (Panic c.len.result) in
+    let line : Line = Panic c.len.result in
     let whole : NamedLine (List ℕ) = Plain (Panic c.len.result) in
     let pushed : c.push_reserved.new.self.items ≡ lines ++ line ∷ [] = search rules in (
       subst (All (HasIndex (length names))) (sym pushed) (indices_push names names lines choices line whole refl c.self.invariant.0 c.self.invariant.1 tt),

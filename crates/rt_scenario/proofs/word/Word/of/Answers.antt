@@ -61,3 +61,13 @@ pub returns-in-select : goal.returns-in-select
 returns-in-select c =
     let text : c.args.text.now ≡ codes "select" = text_from_reads c.args.text.now (codes "select") (omega arith) (search rules) in
     rw text refl
+
+pub returns-in-cycle : goal.returns-in-cycle
+returns-in-cycle c =
+    let text : c.args.text.now ≡ codes "cycle" = text_from_reads c.args.text.now (codes "cycle") (omega arith) (search rules) in
+    rw text refl
+
+pub returns-in-start : goal.returns-in-start
+returns-in-start c =
+    let text : c.args.text.now ≡ codes "start" = text_from_reads c.args.text.now (codes "start") (omega arith) (search rules) in
+    rw text refl

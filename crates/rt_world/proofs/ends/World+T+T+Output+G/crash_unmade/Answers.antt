@@ -21,8 +21,8 @@ returns-clause-agrees g c first whole output f =
 
 pub returns-then-lacked-clause-seals : goal.returns-then-lacked-clause-seals
 returns-then-lacked-clause-seals g c =
-    seals-crashed c.args.self.now c.end.new.world c.crash.new.self c.requires.closing c.requires.running c.end.ensures.kept c.facts.ensures.none (rw (c.crash.ensures, c.take_short-lacked.ensures.gone) refl)
+    seals-crashed c.args.self.now c.end.new.world c.crash.new.self c.requires.closing c.requires.running c.facts.ensures.calls c.end.ensures.kept c.facts.ensures.none (rw (c.crash.ensures, c.take_short-lacked.ensures.gone) refl)
 
 pub returns-clause-seals : goal.returns-clause-seals
 returns-clause-seals g c =
-    seals-crashed c.args.self.now c.end.new.world c.crash.new.self c.requires.closing c.requires.running c.end.ensures.kept c.facts.ensures.none (rw (c.crash.ensures, c.take_short-lacked.ensures.gone) refl)
+    seals-crashed c.args.self.now c.end.new.world c.crash.new.self c.requires.closing c.requires.running c.facts.ensures.calls c.end.ensures.kept c.facts.ensures.none (rw (c.crash.ensures, c.take_short-lacked.ensures.gone) refl)

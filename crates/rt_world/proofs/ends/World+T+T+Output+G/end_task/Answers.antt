@@ -32,10 +32,10 @@ returns-clause-agrees g c first whole output unmade f =
 
 pub returns-then-lacked-clause-front : goal.returns-then-lacked-clause-front
 returns-then-lacked-clause-front g c =
-    front-ended c.args.self.now c.take_state-block.new.self c.end.new.world c.in_ok-task.task c.requires.calls (rw c.ends_next.ensures.same at c.take_state-block.ensures.rest) c.end.ensures.kept c.task_ended.new.self.told
+    front-ended c.args.self.now c.take_state-block.new.self c.end.new.world c.in_ok-task.task c.requires.calls (rw c.ends_next.ensures.same at c.take_state-block.ensures.rest) c.end.ensures.kept c.facts.ensures.calls c.task_ended.new.self.told
     (rw (c.task_ended.ensures, c.take_short-lacked.ensures.gone) refl)
 
 pub returns-clause-front : goal.returns-clause-front
 returns-clause-front g c =
-    front-ended c.args.self.now c.take_state-block.new.self c.end.new.world c.in_ok-task.task c.requires.calls (rw c.ends_next.ensures.same at c.take_state-block.ensures.rest) c.end.ensures.kept c.task_ended.new.self.told
+    front-ended c.args.self.now c.take_state-block.new.self c.end.new.world c.in_ok-task.task c.requires.calls (rw c.ends_next.ensures.same at c.take_state-block.ensures.rest) c.end.ensures.kept c.facts.ensures.calls c.task_ended.new.self.told
     (rw (c.task_ended.ensures, c.take_short-lacked.ensures.gone) refl)

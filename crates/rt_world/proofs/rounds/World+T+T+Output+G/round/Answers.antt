@@ -1,5 +1,12 @@
-use Rattle.rt_world.proofs.Follows.{agrees-round}
+use Rattle.std.proofs.Common.{refl}
+use Rattle.rt_world.proofs.Follows.{agrees-drained}
+use Rattle.rt_world.proofs.Running.{runs-drained, runs-passes}
 use Rattle.rt_world.proofs.rounds.World+T+T+Output+G.round.Goals as goal
 
 pub returns-clause-agrees : goal.returns-clause-agrees
-returns-clause-agrees g c first f = c.visit_all.ensures.agrees first (agrees-round _ _ _ _ (rw c.in-Ok.is at c.drain.ensures.told) f)
+returns-clause-agrees g c first f =
+    c.visit_all.ensures.agrees first (agrees-drained _ c.args.self.now c.drain.new.self _ _ c.drain.new.order.items c.drain.ensures.rest c.in-Ok.ensures.ok f)
+
+pub returns-clause-runs : goal.returns-clause-runs
+returns-clause-runs g c =
+    runs-passes _ _ c.drain.new.self _ (runs-drained _ c.args.self.now c.drain.new.self c.requires.none_out c.drain.new.order.items c.drain.ensures.rest c.in-Ok.ensures.ok) c.visit_all.ensures.passes

@@ -37,10 +37,10 @@ returns-clause-agrees g c first f =
 
 pub returns-then-lacked-clause-passes : goal.returns-then-lacked-clause-passes
 returns-then-lacked-clause-passes g c =
-    passes-ended c.args.self.now c.take_state-block.new.self c.end.new.world c.args.task c.requires.fresh.calls c.take_state-block.ensures.rest c.end.ensures.kept c.end_visit.new.self
+    passes-ended c.args.self.now c.take_state-block.new.self c.end.new.world c.args.task c.requires.fresh.calls c.take_state-block.ensures.rest c.end.ensures.kept c.facts.ensures.calls c.end_visit.new.self
     (rw c.take_short-lacked.ensures.gone at c.end_visit.ensures.passes)
 
 pub returns-clause-passes : goal.returns-clause-passes
 returns-clause-passes g c =
-    passes-ended c.args.self.now c.take_state-block.new.self c.end.new.world c.args.task c.requires.fresh.calls c.take_state-block.ensures.rest c.end.ensures.kept c.end_visit.new.self
+    passes-ended c.args.self.now c.take_state-block.new.self c.end.new.world c.args.task c.requires.fresh.calls c.take_state-block.ensures.rest c.end.ensures.kept c.facts.ensures.calls c.end_visit.new.self
     (rw c.take_short-lacked.ensures.gone at c.end_visit.ensures.passes)

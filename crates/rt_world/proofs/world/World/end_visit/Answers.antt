@@ -10,7 +10,7 @@ returns-clause-passes g c =
     record {
       begin = visited.begin;
       given = visited.given;
-      front = front-front _ _ _ (front-pushed c.self.inside.machine.told _ _ refl) (front-calmly _ c.end_visit.new.self.told c.end_visit.ensures.calm);
+      front = front-front _ _ _ (front-pushed c.self.inside.machine.told _ _ refl refl) (front-calmly _ c.end_visit.new.self.told c.end_visit.ensures.calm);
       clock = visited.clock;
       root = visited.root;
       out = refl;

@@ -1,0 +1,7 @@
+use Rattle.std.proofs.Common.{rules}
+use Rattle.std.proofs.lemmas.List.Edits.{map_over_more}
+use Rattle.rt_scenario.specs.Indexed.{placed_at}
+use Rattle.rt_scenario.proofs.open_script.place_lines.Goals as goal
+
+pub loop-line-preserved : goal.loop-line-preserved
+loop-line-preserved c = search (rules, map_over_more (placed_at c.args.places.now))
