@@ -75,9 +75,9 @@ pub use supervised::{
     no_run_begins_behind_one_that_failed,
 };
 pub use twice::{
-    a_task_that_is_woken_twice_has_its_run,
+    a_round_is_drawn, a_task_that_is_woken_twice_has_its_run,
     near_misses_of_double_wakes_are_lawful_but_for_one_place,
-    near_misses_of_double_wakes_are_not_lawful,
+    near_misses_of_double_wakes_are_not_lawful, near_misses_of_draws_are_not_drawn,
 };
 
 /// Time never goes back: not behind any state, and so nowhere in a run.

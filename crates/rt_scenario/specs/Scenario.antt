@@ -59,8 +59,8 @@ is_between d = is_none d.current && length d.runs == 0
 abbrev pub is_first : Draft → Bool
 is_first d = is_between d && length d.scripts == 0
 
--- where each word may stand: settings before the first script, steps within a script, and runs
--- after the scripts
+-- where each word may stand: settings before the first script, steps within a script, scripts and runs
+-- outside of scripts, and nothing but runs behind a run
 abbrev pub is_placed : Draft → Word → Bool
 is_placed d Seed = is_first d
 is_placed d Next = is_first d

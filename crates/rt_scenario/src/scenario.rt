@@ -22,18 +22,18 @@ pub struct RunLine {
     pub with: Items<usize>,
 }
 
-/// What the lines before the first script say of a run. Each is `None` where no line says it.
+/// What the lines before the first script say of the runs. Each is `None` where no line says it.
 #[derive(Clone, Copy, Debug)]
 pub struct Settings {
     /// The seed of the generator.
     pub seed: Option<u64>,
-    /// The number of the first task.
+    /// The number of the first task of the first run.
     pub next: Option<u64>,
     /// How far time moves on after each round, in nanoseconds.
     pub cycle: Option<Nanos>,
-    /// When the run begins, in nanoseconds.
+    /// When the first run begins, in nanoseconds.
     pub start: Option<Nanos>,
-    /// How long the run lasts at most, in nanoseconds from its start on.
+    /// The deadline of all runs, in nanoseconds from the start of the first one on.
     pub timeout: Option<Nanos>,
     /// Whether panics are caught.
     pub catch: Option<bool>,

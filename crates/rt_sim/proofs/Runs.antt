@@ -56,7 +56,8 @@ module _ (scripts : List ScriptText) (first : Starting ChaCha) (lines : List Run
   pub goes-halted : (from : Starting ChaCha) (line : RunLine) (rest : List RunLine) (runs : List RunReport) (done own : List Entry) → Halts scripts line from own → GoesFrom from (line ∷ rest) runs done → Chain false scripts first lines runs (done ++ own)
   goes-halted from line rest runs done own halts goes = let all = goes false [] own halts in rw (append-nil runs) at all
 
-kept-journal : (from : Starting ChaCha) (maker : Maker) (own : List Entry) (time : ℕ) (result : RunResult) (kept : Kept ChaCha) → Comes maker from own time result (Some kept) → kept.journal ≡ from.given ++ own
+-- the journal that is kept of a run
+pub kept-journal : (from : Starting ChaCha) (maker : Maker) (own : List Entry) (time : ℕ) (result : RunResult) (kept : Kept ChaCha) → Comes maker from own time result (Some kept) → kept.journal ≡ from.given ++ own
 kept-journal from maker own time (Gave output) kept comes = comes.0
 kept-journal from maker own time (Failed error) kept comes = absurd comes
 

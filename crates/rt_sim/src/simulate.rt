@@ -26,11 +26,11 @@ const LONGEST: usize = 1_048_576;
 const USAGE: &str = "usage: rt_sim run | gen N | load N | workers N\n";
 
 /// Carries out the command of these words: `run` reads a scenario from the source, runs it, and writes the whole
-/// report to the sink.
+/// report of each run to the sink.
 ///
-/// The status is 0 where the run gave an output, 2 where the words are no command, 3 where the input is no scenario,
-/// 4 where a read failed, 5 where a write failed, 6 where the run failed, and 7 where it was out of memory. After a failed write
-/// the outcome is as without it but for the status, and the first bytes of the text were written.
+/// The status is 0 where each run gave an output, 2 where the words are no command, 3 where the input is no scenario,
+/// 4 where a read failed, 5 where a write failed, 6 where a run failed, which is then the last, and 7 where it was out of memory.
+/// After a failed write the outcome is as without it but for the status, and the first bytes of the text were written.
 pub fn simulate_alone<S: Source, K: Sink8>(
     alloc: Global,
     words: &[String],

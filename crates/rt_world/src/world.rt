@@ -273,7 +273,7 @@ impl<T, O, G> World<T, O, G> {
         self.executions.as_slice()
     }
 
-    /// What is known of each world: its entries are lawful, each round's order is the ready list as it stood, and its
+    /// What is known of each world: its entries are lawful, each round's order is the ready list as its draws shuffle it, and its
     /// state is what they tell.
     pub fn facts(&self)
         ensures lawful { IsLawful (begun self.now.told.begin) (own self.now.told) }

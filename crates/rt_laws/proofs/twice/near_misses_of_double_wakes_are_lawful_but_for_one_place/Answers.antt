@@ -1,4 +1,4 @@
-use Rattle.rt_laws.proofs.Doubled.{queued_twice, its_wake, its_number, its_place, its_turned_place, passed_later, visited_twice}
+use Rattle.rt_laws.proofs.Doubled.{queued_twice, its_wake, its_number, passed_later, visited_twice}
 use Rattle.rt_laws.proofs.twice.near_misses_of_double_wakes_are_lawful_but_for_one_place.Goals as goal
 
 pub returns-clause-queued_twice : goal.returns-clause-queued_twice
@@ -9,12 +9,6 @@ returns-clause-wake c = its_wake
 
 pub returns-clause-number : goal.returns-clause-number
 returns-clause-number c = its_number
-
-pub returns-clause-place : goal.returns-clause-place
-returns-clause-place c = its_place
-
-pub returns-clause-shuffled : goal.returns-clause-shuffled
-returns-clause-shuffled c = its_turned_place
 
 pub returns-clause-later : goal.returns-clause-later
 returns-clause-later c = passed_later
