@@ -6,3 +6,4 @@ mod TaskTabled
 mod Fronted
 mod Zeros
 mod Digits
+mod Pairs

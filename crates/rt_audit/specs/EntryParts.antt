@@ -3,7 +3,7 @@ use Rattle.std.specs.Prelude.{ℕ, List, [], ◌∷◌}
 use Rattle.rt_audit.specs.declared.event_label.LabelKind.{LabelKind}
 use Rattle.rt_audit.specs.declared.event_label.LabelKind.TheVariants.{ProcessTask, Named}
 use Rattle.rt_audit.specs.declared.event_fields.FieldsKind.{FieldsKind}
-use Rattle.rt_audit.specs.declared.event_fields.FieldsKind.TheVariants.{OfTask, Listed}
+use Rattle.rt_audit.specs.declared.event_fields.FieldsKind.TheVariants.{OfTask, OfTaskInPlace, Listed}
 use Rattle.rt_audit.specs.declared.order.OrderKind.{OrderKind}
 use Rattle.rt_audit.specs.declared.order.OrderKind.TheVariants.{One, Many}
 use Rattle.rt_audit.specs.TaskEvent.{task_event}
@@ -16,6 +16,7 @@ label_of (Named label) = label
 -- its fields
 abbrev pub fields_of : FieldsKind → List (List ℕ)
 fields_of (OfTask number label) = number ∷ label ∷ []
+fields_of (OfTaskInPlace number label) = number ∷ label ∷ []
 fields_of (Listed fields) = fields
 
 -- the numbers of a round

@@ -9,9 +9,9 @@ use Rattle.rt_audit.specs.declared.answer.AnswerKind.TheVariants.{Pending as IsP
 use Rattle.rt_audit.specs.declared.finish.FinishCause.{FinishCause}
 use Rattle.rt_audit.specs.declared.finish.FinishCause.TheVariants.{Completed, Timeout, Stalled, TaskPanicked, TimeOverflow, TooManyTasks, NoMemory}
 use Rattle.rt_audit.specs.declared.call.Call.{Call}
-use Rattle.rt_audit.specs.declared.call.Call.TheVariants.{Child, CloseNode, Spawn, Abort, AbortTask, Wake as WakeCall, Join, GiveUp, SleepPoll, Slot, SlotSend, SlotClose, SlotPoll, SlotGiveUp, AbortWait, Signaler, CloneSignal, Signal, SignalPoll, SignalClose, SignalerClose, CompletionPoll, CompletionClose, Stop, Stopped}
+use Rattle.rt_audit.specs.declared.call.Call.TheVariants.{Child, CloseNode, Spawn, Abort, AbortTask, Wake as WakeCall, Join, GiveUp, SleepPoll, Slot, SlotSend, SlotClose, SlotPoll, SlotGiveUp, AbortWait, Signaler, CloneSignal, Signal, SignalPoll, SignalClose, SignalerClose, CompletionPoll, CompletionClose, Stop, Stopped, NextU32, NextU64, FillBytes, Auditor}
 use Rattle.rt_audit.specs.declared.reply.CallReply.{CallReply}
-use Rattle.rt_audit.specs.declared.reply.CallReply.TheVariants.{Done, NodeAt, TaskAt, Closed, SlotAt, SignalAt, CompletionAt, Value, ClosedWith, Pending, PendingAt, Ready, Refused}
+use Rattle.rt_audit.specs.declared.reply.CallReply.TheVariants.{Done, NodeAt, TaskAt, Closed, SlotAt, SignalAt, CompletionAt, Value, ClosedWith, Pending, PendingAt, Ready, Number, Bytes, Refused}
 use Rattle.rt_audit.specs.declared.entry.Entry.{Entry}
 use Rattle.rt_audit.specs.declared.entry.Entry.TheVariants.{Start, Call as CallEntry, Event, Wake, Draw, Root, Round, Visit, Answer, NodeEnd, Advance, Skip, Fire, Cleanup, Crash, Finish}
 use Rattle.rt_audit.specs.Codes.{code_of}
@@ -96,6 +96,10 @@ call_text (CompletionPoll completion) = numbered_text (codes "completion-poll") 
 call_text (CompletionClose completion) = numbered_text (codes "completion-close") completion
 call_text (Stop value) = valued_text (codes "stop") value
 call_text Stopped = codes "stopped"
+call_text NextU32 = codes "u32"
+call_text NextU64 = codes "u64"
+call_text (FillBytes len) = numbered_text (codes "fill") len
+call_text Auditor = codes "auditor"
 
 abbrev pub ended_word : Bool → List ℕ
 ended_word true = codes " ended"
@@ -114,6 +118,8 @@ reply_text (ClosedWith value) = valued_text (codes "closed") value
 reply_text Pending = codes "pending"
 reply_text (PendingAt alarm) = numbered_text (codes "pending") alarm
 reply_text Ready = codes "ready"
+reply_text (Number number) = decimal number
+reply_text (Bytes bytes) = hex_text bytes
 reply_text (Refused error) = numbered_text (codes "err") (code_of error)
 
 abbrev pub start_text : ℕ → Option ℕ → ℕ → ℕ → List ℕ

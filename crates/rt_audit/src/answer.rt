@@ -1,7 +1,10 @@
 //! How a poll or an end of a task went.
 
-ghost use Rattle.std.specs.Prelude.{◌≡◌};
+ghost use Rattle.std.specs.Prelude.{◌≡◌, ◌++◌, OnOk, codes, string_bytes};
 ghost use Rattle.rt_audit.specs.Lines.{kind_word};
+
+use crate::line::add_word;
+use rt_base::NoMemory;
 
 /// The kind of an `Answer` entry.
 #[derive(Clone, Copy, Debug, PartialEq, Eq)]
@@ -32,6 +35,20 @@ impl AnswerKind {
             AnswerKind::Stopped => "stopped",
             AnswerKind::NoMemory => "nomemory",
             AnswerKind::Ended => "ended",
+        }
+    }
+
+    /// Adds the word behind a space.
+    pub(crate) fn add_to(self, text: &mut String) -> Result<(), NoMemory>
+        ensures { OnOk result (string_bytes text.new ≡ string_bytes text.old ++ (codes " " ++ kind_word self)) }
+    {
+        match self {
+            AnswerKind::Pending => add_word(text, " pending"),
+            AnswerKind::Ready => add_word(text, " ready"),
+            AnswerKind::Panicked => add_word(text, " panicked"),
+            AnswerKind::Stopped => add_word(text, " stopped"),
+            AnswerKind::NoMemory => add_word(text, " nomemory"),
+            AnswerKind::Ended => add_word(text, " ended"),
         }
     }
 }

@@ -58,6 +58,14 @@ impl Auditor {
                 hasher.update(told.as_str().as_bytes());
                 self.digest = hasher.finalize();
             }
+            FieldsKind::OfTaskInPlace {
+                number,
+                label: told,
+            } => {
+                let mut hasher = self.begun(label, number.as_slice());
+                hasher.update(told.as_bytes());
+                self.digest = hasher.finalize();
+            }
             FieldsKind::Listed(fields) => self.chain_listed(label, fields.as_slice()),
         }
     }
@@ -99,7 +107,7 @@ impl Auditor {
     }
 
     /// The four bytes.
-    pub(crate) fn digest(&self) -> [u8; 4]
+    pub fn digest(&self) -> [u8; 4]
         ensures { result ≡ self.now }
     {
         self.digest

@@ -60,6 +60,14 @@ pub enum Call {
     Stop { value: i32 },
     /// Makes a signal of the shutdown, unless it began before.
     Stopped,
+    /// Draws a number of 32 bits.
+    NextU32,
+    /// Draws a number of 64 bits.
+    NextU64,
+    /// Draws this many bytes.
+    FillBytes { len: u64 },
+    /// Asks for the digest of the events so far.
+    Auditor,
 }
 
 impl Call {
@@ -106,6 +114,10 @@ impl Call {
             }
             Call::Stop { value } => add_signed(text, "stop ", *value),
             Call::Stopped => add_word(text, "stopped"),
+            Call::NextU32 => add_word(text, "u32"),
+            Call::NextU64 => add_word(text, "u64"),
+            Call::FillBytes { len } => add_numbered(text, "fill ", *len as u128),
+            Call::Auditor => add_word(text, "auditor"),
         }
     }
 }

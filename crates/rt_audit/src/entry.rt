@@ -96,10 +96,9 @@ impl Entry {
                 deadline,
                 cycle,
             } => add_start(text, *now, *deadline, *cycle, *next),
-            Entry::Call { by, call, reply } => add_call(text, *by, call, reply),
+            Entry::Call { by, call, reply } => add_call(alloc, text, *by, call, reply),
             Entry::Event { label, fields } => {
-                add_word(text, "event ")?;
-                add_word(text, label.as_str())?;
+                label.add_to(text)?;
                 add_fields(alloc, text, fields)
             }
             Entry::Wake { task } => add_numbered(text, "wake ", *task as u128),
@@ -112,8 +111,7 @@ impl Entry {
             Entry::Visit { task } => add_numbered(text, "visit ", *task as u128),
             Entry::Answer { task, kind } => {
                 add_numbered(text, "answer ", *task as u128)?;
-                add_space(text)?;
-                add_word(text, kind.word())
+                kind.add_to(text)
             }
             Entry::NodeEnd { node } => add_numbered(text, "nodeend ", *node as u128),
             Entry::Advance { now } => add_numbered(text, "advance ", *now),
@@ -149,6 +147,7 @@ fn add_start(
 }
 
 fn add_call(
+    alloc: Global,
     text: &mut String,
     by: Option<u64>,
     call: &Call,
@@ -161,5 +160,5 @@ fn add_call(
     add_space(text)?;
     call.add_to(text)?;
     add_word(text, " -> ")?;
-    reply.add_to(text)
+    reply.add_to(alloc, text)
 }

@@ -1,10 +1,12 @@
 //! The fields of an event.
 
-ghost use Rattle.std.specs.Prelude.{◌≡◌, ◌∷◌, ◌↔◌, [], length, slice_get, Some, None, IfSome, IfNone, IsTrue};
+ghost use Rattle.std.specs.Prelude.{◌≡◌, ◌≤◌, ◌∷◌, ◌↔◌, [], length, slice_get, Some, None, IfOk, IfSome, IfNone, IsOk, IsTrue};
 ghost use Rattle.std.specs.Int.{to_be_bytes, w128};
 ghost use Rattle.rt_audit.specs.EntryParts.{fields_of};
 
-use rt_base::{Items, Text};
+use crate::short_label::ShortLabel;
+use rt_base::{Items, NoMemory, Text};
+use std::alloc::Global;
 use std::marker::Model;
 
 /// How fields are kept. Those of a visit's event stand in place, since most events are of visits.
@@ -12,6 +14,8 @@ use std::marker::Model;
 pub enum FieldsKind {
     /// The task's number in sixteen bytes, and its label.
     OfTask { number: [u8; 16], label: Text },
+    /// The same with a label that stands in place too.
+    OfTaskInPlace { number: [u8; 16], label: ShortLabel },
     Listed(Items<Items<u8>>),
 }
 
@@ -44,6 +48,22 @@ impl EventFields {
         }
     }
 
+    /// The same of this label. A short one takes no memory.
+    pub fn of_labelled_task(alloc: Global, task: u64, label: &str) -> Result<EventFields, NoMemory>
+        ensures fields { IfOk result (λ fields. fields ≡ to_be_bytes w128 task ∷ label.now ∷ []) }
+        ensures short { length label.now ≤ 23 → IsOk result }
+    {
+        let Some(label) = ShortLabel::of(label.as_bytes()) else {
+            return Ok(EventFields::of_task(task, Text::of(label.to_owned(alloc)?)));
+        };
+        Ok(EventFields {
+            kind: FieldsKind::OfTaskInPlace {
+                number: (task as u128).to_be_bytes(),
+                label,
+            },
+        })
+    }
+
     /// Any fields.
     pub fn listed(fields: Items<Items<u8>>) -> EventFields
         ensures { result ≡ fields }
@@ -58,7 +78,7 @@ impl EventFields {
         ensures { result ≡ length self.now }
     {
         match &self.kind {
-            FieldsKind::OfTask { .. } => 2,
+            FieldsKind::OfTask { .. } | FieldsKind::OfTaskInPlace { .. } => 2,
             FieldsKind::Listed(fields) => fields.as_slice().len(),
         }
     }
@@ -68,7 +88,7 @@ impl EventFields {
         ensures { IsTrue result ↔ (self.now ≡ []) }
     {
         match &self.kind {
-            FieldsKind::OfTask { .. } => false,
+            FieldsKind::OfTask { .. } | FieldsKind::OfTaskInPlace { .. } => false,
             FieldsKind::Listed(fields) => fields.as_slice().is_empty(),
         }
     }
@@ -84,6 +104,11 @@ impl EventFields {
                 1 => Some(label.as_str().as_bytes()),
                 _ => None,
             },
+            FieldsKind::OfTaskInPlace { number, label } => match place {
+                0 => Some(number.as_slice()),
+                1 => Some(label.as_bytes()),
+                _ => None,
+            },
             FieldsKind::Listed(fields) => Some(fields.as_slice().get(place)?.as_slice()),
         }
     }
@@ -97,6 +122,10 @@ impl EventFields {
                 number,
                 label: told,
             } => { is_number(number.as_slice(), task) && is_told(told.as_str().as_bytes(), label) }
+            FieldsKind::OfTaskInPlace {
+                number,
+                label: told,
+            } => is_number(number.as_slice(), task) && is_told(told.as_bytes(), label),
             FieldsKind::Listed(fields) => match fields.as_slice() {
                 [number, told] => {
                     is_number(number.as_slice(), task) && is_told(told.as_slice(), label)

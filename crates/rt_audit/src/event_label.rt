@@ -1,9 +1,10 @@
 //! The label of an event.
 
-ghost use Rattle.std.specs.Prelude.{◌≡◌, IfOk};
+ghost use Rattle.std.specs.Prelude.{◌≡◌, ◌++◌, IfOk, OnOk, codes, string_bytes};
 ghost use Rattle.rt_audit.specs.TaskEvent.{task_event};
 
 use crate::Label;
+use crate::line::add_word;
 use rt_base::{NoMemory, Text};
 use std::alloc::Global;
 use std::marker::Model;
@@ -59,6 +60,20 @@ impl EventLabel {
         match &self.kind {
             LabelKind::ProcessTask => "process_task",
             LabelKind::Named(label) => label.as_str(),
+        }
+    }
+
+    /// Adds it behind the word of an event.
+    #[inline(always)]
+    pub(crate) fn add_to(&self, text: &mut String) -> Result<(), NoMemory>
+        ensures { OnOk result (string_bytes text.new ≡ string_bytes text.old ++ (codes "event " ++ self.now)) }
+    {
+        match &self.kind {
+            LabelKind::ProcessTask => add_word(text, "event process_task"),
+            LabelKind::Named(label) => {
+                add_word(text, "event ")?;
+                add_word(text, label.as_str())
+            }
         }
     }
 }

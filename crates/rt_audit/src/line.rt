@@ -7,6 +7,7 @@ ghost use Rattle.rt_audit.specs.TaskEvent.{small_number};
 ghost use Rattle.rt_audit.specs.Lines.{optional_number, numbers_text, hex_text, fields_text, choice_text, choices_text};
 
 use crate::auditor::low_bytes;
+use crate::digit_pairs::two_digits;
 use crate::event_fields::{EventFields, FieldsKind};
 use itoa::Buffer;
 use rt_base::{Choice, Items, NoMemory};
@@ -54,24 +55,38 @@ fn add_few(text: &mut String, number: u64) -> Result<(), NoMemory>
     requires { (10 ≤ number) × (number < 10000) }
     ensures { OnOk result (string_bytes text.new ≡ string_bytes text.old ++ decimal number) }
 {
-    let (tens, last) = (number / 10, b'0' + (number % 10) as u8);
-    if tens < 10 {
-        return add_ascii(text, &[b'0' + tens as u8, last]);
+    let [ten, last] = two_digits(number % 100);
+    let hundreds = number / 100;
+    if hundreds == 0 {
+        return add_ascii(text, &[ten, last]);
     }
-    let (hundreds, ten) = (tens / 10, b'0' + (tens % 10) as u8);
     if hundreds < 10 {
         return add_ascii(text, &[b'0' + hundreds as u8, ten, last]);
     }
-    let hundred = b'0' + (hundreds % 10) as u8;
-    add_ascii(text, &[b'0' + (hundreds / 10) as u8, hundred, ten, last])
+    let [thousand, hundred] = two_digits(hundreds);
+    add_ascii(text, &[thousand, hundred, ten, last])
 }
 
-/// A number of any size.
+/// A number of five digits.
+fn add_five(text: &mut String, number: u64) -> Result<(), NoMemory>
+    requires { (10000 ≤ number) × (number < 100000) }
+    ensures { OnOk result (string_bytes text.new ≡ string_bytes text.old ++ decimal number) }
+{
+    let [ten, last] = two_digits(number % 100);
+    let hundreds = number / 100;
+    let [thousand, hundred] = two_digits(hundreds % 100);
+    let first = b'0' + (hundreds / 100) as u8;
+    add_ascii(text, &[first, thousand, hundred, ten, last])
+}
+
+/// A number of more than four digits.
 #[inline(never)]
 fn add_digits(text: &mut String, number: u128) -> Result<(), NoMemory>
+    requires { 10000 ≤ number }
     ensures { OnOk result (string_bytes text.new ≡ string_bytes text.old ++ decimal number) }
 {
     match u64::try_from(number) {
+        Ok(number) if number < 100_000 => return add_five(text, number),
         Ok(number) => text.push_str(Buffer::new().format(number))?,
         Err(_) => text.push_str(Buffer::new().format(number))?,
     }
@@ -142,6 +157,23 @@ fn add_field(alloc: Global, text: &mut String, bytes: &[u8]) -> Result<(), NoMem
         add_low(text, low)?;
         return Ok(());
     }
+    add_hex(alloc, text, bytes)
+}
+
+/// Bytes as lower-case hex, or `-` where there are none.
+pub fn add_bytes(alloc: Global, text: &mut String, bytes: &[u8]) -> Result<(), NoMemory>
+    ensures { OnOk result (string_bytes text.new ≡ string_bytes text.old ++ hex_text bytes.now) }
+{
+    if bytes.is_empty() {
+        return add_word(text, "-");
+    }
+    add_hex(alloc, text, bytes)
+}
+
+/// Bytes as lower-case hex.
+fn add_hex(alloc: Global, text: &mut String, bytes: &[u8]) -> Result<(), NoMemory>
+    ensures { OnOk result (string_bytes text.new ≡ string_bytes text.old ++ encode_lower bytes.now) }
+{
     if bytes.len() <= SHORT_HEX {
         return add_short_hex(text, bytes);
     }
@@ -149,12 +181,18 @@ fn add_field(alloc: Global, text: &mut String, bytes: &[u8]) -> Result<(), NoMem
     add_word(text, encoded.as_str())
 }
 
-/// Eight bytes of zeros and then these as lower-case hex.
+/// Eight bytes of zeros and then these as lower-case hex. Most numbers of tasks have two bytes at most.
 #[inline(always)]
-#[tactic(auto, using(crate::proofs::Zeros::zeros_then))]
+#[tactic(auto, using(crate::proofs::Zeros::zeros_then, crate::proofs::Zeros::more_zeros_then))]
 fn add_low(text: &mut String, low: [u8; 8]) -> Result<(), NoMemory>
     ensures { OnOk result (string_bytes text.new ≡ string_bytes text.old ++ encode_lower (small_number low)) }
 {
+    if let Some((high, rest)) = low.as_slice().split_first_chunk::<6>() {
+        if *high == [0; 6] {
+            add_word(text, "0000000000000000000000000000")?;
+            return add_short_hex(text, rest);
+        }
+    }
     add_word(text, "0000000000000000")?;
     add_short_hex(text, &low)?;
     Ok(())
@@ -183,6 +221,10 @@ pub fn add_fields(alloc: Global, text: &mut String, fields: &EventFields) -> Res
         FieldsKind::OfTask { number, label } => {
             add_field(alloc, text, number.as_slice())?;
             add_field(alloc, text, label.as_str().as_bytes())
+        }
+        FieldsKind::OfTaskInPlace { number, label } => {
+            add_field(alloc, text, number.as_slice())?;
+            add_field(alloc, text, label.as_bytes())
         }
         FieldsKind::Listed(fields) => add_listed(alloc, text, fields.as_slice()),
     }

@@ -3,10 +3,11 @@
 ghost use Rattle.std.specs.Prelude.{◌≡◌, ◌++◌, OnOk, string_bytes};
 ghost use Rattle.rt_audit.specs.Lines.{reply_text};
 
-use crate::Refusal;
 use crate::code::error_code;
-use crate::line::{add_numbered, add_signed, add_word};
+use crate::line::{add_bytes, add_number, add_numbered, add_signed, add_word};
+use crate::{Payload, Refusal};
 use rt_base::NoMemory;
+use std::alloc::Global;
 
 /// A reply, as its line shows it. A refusal keeps the error itself, of which the line shows the number.
 #[derive(Debug, Drop)]
@@ -35,6 +36,10 @@ pub enum CallReply {
     PendingAt { alarm: u64 },
     /// What was waited for is there. An output isn't kept.
     Ready,
+    /// This number was drawn.
+    Number { number: u64 },
+    /// These bytes were drawn, or are the digest.
+    Bytes { bytes: Payload },
     /// The call was refused.
     Refused { error: Refusal },
 }
@@ -42,7 +47,7 @@ pub enum CallReply {
 impl CallReply {
     /// Adds the words of a journal's line.
     #[inline(always)]
-    pub fn add_to(&self, text: &mut String) -> Result<(), NoMemory>
+    pub fn add_to(&self, alloc: Global, text: &mut String) -> Result<(), NoMemory>
         ensures { OnOk result (string_bytes text.new ≡ string_bytes text.old ++ reply_text self.now) }
     {
         match self {
@@ -66,6 +71,8 @@ impl CallReply {
             CallReply::Pending => add_word(text, "pending"),
             CallReply::PendingAt { alarm } => add_numbered(text, "pending ", *alarm as u128),
             CallReply::Ready => add_word(text, "ready"),
+            CallReply::Number { number } => add_number(text, *number as u128),
+            CallReply::Bytes { bytes } => add_bytes(alloc, text, bytes.as_slice()),
             CallReply::Refused { error } => add_numbered(
                 text,
                 "err ",

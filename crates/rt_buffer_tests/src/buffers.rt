@@ -13,7 +13,7 @@ use rt_buffer::{Begun, Buffer, Read, Started, Step, Stepped, SyncHandle, Write};
 use rt_bufs::{IoBuf, IoBufs};
 use rt_store::{Done, FaultConfig, MemStore, Storage};
 use std::alloc::Global;
-use std::test::Fail;
+use std::process::Abort;
 
 /// Whether these are the same.
 pub fn same<T: Drop + PartialEq>(seen: T, wanted: T) -> bool {
@@ -72,16 +72,34 @@ const MERGES: &[Merge] = &[
     (58, b"!", false, b"abcXYZ12"),
 ];
 
-#[test]
-fn tip_merges(rt: HostRuntime) -> Result<(), Fail> {
-    let mut tip = Buffer::new(rt.alloc(), 50, 8);
-    let first = tip.merge(b"abcdefgh", 50)?;
-    let cut = tip.resize(53)?;
+/// Whether there is nothing.
+fn is_nothing<T: Drop>(seen: Option<T>) -> bool {
+    seen.is_none()
+}
+
+/// Whether nothing is to be written out before a tip has this length.
+fn is_cut(tip: &mut Buffer, len: u64) -> Result<bool, NoMemory> {
+    Ok(is_nothing(tip.resize(len)?))
+}
+
+/// Whether a tip that was cut takes writes up to where it had its end.
+fn merges_cut(alloc: Global) -> bool {
+    let mut tip = Buffer::new(alloc, 50, 8);
+    let first = came(tip.merge(b"abcdefgh", 50), true);
+    let cut = came(is_cut(&mut tip, 53), true);
     let seen = merges_each(&mut tip, 50, MERGES);
-    let mut last = Buffer::new(rt.alloc(), u64::MAX, 8);
-    let past = last.merge(b"a", u64::MAX)?;
-    assert!(rt; first & cut.is_none() & (seen == 4) & (tip.size() == 58) & !past);
-    Ok(())
+    first & cut & (seen == 4) & (tip.size() == 58)
+}
+
+/// Whether a tip at the end of numbers takes no byte.
+fn merges_none(alloc: Global) -> bool {
+    let mut last = Buffer::new(alloc, u64::MAX, 8);
+    came(last.merge(b"a", u64::MAX), false)
+}
+
+#[test]
+fn tip_merges(rt: HostRuntime) {
+    assert!(rt; merges_cut(rt.alloc()) & merges_none(rt.alloc()));
 }
 
 const EDGES: &[Merge] = &[
@@ -97,20 +115,18 @@ const EDGES: &[Merge] = &[
 ];
 
 #[test]
-fn tip_merges_at_its_edges(rt: HostRuntime) -> Result<(), Fail> {
+fn tip_merges_at_its_edges(rt: HostRuntime) {
     let mut tip = Buffer::new(rt.alloc(), 10, 8);
     let seen = merges_each(&mut tip, 10, EDGES);
     assert!(rt; (seen == 9) & (tip.size() == 18));
-    Ok(())
 }
 
 #[test]
-fn tip_lacks_memory(rt: HostRuntime) -> Result<(), Fail> {
+fn tip_lacks_memory(rt: HostRuntime) {
     let mut tip = Buffer::new(rt.alloc(), 10, usize::MAX);
     let first = came(tip.merge(b"abc", 10), true);
     let lacks = failed(tip.merge(b"a", u64::MAX - 1), NoMemory);
     assert!(rt; first & lacks & has(&tip, 10, b"abc"));
-    Ok(())
 }
 
 /// Whether these bytes were taken, from an offset on.
@@ -121,39 +137,57 @@ fn took(taken: Option<(IoBuf, u64)>, offset: u64, bytes: &[u8]) -> bool {
     }
 }
 
-/// Whether `abc` is taken out of a tip that had nothing.
-pub fn takes_tip(alloc: Global) -> Result<bool, NoMemory> {
-    let mut tip = Buffer::new(alloc, 3, 4);
-    let nothing = took(tip.take()?, 3, b"");
-    let merged = tip.merge(b"abc", 3)? & (tip.size() == 6);
+/// Whether these bytes are taken out of a tip.
+fn takes(tip: &mut Buffer, offset: u64, bytes: &[u8]) -> Result<bool, NoMemory> {
+    Ok(took(tip.take()?, offset, bytes))
+}
+
+/// Whether a tip of `abc` has `bc` at its end.
+fn slices(tip: &Buffer) -> Result<bool, NoMemory> {
+    if tip.as_slice().len() < 3 {
+        return Ok(false);
+    }
     let cut = tip.slice(1, 3)?;
-    let all = took(tip.take()?, 3, b"abc");
-    Ok(nothing & merged & (cut.as_slice() == b"bc".as_slice()) & all & has(&tip, 6, b""))
+    Ok(cut.as_slice() == b"bc".as_slice())
+}
+
+/// Whether `abc` is taken out of a tip that had nothing.
+pub fn takes_tip(alloc: Global) -> bool {
+    let mut tip = Buffer::new(alloc, 3, 4);
+    let nothing = came(takes(&mut tip, 3, b""), true);
+    let merged = came(tip.merge(b"abc", 3), true) & (tip.size() == 6);
+    let cut = came(slices(&tip), true);
+    let all = came(takes(&mut tip, 3, b"abc"), true);
+    nothing & merged & cut & all & has(&tip, 6, b"")
 }
 
 #[test]
-fn tip_is_taken(rt: HostRuntime) -> Result<(), Fail> {
-    assert!(rt; came(takes_tip(rt.alloc()), true));
-    Ok(())
+fn tip_is_taken(rt: HostRuntime) {
+    assert!(rt; takes_tip(rt.alloc()));
 }
 
 /// A new length, what is to be written out before it, and the tip after it.
 pub type Resize = (u64, &'static [u8], u64, &'static [u8]);
 
+/// Whether these bytes at 3 are to be written out before a tip has this length.
+fn makes_room(tip: &mut Buffer, len: u64, before: &[u8]) -> Result<bool, NoMemory> {
+    Ok(took(tip.resize(len)?, 3, before))
+}
+
 /// Whether a tip of `abc` at 3 comes to what is written.
-fn resizes(alloc: Global, resize: &Resize) -> Result<bool, NoMemory> {
+fn resizes(alloc: Global, resize: &Resize) -> bool {
     let (len, before, offset, after) = *resize;
     let mut tip = Buffer::new(alloc, 3, 4);
-    let merged = tip.merge(b"abc", 3)?;
-    let taken = tip.resize(len)?;
-    Ok(merged & took(taken, 3, before) & has(&tip, offset, after))
+    let merged = came(tip.merge(b"abc", 3), true);
+    let taken = came(makes_room(&mut tip, len, before), true);
+    merged & taken & has(&tip, offset, after)
 }
 
 /// How many come to what is written.
 pub fn resizes_each(alloc: Global, each: &[Resize]) -> usize {
     let mut right = 0_usize;
     for resize in each {
-        if came(resizes(alloc, resize), true) {
+        if resizes(alloc, resize) {
             right = right.wrapping_add(1);
         }
     }
@@ -170,9 +204,13 @@ pub const RESIZES: &[Resize] = &[
 ];
 
 #[test]
-fn tip_is_resized(rt: HostRuntime) -> Result<(), Fail> {
+fn tip_is_resized(rt: HostRuntime) {
     assert!(rt; resizes_each(rt.alloc(), RESIZES) == 6);
-    Ok(())
+}
+
+/// A store in memory, whose calls don't fail.
+pub fn memory(rt: &impl Abort, alloc: Global) -> MemStore {
+    MemStore::new(alloc, FaultConfig::default()).expect(rt, "room")
 }
 
 /// Buffers of these bytes.
@@ -182,26 +220,30 @@ pub fn bufs(alloc: Global, bytes: &[u8]) -> Result<IoBufs, NoMemory> {
     IoBufs::from_buf(alloc, IoBuf::from_vec(copy)?)
 }
 
+/// Whether a change was done at once. One that is gated is given up.
+fn ended<S: Storage>(store: &mut S, answer: Result<Done, Error>) -> Result<bool, Error> {
+    match answer? {
+        Done::Now => Ok(true),
+        Done::Gated(ticket) => {
+            store.give_up_sync(ticket);
+            Ok(false)
+        }
+    }
+}
+
 /// Whether a change was done at once.
 pub fn is_now<S: Storage>(store: &mut S, answer: Result<Done, Error>) -> bool {
-    match answer {
-        Ok(Done::Now) => true,
-        Ok(Done::Gated(ticket)) => {
-            store.give_up_sync(ticket);
-            false
-        }
-        Err(_) => false,
-    }
+    came(ended(store, answer), true)
 }
 
 /// Whether bytes could be written at the start of a blob.
 fn writes<S: Storage>(alloc: Global, store: &mut S, blob: &S::Blob, bytes: &[u8]) -> bool {
-    match bufs(alloc, bytes) {
-        Ok(bytes) => {
+    match bufs(alloc, bytes).ok() {
+        Some(bytes) => {
             let answer = store.write_at(&mut NoEnv, blob, 0, bytes, WriteOptions::default());
             is_now(store, answer)
         }
-        Err(_) => false,
+        None => false,
     }
 }
 
@@ -215,9 +257,9 @@ fn next(reader: &mut Read<MemStore>, store: &mut MemStore, len: usize) -> Result
 
 /// Whether buffers have these bytes.
 fn hold(bytes: IoBufs, expected: &[u8]) -> bool {
-    match bytes.coalesce() {
-        Ok(buf) => buf.as_slice() == expected,
-        Err(_) => false,
+    match bytes.coalesce().ok() {
+        Some(buf) => buf.as_slice() == expected,
+        None => false,
     }
 }
 
@@ -307,23 +349,17 @@ fn begins(alloc: Global, store: &mut MemStore, bytes: &[u8]) -> Result<bool, Err
 }
 
 #[test]
-fn blob_is_read_by_buffers(rt: HostRuntime) -> Result<(), Fail> {
-    let mut store = MemStore::new(rt.alloc(), FaultConfig::default())?;
+fn blob_is_read_by_buffers(rt: HostRuntime) {
+    let mut store = memory(&rt, rt.alloc());
     let seen = came(read_text(rt.alloc(), &mut store), true);
-    assert!(rt; seen & came(begins(rt.alloc(), &mut store, b"hello"), true));
-    Ok(())
+    let begun = came(begins(rt.alloc(), &mut store, b"hello"), true);
+    drop(store);
+    assert!(rt; seen & begun);
 }
 
 /// Whether a change was refused so.
 fn is_refusal<S: Storage>(store: &mut S, answer: Result<Done, Error>, why: Error) -> bool {
-    match answer {
-        Ok(Done::Now) => false,
-        Ok(Done::Gated(ticket)) => {
-            store.give_up_sync(ticket);
-            false
-        }
-        Err(error) => same(error, why),
-    }
+    failed(ended(store, answer), why)
 }
 
 /// Whether a reader's blob can't be made so long that there is no memory for it.
@@ -342,14 +378,15 @@ pub fn cut_text<S: Storage>(alloc: Global, store: &mut S) -> Result<bool, Error>
 }
 
 #[test]
-fn reader_is_resized(rt: HostRuntime) -> Result<(), Fail> {
-    let mut store = MemStore::new(rt.alloc(), FaultConfig::default())?;
+fn reader_is_resized(rt: HostRuntime) {
+    let mut store = memory(&rt, rt.alloc());
     let cut = came(cut_text(rt.alloc(), &mut store), true);
     let lacks = came(lacks_memory(rt.alloc(), &mut store), true);
     let kept = came(begins(rt.alloc(), &mut store, b"hello"), true);
     let synced = store.crash_draws() == 0;
-    assert!(rt; cut & lacks & kept & came(is_long(&mut store, 5), true) & synced);
-    Ok(())
+    let long = came(is_long(&mut store, 5), true);
+    drop(store);
+    assert!(rt; cut & lacks & kept & long & synced);
 }
 
 /// A read through a writer: where, how many bytes, and which.
@@ -408,10 +445,11 @@ pub fn look_over<S: Storage>(alloc: Global, store: &mut S) -> Result<bool, Error
 }
 
 #[test]
-fn tip_is_read_over_its_blob(rt: HostRuntime) -> Result<(), Fail> {
-    let mut store = MemStore::new(rt.alloc(), FaultConfig::default())?;
-    assert!(rt; came(look_over(rt.alloc(), &mut store), true));
-    Ok(())
+fn tip_is_read_over_its_blob(rt: HostRuntime) {
+    let mut store = memory(&rt, rt.alloc());
+    let seen = came(look_over(rt.alloc(), &mut store), true);
+    drop(store);
+    assert!(rt; seen);
 }
 
 /// The writer that a call gave back.
@@ -426,6 +464,23 @@ pub fn done<S: Storage>(store: &mut S, step: Step<S>) -> Result<Write<S>, Error>
     }
 }
 
+/// Writes buffers, where there was memory for them.
+pub fn put_bufs<S: Storage>(
+    store: &mut S,
+    writer: Write<S>,
+    offset: u64,
+    bytes: Result<IoBufs, NoMemory>,
+    task: u64,
+) -> Step<S> {
+    match bytes.ok() {
+        Some(bytes) => writer.write_at(store, &mut NoEnv, offset, bytes, task),
+        None => {
+            writer.close(store);
+            Stepped::Failed(Error::NoMemory)
+        }
+    }
+}
+
 /// Writes bytes in one chunk.
 pub fn put<S: Storage>(
     alloc: Global,
@@ -434,16 +489,8 @@ pub fn put<S: Storage>(
     offset: u64,
     bytes: &[u8],
 ) -> Result<Write<S>, Error> {
-    match bufs(alloc, bytes) {
-        Ok(bytes) => {
-            let step = writer.write_at(store, &mut NoEnv, offset, bytes, 1);
-            done(store, step)
-        }
-        Err(_) => {
-            writer.close(store);
-            Err(Error::NoMemory)
-        }
-    }
+    let step = put_bufs(store, writer, offset, bufs(alloc, bytes), 1);
+    done(store, step)
 }
 
 pub fn synced<S: Storage>(store: &mut S, writer: Write<S>) -> Result<Write<S>, Error> {
@@ -509,11 +556,12 @@ fn reads_back<S: Storage>(alloc: Global, store: &mut S) -> Result<bool, Error> {
 }
 
 #[test]
-fn written_blob_is_read_back(rt: HostRuntime) -> Result<(), Fail> {
-    let mut store = MemStore::new(rt.alloc(), FaultConfig::default())?;
+fn written_blob_is_read_back(rt: HostRuntime) {
+    let mut store = memory(&rt, rt.alloc());
     let written = went(write_text(rt.alloc(), &mut store));
-    assert!(rt; written & came(reads_back(rt.alloc(), &mut store), true));
-    Ok(())
+    let read = came(reads_back(rt.alloc(), &mut store), true);
+    drop(store);
+    assert!(rt; written & read);
 }
 
 /// Cuts or extends a writer.
@@ -534,10 +582,11 @@ pub fn resize_text<S: Storage>(alloc: Global, store: &mut S) -> Result<bool, Err
 }
 
 #[test]
-fn writer_is_resized(rt: HostRuntime) -> Result<(), Fail> {
-    let mut store = MemStore::new(rt.alloc(), FaultConfig::default())?;
-    assert!(rt; came(resize_text(rt.alloc(), &mut store), true));
-    Ok(())
+fn writer_is_resized(rt: HostRuntime) {
+    let mut store = memory(&rt, rt.alloc());
+    let resized = came(resize_text(rt.alloc(), &mut store), true);
+    drop(store);
+    assert!(rt; resized);
 }
 
 /// Two chunks, the first of three bytes.
@@ -549,22 +598,22 @@ fn two_chunks(alloc: Global) -> Result<IoBufs, NoMemory> {
 
 /// A write of two chunks, through a tip of four bytes.
 fn put_chunks<S: Storage>(alloc: Global, store: &mut S) -> Result<Write<S>, Error> {
-    let chunks = two_chunks(alloc)?;
     let (blob, len) = store.open(&mut NoEnv, "p", b"a")?;
-    let step = Write::new(alloc, blob, len, 4).write_at(store, &mut NoEnv, 0, chunks, 1);
+    let writer = Write::new(alloc, blob, len, 4);
+    let step = put_bufs(store, writer, 0, two_chunks(alloc), 1);
     let writer = done(store, step)?;
     showing(store, writer, b"abcdef")
 }
 
+/// Closes the writer that a call gave back.
+pub fn closed<S: Storage>(store: &mut S, answer: Result<Write<S>, Error>) -> Result<(), Error> {
+    answer?.close(store);
+    Ok(())
+}
+
 /// Whether a writer was refused so.
 pub fn is_refused<S: Storage>(store: &mut S, answer: Result<Write<S>, Error>, why: Error) -> bool {
-    match answer {
-        Ok(writer) => {
-            writer.close(store);
-            false
-        }
-        Err(error) => same(error, why),
-    }
+    failed(closed(store, answer), why)
 }
 
 /// Writes through the tip, past it and before it, and one past the end of numbers.
@@ -580,10 +629,11 @@ fn write_chunks<S: Storage>(alloc: Global, store: &mut S) -> Result<bool, Error>
 }
 
 #[test]
-fn chunks_are_written(rt: HostRuntime) -> Result<(), Fail> {
-    let mut store = MemStore::new(rt.alloc(), FaultConfig::default())?;
-    assert!(rt; came(write_chunks(rt.alloc(), &mut store), true));
-    Ok(())
+fn chunks_are_written(rt: HostRuntime) {
+    let mut store = memory(&rt, rt.alloc());
+    let written = came(write_chunks(rt.alloc(), &mut store), true);
+    drop(store);
+    assert!(rt; written);
 }
 
 /// Syncs `ab`, and writes out `cd` behind it with no sync.
@@ -624,10 +674,11 @@ fn crash_behind(alloc: Global, store: &mut MemStore) -> Result<bool, Error> {
 }
 
 #[test]
-fn crash_leaves_what_was_synced(rt: HostRuntime) -> Result<(), Fail> {
-    let mut store = MemStore::new(rt.alloc(), FaultConfig::default())?;
-    assert!(rt; came(crash_behind(rt.alloc(), &mut store), true));
-    Ok(())
+fn crash_leaves_what_was_synced(rt: HostRuntime) {
+    let mut store = memory(&rt, rt.alloc());
+    let left = came(crash_behind(rt.alloc(), &mut store), true);
+    drop(store);
+    assert!(rt; left);
 }
 
 /// The writer and the handle that a start gave.
@@ -679,10 +730,11 @@ pub fn start_syncs<S: Storage>(alloc: Global, store: &mut S) -> Result<bool, Err
 }
 
 #[test]
-fn sync_is_started(rt: HostRuntime) -> Result<(), Fail> {
-    let mut store = MemStore::new(rt.alloc(), FaultConfig::default())?;
-    assert!(rt; came(start_syncs(rt.alloc(), &mut store), true));
-    Ok(())
+fn sync_is_started(rt: HostRuntime) {
+    let mut store = memory(&rt, rt.alloc());
+    let started = came(start_syncs(rt.alloc(), &mut store), true);
+    drop(store);
+    assert!(rt; started);
 }
 
 /// Whether the blob of a name has exactly these bytes.
@@ -763,12 +815,12 @@ fn take_turns<S: Storage>(alloc: Global, store: &mut S) -> Result<(), Error> {
 }
 
 #[test]
-fn crash_leaves_what_each_writer_synced(rt: HostRuntime) -> Result<(), Fail> {
-    let mut store = MemStore::new(rt.alloc(), FaultConfig::default())?;
+fn crash_leaves_what_each_writer_synced(rt: HostRuntime) {
+    let mut store = memory(&rt, rt.alloc());
     let written = went(take_turns(rt.alloc(), &mut store));
     let crashed = came(crash(rt.alloc(), &mut store), 2);
     let first = came(has_bytes(rt.alloc(), &mut store, b"a", b"abcd"), true);
     let second = came(has_bytes(rt.alloc(), &mut store, b"b", b"xyz!"), true);
+    drop(store);
     assert!(rt; written & crashed & first & second);
-    Ok(())
 }

@@ -8,7 +8,6 @@ use rt_buffer::{
 };
 use rt_store::{Done, FaultConfig, MemStore, Storage, Ticket};
 use std::alloc::Global;
-use std::test::Fail;
 
 type Delayed = DelayedSyncContext<MemStore>;
 
@@ -34,7 +33,7 @@ fn polls_twice<S: Storage>(
     let begun = counts(store.pending(), 1, 0, 0, 1);
     let held = polls(store, &mut writer, handle, Poll::Pending);
     let waits = counts(store.pending(), 1, 1, 0, 1);
-    let _ = release_pending_syncs(store.pending_mut());
+    drop(release_pending_syncs(store.pending_mut()));
     let released = polls(store, &mut writer, handle, Poll::Ready(Ok(())));
     writer.close(store);
     begun & held & waits & released & counts(store.pending(), 1, 1, 1, 0)
@@ -59,12 +58,13 @@ fn holds_started<S: Storage>(
 }
 
 #[test]
-fn started_sync_is_held(rt: HostRuntime) -> Result<(), Fail> {
-    let mut store = delayed(rt.alloc())?;
+fn started_sync_is_held(rt: HostRuntime) {
+    let mut store = delayed(rt.alloc()).expect(&rt, "room");
     let seen = came(holds_started(rt.alloc(), &mut store), true);
     let inner = store.into_inner();
-    assert!(rt; seen & (inner.crash_draws() == 0));
-    Ok(())
+    let draws = inner.crash_draws();
+    drop(inner);
+    assert!(rt; seen & (draws == 0));
 }
 
 /// Polls a ticket.
@@ -101,19 +101,23 @@ fn reached(inner: &Delayed, calls: u64, draws: usize) -> bool {
 /// is released.
 fn releases_gate(store: &mut Counted, ticket: Ticket) -> bool {
     let held = (store.pending().calls() == 1) & reached(store.inner(), 0, 2);
-    let _ = release_pending_syncs(store.pending_mut());
+    drop(release_pending_syncs(store.pending_mut()));
     let done = same(poll_and_end(store, ticket), Poll::Ready(Ok(())));
     held & done & reached(store.inner(), 1, 0)
+}
+
+/// The ticket behind which a change is held.
+pub fn gate_of(answer: Result<Done, Error>) -> Option<Ticket> {
+    match answer.ok()? {
+        Done::Gated(ticket) => Some(ticket),
+        Done::Now => None,
+    }
 }
 
 /// The ticket of a durable write of `c`, where a gate holds it.
 pub fn write_gated<S: Storage>(alloc: Global, store: &mut S, blob: &S::Blob) -> Option<Ticket> {
     let bytes = bufs(alloc, b"c").ok()?;
-    match store.write_at(&mut NoEnv, blob, 0, bytes, WriteOptions::SYNC) {
-        Ok(Done::Gated(ticket)) => Some(ticket),
-        Ok(Done::Now) => None,
-        Err(_) => None,
-    }
+    gate_of(store.write_at(&mut NoEnv, blob, 0, bytes, WriteOptions::SYNC))
 }
 
 fn gates_write(alloc: Global, store: &mut Counted) -> Result<bool, Error> {
@@ -127,13 +131,12 @@ fn gates_write(alloc: Global, store: &mut Counted) -> Result<bool, Error> {
 }
 
 #[test]
-fn gated_write(rt: HostRuntime) -> Result<(), Fail> {
-    let mut store = counted(rt.alloc())?;
+fn gated_write(rt: HostRuntime) {
+    let mut store = counted(rt.alloc()).expect(&rt, "room");
     let armed = counts_calls(store.inner_mut().pending_mut()) & arms(store.pending_mut());
     let seen = came(gates_write(rt.alloc(), &mut store), true);
-    let _inner = store.into_inner().into_inner();
+    drop(store.into_inner().into_inner());
     assert!(rt; armed & seen);
-    Ok(())
 }
 
 /// Whether durability calls are counted from then on, which weren't.
@@ -291,12 +294,11 @@ fn releases_each<S: Storage>(
 }
 
 #[test]
-fn each_release(rt: HostRuntime) -> Result<(), Fail> {
-    let mut store = delayed(rt.alloc())?;
+fn each_release(rt: HostRuntime) {
+    let mut store = delayed(rt.alloc()).expect(&rt, "room");
     let seen = releases_each(&mut store, RELEASES);
-    let _inner = store.into_inner();
+    drop(store.into_inner());
     assert!(rt; seen == 6);
-    Ok(())
 }
 
 /// Whether a released sync is done, its number is refused once it was answered, and the blob is open after two more ends of it.
@@ -305,7 +307,7 @@ fn polls_again<S: Storage>(
     blob: &<DelayedSyncContext<S> as Storage>::Blob,
     ticket: Ticket,
 ) -> bool {
-    let _ = release_pending_syncs(store.pending_mut());
+    drop(release_pending_syncs(store.pending_mut()));
     let first = same(poll_and_end(store, ticket), polled(SyncEnd::Done));
     let second = same(
         poll_and_end(store, Ticket::Numbered(0)),
@@ -326,11 +328,10 @@ fn starts_and_polls_again<S: Storage>(store: &mut DelayedSyncContext<S>) -> Resu
 }
 
 #[test]
-fn answered_ticket_is_out(rt: HostRuntime) -> Result<(), Fail> {
-    let mut store = delayed(rt.alloc())?;
+fn answered_ticket_is_out(rt: HostRuntime) {
+    let mut store = delayed(rt.alloc()).expect(&rt, "room");
     let seen = came(starts_and_polls_again(&mut store), true);
     let done = store.pending().completions();
-    let _inner = store.into_inner();
+    drop(store.into_inner());
     assert!(rt; seen & (done == 1));
-    Ok(())
 }

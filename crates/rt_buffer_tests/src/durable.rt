@@ -12,14 +12,13 @@ ghost use Rattle.rt_buffer.specs.Memory.{CrashLeaves, MemoryKeeps, memory_apart,
 ghost use Rattle.rt_buffer.specs.Tip.{laid_over};
 ghost use Rattle.rt_buffer.specs.Writing.{LiesOver};
 
-use crate::buffers::{came, crash, done, has_bytes, opened, put, same, start, synced};
+use crate::buffers::{came, crash, done, has_bytes, memory, opened, put, same, start, synced};
 use rt_base::{Error, NoEnv, Poll};
 use rt_buffer::{
     Begun, Called, DelayedSyncContext, Step, SyncHandle, Write, release_pending_syncs,
 };
 use rt_store::{FaultConfig, MemStore, Storage};
 use std::alloc::Global;
-use std::test::Fail;
 
 /// Asks for the sync of a handle, and closes the writer where it isn't done.
 fn ask(
@@ -68,12 +67,13 @@ pub fn save_two(alloc: Global, store: &mut MemStore) -> Result<bool, Error> {
 }
 
 #[test]
-fn crash_leaves_what_a_started_sync_saved(rt: HostRuntime) -> Result<(), Fail> {
-    let mut store = MemStore::new(rt.alloc(), FaultConfig::default())?;
+fn crash_leaves_what_a_started_sync_saved(rt: HostRuntime) {
+    let mut store = memory(&rt, rt.alloc());
     let saved = came(save_two(rt.alloc(), &mut store), true);
     let crashed = came(crash(rt.alloc(), &mut store), 0);
-    assert!(rt; saved & crashed & came(has_bytes(rt.alloc(), &mut store, b"a", b"ab"), true));
-    Ok(())
+    let left = came(has_bytes(rt.alloc(), &mut store, b"a", b"ab"), true);
+    drop(store);
+    assert!(rt; saved & crashed & left);
 }
 
 /// Syncs a writer beside an idle one. Whatever that answers, the idle one's blob has the bytes that it had, and where each crash left
@@ -116,14 +116,14 @@ fn save_both(alloc: Global, store: &mut MemStore) -> Result<bool, Error> {
 }
 
 #[test]
-fn crash_leaves_what_an_idle_writer_synced(rt: HostRuntime) -> Result<(), Fail> {
-    let mut store = MemStore::new(rt.alloc(), FaultConfig::default())?;
+fn crash_leaves_what_an_idle_writer_synced(rt: HostRuntime) {
+    let mut store = memory(&rt, rt.alloc());
     let saved = came(save_both(rt.alloc(), &mut store), true);
     let crashed = came(crash(rt.alloc(), &mut store), 0);
     let first = came(has_bytes(rt.alloc(), &mut store, b"a", b"ab"), true);
     let second = came(has_bytes(rt.alloc(), &mut store, b"b", b"xy"), true);
+    drop(store);
     assert!(rt; saved & crashed & first & second);
-    Ok(())
 }
 
 /// A store in memory whose syncs are held back.
@@ -159,7 +159,7 @@ fn ask_held(
 /// Whether the sync is pending, and done once all that is held is released.
 fn asks_twice(store: &mut Delayed, writer: &mut Write<Delayed>, handle: &mut SyncHandle) -> bool {
     let held = same(ask_held(handle, writer, store), Poll::Pending);
-    let _ = release_pending_syncs(store.pending_mut());
+    drop(release_pending_syncs(store.pending_mut()));
     held & same(ask_held(handle, writer, store), Poll::Ready(Ok(())))
 }
 
@@ -179,11 +179,12 @@ fn holds_two(alloc: Global) -> Result<bool, Error> {
     let asked = came(ask_for_two(alloc, &mut store), true);
     let mut inner = store.into_inner();
     let crashed = came(crash(alloc, &mut inner), 0);
-    Ok(asked & crashed & came(has_bytes(alloc, &mut inner, b"a", b"ab"), true))
+    let left = came(has_bytes(alloc, &mut inner, b"a", b"ab"), true);
+    drop(inner);
+    Ok(asked & crashed & left)
 }
 
 #[test]
-fn crash_leaves_what_a_released_sync_saved(rt: HostRuntime) -> Result<(), Fail> {
+fn crash_leaves_what_a_released_sync_saved(rt: HostRuntime) {
     assert!(rt; came(holds_two(rt.alloc()), true));
-    Ok(())
 }

@@ -1,19 +1,18 @@
 // The stores that a test lets fail: the worked examples, and each call once.
 
 use crate::buffers::{
-    RESIZES, bufs, came, cut_text, is_now, is_refused, look_over, opened, put, read_text,
+    RESIZES, bufs, came, closed, cut_text, is_now, is_refused, look_over, opened, put, read_text,
     resize_text, resizes_each, same, start_syncs, synced, takes_tip, went, write_text,
 };
-use crate::delayed::{calls_on_pending, poll_and_end, started};
+use crate::delayed::{calls_on_pending, delayed, poll_and_end, started};
 use crate::durable::save_two;
 use rt_base::{
     DEFAULT_BLOB_VERSION, Error, IoKind, NoEnv, NoMemory, Poll, ReadOptions, WriteOptions,
 };
-use rt_buffer::{DelayedSyncContext, SyncFaultContext, Write, WriteFaultContext};
+use rt_buffer::{SyncFaultContext, Write, WriteFaultContext};
 use rt_bufs::IoBufsMut;
 use rt_store::{FaultConfig, MemStore, Storage};
 use std::alloc::Global;
-use std::test::Fail;
 
 fn write_faults(alloc: Global) -> Result<WriteFaultContext<MemStore>, NoMemory> {
     let inner = MemStore::new(alloc, FaultConfig::default())?;
@@ -36,13 +35,8 @@ fn sync_fails<S: Storage>(store: &mut S, writer: Write<S>, why: Error) -> bool {
 
 /// Whether the sync of a writer is done.
 fn syncs<S: Storage>(store: &mut S, writer: Write<S>) -> bool {
-    match synced(store, writer) {
-        Ok(writer) => {
-            writer.close(store);
-            true
-        }
-        Err(_) => false,
-    }
+    let answer = synced(store, writer);
+    went(closed(store, answer))
 }
 
 /// Writes `ab`, and whether its sync fails where each sync of a store in memory does.
@@ -55,11 +49,12 @@ fn fails_first(alloc: Global, store: &mut WriteFaultContext<MemStore>) -> Result
 
 // The first write isn't durable: it was written, and a crash would decide over it.
 #[test]
-fn first_write_is_plain(rt: HostRuntime) -> Result<(), Fail> {
-    let mut store = write_faults(rt.alloc())?;
+fn first_write_is_plain(rt: HostRuntime) {
+    let mut store = write_faults(rt.alloc()).expect(&rt, "room");
     let fails = came(fails_first(rt.alloc(), &mut store), true);
-    assert!(rt; fails & (store.faults.writes() == 1) & (store.inner.crash_draws() == 2));
-    Ok(())
+    let plain = (store.faults.writes() == 1) & (store.inner.crash_draws() == 2);
+    drop(store);
+    assert!(rt; fails & plain);
 }
 
 /// Whether the sync of both is done, where each sync of a store in memory fails before the last, and a durable write doesn't.
@@ -70,11 +65,12 @@ fn writes_once(alloc: Global, store: &mut WriteFaultContext<MemStore>) -> Result
 }
 
 #[test]
-fn one_durable_write(rt: HostRuntime) -> Result<(), Fail> {
-    let mut store = write_faults(rt.alloc())?;
+fn one_durable_write(rt: HostRuntime) {
+    let mut store = write_faults(rt.alloc()).expect(&rt, "room");
     let once = came(writes_once(rt.alloc(), &mut store), true);
-    assert!(rt; once & (store.faults.writes() == 2) & (store.inner.crash_draws() == 0));
-    Ok(())
+    let durable = (store.faults.writes() == 2) & (store.inner.crash_draws() == 0);
+    drop(store);
+    assert!(rt; once & durable);
 }
 
 /// Whether a sync fails where writes fail from then on.
@@ -92,13 +88,14 @@ fn syncs_new<S: Storage>(alloc: Global, store: &mut S, name: &[u8]) -> Result<bo
 }
 
 #[test]
-fn armed_write_fails(rt: HostRuntime) -> Result<(), Fail> {
-    let mut store = write_faults(rt.alloc())?;
+fn armed_write_fails(rt: HostRuntime) {
+    let mut store = write_faults(rt.alloc()).expect(&rt, "room");
     let armed = came(fails_armed(rt.alloc(), &mut store), true);
     store.faults.disarm();
     // The blob was closed.
-    assert!(rt; armed & came(syncs_new(rt.alloc(), &mut store, b"a"), true));
-    Ok(())
+    let disarmed = came(syncs_new(rt.alloc(), &mut store, b"a"), true);
+    drop(store);
+    assert!(rt; armed & disarmed);
 }
 
 /// What the ticket of a started sync answers.
@@ -163,12 +160,13 @@ fn sync_faults(alloc: Global, partition: &str) -> Result<SyncFaultContext<MemSto
 }
 
 #[test]
-fn partition_sync_fails(rt: HostRuntime) -> Result<(), Fail> {
-    let mut store = sync_faults(rt.alloc(), "p")?;
+fn partition_sync_fails(rt: HostRuntime) {
+    let mut store = sync_faults(rt.alloc(), "p").expect(&rt, "room");
     let fails = came(fails_in_partition(rt.alloc(), &mut store), true);
     let others = came(syncs_in_other(rt.alloc(), &mut store), true);
-    assert!(rt; fails & others & (store.refusals == 3));
-    Ok(())
+    let refusals = store.refusals;
+    drop(store);
+    assert!(rt; fails & others & (refusals == 3));
 }
 
 /// Writes `abc` and cuts it to `ab`.
@@ -231,7 +229,7 @@ fn calls_of<S: Storage>(alloc: Global, store: &mut S) -> Result<bool, Error> {
 
 /// Whether each call of a tip goes once.
 fn calls_of_tip(alloc: Global) -> bool {
-    came(takes_tip(alloc), true) & (resizes_each(alloc, RESIZES) == 6)
+    takes_tip(alloc) & (resizes_each(alloc, RESIZES) == 6)
 }
 
 /// Whether each call of a writer and its handles goes once.
@@ -246,19 +244,35 @@ fn calls_of_reader<S: Storage>(alloc: Global, store: &mut S) -> bool {
     came(read_text(alloc, store), true) & came(cut_text(alloc, store), true)
 }
 
+/// Whether each call of a store whose writes a test lets fail goes once.
+fn calls_of_write_faults(alloc: Global) -> Result<bool, NoMemory> {
+    let mut store = write_faults(alloc)?;
+    let called = came(calls_of(alloc, &mut store), true) & came(syncs_both(&mut store), true);
+    drop(store);
+    Ok(called)
+}
+
+/// Whether each call of a store whose syncs a test lets fail goes once.
+fn calls_of_sync_faults(alloc: Global) -> Result<bool, NoMemory> {
+    let mut store = sync_faults(alloc, "")?;
+    let called = came(calls_of(alloc, &mut store), true);
+    drop(store);
+    Ok(called)
+}
+
+/// Whether each call of a store that holds syncs back goes once, and over the store behind it each of a writer and a reader.
+fn calls_of_delayed(alloc: Global) -> Result<bool, NoMemory> {
+    let mut store = delayed(alloc)?;
+    let called = came(calls_of(alloc, &mut store), true) & calls_on_pending(&mut store);
+    let mut inner = store.into_inner();
+    let behind = calls_of_writer(alloc, &mut inner) & calls_of_reader(alloc, &mut inner);
+    drop(inner);
+    Ok(called & behind)
+}
+
 #[test]
-fn surface(rt: HostRuntime) -> Result<(), Fail> {
-    let mut writes = write_faults(rt.alloc())?;
-    let mut syncs = sync_faults(rt.alloc(), "")?;
-    let inner = MemStore::new(rt.alloc(), FaultConfig::default())?;
-    let mut delays = DelayedSyncContext::new(rt.alloc(), inner);
-    let first = came(calls_of(rt.alloc(), &mut writes), true) & came(syncs_both(&mut writes), true);
-    let second = came(calls_of(rt.alloc(), &mut syncs), true);
-    let third = came(calls_of(rt.alloc(), &mut delays), true) & calls_on_pending(&mut delays);
-    let mut inner = delays.into_inner();
-    assert!(rt; first & second & third);
-    let written = calls_of_writer(rt.alloc(), &mut inner);
-    let read = calls_of_reader(rt.alloc(), &mut inner);
-    assert!(rt; written & read & calls_of_tip(rt.alloc()));
-    Ok(())
+fn surface(rt: HostRuntime) {
+    assert!(rt; came(calls_of_write_faults(rt.alloc()), true));
+    assert!(rt; came(calls_of_sync_faults(rt.alloc()), true));
+    assert!(rt; came(calls_of_delayed(rt.alloc()), true) & calls_of_tip(rt.alloc()));
 }

@@ -1,12 +1,11 @@
 // A store that holds syncs back over another one: the tickets of the inner one.
 
 use crate::buffers::{came, same, went};
-use crate::delayed::{arms, poll, started, write_gated};
+use crate::delayed::{arms, gate_of, poll, started, write_gated};
 use rt_base::{Error, IoKind, NoEnv, NoMemory, Poll};
 use rt_buffer::{DelayedSyncContext, PendingSyncs, fail_pending_syncs, release_pending_syncs};
-use rt_store::{Done, FaultConfig, MemStore, Storage, Ticket};
+use rt_store::{FaultConfig, MemStore, Storage, Ticket};
 use std::alloc::Global;
-use std::test::Fail;
 
 type Nested = DelayedSyncContext<DelayedSyncContext<MemStore>>;
 
@@ -58,12 +57,12 @@ fn open<S: Storage>(store: &mut S) -> Result<S::Blob, Error> {
 
 /// Whether the blob can be opened again.
 fn opens_again<S: Storage>(store: &mut S) -> bool {
-    match open(store) {
-        Ok(blob) => {
+    match open(store).ok() {
+        Some(blob) => {
             store.close(blob);
             true
         }
-        Err(_) => false,
+        None => false,
     }
 }
 
@@ -87,7 +86,7 @@ fn polls<S: Storage>(store: &mut S, ticket: &mut Ticket, wanted: Poll<Result<(),
 /// Releases what the outer store holds.
 fn release_outer(pending: &mut PendingSyncs, end: End) {
     if end != End::GivenUpHeld {
-        let _ = release_pending_syncs(pending);
+        drop(release_pending_syncs(pending));
     }
 }
 
@@ -95,10 +94,10 @@ fn release_outer(pending: &mut PendingSyncs, end: End) {
 fn release_inner(pending: &mut PendingSyncs, end: End) {
     match end {
         End::Released | End::Faulty => {
-            let _ = release_pending_syncs(pending);
+            drop(release_pending_syncs(pending));
         }
         End::Failed => {
-            let _ = fail_pending_syncs(pending);
+            drop(fail_pending_syncs(pending));
         }
         End::GivenUp | End::GivenUpHeld => {}
     }
@@ -156,7 +155,7 @@ fn ends_as(alloc: Global, expected: &Expected) -> Result<bool, NoMemory> {
     let armed = arms(inner.pending_mut());
     let mut store = DelayedSyncContext::new(alloc, inner);
     let seen = came(ends(&mut store, end), true) & counts(&store, expected);
-    let _memory = store.into_inner().into_inner();
+    drop(store.into_inner().into_inner());
     Ok(armed & seen)
 }
 
@@ -172,9 +171,8 @@ fn ends_each(alloc: Global, each: &[Expected]) -> usize {
 }
 
 #[test]
-fn inner_ticket_ends_once(rt: HostRuntime) -> Result<(), Fail> {
+fn inner_ticket_ends_once(rt: HostRuntime) {
     assert!(rt; ends_each(rt.alloc(), ENDS) == 5);
-    Ok(())
 }
 
 /// The ticket of a sync, or of a durable write, that is gated.
@@ -187,11 +185,7 @@ fn gated<S: Storage>(
     if is_write {
         return write_gated(alloc, store, blob);
     }
-    match store.sync(&mut NoEnv, blob) {
-        Ok(Done::Gated(ticket)) => Some(ticket),
-        Ok(Done::Now) => None,
-        Err(_) => None,
-    }
+    gate_of(store.sync(&mut NoEnv, blob))
 }
 
 /// Whether a ticket is pending until the inner store releases its gate, and done then.
@@ -231,13 +225,15 @@ fn syncs_inside(alloc: Global, is_write: bool) -> Result<bool, NoMemory> {
     let outer = store.pending().calls();
     let inner = store.into_inner();
     let counted = (outer == 0) & (inner.pending().calls() == 1);
-    Ok(armed & seen & counted & (inner.into_inner().crash_draws() == 0))
+    let memory = inner.into_inner();
+    let synced = memory.crash_draws() == 0;
+    drop(memory);
+    Ok(armed & seen & counted & synced)
 }
 
 #[test]
-fn inner_gate_is_passed_on(rt: HostRuntime) -> Result<(), Fail> {
+fn inner_gate_is_passed_on(rt: HostRuntime) {
     let sync = came(syncs_inside(rt.alloc(), false), true);
     let write = came(syncs_inside(rt.alloc(), true), true);
     assert!(rt; sync & write);
-    Ok(())
 }

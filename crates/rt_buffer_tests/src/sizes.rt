@@ -1,17 +1,18 @@
 // Many bytes, chunks, and syncs that are held back.
 
-use crate::buffers::{bufs, came, done, opened, put, same, showing, start, synced, went};
-use crate::delayed::delayed;
+use crate::buffers::{
+    bufs, came, done, memory, opened, put, put_bufs, same, showing, start, synced, went,
+};
+use crate::delayed::{delayed, started};
 use crate::waiting::{polls_twice, waiting};
 use rt_base::{Error, NoEnv, NoMemory, Poll};
 use rt_buffer::{
-    DelayedSyncContext, PendingSyncs, Read, Step, Stepped, Write, release_next_pending_syncs,
+    DelayedSyncContext, PendingSyncs, Read, Step, Write, release_next_pending_syncs,
     release_pending_syncs,
 };
 use rt_bufs::IoBufs;
-use rt_store::{FaultConfig, MemStore, Storage, Ticket};
+use rt_store::{Storage, Ticket};
 use std::alloc::Global;
-use std::test::Fail;
 
 const MEBIBYTE: usize = 1_048_576;
 
@@ -38,11 +39,12 @@ fn read_large<S: Storage>(alloc: Global, store: &mut S) -> Result<usize, Error> 
 }
 
 #[test]
-fn sizes(rt: HostRuntime) -> Result<(), Fail> {
-    let mut store = MemStore::new(rt.alloc(), FaultConfig::default())?;
+fn sizes(rt: HostRuntime) {
+    let mut store = memory(&rt, rt.alloc());
     let written = came(write_large(rt.alloc(), &mut store), 1_048_576);
-    assert!(rt; written & came(read_large(rt.alloc(), &mut store), MEBIBYTE));
-    Ok(())
+    let read = came(read_large(rt.alloc(), &mut store), MEBIBYTE);
+    drop(store);
+    assert!(rt; written & read);
 }
 
 /// How many chunks are written, and syncs held back, at once.
@@ -68,13 +70,7 @@ fn chunks_of(alloc: Global, bytes: &[u8]) -> Result<IoBufs, NoMemory> {
 
 /// Writes each byte in a chunk of its own, from the start of the blob on.
 fn put_chunks<S: Storage>(alloc: Global, store: &mut S, writer: Write<S>, bytes: &[u8]) -> Step<S> {
-    match chunks_of(alloc, bytes) {
-        Ok(chunks) => writer.write_at(store, &mut NoEnv, 0, chunks, 1),
-        Err(_) => {
-            writer.close(store);
-            Stepped::Failed(Error::NoMemory)
-        }
-    }
+    put_bufs(store, writer, 0, chunks_of(alloc, bytes), 1)
 }
 
 /// Whether many chunks are written at once.
@@ -113,14 +109,14 @@ fn waits_with_chunks<S: Storage>(
 }
 
 #[test]
-fn a_thousand_chunks(rt: HostRuntime) -> Result<(), Fail> {
-    let mut memory = MemStore::new(rt.alloc(), FaultConfig::default())?;
-    let at_once = came(writes_chunks(rt.alloc(), &mut memory), true);
-    let mut store = delayed(rt.alloc())?;
+fn a_thousand_chunks(rt: HostRuntime) {
+    let mut store = memory(&rt, rt.alloc());
+    let at_once = came(writes_chunks(rt.alloc(), &mut store), true);
+    drop(store);
+    let mut store = delayed(rt.alloc()).expect(&rt, "room");
     let behind = came(waits_with_chunks(rt.alloc(), &mut store), true);
-    let _inner = store.into_inner();
+    drop(store.into_inner());
     assert!(rt; at_once & behind);
-    Ok(())
 }
 
 /// The task that polls the sync of a number: the later the sync was started, the lower is its task.
@@ -129,29 +125,34 @@ fn task_of(number: usize) -> u64 {
     last.saturating_sub(number as u64)
 }
 
+/// The number of a ticket.
+fn number_of(ticket: Ticket) -> Option<u64> {
+    match ticket {
+        Ticket::Numbered(number) => Some(number),
+        Ticket::Ready(held) => {
+            drop(held);
+            None
+        }
+    }
+}
+
 /// Whether the sync of this number answers so.
 fn polls<S: Storage>(store: &mut S, number: usize, wanted: Poll<Result<(), Error>>) -> bool {
     let mut ticket = Ticket::Numbered(number as u64);
     let polled = store.poll_sync(&mut NoEnv, &mut ticket, task_of(number));
-    match ticket {
-        Ticket::Ready(held) => drop(held),
-        Ticket::Numbered(_) => {}
-    }
+    let _ = number_of(ticket);
     same(polled, wanted)
+}
+
+/// The number of a sync that is started.
+fn started_number<S: Storage>(store: &mut S, blob: &S::Blob) -> Option<u64> {
+    number_of(started(store, blob)?)
 }
 
 /// Whether a sync that is started gets this number, and is pending.
 fn starts<S: Storage>(store: &mut S, blob: &S::Blob, number: usize) -> bool {
-    match store.start_sync(&mut NoEnv, blob) {
-        Ok(Ticket::Numbered(found)) => {
-            (found == number as u64) & polls(store, number, Poll::Pending)
-        }
-        Ok(Ticket::Ready(held)) => {
-            drop(held);
-            false
-        }
-        Err(_) => false,
-    }
+    let found = started_number(store, blob);
+    (found == Some(number as u64)) & polls(store, number, Poll::Pending)
 }
 
 /// How many syncs are started and pending.
@@ -218,11 +219,12 @@ fn holds_many<S: Storage>(store: &mut DelayedSyncContext<S>) -> Result<bool, Err
 }
 
 #[test]
-fn a_thousand_syncs(rt: HostRuntime) -> Result<(), Fail> {
-    let mut store = delayed(rt.alloc())?;
+fn a_thousand_syncs(rt: HostRuntime) {
+    let mut store = delayed(rt.alloc()).expect(&rt, "room");
     let seen = came(holds_many(&mut store), true);
     let done = store.pending().completions();
     let inner = store.into_inner();
-    assert!(rt; seen & (done == 1_000) & (inner.crash_draws() == 0));
-    Ok(())
+    let draws = inner.crash_draws();
+    drop(inner);
+    assert!(rt; seen & (done == 1_000) & (draws == 0));
 }

@@ -1,6 +1,6 @@
 // The calls of a writer that wait for a sync which is held back, and what they do once it is released.
 
-use crate::buffers::{bufs, came, done, is_refused, opened, put, showing, start, went};
+use crate::buffers::{bufs, came, done, is_refused, opened, put, put_bufs, showing, start, went};
 use crate::delayed::{arms, delayed};
 use rt_base::{Error, IoKind, NoEnv, NoMemory};
 use rt_buffer::{
@@ -9,7 +9,6 @@ use rt_buffer::{
 };
 use rt_store::{MemStore, Storage};
 use std::alloc::Global;
-use std::test::Fail;
 
 #[derive(Clone, Copy)]
 enum Call {
@@ -57,13 +56,7 @@ fn step_of<S: Storage>(started: Started<S>) -> Step<S> {
 }
 
 fn write_long<S: Storage>(alloc: Global, store: &mut S, writer: Write<S>) -> Step<S> {
-    match bufs(alloc, LONG) {
-        Ok(bytes) => writer.write_at(store, &mut NoEnv, 3, bytes, 3),
-        Err(_) => {
-            writer.close(store);
-            Stepped::Failed(Error::NoMemory)
-        }
-    }
+    put_bufs(store, writer, 3, bufs(alloc, LONG), 3)
 }
 
 fn make<S: Storage>(alloc: Global, store: &mut S, writer: Write<S>, call: Call) -> Step<S> {
@@ -84,7 +77,10 @@ pub fn waiting<S: Storage>(store: &mut S, step: Step<S>) -> Option<WriteOp<S>> {
             None
         }
         Stepped::Waiting(op) => Some(op),
-        Stepped::Failed(_) => None,
+        Stepped::Failed(error) => {
+            drop(error);
+            None
+        }
     }
 }
 
@@ -132,7 +128,9 @@ fn waits_as(alloc: Global, wait: &Wait) -> Result<bool, NoMemory> {
     let armed = arms(store.pending_mut());
     let seen = came(waits(alloc, &mut store, wait), true);
     let inner: MemStore = store.into_inner();
-    Ok(armed & seen & (inner.crash_draws() == wait.3))
+    let draws = inner.crash_draws();
+    drop(inner);
+    Ok(armed & seen & (draws == wait.3))
 }
 
 /// How many calls come to what is written.
@@ -147,9 +145,8 @@ fn waits_each(alloc: Global, each: &[Wait]) -> usize {
 }
 
 #[test]
-fn waiting_call_goes_on(rt: HostRuntime) -> Result<(), Fail> {
+fn waiting_call_goes_on(rt: HostRuntime) {
     assert!(rt; waits_each(rt.alloc(), WAITS) == 6);
-    Ok(())
 }
 
 /// Whether a call that waits fails with the sync that it waits for, or is given up.
@@ -190,7 +187,9 @@ fn stops_as(alloc: Global, call: Call, is_given_up: bool) -> Result<bool, NoMemo
     let mut store = delayed(alloc)?;
     let seen = came(stops_call(alloc, &mut store, call, is_given_up), true);
     let inner: MemStore = store.into_inner();
-    Ok(seen & (inner.crash_draws() == 2))
+    let draws = inner.crash_draws();
+    drop(inner);
+    Ok(seen & (draws == 2))
 }
 
 /// A call, and whether it is given up.
@@ -214,7 +213,6 @@ fn stops_each(alloc: Global, each: &[(Call, bool)]) -> usize {
 }
 
 #[test]
-fn waiting_call_stops(rt: HostRuntime) -> Result<(), Fail> {
+fn waiting_call_stops(rt: HostRuntime) {
     assert!(rt; stops_each(rt.alloc(), STOPS) == 5);
-    Ok(())
 }

@@ -3,6 +3,7 @@ use Rattle.std.proofs.Common.{◌≡◌, ◌≤◌, ◌<◌, ◌+◌, ◌∷◌,
 use Rattle.std.proofs.lemmas.List.{take_all, drop_all, take_more_set, take-append-le, drop-set-lt, set_split}
 use Rattle.std.proofs.Math.ListN.{set}
 use Rattle.std.proofs.Math.Seq.{drop-cons}
+use Rattle.rand_core.specs.Stream.{Stream}
 use Rattle.rt_base.specs.declared.error.Error.{Error}
 use Rattle.rt_base.specs.declared.error.Error.TheVariants.{NoMemory}
 use Rattle.rt_base.specs.declared.poll.Poll.{Poll}
@@ -115,7 +116,7 @@ pub still-long : {A O G V : Type 0} (old new : World A O G) (answer : Poll (Resu
 still-long old new answer says is o = long-unless old new answer says (λ lack. cc) o
 
 -- who polls goes on polling
-pub still-polling : {A O G : Type 0} (old new : World A O G) (task : ℕ) → Kept old new → IsPolling old task → IsPolling new task
+pub still-polling : {A O G : Type 0} {stream : G → Stream} (old new : World A O G) (task : ℕ) → Kept stream old new → IsPolling old task → IsPolling new task
 still-polling old new task kept polling = record {
   out = kept.out ∙ polling.out;
   going = rw kept.phase polling.going;

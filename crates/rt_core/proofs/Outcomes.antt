@@ -1,34 +1,36 @@
 -- How a run has come to its outcome.
-use Rattle.std.proofs.Common.{◌≡◌, ◌⊎◌, ◌≢◌, ◌++◌, inl, inr, ℕ, List, [], refl, ap, ◌∙◌, sym, Bool, true, Option, Some, None, is_some, IfSome, Result, Ok, Err}
+use Rattle.std.proofs.Common.{◌≡◌, ◌⊎◌, ◌≢◌, ◌++◌, inl, inr, ℕ, List, [], refl, ap, ◌∙◌, sym, subst, Bool, true, Option, Some, None, is_some, IfSome, Result, Ok, Err}
 use Rattle.rand_core.specs.Stream.{Stream}
 use Rattle.rt_audit.specs.declared.entry.Entry.{Entry}
 use Rattle.rt_audit.specs.declared.entry.Entry.TheVariants.{Root}
+use Rattle.rt_audit.specs.Journal.{digest_of}
 use Rattle.rt_audit.specs.declared.finish.FinishCause.{FinishCause}
 use Rattle.rt_audit.specs.declared.finish.FinishCause.TheVariants.{Completed, Timeout, Stalled, TaskPanicked, TimeOverflow, TooManyTasks, NoMemory}
 use Rattle.rt_model.specs.declared.begin.Begin.{Begin}
 use Rattle.rt_model.specs.State.{State, Clock, Finished, begun, stood_in}
-use Rattle.rt_model.specs.Draws.{drawn_in}
 use Rattle.rt_model.specs.Effects.{after, after_all}
-use Rattle.rt_model.specs.Rules.{IsLawful}
+use Rattle.rt_model.specs.Digests.{AreDigested}
+use Rattle.rt_model.specs.Rules.{IsLawful, AreDrawn}
 use Rattle.rt_model.specs.Walk.{Walks, Fronts, Breaks}
 use Rattle.rt_model.specs.Causes.{reached}
 use Rattle.rt_model.specs.Tied.{Steps, Value}
 use Rattle.rt_model.specs.Run.{IsRun, IsCutOff, IsValidInput}
 use Rattle.rt_model.specs.Turns.{Held}
-use Rattle.rt_model.proofs.Append.{drawn_in-append}
 use Rattle.rt_machine.specs.Draws.{Gave}
 use Rattle.rt_machine.specs.Told.{Told, AreCalls, own, pushed}
 use Rattle.rt_core.specs.Failures.{finish_of, text_of}
 use Rattle.rt_core.specs.declared.run_error.RunError.{RunError}
 use Rattle.rt_core.specs.declared.run_error.RunError.TheVariants.{Timeout as IsTimeout, Stalled as IsStalled, TaskPanicked as HasPanicked, TimeOverflow as IsTimeOverflow, TooManyTasks as AreTooManyTasks, NoMemory as IsNoMemory}
-use Rattle.rt_world.specs.World.{World, Draws}
+use Rattle.rt_world.specs.World.{World, Drew}
 use Rattle.rt_world.specs.Calls.{Kept}
 use Rattle.rt_world.specs.Follows.{Follows, Agrees, IsMade, IsUnmade, unmade_of, value_of}
 use Rattle.rt_world.specs.Rounds.{EndAgrees, Runs}
 use Rattle.rt_world.specs.Ends.{EndsFor, IsFinal, Seals}
-use Rattle.rt_world.proofs.Fronts.{draws-draws, draws-front, front-kept, front-pushed}
+use Rattle.rt_world.proofs.Lasting.{drawn-of}
+use Rattle.rt_world.proofs.Drawn.{drew-behind, drew-drew, drew-of}
 use Rattle.rt_world.proofs.Texts.{ends-with-text}
-use Rattle.rt_core.specs.Outcome.{Ended, Completes, FailedFor, Leaves}
+use Rattle.rt_core.specs.Outcome.{Ended, Completes, FailedFor, AreShuffled, AreAudited, Leaves}
+use Rattle.rt_core.specs.Starting.{Starting}
 
 module _ {A O G : Type 0} (p : Steps A O) (w : World A O G) where
   -- a run that was whole up to its cleanup
@@ -52,7 +54,7 @@ module _ {A O G : Type 0} (p : Steps A O) (w : World A O G) where
   ended-lacking before (Err cause) final a ends = ended-cut final None None true (ends true None a)
 
 -- a maker that lacked memory
-pub unmade : {A O G : Type 0} (p : Steps A O) (old new : World A O G) (root : Option A) → Kept old new → Follows p new.told (unmade_of old.held) → (Breaks (p.first old.told.state.clock.time) old.held new.told.state.turns (stood_in new.told.state) new.held ⊎ (Fronts (p.first old.told.state.clock.time) old.held new.told.state.turns new.held × (root ≡ None))) → IsUnmade p new root
+pub unmade : {A O G : Type 0} (p : Steps A O) (old new : World A O G) (root : Option A) → {stream : G → Stream} → Kept stream old new → Follows p new.told (unmade_of old.held) → (Breaks (p.first old.told.state.clock.time) old.held new.told.state.turns (stood_in new.told.state) new.held ⊎ (Fronts (p.first old.told.state.clock.time) old.held new.told.state.turns new.held × (root ≡ None))) → IsUnmade p new root
 unmade p old new root kept follows breaks = record {
   before = old.held;
   follows = follows;
@@ -65,37 +67,52 @@ none-made P Q root none (inl p) = inl p
 none-made P Q root none (inr q) = inr (q, none)
 
 -- a root that was made
-pub made : {A O G : Type 0} (p : Steps A O) (old new : World A O G) (root : A) → Kept old new → Follows p new.told (unmade_of old.held) → Walks (p.first old.told.state.clock.time) old.held new.told.state.turns (stood_in new.told.state) tt root new.held → IsMade p new root
+pub made : {A O G : Type 0} (p : Steps A O) (old new : World A O G) (root : A) {stream : G → Stream} → Kept stream old new → Follows p new.told (unmade_of old.held) → Walks (p.first old.told.state.clock.time) old.held new.told.state.turns (stood_in new.told.state) tt root new.held → IsMade p new root
 made p old new root kept follows walks = record {
   before = old.held;
   follows = follows;
   walks = rw (ap (λ (c : Clock). c.time) kept.clock) walks;
 }
 
--- what was drawn in all entries, where nothing was before
-pub gave-own : (from left : Stream) (t u : Told) → Draws from left t u → drawn_in (own t) ≡ [] → Gave from (drawn_in (own u)) left
-gave-own from left t u d none = rw (d.are, drawn_in-append (own t) d.more, none) d.gave
+-- all that was drawn, where nothing was before
+pub gave-all : {A O G : Type 0} (stream : G → Stream) (a b : World A O G) → Drew stream a b → a.told.state.drawn ≡ [] → Gave (stream a.rng) b.told.state.drawn (stream b.rng)
+unfolding Drew
+gave-all stream a b d none = rw (d.are, none) d.gave
+
+-- what stands in a journal behind the entries that were given
+module _ {A O G : Type 0} (s : Starting G) (w : World A O G) (journal : List Entry) (extends : journal ≡ s.given ++ own w.told) where
+  pub are_shuffled : (stream : G → Stream) → w.told.begin ≡ s.begin → AreDrawn (begun w.told.begin) (own w.told) → w.told.state ≡ after_all (begun w.told.begin) (own w.told) → Gave (stream s.rng) w.told.state.drawn (stream w.rng) → AreShuffled stream s journal
+  are_shuffled stream begin drawn state draws = record {
+    entries = own w.told;
+    extends = extends;
+    drawn = rw begin at drawn;
+    left = stream w.rng;
+    draws = subst (λ (x : State). Gave (stream s.rng) x.drawn (stream w.rng)) (rw begin at state) draws;
+  }
+
+  pub are_audited : w.told.given ≡ s.given → AreDigested (digest_of w.told.given) (own w.told) → AreAudited s journal
+  are_audited given digested = record { entries = own w.told; extends = extends; digested = rw given at digested }
 
 module _ {A O G : Type 0} (stream : G → Stream) (a b c : World A O G) where
   -- rounds were made, and then the run was cleaned up
-  pub leaves-rounds : (cause : FinishCause) → Runs stream a b → Seals b c → c.told.state.phase ≡ Finished cause → Leaves stream a c cause
+  pub leaves-rounds : (cause : FinishCause) → Runs stream a b → Seals stream b c → c.told.state.phase ≡ Finished cause → Leaves stream a c cause
   leaves-rounds cause runs seals phase = record {
     phase = phase;
     given = seals.given ∙ runs.given;
     begin = seals.begin ∙ runs.begin;
     fixed = ap (λ (x : Clock). x.fixed) seals.clock ∙ runs.fixed;
-    draws = rw seals.rng (draws-draws (stream a.rng) (stream b.rng) (stream b.rng) a.told b.told c.told runs.draws (draws-front (stream b.rng) b.told c.told seals.front));
+    drew = drew-drew stream a b c (drew-of stream a b runs.writes) (drew-of stream b c seals.writes);
     tasks = seals.tasks;
   }
 
   -- calls were made first
-  pub leaves-made : (cause : FinishCause) → a.told.calls ≡ [] → AreCalls b.told.calls → Kept a b → Leaves stream b c cause → Leaves stream a c cause
-  leaves-made cause none calls kept leaves = record {
+  pub leaves-made : (cause : FinishCause) → Kept stream a b → Leaves stream b c cause → Leaves stream a c cause
+  leaves-made cause kept leaves = record {
     phase = leaves.phase;
     given = leaves.given ∙ kept.given;
     begin = leaves.begin ∙ kept.begin;
     fixed = leaves.fixed ∙ ap (λ (x : Clock). x.fixed) kept.clock;
-    draws = draws-draws (stream a.rng) (stream b.rng) (stream c.rng) a.told b.told c.told (rw kept.rng (draws-front (stream a.rng) a.told b.told (front-kept a b none calls kept))) leaves.draws;
+    drew = drew-drew stream a b c (drawn-of stream a b kept.lasts) leaves.drew;
     tasks = leaves.tasks;
   }
 
@@ -110,18 +127,18 @@ module _ {A O G : Type 0} (stream : G → Stream) (a b c : World A O G) where
         given = leaves.given ∙ ap (λ (t : Told). t.given) told;
         begin = leaves.begin ∙ ap (λ (t : Told). t.begin) told;
         fixed = leaves.fixed ∙ ap (λ (t : Told). t.state.clock.fixed) told;
-        draws = draws-draws (stream a.rng) (stream b.rng) (stream c.rng) a.told b.told c.told (rw rng (draws-front (stream a.rng) a.told b.told (front-pushed a.told b.told (Root task) refl told))) leaves.draws;
+        drew = drew-behind stream a b c rng (ap (λ (t : Told). t.state.drawn) told) leaves.drew;
         tasks = leaves.tasks;
       }
 
 -- the run was cleaned up where it stood
-pub leaves-sealed : {A O G : Type 0} (stream : G → Stream) (a c : World A O G) (cause : FinishCause) → Seals a c → c.told.state.phase ≡ Finished cause → Leaves stream a c cause
+pub leaves-sealed : {A O G : Type 0} (stream : G → Stream) (a c : World A O G) (cause : FinishCause) → Seals stream a c → c.told.state.phase ≡ Finished cause → Leaves stream a c cause
 leaves-sealed stream a c cause seals phase = record {
   phase = phase;
   given = seals.given;
   begin = seals.begin;
   fixed = ap (λ (x : Clock). x.fixed) seals.clock;
-  draws = rw seals.rng (draws-front (stream a.rng) a.told c.told seals.front);
+  drew = drew-of stream a c seals.writes;
   tasks = seals.tasks;
 }
 
@@ -130,8 +147,8 @@ final-lacks final (inl e) = e
 final-lacks final (inr e) = e
 
 -- a maker that lacked memory, and the run was cleaned up
-pub leaves-unmade : {A O G : Type 0} (stream : G → Stream) (a b c : World A O G) (final : FinishCause) → a.told.calls ≡ [] → AreCalls b.told.calls → Kept a b → Seals b c → c.told.state.phase ≡ Finished final → IsFinal NoMemory final → Leaves stream a c NoMemory
-leaves-unmade stream a b c final none calls kept seals phase is = leaves-made stream a b c NoMemory none calls kept (leaves-sealed stream b c NoMemory seals (phase ∙ ap Finished (final-lacks final is)))
+pub leaves-unmade : {A O G : Type 0} (stream : G → Stream) (a b c : World A O G) (final : FinishCause) → Kept stream a b → Seals stream b c → c.told.state.phase ≡ Finished final → IsFinal NoMemory final → Leaves stream a c NoMemory
+leaves-unmade stream a b c final kept seals phase is = leaves-made stream a b c NoMemory kept (leaves-sealed stream b c NoMemory seals (phase ∙ ap Finished (final-lacks final is)))
 
 pub ruleset outcome_laws = (ended-whole, ended-cut, leaves-rounds, leaves-made, leaves-taken, leaves-sealed)
 
@@ -184,7 +201,7 @@ module _ {A O G : Type 0} (p : Steps A O) (begin : Begin) (w : World A O G) (law
       ends-with-text p begin (own w.told) (value_of w e.last None e.whole) lawful (rw is at e.agrees.tied)
       (ap reached (sym state) ∙ rw ends refl ∙ ap Some panicked)
 
-  pub completes : (stream : G → Stream) (given journal : List Entry) (rng kept : G) (output : O) (time cycle : ℕ) (deadline : Option ℕ) (catch : Bool) → w.told.state.phase ≡ Finished Completed → Ended p w Completed (Some output) → journal ≡ given ++ own w.told → time ≡ w.told.state.clock.time → w.told.state.clock.fixed ≡ begin → Gave (stream rng) (drawn_in (own w.told)) (stream kept) → begin.cycle ≡ cycle → begin.deadline ≡ deadline → begin.catch ≡ catch → Completes stream p (record { begin = begin; given = given; rng = rng }) output (record { time = time; deadline = deadline; cycle = cycle; catch = catch; journal = journal; rng = kept })
+  pub completes : (stream : G → Stream) (given journal : List Entry) (rng kept : G) (output : O) (time cycle : ℕ) (deadline : Option ℕ) (catch : Bool) → w.told.state.phase ≡ Finished Completed → Ended p w Completed (Some output) → journal ≡ given ++ own w.told → time ≡ w.told.state.clock.time → w.told.state.clock.fixed ≡ begin → Gave (stream rng) w.told.state.drawn (stream kept) → begin.cycle ≡ cycle → begin.deadline ≡ deadline → begin.catch ≡ catch → Completes stream p (record { begin = begin; given = given; rng = rng }) output (record { time = time; deadline = deadline; cycle = cycle; catch = catch; journal = journal; rng = kept })
   completes stream given journal rng kept output time cycle deadline catch ends e extends at fixed draws one two three =
       let r = is_run Completed (Some output) ends e (λ h. cc) in
       record {

@@ -11,4 +11,5 @@ pub mod Given
 pub mod Select
 pub mod Joins
 pub mod Signals
+pub mod Drawing
 pub mod Stopping

@@ -2,11 +2,13 @@
 use Rattle.std.specs.Prelude.{◌≡◌, ◌≤◌, ◌⊎◌, ◌++◌, List, [], Bool, true, Option, Some, None, Result, Ok, Err}
 use Rattle.rand_core.specs.Stream.{Stream}
 use Rattle.rt_audit.specs.declared.entry.Entry.{Entry}
+use Rattle.rt_audit.specs.Journal.{digest_of}
 use Rattle.rt_audit.specs.declared.finish.FinishCause.{FinishCause}
 use Rattle.rt_audit.specs.declared.finish.FinishCause.TheVariants.{Completed, TaskPanicked, NoMemory}
 use Rattle.rt_model.specs.declared.begin.Begin.{Begin}
 use Rattle.rt_model.specs.State.{State, Finished, begun}
-use Rattle.rt_model.specs.Draws.{drawn_in}
+use Rattle.rt_model.specs.Digests.{AreDigested}
+use Rattle.rt_model.specs.Effects.{after_all}
 use Rattle.rt_model.specs.Rules.{AreDrawn}
 use Rattle.rt_model.specs.Tied.{Steps, Value}
 use Rattle.rt_model.specs.Run.{IsRun, FailedBy}
@@ -14,7 +16,7 @@ use Rattle.rt_core.specs.Failures.{finish_of}
 use Rattle.rt_core.specs.declared.run_error.RunError.{RunError}
 use Rattle.rt_core.specs.declared.run_error.RunError.TheVariants.{TaskPanicked as HasPanicked}
 use Rattle.rt_machine.specs.Draws.{Gave}
-use Rattle.rt_world.specs.World.{World, Draws}
+use Rattle.rt_world.specs.World.{World, Drew}
 use Rattle.rt_world.specs.Follows.{Agrees}
 use Rattle.rt_core.specs.Starting.{Starting, Kept}
 
@@ -37,7 +39,7 @@ pub record Completes {A O G : Type 0} (stream : G → Stream) (p : Steps A O) (s
   pub run : IsRun p s.begin entries Completed end value
   pub gives : value.output ≡ Some output
   pub keeps : kept ≡ kept_of end (s.given ++ entries) kept.rng
-  pub draws : Gave (stream s.rng) (drawn_in entries) (stream kept.rng)
+  pub draws : Gave (stream s.rng) end.drawn (stream kept.rng)
 
 -- a run failed so. Where it ended by a panic, this was its text
 abbrev pub FailedFor : {A O : Type 0} → Steps A O → Begin → List Entry → RunError → Type 0
@@ -51,14 +53,20 @@ pub record Fails {A O G : Type 0} (p : Steps A O) (s : Starting G) (journal : Li
   pub extends : journal ≡ s.given ++ entries
   pub failed : FailedFor p s.begin entries error
 
--- each round of the entries behind the given ones visits the ready list as the draws before it shuffle it, and these are the next
--- that the generator gives
+-- each round of the entries behind the given ones visits the ready list as the draws before it shuffle it, and these, and what the
+-- tasks drew, are the next that the generator gives
 pub record AreShuffled {G : Type 0} (stream : G → Stream) (s : Starting G) (journal : List Entry) : Type 0 where
   pub entries : List Entry
   pub extends : journal ≡ s.given ++ entries
   pub drawn : AreDrawn (begun s.begin) entries
   pub left : Stream
-  pub draws : Gave (stream s.rng) (drawn_in entries) left
+  pub draws : Gave (stream s.rng) (after_all (begun s.begin) entries).drawn left
+
+-- each auditor's answer in the entries behind the given ones is the digest of all events before it
+pub record AreAudited {G : Type 0} (s : Starting G) (journal : List Entry) : Type 0 where
+  pub entries : List Entry
+  pub extends : journal ≡ s.given ++ entries
+  pub digested : AreDigested (digest_of s.given) entries
 
 -- a world that can go on: no task is out of it, no call has lacked memory, no panic is kept, and a cycle takes time
 pub record IsReady {A O G : Type 0} (w : World A O G) : Type 0 where
@@ -73,7 +81,7 @@ pub record Leaves {A O G : Type 0} (stream : G → Stream) (old new : World A O 
   pub given : new.told.given ≡ old.told.given
   pub begin : new.told.begin ≡ old.told.begin
   pub fixed : new.told.state.clock.fixed ≡ old.told.state.clock.fixed
-  pub draws : Draws (stream old.rng) (stream new.rng) old.told new.told
+  pub drew : Drew stream old new
   pub tasks : new.held.tasks ≡ []
 
 -- a world at the end of its run

@@ -31,12 +31,12 @@ impl<O, P> AbortOnDropOf<O, P> {
     }
 
     /// The handle again, whose task is aborted. It is then polled to the task's end. It takes no memory.
-    pub fn abort<T, G>(self, world: &mut World<T, O, G>) -> HandleOf<O, P>
+    pub fn abort<T, G: Rng>(self, world: &mut World<T, O, G>) -> HandleOf<O, P>
     where
         O: Drop,
         requires { MayCall world.old.told.state world.old.out }
         ensures handle { result ≡ aborted self.handle }
-        ensures kept { Kept world.old world.new }
+        ensures kept { Kept G.stream world.old world.new }
         ensures lacked { world.new.lacked ≡ world.old.lacked }
         ensures steps { Spends (handle_aborts self.handle) world.old world.new }
     {
@@ -52,7 +52,7 @@ impl<O, P> AbortOnDropOf<O, P> {
         O: Drop,
         P: Poller<T, O>,
         requires { MayCall world.old.told.state world.old.out }
-        ensures kept { Kept world.old world.new }
+        ensures kept { Kept G.stream world.old world.new }
         ensures lacked { world.new.lacked ≡ world.old.lacked }
         ensures steps { Spends (followed_by (handle_aborts self.handle) (handle_spends P.spends (aborted self.handle))) world.old world.new }
     {

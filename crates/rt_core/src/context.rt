@@ -1,18 +1,22 @@
 //! Contexts: where a task stands in the tree of its run.
 
-ghost use Rattle.std.specs.Prelude.{◌≡◌, ◌≤◌, Bool, true, None, IfOk, IfErr, Result};
+ghost use Rattle.std.specs.Prelude.{◌≡◌, ◌≤◌, ◌++◌, Bool, true, None, length, IfOk, IfErr, OnOk, Result};
+ghost use Rattle.rand_core.specs.Stream.{next_u32, next_u64, fill_bytes};
 ghost use Rattle.rt_base.specs.Attributes.{with_attribute};
 ghost use Rattle.rt_base.specs.Label.{is_label};
 ghost use Rattle.rt_base.specs.declared.execution.Execution.TheVariants.{Shared, Dedicated as IsDedicated};
-ghost use Rattle.rt_audit.specs.declared.call.Call.TheVariants.{Child, CloseNode, Stopped as StoppedCall};
-ghost use Rattle.rt_audit.specs.declared.reply.CallReply.TheVariants.{NodeAt};
+ghost use Rattle.rt_audit.specs.declared.call.Call.TheVariants.{Child, CloseNode, Stopped as StoppedCall, NextU32, NextU64, FillBytes, Auditor as AuditorCall};
+ghost use Rattle.rt_audit.specs.declared.reply.CallReply.TheVariants.{NodeAt, Number, Bytes};
+ghost use Rattle.rt_audit.specs.Journal.{digest_of};
 ghost use Rattle.rt_model.specs.Rules.{MayCall};
 ghost use Rattle.rt_model.specs.Turns.{Plainly};
 ghost use Rattle.rt_model.specs.Walk.{Step, then};
 ghost use Rattle.rt_model.specs.declared.answer.Answer.{Answer};
+ghost use Rattle.rt_machine.specs.Told.{own};
 ghost use Rattle.rt_world.specs.Calls.{IsRefused, Kept, Made, lacking};
 ghost use Rattle.rt_world.specs.Walked.{Closes, Goes, Polled, Rooted};
 ghost use Rattle.rt_core.specs.Contexts.{IsMakerOf, IsRefusedKey, IsSpawned, IsSpawnedBy, child_name, childs, context_on, root_context, spawn_told, spawning, spawns};
+ghost use Rattle.rt_core.specs.Drawing.{asks_auditor, asks_bytes, asks_u32, asks_u64, filled_with};
 ghost use Rattle.rt_core.specs.Handles.{TaskHandle};
 ghost use Rattle.rt_core.specs.Pollers.{sleep_for, sleep_until};
 ghost use Rattle.rt_core.specs.Signals.{asks_stopped, kind_reply};
@@ -22,6 +26,8 @@ use crate::handle::HandleOf;
 use crate::signals::SignalKind;
 use crate::stop::Stopping;
 use crate::{NoPoller, Signal, Sleep, Stop, Timeout};
+use rand_core::Rng;
+use rt_audit::Auditor;
 use rt_base::{
     Error, Execution, Items, MAX_TIME, MetricError, Name, Nanos, NoMemory, Refused, Text,
     add_attribute, clone_attributes, prefixed_name, validate_label,
@@ -143,9 +149,13 @@ impl Context {
     /// Errors: `NoMemory` at any time, or else the first that holds: `UnknownToken`, `Metric` with `BadLabel` where the label
     /// isn't valid, or `Reserved` where the full one begins with `runtime`.
     #[tactic(auto, using(rt_world::proofs::Walked::tell_laws), unfolding(crate::specs::Contexts::childs))]
-    pub fn child<T, O, G>(&self, world: &mut World<T, O, G>, label: &str) -> Result<Context, Error>
+    pub fn child<T, O, G: Rng>(
+        &self,
+        world: &mut World<T, O, G>,
+        label: &str,
+    ) -> Result<Context, Error>
         requires { MayCall world.old.told.state world.old.out }
-        ensures kept { Kept world.old world.new }
+        ensures kept { Kept G.stream world.old world.new }
         ensures ok { IfOk result (λ c. (ended : Bool) × Made world.old world.new (Plainly (Child self.now.node label.now)) (NodeAt c.node ended)) }
         ensures name { IfOk result (λ c. c ≡ context_on c.node (child_name self.now.name label.now)) }
         ensures err { IfErr result (λ e. IsRefused world.old world.new (Plainly (Child self.now.node label.now)) e) }
@@ -167,14 +177,14 @@ impl Context {
     /// Errors, each of which hands the context back: `NoMemory` at any time, or else the first that holds: `UnknownToken`,
     /// `TooManyTasks` exactly where the next number is `u64::MAX`.
     #[tactic(auto, using(rt_world::proofs::Walked::tell_laws), unfolding(crate::specs::Contexts::spawns))]
-    pub fn spawn<T, O, G, F: FnOnce(Context) -> T + Drop>(
+    pub fn spawn<T, O, G: Rng, F: FnOnce(Context) -> T + Drop>(
         self,
         world: &mut World<T, O, G>,
         make: F,
     ) -> Result<HandleOf<O, NoPoller>, Refused<Context>>
         requires calling { MayCall world.old.told.state world.old.out }
         requires callable { F.IsAlwaysCallable make }
-        ensures kept { Kept world.old world.new }
+        ensures kept { Kept G.stream world.old world.new }
         ensures back { IfErr result (λ refused. refused.back ≡ self) }
         ensures ok { (makes : Context → T) → IsMakerOf (F.post make) makes → IfOk result (λ handle. IsSpawned self makes world.old world.new handle) }
         ensures taken_in { IfOk result (λ handle. IsSpawnedBy (F.post make) self world.old world.new handle) }
@@ -210,9 +220,9 @@ impl Context {
 
     /// Closes the context. Its node isn't live from then on, and isn't ended by it. It takes no memory.
     #[tactic(auto, using(rt_world::proofs::Walked::close_laws))]
-    pub fn close<T, O, G>(self, world: &mut World<T, O, G>)
+    pub fn close<T, O, G: Rng>(self, world: &mut World<T, O, G>)
         requires { MayCall world.old.told.state world.old.out }
-        ensures kept { Kept world.old world.new }
+        ensures kept { Kept G.stream world.old world.new }
         ensures closed { Closes (Plainly (CloseNode self.node)) world.old world.new }
     {
         let Context {
@@ -267,9 +277,9 @@ impl Context {
     /// A signal of the run's shutdown, which shows its value from when it begins. Where it began before, the signal holds that
     /// value already. It takes memory, and its only error is `NoMemory`.
     #[tactic(auto, using(rt_world::proofs::Signaled::signal_tell_laws), unfolding(crate::specs::Signals::asks_stopped))]
-    pub fn stopped<T, O, G>(&self, world: &mut World<T, O, G>) -> Result<Signal, Error>
+    pub fn stopped<T, O, G: Rng>(&self, world: &mut World<T, O, G>) -> Result<Signal, Error>
         requires { MayCall world.old.told.state world.old.out }
-        ensures kept { Kept world.old world.new }
+        ensures kept { Kept G.stream world.old world.new }
         ensures ok { IfOk result (λ signal. Made world.old world.new (Plainly StoppedCall) (kind_reply signal)) }
         ensures err { IfErr result (λ e. (e ≡ Error.NoMemory) × (world.new ≡ lacking world.old)) }
         ensures steps { Goes asks_stopped world.old world.new result tt }
@@ -278,6 +288,81 @@ impl Context {
         match world.stopped() {
             Ok(Stopped::Waiting(signal)) => Ok(Signal::open(signal)),
             Ok(Stopped::Resolved(value)) => Ok(Signal::of(SignalKind::Resolved(value))),
+            Err(NoMemory) => Err(Error::NoMemory),
+        }
+    }
+
+    /// The next number of 32 bits of the run's generator. It takes memory, and its only error is `NoMemory`: then nothing is
+    /// drawn.
+    #[tactic(auto, using(rt_world::proofs::Drawing::drawing_tell_laws), unfolding(crate::specs::Drawing::asks_u32))]
+    pub fn next_u32<T, O, G: Rng>(&self, world: &mut World<T, O, G>) -> Result<u32, Error>
+        requires { MayCall world.old.told.state world.old.out }
+        ensures kept { Kept G.stream world.old world.new }
+        ensures ok { IfOk result (λ number. Made world.old world.new (Plainly NextU32) (Number number)) }
+        ensures gave { IfOk result (λ number. (number, G.stream world.new.rng) ≡ next_u32 (G.stream world.old.rng)) }
+        ensures err { IfErr result (λ e. (e ≡ Error.NoMemory) × (world.new ≡ lacking world.old)) }
+        ensures steps { Goes asks_u32 world.old world.new result tt }
+    {
+        let _ = &self.node;
+        match world.next_u32() {
+            Ok(number) => Ok(number),
+            Err(NoMemory) => Err(Error::NoMemory),
+        }
+    }
+
+    /// The next number of 64 bits of the run's generator. It takes memory, and its only error is `NoMemory`: then nothing is
+    /// drawn.
+    #[tactic(auto, using(rt_world::proofs::Drawing::drawing_tell_laws), unfolding(crate::specs::Drawing::asks_u64))]
+    pub fn next_u64<T, O, G: Rng>(&self, world: &mut World<T, O, G>) -> Result<u64, Error>
+        requires { MayCall world.old.told.state world.old.out }
+        ensures kept { Kept G.stream world.old world.new }
+        ensures ok { IfOk result (λ number. Made world.old world.new (Plainly NextU64) (Number number)) }
+        ensures gave { IfOk result (λ number. (number, G.stream world.new.rng) ≡ next_u64 (G.stream world.old.rng)) }
+        ensures err { IfErr result (λ e. (e ≡ Error.NoMemory) × (world.new ≡ lacking world.old)) }
+        ensures steps { Goes asks_u64 world.old world.new result tt }
+    {
+        let _ = &self.node;
+        match world.next_u64() {
+            Ok(number) => Ok(number),
+            Err(NoMemory) => Err(Error::NoMemory),
+        }
+    }
+
+    /// Fills `dest` with the next bytes of the run's generator. It takes memory, and its only error is `NoMemory`: then
+    /// nothing is drawn, and `dest` is as before.
+    #[tactic(auto, using(rt_world::proofs::Drawing::drawing_tell_laws), unfolding(crate::specs::Drawing::asks_bytes))]
+    pub fn fill_bytes<T, O, G: Rng>(
+        &self,
+        world: &mut World<T, O, G>,
+        dest: &mut [u8],
+    ) -> Result<(), Error>
+        requires { MayCall world.old.told.state world.old.out }
+        ensures kept { Kept G.stream world.old world.new }
+        ensures ok { OnOk result (Made world.old world.new (Plainly (FillBytes (length dest.old))) (Bytes dest.new)) }
+        ensures gave { OnOk result ((dest.new, G.stream world.new.rng) ≡ fill_bytes (length dest.old) (G.stream world.old.rng)) }
+        ensures err { IfErr result (λ e. (e ≡ Error.NoMemory) × (world.new ≡ lacking world.old) × (dest.new ≡ dest.old)) }
+        ensures steps { Goes (asks_bytes (length dest.old)) world.old world.new (filled_with dest.new result) tt }
+    {
+        let _ = &self.node;
+        match world.fill_bytes(dest) {
+            Ok(()) => Ok(()),
+            Err(NoMemory) => Err(Error::NoMemory),
+        }
+    }
+
+    /// The digest of all events so far, of those of earlier runs too. It takes memory, and its only error is `NoMemory`.
+    #[tactic(auto, using(rt_world::proofs::Drawing::drawing_tell_laws), unfolding(crate::specs::Drawing::asks_auditor))]
+    pub fn auditor<T, O, G: Rng>(&self, world: &mut World<T, O, G>) -> Result<Auditor, Error>
+        requires { MayCall world.old.told.state world.old.out }
+        ensures kept { Kept G.stream world.old world.new }
+        ensures ok { IfOk result (λ auditor. Made world.old world.new (Plainly AuditorCall) (Bytes auditor)) }
+        ensures digest { IfOk result (λ auditor. auditor ≡ digest_of (world.old.told.given ++ own world.old.told)) }
+        ensures err { IfErr result (λ e. (e ≡ Error.NoMemory) × (world.new ≡ lacking world.old)) }
+        ensures steps { Goes asks_auditor world.old world.new result tt }
+    {
+        let _ = &self.node;
+        match world.auditor() {
+            Ok(auditor) => Ok(auditor),
             Err(NoMemory) => Err(Error::NoMemory),
         }
     }

@@ -125,12 +125,12 @@ impl<O, P> HandleOf<O, P> {
     /// Aborts the task: it is flagged, and woken where it was left pending. A completion is waited for no more. Later calls
     /// do nothing and write no entry. It takes no memory.
     #[tactic(auto, using(rt_world::proofs::Walked::close_laws))]
-    pub fn abort<T, G>(&mut self, world: &mut World<T, O, G>)
+    pub fn abort<T, G: Rng>(&mut self, world: &mut World<T, O, G>)
     where
         O: Drop,
         requires { MayCall world.old.told.state world.old.out }
         ensures handle { self.new ≡ aborted self.old }
-        ensures kept { Kept world.old world.new }
+        ensures kept { Kept G.stream world.old world.new }
         ensures lacked { world.new.lacked ≡ world.old.lacked }
         ensures steps { Spends (handle_aborts self.old) world.old world.new }
     {
@@ -154,10 +154,10 @@ impl<O, P> HandleOf<O, P> {
 #[tactic(auto, using(rt_world::proofs::Walked::close_laws))]
 impl Claim {
     /// Flags the task, if it wasn't by this handle before.
-    fn abort<T, O, G>(&mut self, world: &mut World<T, O, G>)
+    fn abort<T, O, G: Rng>(&mut self, world: &mut World<T, O, G>)
         requires { MayCall world.old.told.state world.old.out }
         ensures claim { self.new ≡ record self.old { aborted = true } }
-        ensures kept { Kept world.old world.new }
+        ensures kept { Kept G.stream world.old world.new }
         ensures lacked { world.new.lacked ≡ world.old.lacked }
         ensures steps { Spends (aborts (unless_aborted self.old.aborted (Abort self.old.task))) world.old world.new }
     {
@@ -172,10 +172,10 @@ impl Claim {
 #[tactic(auto, using(rt_world::proofs::Walked::close_laws))]
 impl Receipt {
     /// Ends the wait, if it wasn't by this handle before.
-    fn abort<T, O: Drop, G>(&mut self, world: &mut World<T, O, G>)
+    fn abort<T, O: Drop, G: Rng>(&mut self, world: &mut World<T, O, G>)
         requires { MayCall world.old.told.state world.old.out }
         ensures receipt { self.new ≡ record self.old { aborted = true } }
-        ensures kept { Kept world.old world.new }
+        ensures kept { Kept G.stream world.old world.new }
         ensures lacked { world.new.lacked ≡ world.old.lacked }
         ensures steps { Spends (aborts (unless_aborted self.old.aborted (AbortWait self.old.receiver))) world.old world.new }
     {

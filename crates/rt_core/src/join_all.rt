@@ -171,7 +171,7 @@ fn join<T: Outcome, P: Poller<T, T::Output>, V: Drop, F: Convert<T::Output, V>, 
 ) -> Poll<Result<Items<V>, Error>>
     requires polling { IsPolling world.old cx.now.task }
     requires fine { group.old.failure ≡ None }
-    ensures kept { Kept world.old world.new }
+    ensures kept { Kept G.stream world.old world.new }
     ensures steps { Goes (joins (λ state. P.polls state world.old.told.state.clock.time cx.now.task) P.spends (F.converted group.old.convert) group.old.convert group.old.outputs group.old.handles) world.old world.new result group.new }
     ensures lack { SaysLack world.old world.new result }
 {
@@ -215,7 +215,7 @@ fn fail<T: Outcome, P: Poller<T, T::Output>, V: Drop, F, G: Rng>(
     error: Error,
 ) -> Poll<Result<Items<V>, Error>>
     requires polling { IsPolling world.old cx.now.task }
-    ensures kept { Kept world.old world.new }
+    ensures kept { Kept G.stream world.old world.new }
     ensures steps { Goes (fails (λ state. P.polls state world.old.told.state.clock.time cx.now.task) P.spends group.old.convert error handle group.old.handles) world.old world.new result group.new }
     ensures lack { SaysLack world.old world.new result }
     ensures ends { is_lack error ≡ true → result ≡ Ready (Err LacksMemory) }
@@ -240,7 +240,7 @@ fn drain<T: Outcome, P: Poller<T, T::Output>, V: Drop, F, G: Rng>(
     failure: Error,
 ) -> Poll<Result<Items<V>, Error>>
     requires polling { IsPolling world.old cx.now.task }
-    ensures kept { Kept world.old world.new }
+    ensures kept { Kept G.stream world.old world.new }
     ensures steps { Goes (drains (λ state. P.polls state world.old.told.state.clock.time cx.now.task) P.spends group.old.convert failure [] group.old.handles) world.old world.new result group.new }
     ensures lack { SaysLack world.old world.new result }
 {
@@ -272,7 +272,7 @@ fn end<T: Outcome, P: Poller<T, T::Output>, V: Drop, F, G: Rng>(
     world: &mut World<T, T::Output, G>,
 ) -> Poll<Result<Items<V>, Error>>
     requires { MayCall world.old.told.state world.old.out }
-    ensures kept { Kept world.old world.new }
+    ensures kept { Kept G.stream world.old world.new }
     ensures lacked { world.new.lacked ≡ world.old.lacked }
     ensures steps { Goes (gives_up P.spends group.old.convert group.old.handles) world.old world.new result group.new }
     ensures ends { result ≡ Ready (Err LacksMemory) }

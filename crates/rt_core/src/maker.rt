@@ -31,6 +31,6 @@ pub trait RootMaker<T: Task>: Sized {
         requires calling { MayCall world.old.told.state world.old.out }
         requires fresh { world.old.told.state.turns ≡ [] }
         requires unmarked { world.old.lacked ≡ None }
-        ensures kept { Kept world.old world.new }
+        ensures kept { Kept G.stream world.old world.new }
         ensures steps { Rooted (first self world.old.told.state.clock.time) world.old world.new result };
 }

@@ -5,7 +5,7 @@ ghost use Rattle.rt_model.specs.Tied.{with_first};
 ghost use Rattle.rt_model.specs.Run.{IsValidInput};
 ghost use Rattle.rt_core.specs.Starting.{assert_of, deadline_of, default_seed, first_begin, resumed, seeded, IsWithin, Kept};
 ghost use Rattle.rt_core.specs.Given.{entries_of};
-ghost use Rattle.rt_core.specs.Outcome.{Completes, Fails, AreShuffled};
+ghost use Rattle.rt_core.specs.Outcome.{Completes, Fails, AreShuffled, AreAudited};
 
 use crate::running::{error_of, run_maker};
 use crate::{Checkpoint, Config, ConfigError, Failure, Finished, RootMaker, RunError};
@@ -86,6 +86,7 @@ impl<G: Rng + Drop> Runner<G> {
         ensures run { IfOk result (λ f. Completes G.stream (with_first T.steps (M.first maker)) self f.output f.checkpoint) }
         ensures failure { IfErr result (λ f. Fails (with_first T.steps (M.first maker)) self f.journal.entries f.cause) }
         ensures orders { MatchResult result (λ f. AreShuffled G.stream self f.checkpoint.journal) (λ f. AreShuffled G.stream self f.journal.entries) }
+        ensures digests { MatchResult result (λ f. AreAudited self f.checkpoint.journal) (λ f. AreAudited self f.journal.entries) }
         ensures complete { IsValidInput (with_first T.steps (M.first maker)) self.begin → IfErr result (λ f. f.cause ≡ RunError.NoMemory) }
     {
         let Runner {
@@ -143,9 +144,10 @@ impl<G: Rng + Drop> Runner<G> {
         alloc: Global,
         maker: M,
     ) -> Result<T::Output, Failure>
-        ensures run { IfOk result (λ output. (kept : Kept G) × Completes G.stream (with_first T.steps (M.first maker)) self output kept × AreShuffled G.stream self kept.journal) }
+        ensures run { IfOk result (λ output. (kept : Kept G) × Completes G.stream (with_first T.steps (M.first maker)) self output kept × AreShuffled G.stream self kept.journal × AreAudited self kept.journal) }
         ensures failure { IfErr result (λ f. Fails (with_first T.steps (M.first maker)) self f.journal.entries f.cause) }
         ensures orders { IfErr result (λ f. AreShuffled G.stream self f.journal.entries) }
+        ensures digests { IfErr result (λ f. AreAudited self f.journal.entries) }
         ensures complete { IsValidInput (with_first T.steps (M.first maker)) self.begin → IfErr result (λ f. f.cause ≡ RunError.NoMemory) }
     {
         match self.start_and_recover::<T, M>(alloc, maker) {

@@ -89,7 +89,7 @@ pub(crate) fn let_go<T: Outcome, P: Poller<T, T::Output>, G: Rng>(
     handles: Vec<HandleOf<T::Output, P>>,
 )
     requires { MayCall world.old.told.state world.old.out }
-    ensures kept { Kept world.old world.new }
+    ensures kept { Kept G.stream world.old world.new }
     ensures lacked { world.new.lacked ≡ world.old.lacked }
     ensures steps { Spends (lets_go P.spends handles.items) world.old world.new }
 {
@@ -100,13 +100,13 @@ pub(crate) fn let_go<T: Outcome, P: Poller<T, T::Output>, G: Rng>(
 
 /// Aborts all handles, in their order.
 #[tactic(auto, using(rt_world::proofs::Walked::loop_laws))]
-pub(crate) fn abort_all<T, O: Drop, P, G>(
+pub(crate) fn abort_all<T, O: Drop, P, G: Rng>(
     world: &mut World<T, O, G>,
     handles: &mut [HandleOf<O, P>],
 )
     requires { MayCall world.old.told.state world.old.out }
     ensures handles { handles.new ≡ map aborted handles.old }
-    ensures kept { Kept world.old world.new }
+    ensures kept { Kept G.stream world.old world.new }
     ensures lacked { world.new.lacked ≡ world.old.lacked }
     ensures steps { Spends (each handle_aborts handles.old) world.old world.new }
 {
@@ -124,7 +124,7 @@ pub(crate) fn give_all_up<T: Outcome, P: Poller<T, T::Output>, G: Rng>(
     handles: Vec<HandleOf<T::Output, P>>,
 )
     requires { MayCall world.old.told.state world.old.out }
-    ensures kept { Kept world.old world.new }
+    ensures kept { Kept G.stream world.old world.new }
     ensures lacked { world.new.lacked ≡ world.old.lacked }
     ensures steps { Spends (each (handle_spends P.spends) handles.items) world.old world.new }
 {

@@ -6,7 +6,7 @@ ghost use Rattle.rt_world.specs.Calls.{Kept};
 use crate::tests::{Making, lines};
 use crate::{CompletionWait, Context, Error, NoMemory, Poller, Signal, Signaler};
 use rand_chacha::ChaCha12Rng;
-use rand_core::SeedableRng;
+use rand_core::{Rng, SeedableRng};
 use rt_audit::{FinishCause, Journal};
 use rt_model::Begin;
 use std::alloc::Global;
@@ -14,9 +14,9 @@ use std::test::Fail;
 
 /// Gives a signal up. Answers whether it was made.
 #[tactic(auto, using(rt_world::proofs::Walked::close_laws))]
-fn lets_go(signal: Result<Signal, Error>, world: &mut Making) -> bool
+fn lets_go<G: Rng>(signal: Result<Signal, Error>, world: &mut Making<G>) -> bool
     requires { MayCall world.old.told.state world.old.out }
-    ensures { Kept world.old world.new }
+    ensures { Kept G.stream world.old world.new }
 {
     match signal {
         Ok(signal) => {
@@ -27,28 +27,37 @@ fn lets_go(signal: Result<Signal, Error>, world: &mut Making) -> bool
     }
 }
 
+/// Gives two signals up. Answers whether the second was made.
+#[tactic(auto, using(rt_world::proofs::Walked::close_laws))]
+fn lets_both_go<G: Rng>(first: Signal, second: Result<Signal, Error>, world: &mut Making<G>) -> bool
+    requires { MayCall world.old.told.state world.old.out }
+    ensures { Kept G.stream world.old world.new }
+{
+    first.give_up(world);
+    lets_go(second, world)
+}
+
 /// Gives two signals and their completion up. Answers whether the second was made.
 #[tactic(auto, using(rt_world::proofs::Walked::close_laws))]
-fn lets_all_go(
+fn lets_all_go<G: Rng>(
     first: Signal,
     second: Result<Signal, Error>,
     completion: CompletionWait,
-    world: &mut Making,
+    world: &mut Making<G>,
 ) -> bool
     requires { MayCall world.old.told.state world.old.out }
-    ensures { Kept world.old world.new }
+    ensures { Kept G.stream world.old world.new }
 {
-    first.give_up(world);
-    let made = lets_go(second, world);
+    let made = lets_both_go(first, second, world);
     completion.give_up(world);
     made
 }
 
 /// Makes a further signal, gives the group its value, and gives all up. Answers whether the signal was made.
 #[tactic(auto, using(rt_world::proofs::Walked::close_laws))]
-fn gives(signaler: Signaler, first: Signal, world: &mut Making) -> bool
+fn gives<G: Rng>(signaler: Signaler, first: Signal, world: &mut Making<G>) -> bool
     requires { MayCall world.old.told.state world.old.out }
-    ensures { Kept world.old world.new }
+    ensures { Kept G.stream world.old world.new }
 {
     let second = first.clone_signal(world);
     let completion = signaler.signal(world, 5);
@@ -57,9 +66,9 @@ fn gives(signaler: Signaler, first: Signal, world: &mut Making) -> bool
 
 /// Makes a group, gives its value, and gives up its two signals and its completion. Answers whether all were made.
 #[tactic(auto, using(rt_world::proofs::Walked::close_laws))]
-fn gives_a_value(world: &mut Making) -> bool
+fn gives_a_value<G: Rng>(world: &mut Making<G>) -> bool
     requires { MayCall world.old.told.state world.old.out }
-    ensures { Kept world.old world.new }
+    ensures { Kept G.stream world.old world.new }
 {
     match Signaler::new(world) {
         Ok((signaler, first)) => gives(signaler, first, world),
@@ -69,9 +78,9 @@ fn gives_a_value(world: &mut Making) -> bool
 
 /// Makes a group, and gives its signaler up. Answers whether it was made.
 #[tactic(auto, using(rt_world::proofs::Walked::close_laws))]
-fn gives_none(world: &mut Making) -> bool
+fn gives_none<G: Rng>(world: &mut Making<G>) -> bool
     requires { MayCall world.old.told.state world.old.out }
-    ensures { Kept world.old world.new }
+    ensures { Kept G.stream world.old world.new }
 {
     let Ok((signaler, signal)) = Signaler::new(world) else {
         return false;
@@ -83,9 +92,9 @@ fn gives_none(world: &mut Making) -> bool
 
 /// Stops the run. Answers whether it was stopped.
 #[tactic(auto, using(rt_world::proofs::Walked::close_laws))]
-fn stops(world: &mut Making) -> bool
+fn stops<G: Rng>(world: &mut Making<G>) -> bool
     requires { MayCall world.old.told.state world.old.out }
-    ensures { Kept world.old world.new }
+    ensures { Kept G.stream world.old world.new }
 {
     match world.stop(9) {
         Ok(completion) => {
@@ -98,9 +107,9 @@ fn stops(world: &mut Making) -> bool
 
 /// Gives up a copy of a signal, and then the signal. Answers whether both were made.
 #[tactic(auto, using(rt_world::proofs::Walked::close_laws))]
-fn copies(signal: Result<Signal, Error>, world: &mut Making) -> bool
+fn copies<G: Rng>(signal: Result<Signal, Error>, world: &mut Making<G>) -> bool
     requires { MayCall world.old.told.state world.old.out }
-    ensures { Kept world.old world.new }
+    ensures { Kept G.stream world.old world.new }
 {
     match signal {
         Ok(signal) => {
@@ -114,9 +123,9 @@ fn copies(signal: Result<Signal, Error>, world: &mut Making) -> bool
 
 /// Makes a signal of the shutdown, and gives it up. Answers whether it was made.
 #[tactic(auto, using(rt_world::proofs::Walked::close_laws))]
-fn opens(context: &Context, world: &mut Making) -> bool
+fn opens<G: Rng>(context: &Context, world: &mut Making<G>) -> bool
     requires { MayCall world.old.told.state world.old.out }
-    ensures { Kept world.old world.new }
+    ensures { Kept G.stream world.old world.new }
 {
     let before = context.stopped(world);
     lets_go(before, world)
@@ -124,9 +133,9 @@ fn opens(context: &Context, world: &mut Making) -> bool
 
 /// Makes a signal of the shutdown that began, and gives it and a copy up. Answers whether both were made.
 #[tactic(auto, using(rt_world::proofs::Walked::close_laws))]
-fn holds(context: &Context, world: &mut Making) -> bool
+fn holds<G: Rng>(context: &Context, world: &mut Making<G>) -> bool
     requires { MayCall world.old.told.state world.old.out }
-    ensures { Kept world.old world.new }
+    ensures { Kept G.stream world.old world.new }
 {
     let behind = context.stopped(world);
     copies(behind, world)
@@ -134,9 +143,9 @@ fn holds(context: &Context, world: &mut Making) -> bool
 
 /// Makes signals of the shutdown before it begins and behind that. Answers whether all were made.
 #[tactic(auto, using(rt_world::proofs::Walked::close_laws))]
-fn begins_the_shutdown(context: &Context, world: &mut Making) -> bool
+fn begins_the_shutdown<G: Rng>(context: &Context, world: &mut Making<G>) -> bool
     requires { MayCall world.old.told.state world.old.out }
-    ensures { Kept world.old world.new }
+    ensures { Kept G.stream world.old world.new }
 {
     let open = opens(context, world);
     let stopped = stops(world);
@@ -146,9 +155,9 @@ fn begins_the_shutdown(context: &Context, world: &mut Making) -> bool
 
 /// The same, on a context that is closed then.
 #[tactic(auto, using(rt_world::proofs::Walked::close_laws))]
-fn shuts_down(alloc: Global, world: &mut Making) -> bool
+fn shuts_down<G: Rng>(alloc: Global, world: &mut Making<G>) -> bool
     requires { MayCall world.old.told.state world.old.out }
-    ensures { Kept world.old world.new }
+    ensures { Kept G.stream world.old world.new }
 {
     let context = Context::root(alloc);
     let began = begins_the_shutdown(&context, world);
@@ -192,7 +201,7 @@ finish nomemory
         catch: false,
     };
     let rng = ChaCha12Rng::seed_from_u64(1);
-    let Ok(mut world) = Making::begin(alloc, Journal::new(alloc), begin, rng) else {
+    let Ok(mut world) = Making::<ChaCha12Rng>::begin(alloc, Journal::new(alloc), begin, rng) else {
         return Err(NoMemory);
     };
     let given = gives_a_value(&mut world);

@@ -76,9 +76,9 @@ impl Model for CompletionWait {
 impl Signaler {
     /// Makes a group of signals, and hands out its signaler and its first signal. Its only error is `NoMemory`.
     #[tactic(auto, using(rt_world::proofs::Signaled::signal_tell_laws), unfolding(crate::specs::Signals::makes_group))]
-    pub fn new<T, O, G>(world: &mut World<T, O, G>) -> Result<(Signaler, Signal), Error>
+    pub fn new<T, O, G: Rng>(world: &mut World<T, O, G>) -> Result<(Signaler, Signal), Error>
         requires { MayCall world.old.told.state world.old.out }
-        ensures kept { Kept world.old world.new }
+        ensures kept { Kept G.stream world.old world.new }
         ensures pair { IfOk result (λ made. made.1 ≡ Open made.0) }
         ensures ok { IfOk result (λ made. Made world.old world.new (Plainly SignalerCall) (SignalAt made.0)) }
         ensures err { IfErr result (λ e. (e ≡ Error.NoMemory) × (world.new ≡ lacking world.old)) }
@@ -93,10 +93,10 @@ impl Signaler {
     /// Gives the value, which each signal of the group shows from then on, and answers the group's completion. It takes no
     /// memory.
     #[tactic(auto, using(rt_world::proofs::Walked::close_laws))]
-    pub fn signal<T, O, G>(self, world: &mut World<T, O, G>, value: i32) -> CompletionWait
+    pub fn signal<T, O, G: Rng>(self, world: &mut World<T, O, G>, value: i32) -> CompletionWait
         requires { MayCall world.old.told.state world.old.out }
         ensures completion { result ≡ self }
-        ensures kept { Kept world.old world.new }
+        ensures kept { Kept G.stream world.old world.new }
         ensures lacked { world.new.lacked ≡ world.old.lacked }
         ensures steps { Closes (Plainly (SignalCall self value)) world.old world.new }
     {
@@ -107,9 +107,9 @@ impl Signaler {
 
     /// Gives the signaler up without a value: its signals answer `Closed` from then on. It takes no memory.
     #[tactic(auto, using(rt_world::proofs::Walked::close_laws))]
-    pub fn give_up<T, O, G>(self, world: &mut World<T, O, G>)
+    pub fn give_up<T, O, G: Rng>(self, world: &mut World<T, O, G>)
         requires { MayCall world.old.told.state world.old.out }
-        ensures kept { Kept world.old world.new }
+        ensures kept { Kept G.stream world.old world.new }
         ensures lacked { world.new.lacked ≡ world.old.lacked }
         ensures steps { Closes (Plainly (SignalerClose self)) world.old world.new }
     {
@@ -147,9 +147,9 @@ impl Signal {
     ///
     /// Errors: `UnknownToken` where the signal was given up, `NoMemory`.
     #[tactic(auto, using(rt_world::proofs::Signaled::signal_tell_laws, rt_world::proofs::Walked::poller_laws), unfolding(crate::specs::Signals::clones))]
-    pub fn clone_signal<T, O, G>(&self, world: &mut World<T, O, G>) -> Result<Signal, Error>
+    pub fn clone_signal<T, O, G: Rng>(&self, world: &mut World<T, O, G>) -> Result<Signal, Error>
         requires { MayCall world.old.told.state world.old.out }
-        ensures kept { Kept world.old world.new }
+        ensures kept { Kept G.stream world.old world.new }
         ensures cloned { IsCloned self.now world.old world.new result }
         ensures steps { Goes (clones self.now) world.old world.new result tt }
     {

@@ -41,7 +41,7 @@ impl Stopping {
     #[tactic(auto, using(rt_world::proofs::Walked::close_laws), unfolding(crate::specs::Stopping::stage_spends))]
     fn give_up<T: Outcome, G: Rng>(self, world: &mut World<T, T::Output, G>)
         requires { MayCall world.old.told.state world.old.out }
-        ensures kept { Kept world.old world.new }
+        ensures kept { Kept G.stream world.old world.new }
         ensures lacked { world.new.lacked ≡ world.old.lacked }
         ensures steps { Spends (stage_spends self) world.old world.new }
     {
@@ -56,10 +56,10 @@ impl Stopping {
 impl Stop {
     /// Stops the run, where its limit begins in time.
     #[tactic(auto, using(rt_world::proofs::Signaled::signal_tell_laws), unfolding(crate::specs::Stopping::begins))]
-    fn begin<T, O, G>(&mut self, world: &mut World<T, O, G>) -> Result<(), Error>
+    fn begin<T, O, G: Rng>(&mut self, world: &mut World<T, O, G>) -> Result<(), Error>
         requires calling { MayCall world.old.told.state world.old.out }
         requires fresh { self.old.stage ≡ Stopping.Begins }
-        ensures kept { Kept world.old world.new }
+        ensures kept { Kept G.stream world.old world.new }
         ensures begun { OnOk result (self.new.stage ≢ Stopping.Begins) }
         ensures steps { Goes (begins self.old world.old.told.state.clock.time) world.old world.new result self.new }
         ensures going { OnOk result (world.new.lacked ≡ world.old.lacked) }
@@ -87,7 +87,7 @@ impl Stop {
     ) -> Poll<Result<(), Error>>
         requires polling { IsPolling world.old cx.now.task }
         requires begun { self.old.stage ≢ Stopping.Begins }
-        ensures kept { Kept world.old world.new }
+        ensures kept { Kept G.stream world.old world.new }
         ensures steps { Goes (still self.old world.old.told.state.clock.time cx.now.task self.old.stage) world.old world.new result self.new }
         ensures lack { SaysLack world.old world.new result }
     {

@@ -413,7 +413,7 @@ fn keeps_settings() -> bool {
 }
 
 /// The world of a run whose maker is under way.
-pub(crate) type Making = WorldOf<Probe, ChaCha12Rng>;
+pub(crate) type Making<G> = WorldOf<Probe, G>;
 
 /// The context with this attribute, or as it was, and whether the key was refused as a bad label.
 fn tagged(context: Context, key: &str, value: &str) -> (Context, bool) {
@@ -455,9 +455,9 @@ fn has_name(alloc: Global, context: &Context, expected: &str) -> bool {
 
 /// Spawns a probe on the context of a cell, and aborts it twice before its handle is given up. Answers whether it was spawned.
 #[tactic(auto, using(rt_world::proofs::Walked::close_laws))]
-fn spawns_aborted(context: Context, world: &mut Making) -> bool
+fn spawns_aborted<G: Rng>(context: Context, world: &mut Making<G>) -> bool
     requires { MayCall world.old.told.state world.old.out }
-    ensures { Kept world.old world.new }
+    ensures { Kept G.stream world.old world.new }
 {
     let mut cell = Cell::new(context);
     let spawned = spawn_cell!(
@@ -498,9 +498,9 @@ fn takes_attributes(alloc: Global) -> (Context, bool) {
 
 /// Why a child is refused, if it is.
 #[tactic(auto, using(rt_world::proofs::Walked::close_laws))]
-fn refusal(context: &Context, world: &mut Making, label: &str) -> Option<Error>
+fn refusal<G: Rng>(context: &Context, world: &mut Making<G>, label: &str) -> Option<Error>
     requires { MayCall world.old.told.state world.old.out }
-    ensures { Kept world.old world.new }
+    ensures { Kept G.stream world.old world.new }
 {
     match context.child(world, label) {
         Ok(child) => {
@@ -513,9 +513,9 @@ fn refusal(context: &Context, world: &mut Making, label: &str) -> Option<Error>
 
 /// Whether a child has its name, and a task is spawned on it.
 #[tactic(auto, using(rt_world::proofs::Walked::close_laws))]
-fn spawns_on_a_child(alloc: Global, context: &Context, world: &mut Making) -> bool
+fn spawns_on_a_child<G: Rng>(alloc: Global, context: &Context, world: &mut Making<G>) -> bool
     requires { MayCall world.old.told.state world.old.out }
-    ensures { Kept world.old world.new }
+    ensures { Kept G.stream world.old world.new }
 {
     let Ok(child) = context.child(world, "left") else {
         return false;
@@ -527,9 +527,9 @@ fn spawns_on_a_child(alloc: Global, context: &Context, world: &mut Making) -> bo
 
 /// Gives up a stop that wasn't polled, and a choice among no handles. Answers whether the stop had a context.
 #[tactic(auto, using(rt_world::proofs::Walked::close_laws))]
-fn gives_pollers_up(alloc: Global, context: &Context, world: &mut Making) -> bool
+fn gives_pollers_up<G: Rng>(alloc: Global, context: &Context, world: &mut Making<G>) -> bool
     requires { MayCall world.old.told.state world.old.out }
-    ensures { Kept world.old world.new }
+    ensures { Kept G.stream world.old world.new }
 {
     let choice: Select<Probe> = HandleOf::select(Vec::new(alloc));
     choice.give_up(world);
@@ -544,9 +544,9 @@ fn gives_pollers_up(alloc: Global, context: &Context, world: &mut Making) -> boo
 
 /// Whether a task is spawned on a child, and the pollers are given up.
 #[tactic(auto, using(rt_world::proofs::Walked::close_laws))]
-fn works_on_children(alloc: Global, context: &Context, world: &mut Making) -> bool
+fn works_on_children<G: Rng>(alloc: Global, context: &Context, world: &mut Making<G>) -> bool
     requires { MayCall world.old.told.state world.old.out }
-    ensures { Kept world.old world.new }
+    ensures { Kept G.stream world.old world.new }
 {
     let spawned = spawns_on_a_child(alloc, context, world);
     let given_up = gives_pollers_up(alloc, context, world);
@@ -555,9 +555,9 @@ fn works_on_children(alloc: Global, context: &Context, world: &mut Making) -> bo
 
 /// Whether contexts are named, refused and spawned on as they should be.
 #[tactic(auto, using(rt_world::proofs::Walked::close_laws))]
-fn answers_contexts(alloc: Global, world: &mut Making) -> bool
+fn answers_contexts<G: Rng>(alloc: Global, world: &mut Making<G>) -> bool
     requires { MayCall world.old.told.state world.old.out }
-    ensures { Kept world.old world.new }
+    ensures { Kept G.stream world.old world.new }
 {
     let (context, attributes) = takes_attributes(alloc);
     let timed = context.current(world) == 3;
@@ -599,7 +599,7 @@ finish nomemory
         catch: false,
     };
     let rng = ChaCha12Rng::seed_from_u64(1);
-    let Ok(mut world) = Making::begin(alloc, Journal::new(alloc), begin, rng) else {
+    let Ok(mut world) = Making::<ChaCha12Rng>::begin(alloc, Journal::new(alloc), begin, rng) else {
         return Err(NoMemory);
     };
     let answered = answers_contexts(alloc, &mut world);
@@ -607,6 +607,68 @@ finish nomemory
     let (journal, _, panic) = world.into_parts();
     let text = lines(alloc, &journal)?;
     Ok(answered && cause == FinishCause::NoMemory && panic.is_none() && text.as_str() == expected)
+}
+
+/// Whether a number of each width is drawn.
+#[tactic(auto, using(rt_world::proofs::Walked::close_laws))]
+fn draws_numbers<G: Rng>(context: &Context, world: &mut Making<G>) -> bool
+    requires { MayCall world.old.told.state world.old.out }
+    ensures { Kept G.stream world.old world.new }
+{
+    let short = context.next_u32(world).is_ok();
+    let long = context.next_u64(world).is_ok();
+    short && long
+}
+
+/// Whether three bytes are drawn, and the digest is told.
+#[tactic(auto, using(rt_world::proofs::Walked::close_laws))]
+fn draws_bytes<G: Rng>(context: &Context, world: &mut Making<G>) -> bool
+    requires { MayCall world.old.told.state world.old.out }
+    ensures { Kept G.stream world.old world.new }
+{
+    let mut bytes = [0; 3];
+    let filled = context.fill_bytes(world, &mut bytes).is_ok();
+    let told = context.auditor(world).is_ok();
+    filled && told
+}
+
+/// Whether the maker of a run draws by each call, in order.
+#[tactic(auto, unfolding(rt_model::specs::Effects::after, rt_model::specs::State::begun))]
+fn writes_draws(alloc: Global) -> Result<bool, NoMemory> {
+    let expected = "\
+start 3 - 1000000 0
+event rand 6e6578745f753332
+call - u32 -> 3543144545
+event rand 6e6578745f753634
+call - u64 -> 14703524129167383140
+event rand 66696c6c5f6279746573
+call - fill 3 -> 25d1f4
+call - auditor -> 4b937da9
+call - close-node 0 -> ok
+cleanup
+nodeend 0
+crash
+finish nomemory
+";
+    let begin = Begin {
+        start: 3,
+        cycle: 1_000_000,
+        deadline: None,
+        first: 0,
+        catch: false,
+    };
+    let rng = ChaCha12Rng::seed_from_u64(1);
+    let Ok(mut world) = Making::<ChaCha12Rng>::begin(alloc, Journal::new(alloc), begin, rng) else {
+        return Err(NoMemory);
+    };
+    let context = Context::root(alloc);
+    let numbers = draws_numbers(&context, &mut world);
+    let bytes = draws_bytes(&context, &mut world);
+    context.close(&mut world);
+    world.cleanup_unmade(None, FinishCause::NoMemory);
+    let (journal, _, _) = world.into_parts();
+    let text = lines(alloc, &journal)?;
+    Ok(numbers && bytes && text.as_str() == expected)
 }
 
 #[test]
@@ -618,5 +680,6 @@ fn surface(rt: HostRuntime) -> Result<(), Fail> {
     assert!(rt; visits_twice(rt.alloc())?);
     assert!(rt; limits(rt.alloc())?);
     assert!(rt; writes_contexts(rt.alloc())?);
+    assert!(rt; writes_draws(rt.alloc())?);
     Ok(())
 }

@@ -86,7 +86,7 @@ impl Chief {
     ) -> Answer<Result<u64, Error>>
         requires polling { IsPolling world.old cx.now.task }
         requires free { self.old.work ≡ Work.Done }
-        ensures kept { Kept world.old world.new }
+        ensures kept { Kept G.stream world.old world.new }
         ensures steps { Polled (watches self.old sleep handle) world.old world.new result self.new }
     {
         match handle.poll(world, cx) {
@@ -119,7 +119,7 @@ impl Chief {
     ) -> Answer<Result<u64, Error>>
         requires polling { IsPolling world.old cx.now.task }
         requires free { self.old.work ≡ Work.Done }
-        ensures kept { Kept world.old world.new }
+        ensures kept { Kept G.stream world.old world.new }
         ensures steps { Polled (limits self.old limit world.old.told.state.clock.time cx.now.task) world.old world.new result self.new }
     {
         let polled = limit.poll(world, cx);
@@ -140,7 +140,7 @@ impl Chief {
     ) -> Answer<Result<u64, Error>>
         requires polling { IsPolling world.old cx.now.task }
         requires free { self.old.work ≡ Work.Done }
-        ensures kept { Kept world.old world.new }
+        ensures kept { Kept G.stream world.old world.new }
         ensures steps { Polled (chooses self.old choice) world.old world.new result self.new }
     {
         let chosen = choice.poll(world, cx);
@@ -161,7 +161,7 @@ impl Chief {
     ) -> Answer<Result<u64, Error>>
         requires polling { IsPolling world.old cx.now.task }
         requires free { self.old.work ≡ Work.Done }
-        ensures kept { Kept world.old world.new }
+        ensures kept { Kept G.stream world.old world.new }
         ensures steps { Polled (sleeps self.old sleep) world.old world.new result self.new }
     {
         let slept = sleep.poll(world, cx);
@@ -183,7 +183,7 @@ impl Chief {
     ) -> Answer<Result<u64, Error>>
         requires polling { IsPolling world.old cx.now.task }
         requires free { self.old.work ≡ Work.Done }
-        ensures kept { Kept world.old world.new }
+        ensures kept { Kept G.stream world.old world.new }
         ensures steps { Polled (waits self.old plan world.old.told.state.clock.time cx.now.task handle) world.old world.new result self.new }
     {
         match plan {
@@ -231,7 +231,7 @@ impl Chief {
     ) -> Answer<Result<u64, Error>>
         requires polling { IsPolling world.old cx.now.task }
         requires free { self.old.work ≡ Work.Done }
-        ensures kept { Kept world.old world.new }
+        ensures kept { Kept G.stream world.old world.new }
         ensures steps { Polled (hired self.old plan world.old.told.state.clock.time cx.now.task (Ok context)) world.old world.new result self.new }
     {
         let alloc = self.alloc;

@@ -96,7 +96,7 @@ impl Courier {
     ) -> Answer<Result<u64, Error>>
         requires polling { IsPolling world.old cx.now.task }
         requires free { self.old.work ≡ Work.Done }
-        ensures kept { Kept world.old world.new }
+        ensures kept { Kept G.stream world.old world.new }
         ensures steps { Polled (begins self.old sleep parcel) world.old world.new result self.new }
     {
         match world.result_slot() {
@@ -120,7 +120,7 @@ impl Courier {
     ) -> Answer<Result<u64, Error>>
         requires polling { IsPolling world.old cx.now.task }
         requires free { self.old.work ≡ Work.Done }
-        ensures kept { Kept world.old world.new }
+        ensures kept { Kept G.stream world.old world.new }
         ensures steps { Polled (carries self.old handle sender sleep parcel) world.old world.new result self.new }
     {
         match sleep.poll(world, cx) {
@@ -145,7 +145,7 @@ impl Courier {
     ) -> Answer<Result<u64, Error>>
         requires polling { IsPolling world.old cx.now.task }
         requires free { self.old.work ≡ Work.Done }
-        ensures kept { Kept world.old world.new }
+        ensures kept { Kept G.stream world.old world.new }
         ensures steps { Polled (looks_out self.old handle sender sleep parcel) world.old world.new result self.new }
     {
         let polled = handle.poll(world, cx);
@@ -163,7 +163,7 @@ impl Courier {
     ) -> Answer<Result<u64, Error>>
         requires calling { MayCall world.old.told.state world.old.out }
         requires free { self.old.work ≡ Work.Done }
-        ensures kept { Kept world.old world.new }
+        ensures kept { Kept G.stream world.old world.new }
         ensures steps { Polled (delivers self.old handle sender parcel) world.old world.new result self.new }
     {
         match parcel {
@@ -205,7 +205,7 @@ impl Courier {
     ) -> Answer<Result<u64, Error>>
         requires polling { IsPolling world.old cx.now.task }
         requires free { self.old.work ≡ Work.Done }
-        ensures kept { Kept world.old world.new }
+        ensures kept { Kept G.stream world.old world.new }
         ensures steps { Polled (receives self.old handle) world.old world.new result self.new }
     {
         match handle.poll(world, cx) {
@@ -230,7 +230,7 @@ impl Courier {
     ) -> Answer<Result<u64, Error>>
         requires polling { IsPolling world.old cx.now.task }
         requires free { self.old.work ≡ Work.Done }
-        ensures kept { Kept world.old world.new }
+        ensures kept { Kept G.stream world.old world.new }
         ensures steps { Polled (asks_again self.old handle) world.old world.new result self.new }
     {
         let polled = handle.poll(world, cx);

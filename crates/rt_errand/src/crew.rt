@@ -66,7 +66,7 @@ impl Crew {
     ) -> Answer<Result<u64, Error>>
         requires polling { IsPolling world.old cx.now.task }
         requires free { self.old.work ≡ Work.Done }
-        ensures kept { Kept world.old world.new }
+        ensures kept { Kept G.stream world.old world.new }
         ensures steps { Polled (joins self.old handle) world.old world.new result self.new }
     {
         let joined = handle.poll(world, cx);
@@ -88,7 +88,7 @@ impl Crew {
     ) -> Answer<Result<u64, Error>>
         requires polling { IsPolling world.old cx.now.task }
         requires free { self.old.work ≡ Work.Done }
-        ensures kept { Kept world.old world.new }
+        ensures kept { Kept G.stream world.old world.new }
         ensures steps { Polled (hired self.old number (Ok context)) world.old world.new result self.new }
     {
         let spawned = context.spawn(
@@ -118,7 +118,7 @@ impl Crew {
     ) -> Answer<Result<u64, Error>>
         requires polling { IsPolling world.old cx.now.task }
         requires free { self.old.work ≡ Work.Done }
-        ensures kept { Kept world.old world.new }
+        ensures kept { Kept G.stream world.old world.new }
         ensures steps { Polled (sleeps self.old number sleep) world.old world.new result self.new }
     {
         let slept = sleep.poll(world, cx);

@@ -53,7 +53,7 @@ impl Errand {
         mut sleep: Sleep,
     ) -> Answer<Result<u64, Error>>
         requires { IsPolling world.old cx.now.task }
-        ensures kept { Kept world.old world.new }
+        ensures kept { Kept G.stream world.old world.new }
         ensures steps { Polled (sleeps self.old sleep) world.old world.new result self.new }
     {
         let slept = sleep.poll(world, cx);
@@ -73,7 +73,7 @@ impl Errand {
         nap: Nanos,
     ) -> Answer<Result<u64, Error>>
         requires { IsPolling world.old cx.now.task }
-        ensures kept { Kept world.old world.new }
+        ensures kept { Kept G.stream world.old world.new }
         ensures steps { Polled (naps self.old nap world.old.told.state.clock.time) world.old world.new result self.new }
     {
         match self.context.sleep(world, nap) {

@@ -76,7 +76,7 @@ impl Heir {
     ) -> Answer<Result<u64, Error>>
         requires polling { IsPolling world.old cx.now.task }
         requires free { self.old.stage ≡ Stage.Over }
-        ensures kept { Kept world.old world.new }
+        ensures kept { Kept G.stream world.old world.new }
         ensures steps { Polled (begun self.old (Ok own)) world.old world.new result self.new }
     {
         match own.child(world, "below") {
@@ -98,7 +98,7 @@ impl Heir {
     ) -> Answer<Result<u64, Error>>
         requires polling { IsPolling world.old cx.now.task }
         requires free { self.old.stage ≡ Stage.Over }
-        ensures kept { Kept world.old world.new }
+        ensures kept { Kept G.stream world.old world.new }
         ensures steps { Polled (kept self.old own (Ok below)) world.old world.new result self.new }
     {
         match own.spawn(world, |context| ready(context)) {
@@ -122,7 +122,7 @@ impl Heir {
     ) -> Answer<Result<u64, Error>>
         requires polling { IsPolling world.old cx.now.task }
         requires free { self.old.stage ≡ Stage.Over }
-        ensures kept { Kept world.old world.new }
+        ensures kept { Kept G.stream world.old world.new }
         ensures steps { Polled (waits self.old handle below) world.old world.new result self.new }
     {
         let Poll::Ready(_) = handle.poll(world, cx) else {
@@ -141,7 +141,7 @@ impl Heir {
         below: Context,
     ) -> Answer<Result<u64, Error>>
         requires { IsPolling world.old cx.now.task }
-        ensures kept { Kept world.old world.new }
+        ensures kept { Kept G.stream world.old world.new }
         ensures steps { Polled (inherits self.old handle below) world.old world.new result self.new }
     {
         handle.give_up(world);
@@ -156,7 +156,7 @@ impl Heir {
         below: Context,
     ) -> Answer<Result<u64, Error>>
         requires { IsPolling world.old cx.now.task }
-        ensures kept { Kept world.old world.new }
+        ensures kept { Kept G.stream world.old world.new }
         ensures steps { Polled (tries self.old below) world.old world.new result self.new }
     {
         match below.spawn(world, |context| ready(context)) {
@@ -177,7 +177,7 @@ impl Heir {
         mut late: Handle<Heir>,
     ) -> Answer<Result<u64, Error>>
         requires { IsPolling world.old cx.now.task }
-        ensures kept { Kept world.old world.new }
+        ensures kept { Kept G.stream world.old world.new }
         ensures steps { Polled (joins self.old late) world.old world.new result self.new }
     {
         let joined = late.poll(world, cx);

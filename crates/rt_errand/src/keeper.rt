@@ -62,7 +62,7 @@ impl Keeper {
     ) -> Answer<Result<i32, Error>>
         requires polling { IsPolling world.old cx.now.task }
         requires free { self.old.duty ≡ Duty.Done }
-        ensures kept { Kept world.old world.new }
+        ensures kept { Kept G.stream world.old world.new }
         ensures steps { Polled (serves self.old signal) world.old world.new result self.new }
     {
         let shown = signal.poll(world, cx);
@@ -81,7 +81,7 @@ impl Keeper {
     ) -> Answer<Result<i32, Error>>
         requires polling { IsPolling world.old cx.now.task }
         requires free { self.old.duty ≡ Duty.Done }
-        ensures kept { Kept world.old world.new }
+        ensures kept { Kept G.stream world.old world.new }
         ensures steps { Polled (asks self.old) world.old world.new result self.new }
     {
         match self.context.stopped(world) {
@@ -99,7 +99,7 @@ impl Keeper {
     ) -> Answer<Result<i32, Error>>
         requires polling { IsPolling world.old cx.now.task }
         requires free { self.old.duty ≡ Duty.Done }
-        ensures kept { Kept world.old world.new }
+        ensures kept { Kept G.stream world.old world.new }
         ensures steps { Polled (settles self.old closer) world.old world.new result self.new }
     {
         closer.give_up(world);
@@ -115,7 +115,7 @@ impl Keeper {
     ) -> Answer<Result<i32, Error>>
         requires polling { IsPolling world.old cx.now.task }
         requires free { self.old.duty ≡ Duty.Done }
-        ensures kept { Kept world.old world.new }
+        ensures kept { Kept G.stream world.old world.new }
         ensures steps { Polled (hired self.old (Ok context)) world.old world.new result self.new }
     {
         let spawned = context.spawn(
@@ -144,7 +144,7 @@ impl Keeper {
     ) -> Answer<Result<i32, Error>>
         requires polling { IsPolling world.old cx.now.task }
         requires free { self.old.duty ≡ Duty.Done }
-        ensures kept { Kept world.old world.new }
+        ensures kept { Kept G.stream world.old world.new }
         ensures steps { Polled (stops self.old stop world.old.told.state.clock.time cx.now.task) world.old world.new result self.new }
     {
         let stopped = stop.poll(world, cx);

@@ -41,7 +41,7 @@ impl Retry {
         mut sleep: Sleep,
     ) -> Answer<Result<u64, Error>>
         requires { IsPolling world.old cx.now.task }
-        ensures kept { Kept world.old world.new }
+        ensures kept { Kept G.stream world.old world.new }
         ensures steps { Polled (thirds self.old sleep) world.old world.new result self.new }
     {
         let slept = sleep.poll(world, cx);
@@ -60,7 +60,7 @@ impl Retry {
         mut sleep: Sleep,
     ) -> Answer<Result<u64, Error>>
         requires { IsPolling world.old cx.now.task }
-        ensures kept { Kept world.old world.new }
+        ensures kept { Kept G.stream world.old world.new }
         ensures steps { Polled (seconds self.old world.old.told.state.clock.time sleep) world.old world.new result self.new }
     {
         let slept = sleep.poll(world, cx);
@@ -82,7 +82,7 @@ impl Retry {
         mut sleep: Sleep,
     ) -> Answer<Result<u64, Error>>
         requires { IsPolling world.old cx.now.task }
-        ensures kept { Kept world.old world.new }
+        ensures kept { Kept G.stream world.old world.new }
         ensures steps { Polled (firsts self.old world.old.told.state.clock.time sleep) world.old world.new result self.new }
     {
         let slept = sleep.poll(world, cx);

@@ -27,7 +27,7 @@ skip-later : (ready : List ℕ) (alarms : List Alarm) (time now : ℕ) → skip_
 skip-later [] alarms time now h = ahead-later alarms time now h
 skip-later (k ∷ ready) alarms time now h = cc
 
-later-entry : (s : State) (e : Entry) → May s e → s.clock.time ≤ (after s e).clock.time
+pub later-entry : (s : State) (e : Entry) → May s e → s.clock.time ≤ (after s e).clock.time
 unfolding after
 later-entry s (Advance now) m = let a = m.1.2 in omega arith
 later-entry s (Skip now) m = let a = skip-later s.ready s.alarms.alarms s.clock.time now m.1.1 in omega arith

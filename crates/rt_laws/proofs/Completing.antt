@@ -14,8 +14,9 @@ use Rattle.rt_model.specs.declared.answer.Answer.{Answer}
 use Rattle.rt_model.specs.declared.answer.Answer.TheVariants.{Pending, Ready, Panicked}
 use Rattle.rt_model.specs.declared.begin.Begin.{Begin}
 use Rattle.rt_model.specs.declared.result.Outcome.{Outcome}
+use Rattle.rt_model.specs.Draws.{Drawn, Long}
 use Rattle.rt_model.specs.State.{State, Phase, Making, Between, Visiting, Entered, Polling, Halted, Ending, Turning, Over, Finished, Announced, Clock, Stood, Turn, stood_in, begun}
-use Rattle.rt_model.specs.Events.{process_task, task_fields, announced_by}
+use Rattle.rt_model.specs.Events.{process_task, task_fields, announced_by, IsOfCall}
 use Rattle.rt_model.specs.Alarms.{alarm_of, skip_to, fires}
 use Rattle.rt_model.specs.Causes.{cause_at, reached, from_running}
 use Rattle.rt_model.specs.Effects.{after, after_all, entered as entering, announces, task_label}
@@ -26,6 +27,7 @@ use Rattle.rt_model.specs.Turns.{Held, Ask, Sleeping, Heard, Asks, Fits, call_of
 use Rattle.rt_model.specs.Walk.{Step, Does, Gives, Gave, Walks}
 use Rattle.rt_model.specs.Tied.{Steps, Value, nothing, MovesCleanup, Moves, Polls, IsTied, taken, given}
 use Rattle.rt_model.specs.Run.{IsValidInput}
+use Rattle.rt_laws.proofs.AsIf.{as_if, lawful-so, tied-so, phase-so}
 use Rattle.rt_laws.proofs.Endings.{EndsFor, ends-all, cleans-for}
 use Rattle.rt_laws.proofs.Starts.{run_starts}
 use Rattle.rt_laws.proofs.Stands.{stands, may_stand}
@@ -318,20 +320,23 @@ module _ {A O : Type 0} (p : Steps A O) where
       pub gave : (at : Step A A O (Answer O)) (answer : Answer O) (end : Held A O) (other : ℕ) → Leads at → other ≡ task → (k : Polls p s other v.held answer end) → Gave (stood_in s) now at answer k.left k.moved
       gave at answer end other l e k = leads-gave at now (stood_in s) answer k.left k.moved s.turns (taken task v.held) (p.task.next a s.clock.time task) l (polls-walk s v task other a answer end e there k)
 
-      pub polling_does : (ask : Ask A O) (on : Heard O → Step A A O (Answer O)) → Leads (Does ask on) → IsQuiet ask → ((reply : CallReply) → Answers s (call_of ask) reply → (held : Held A O) → Fits held ask (turned (call_of ask) reply) → Completes p (after s (CallEntry (Some task) (call_of ask) reply)) v) → Completes p s v
-      polling_does ask on l quiet more = continues s v (λ cause e. cc) c
+      -- the call that is asked for comes next, or an event before it
+      pub polling_asks : (ask : Ask A O) (on : Heard O → Step A A O (Answer O)) → Leads (Does ask on) → ((label : List ℕ) (fields : List (List ℕ)) (u : Value A O) → IsOfCall s.announced label fields → u ≡ v → Completes p (after s (Event label fields)) u) → ((reply : CallReply) → s.announced ≡ announced_by (call_of ask) reply → Answers s (call_of ask) reply → (held : Held A O) → Fits held ask (turned (call_of ask) reply) → Completes p (after s (CallEntry (Some task) (call_of ask) reply)) v) → Completes p s v
+      polling_asks ask on l events more = continues s v (λ cause e. cc) c
         where
-          calls : (by : Option ℕ) (call : Call) (reply : CallReply) (u : Value A O) → by ≡ Some task → u ≡ v → Answers s call reply → Completes p (after s (CallEntry by call reply)) u
-          calls by call reply u e k m x cause r =
+          calls : (by : Option ℕ) (call : Call) (reply : CallReply) (u : Value A O) → by ≡ Some task → u ≡ v → Answers s call reply → s.announced ≡ announced_by call reply → Completes p (after s (CallEntry by call reply)) u
+          calls by call reply u e k m n x cause r =
               let rest : Rest p (after s (CallEntry (Some task) call reply)) u x cause = rw e at r in
               let asks : Asks now ask (turned call reply) = (called (Does ask on) call reply u x cause l k rest).1.0 in
               let fits : Fits now ask (turned call reply) = asks.1 in
               let same : call ≡ call_of ask = asks.0 in
-              more reply (rw same at m) now (rw same at fits) x cause (rw (same, k) at rest)
+              more reply (rw same at n) (rw same at m) now (rw same at fits) x cause (rw (same, k) at rest)
 
           c : Continues s v
-          c (CallEntry by call reply) u m k w = calls by call reply u (rw is at m.1.0) k m.1.1
-          c (Event label fields) u m k w = silent (Does ask on) l (λ call reply f. rw f.1.0.0 (quiet reply)) label fields u k
+          c (CallEntry by call reply) u m k w = calls by call reply u (rw is at m.1.0) k m.1.1 m.1.2
+          c (Event label fields) u m k w =
+              let e : MayEvent (Polling task left) s label fields = rw is at m.1 in
+              events label fields u e.2 k
           c (AnswerEntry other IsPending) u m k w = let n = m.1.0 in absurd (gave (Does ask on) Pending k.0 other l (cc) k.1)
           c (AnswerEntry other IsReady) u m k w = let n = m.1.0 in let o : O = k.0 in absurd (gave (Does ask on) (Ready o) k.1 other l (cc) k.2)
           c (AnswerEntry other IsPanicked) u m k w = let n = m.1.0 in let text : List ℕ = k.0 in absurd (gave (Does ask on) (Panicked text) k.1 other l (cc) k.2)
@@ -340,6 +345,13 @@ module _ {A O : Type 0} (p : Steps A O) where
           c (AnswerEntry other IsEnded) u m k w = absurd (rw is at m.1.0)
           c (Wake other) u m k w = absurd (cc)
           c e u m k w = let z : stands (Polling task left) e ≡ true = rw is at (may_stand s e m) in absurd (cc)
+
+      -- a call that announces nothing
+      pub polling_does : (ask : Ask A O) (on : Heard O → Step A A O (Answer O)) → Leads (Does ask on) → IsQuiet ask → ((reply : CallReply) → Answers s (call_of ask) reply → (held : Held A O) → Fits held ask (turned (call_of ask) reply) → Completes p (after s (CallEntry (Some task) (call_of ask) reply)) v) → Completes p s v
+      polling_does ask on l quiet more =
+          polling_asks ask on l
+          (λ label fields u m. silent (Does ask on) l (λ call reply f. rw f.1.0.0 (quiet reply)) label fields u)
+          (λ reply n. more reply)
 
       -- a sleep, by whether it is due
       pub polling_sleeps : (due : ℕ) (alarm : Option ℕ) (on : Heard O → Step A A O (Answer O)) → Leads (Does (Sleeping due alarm) on) → s.clock.time < due → Completes p (after s (CallEntry (Some task) (SleepPoll due) (PendingAt (alarm_of s.alarms due alarm)))) v → Completes p s v
@@ -476,13 +488,24 @@ module _ {A O : Type 0} (p : Steps A O) where
       (s.phase ≡ Between)
       ⊎ ((s.phase ≡ Turning) × (skip_to s.ready s.alarms.alarms s.clock.time ≡ None) × (fires s.alarms.alarms s.clock.time ≡ None))
 
-  -- with these draws
-  abbrev drawn : State → List ℕ → State
-  drawn s draws = record s { draws = draws; owed = []; announced = [] }
+  -- with these draws for its order, and this drawn so far
+  abbrev drawing : State → List ℕ → List Drawn → State
+  drawing s draws drawn = record s { draws = draws; drawn = drawn; owed = []; announced = [] }
 
-  reached-drawn : (s : State) (draws : List ℕ) (q : Phase) → cause_at q (drawn s draws) ≡ cause_at q s
-  reached-drawn s draws Making = refl
-  reached-drawn s draws _ = refl
+  reached-drawn : (s : State) (draws : List ℕ) (drawn : List Drawn) (q : Phase) → cause_at q (drawing s draws drawn) ≡ cause_at q s
+  reached-drawn s draws drawn Making = refl
+  reached-drawn s draws drawn _ = refl
+
+  -- what was drawn so far doesn't matter
+  rest-so : (drawn : List Drawn) (s : State) (v : Value A O) (x : List Entry) (cause : FinishCause) → Rest p (as_if drawn s) v x cause → Rest p s v x cause
+  rest-so drawn s v x cause r = record {
+    value = r.value;
+    lawful = lawful-so drawn s x r.lawful;
+    tied = tied-so p drawn s v r.value x r.tied;
+    whole = r.whole;
+    ends = sym (phase-so drawn s x) ∙ r.ends;
+    caused = r.caused;
+  }
 
   module _ (s : State) (v : Value A O) (must : MustRound s) (f : IsFine (reached s)) (more : (order : List ℕ) → IsPermutation s.ready order → Completes p (after s (Round order)) v) where
     must-stand : (e : Entry) → stands Between e ≡ false → stands Turning e ≡ false → stands s.phase e ≡ true → ⊥
@@ -491,30 +514,30 @@ module _ {A O : Type 0} (p : Steps A O) where
       | inr z ↦ (let a : stands Turning e ≡ true = rw z.0 at h in cc)
     ]
 
-    round-drawn : (draws : List ℕ) → Completes p (drawn s draws) v
+    round-drawn : (draws : List ℕ) (drawn : List Drawn) → Completes p (drawing s draws drawn) v
     unfolding after
-    round-drawn draws [] cause r = let e = r.ends in elim must [ inl z ↦ absurd (cc) | inr z ↦ absurd (cc) ]
-    round-drawn draws (Draw value ∷ x) cause r =
-        let m = further (drawn s draws) v (Draw value) x cause r in
-        let rest : Rest p (drawn s (draws ++ value ∷ [])) v x cause = rw m.1 at m.3 in
-        round-drawn (draws ++ value ∷ []) x cause rest
-    round-drawn draws (Round order ∷ x) cause r =
-        let m = further (drawn s draws) v (Round order) x cause r in
-        let rest : Rest p (after s (Round order)) v x cause = rw m.1.0 at m.3 in
-        more order r.lawful.0.1.1 x cause rest
-    round-drawn draws (Cleanup ∷ x) cause r =
-        let m = further (drawn s draws) v Cleanup x cause r in
-        cleanup (drawn s draws) m.0 (rw (reached-drawn s draws s.phase) f) x cause m.3
-    round-drawn draws (Skip now ∷ x) cause r = let m = r.lawful.0.1 in elim must [ inl z ↦ absurd (cc) | inr z ↦ absurd (cc) ]
-    round-drawn draws (Fire alarm ∷ x) cause r = let m = r.lawful.0.1 in elim must [ inl z ↦ absurd (cc) | inr z ↦ absurd (cc) ]
-    round-drawn draws (Wake task ∷ x) cause r = let m = r.lawful.0 in absurd (cc)
-    round-drawn draws (e ∷ x) cause r = absurd (must-stand e refl refl (may_stand (drawn s draws) e r.lawful.0))
+    round-drawn draws drawn [] cause r = let e = r.ends in elim must [ inl z ↦ absurd (cc) | inr z ↦ absurd (cc) ]
+    round-drawn draws drawn (Draw value ∷ x) cause r =
+        let m = further (drawing s draws drawn) v (Draw value) x cause r in
+        let rest : Rest p (drawing s (draws ++ value ∷ []) (drawn ++ Long value ∷ [])) v x cause = rw m.1 at m.3 in
+        round-drawn (draws ++ value ∷ []) (drawn ++ Long value ∷ []) x cause rest
+    round-drawn draws drawn (Round order ∷ x) cause r =
+        let m = further (drawing s draws drawn) v (Round order) x cause r in
+        let rest : Rest p (as_if drawn (after s (Round order))) v x cause = rw m.1.0 at m.3 in
+        more order r.lawful.0.1.1 x cause (rest-so drawn (after s (Round order)) v x cause rest)
+    round-drawn draws drawn (Cleanup ∷ x) cause r =
+        let m = further (drawing s draws drawn) v Cleanup x cause r in
+        cleanup (drawing s draws drawn) m.0 (rw (reached-drawn s draws drawn s.phase) f) x cause m.3
+    round-drawn draws drawn (Skip now ∷ x) cause r = let m = r.lawful.0.1 in elim must [ inl z ↦ absurd (cc) | inr z ↦ absurd (cc) ]
+    round-drawn draws drawn (Fire alarm ∷ x) cause r = let m = r.lawful.0.1 in elim must [ inl z ↦ absurd (cc) | inr z ↦ absurd (cc) ]
+    round-drawn draws drawn (Wake task ∷ x) cause r = let m = r.lawful.0 in absurd (cc)
+    round-drawn draws drawn (e ∷ x) cause r = absurd (must-stand e refl refl (may_stand (drawing s draws drawn) e r.lawful.0))
 
     pub rounds : s.owed ≡ [] → s.announced ≡ [] → Completes p s v
     rounds owes silent =
         let e : s ≡ record s { announced = [] } = ap (λ announced. record s { announced = announced }) silent in
-        let same : s ≡ drawn s s.draws = ap (λ owed. record s { owed = owed }) owes ∙ ap (λ (t : State). record t { owed = [] }) e in
-        rw same (round-drawn s.draws)
+        let same : s ≡ drawing s s.draws s.drawn = ap (λ owed. record s { owed = owed }) owes ∙ ap (λ (t : State). record t { owed = [] }) e in
+        rw same (round-drawn s.draws s.drawn)
 
   -- from the beginning
 

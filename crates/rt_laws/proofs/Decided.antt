@@ -1,5 +1,5 @@
 -- That the entries of a run may come where they stand, found out by computing: a proof for an example, or none, which says nothing.
-use Rattle.std.proofs.Common.{◌≡◌, ◌≢◌, ◌⊎◌, inl, inr, ℕ, ℤ, pos, negsuc, ◌≤◌, ◌<◌, ◌+◌, ◌-◌, ◌^◌, List, [], ◌∷◌, ◌++◌, drop, get_or, Option, Some, None, Result, Ok, Err, is_some, option_map, Bool, true, false, not, eqb, ltb, leb, refl, arith}
+use Rattle.std.proofs.Common.{◌≡◌, ◌≢◌, ◌⊎◌, inl, inr, ℕ, ℤ, pos, negsuc, ◌≤◌, ◌<◌, ◌+◌, ◌-◌, ◌^◌, List, [], ◌∷◌, ◌++◌, drop, get_or, length, Option, Some, None, Result, Ok, Err, is_some, option_map, Bool, true, false, not, eqb, ltb, leb, refl, arith}
 use Rattle.std.specs.List.Sorted.{IsPermutation}
 use Rattle.std.specs.Int.{w32, cast_signed, from_be_bytes}
 use Rattle.std.specs.Option.{option_zip, option_or}
@@ -11,9 +11,9 @@ use Rattle.rt_base.specs.declared.metric_error.MetricError.TheVariants.{BadLabel
 use Rattle.rt_base.specs.declared.poll.Poll.{Poll}
 use Rattle.rt_base.specs.declared.time.TheConstants.{MAX_TIME}
 use Rattle.rt_audit.specs.declared.call.Call.{Call}
-use Rattle.rt_audit.specs.declared.call.Call.TheVariants.{Child, CloseNode, Spawn, Abort, AbortTask, Wake as WakeCall, Join, GiveUp, SleepPoll, Slot, SlotSend, SlotClose, SlotPoll, SlotGiveUp, AbortWait, Signaler, CloneSignal, Signal, SignalPoll, SignalClose, SignalerClose, CompletionPoll, CompletionClose, Stop, Stopped as StoppedCall}
+use Rattle.rt_audit.specs.declared.call.Call.TheVariants.{Child, CloseNode, Spawn, Abort, AbortTask, Wake as WakeCall, Join, GiveUp, SleepPoll, Slot, SlotSend, SlotClose, SlotPoll, SlotGiveUp, AbortWait, Signaler, CloneSignal, Signal, SignalPoll, SignalClose, SignalerClose, CompletionPoll, CompletionClose, Stop, Stopped as StoppedCall, NextU32, NextU64, FillBytes, Auditor}
 use Rattle.rt_audit.specs.declared.reply.CallReply.{CallReply}
-use Rattle.rt_audit.specs.declared.reply.CallReply.TheVariants.{Done, NodeAt, TaskAt, Closed, SlotAt, SignalAt, CompletionAt, Value, ClosedWith, Pending as StillPending, PendingAt, Ready as IsReady, Refused}
+use Rattle.rt_audit.specs.declared.reply.CallReply.TheVariants.{Done, NodeAt, TaskAt, Closed, SlotAt, SignalAt, CompletionAt, Value, ClosedWith, Pending as StillPending, PendingAt, Ready as IsReady, Number, Bytes, Refused}
 use Rattle.rt_audit.specs.declared.answer.AnswerKind.{AnswerKind}
 use Rattle.rt_audit.specs.declared.answer.AnswerKind.TheVariants.{Pending, Ready, Panicked, Stopped, NoMemory, Ended}
 use Rattle.rt_audit.specs.declared.finish.FinishCause.{FinishCause}
@@ -280,6 +280,10 @@ answers s (CompletionPoll completion) reply = shown met_reply same_reply (comple
 answers s (CompletionClose completion) Done = is_true (is_some (find completion s.signals.completions))
 answers s (Stop value) (CompletionAt number) = same number s.signals.count
 answers s StoppedCall reply = same_reply reply (stopped_reply (stopped_answer s.signals s.stop))
+answers s NextU32 (Number number) = below number (2 ^ 32)
+answers s NextU64 (Number number) = below number (2 ^ 64)
+answers s (FillBytes len) (Bytes bytes) = same (length bytes) len
+answers s Auditor (Bytes bytes) = same (length bytes) 4
 answers s _ _ = None
 
 -- phases
@@ -398,7 +402,11 @@ stop_told fields = cast_signed w32 (from_be_bytes w32 (get_or fields 0 []))
 
 abbrev event_of : (announced : List Announced) (label : List ℕ) (fields : List (List ℕ)) → Option (IsOfCall announced label fields)
 event_of announced label fields =
-    option_or (event_by announced label fields (Stop (stop_told fields))) (event_by announced label fields StoppedCall)
+    option_or (event_by announced label fields (Stop (stop_told fields)))
+    (option_or (event_by announced label fields StoppedCall)
+    (option_or (event_by announced label fields NextU32)
+    (option_or (event_by announced label fields NextU64)
+    (event_by announced label fields (FillBytes 0)))))
 
 -- an event of a visit, or one of a call that comes here
 abbrev event : (p : Phase) (s : State) (label : List ℕ) (fields : List (List ℕ)) → Option (MayEvent p s label fields)

@@ -12,7 +12,7 @@ use Rattle.rt_model.specs.Tied.{nothing, IsTied}
 use Rattle.rt_model.specs.Run.{IsRun}
 use Rattle.rt_laws.specs.Examples.{small_begin}
 use Rattle.rt_laws.specs.Supervised.{gave_beside}
-use Rattle.rt_laws.specs.Twice.{twice_root, twice_journal, woken_twice, woken_in, visited_once, ended_behind, passed_by, passed_in, behind_root, pending_behind}
+use Rattle.rt_laws.specs.Twice.{twice_root, twice_journal, woken_twice, woken_in, visited_once, ended_behind, passed_by, passed_in, drawn_for_two, behind_root, pending_behind}
 use Rattle.rt_laws.proofs.Decided.{lawful}
 use Rattle.rt_laws.proofs.Followed.{tied}
 use Rattle.rt_laws.proofs.Small.{tail}
@@ -80,6 +80,12 @@ pub no_second_draw : (one two : ℕ) (order : List ℕ) → AreDrawn (begun smal
 unfolding begun after
 no_second_draw one two order d = let h = (passed-tail (one ∷ two ∷ []) order d).1.1.0.1 in cc
 
+pub no_draw_too_many : (one two : ℕ) → AreDrawn (begun small_begin) (drawn_for_two (one ∷ two ∷ [])) → ⊥
+unfolding begun after
+no_draw_too_many one two d =
+    let h = (drawn-tail (begun small_begin) (ended_behind (Wake 1 ∷ Advance 3000000 ∷ [])) (map Draw (one ∷ two ∷ [])) d).1.0 in
+    omega arith
+
 pub no_later_visit : IsLawful (begun small_begin) (behind_root (Visit 1 ∷ [])) → ⊥
 unfolding begun after
 no_later_visit l = let h = (tail (behind_root []) (Visit 1 ∷ []) l).0.1.1 in cc
@@ -109,6 +115,10 @@ its_place = search rules
 pub its_turned_place : AreDrawn (begun small_begin) (passed_by (6 ∷ []) (1 ∷ 0 ∷ []))
 unfolding begun after
 its_turned_place = search rules
+
+pub its_draw : (one : ℕ) → AreDrawn (begun small_begin) (drawn_for_two (one ∷ []))
+unfolding begun after
+its_draw one = search rules
 
 pub passed_later : IsLawful (begun small_begin) (behind_root (Advance 4000000 ∷ []))
 unfolding begun after

@@ -4,7 +4,7 @@ use Rattle.std.proofs.Common.{◌≡◌, inl, inr, ℕ, ℤ, List, [], ◌∷◌
 use Rattle.std.specs.Option.{option_zip}
 use Rattle.rt_base.specs.declared.error.Error.{Error}
 use Rattle.rt_audit.specs.declared.call.Call.{Call}
-use Rattle.rt_audit.specs.declared.call.Call.TheVariants.{Child, CloseNode, Spawn, Abort, AbortTask, Wake as WakeCall, Join, GiveUp, SleepPoll, Slot, SlotSend, SlotClose, SlotPoll, SlotGiveUp, AbortWait, Signaler, CloneSignal, Signal, SignalPoll, SignalClose, SignalerClose, CompletionPoll, CompletionClose, Stop, Stopped as StoppedCall}
+use Rattle.rt_audit.specs.declared.call.Call.TheVariants.{Child, CloseNode, Spawn, Abort, AbortTask, Wake as WakeCall, Join, GiveUp, SleepPoll, Slot, SlotSend, SlotClose, SlotPoll, SlotGiveUp, AbortWait, Signaler, CloneSignal, Signal, SignalPoll, SignalClose, SignalerClose, CompletionPoll, CompletionClose, Stop, Stopped as StoppedCall, NextU32, NextU64, FillBytes, Auditor}
 use Rattle.rt_audit.specs.declared.reply.CallReply.{CallReply}
 use Rattle.rt_audit.specs.declared.reply.CallReply.TheVariants.{Done, PendingAt, Ready as IsOver, Refused}
 use Rattle.rt_audit.specs.declared.answer.AnswerKind.{AnswerKind}
@@ -70,6 +70,10 @@ same_call (CompletionPoll n) (CompletionPoll m) = same_number (λ n. CompletionP
 same_call (CompletionClose n) (CompletionClose m) = same_number (λ n. CompletionClose n) n m
 same_call (Stop v) (Stop w) = found (same_value_of v w) (λ e. Some (same_stop v w e))
 same_call StoppedCall StoppedCall = Some refl
+same_call NextU32 NextU32 = Some refl
+same_call NextU64 NextU64 = Some refl
+same_call (FillBytes n) (FillBytes m) = same_number (λ n. FillBytes n) n m
+same_call Auditor Auditor = Some refl
 same_call _ _ = None
 
 abbrev is_done : (reply : CallReply) → Option (reply ≡ Done)
@@ -114,6 +118,10 @@ module _ {A O : Type 0} where
   plainly held (CompletionClose completion) reply = Some tt
   plainly held (Stop value) reply = Some tt
   plainly held StoppedCall reply = Some tt
+  plainly held NextU32 reply = Some tt
+  plainly held NextU64 reply = Some tt
+  plainly held (FillBytes len) reply = Some tt
+  plainly held Auditor reply = Some tt
   plainly held call reply = None
 
   abbrev fits : (held : Held A O) (ask : Ask A O) (t : Turn) → Option (Fits held ask t)

@@ -7,8 +7,14 @@ pub mod Each
 pub mod FirstStop
 pub mod Flags
 pub mod Doubled
+pub mod AsIf
+pub mod Announcing
+pub mod Chains
+pub mod Audited
+pub mod Drawings
 pub mod Followed
 pub mod Fronts
+pub mod Given
 pub mod Grouped
 pub mod Handed
 pub mod Endings
@@ -43,6 +49,7 @@ pub mod Trees
 pub mod Under
 pub mod Valid
 pub mod ValidAborting
+pub mod ValidDrawing
 pub mod ValidSide
 pub mod Values
 pub mod Several

@@ -32,7 +32,7 @@ renews-finished (Finished cause) e h = ap Finished (renews-completed cause e h)
 renews-finished _ (Start next now deadline cycle) h = absurd (false≢true h)
 renews-finished _ _ h = absurd (false≢true h)
 
-blank-same : (e : Entry) → renews e Blank ≡ false
+pub blank-same : (e : Entry) → renews e Blank ≡ false
 blank-same (Start next now deadline cycle) = refl
 blank-same _ = refl
 

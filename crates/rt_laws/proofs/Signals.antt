@@ -1,7 +1,7 @@
 -- Roots that signal to themselves and stop their runs, and what comes near to their runs is none.
 use Rattle.std.proofs.Common.{◌≡◌, ◌<◌, ℕ, pos, List, [], ◌∷◌, ◌++◌, Some, length, slice_index, refl, ap, arith}
 use Rattle.rt_audit.specs.declared.call.Call.{Call as CallOf}
-use Rattle.rt_audit.specs.declared.call.Call.TheVariants.{SignalPoll, CompletionPoll, SignalClose, Signal, Stop, Stopped}
+use Rattle.rt_audit.specs.declared.call.Call.TheVariants.{SignalPoll, CompletionPoll, SignalClose, Signal, Stop, Stopped, NextU32, NextU64, FillBytes}
 use Rattle.rt_audit.specs.declared.reply.CallReply.{CallReply}
 use Rattle.rt_audit.specs.declared.reply.CallReply.TheVariants.{Done, CompletionAt, SignalAt, Value as Shows, Pending as StillPending}
 use Rattle.rt_audit.specs.declared.finish.FinishCause.TheVariants.{Completed}
@@ -88,7 +88,7 @@ abbrev last_byte : List Announced → ℕ
 last_byte [] = 0
 last_byte (event ∷ events) = in_fields event.fields
 
-apart : (n m : ℕ) → n < m → n ≡ m → ⊥
+pub apart : (n m : ℕ) → n < m → n ≡ m → ⊥
 apart n m less e = omega (arith, e)
 
 pub no_call_announced_so : IsLawful (begun small_begin) (stop_begun (stop_event 8 ∷ Call (Some 0) (Stop (pos 9)) (CompletionAt 2) ∷ [])) → ⊥
@@ -111,6 +111,9 @@ label_length (event ∷ events) = length event.label
 of-no-call : (call : CallOf) (reply : CallReply) → announced_by call reply ≡ record { label = process_task; fields = task_fields 0 [] } ∷ [] → ⊥
 of-no-call (Stop value) reply is = apart 4 12 (omega arith) (ap label_length is)
 of-no-call Stopped reply is = apart 7 12 (omega arith) (ap label_length is)
+of-no-call NextU32 reply is = apart 4 12 (omega arith) (ap label_length is)
+of-no-call NextU64 reply is = apart 4 12 (omega arith) (ap label_length is)
+of-no-call (FillBytes len) reply is = apart 4 12 (omega arith) (ap label_length is)
 of-no-call _ reply is = cc
 
 pub no_event_of_no_call : IsLawful (begun small_begin) (stop_begun (Event process_task (task_fields 0 []) ∷ [])) → ⊥

@@ -12,7 +12,8 @@ use Rattle.rt_model.specs.Events.{process_task, task_fields}
 use Rattle.rt_model.specs.State.{State, begun}
 use Rattle.rt_model.specs.Effects.{after, after_all}
 use Rattle.rt_model.specs.Turns.{Held, put}
-use Rattle.rt_model.specs.Tied.{Value, nothing}
+use Rattle.rt_model.specs.Walk.{Gives}
+use Rattle.rt_model.specs.Tied.{Steps, Value, nothing}
 use Rattle.rt_model.specs.Run.{IsValidInput}
 use Rattle.rt_laws.specs.Examples.{small_begin, ready_root, Sleeper, sleeper_heard, sleeping_root, opening, visiting_root, still_asleep}
 use Rattle.rt_laws.proofs.Completing.{Completes, begins, making_gives, rounds, visiting, entered, visited, polling_gives, polling_sleeps, polling_wakes, fired, skips, woken}
@@ -27,22 +28,33 @@ only k [] perm = let e = length_permutation (k ∷ []) [] perm in absurd (omega 
 only k (x ∷ []) perm = rw (one k x (Contains-permutation (k ∷ []) (x ∷ []) k perm (0, omega arith, refl))) refl
 only k (x ∷ y ∷ rest) perm = let e = length_permutation (k ∷ []) (x ∷ y ∷ rest) perm in absurd (omega arith)
 
+-- a root that is made at once, in its first poll
+
+abbrev pub with_state : {A : Type 0} → A → Value A ℕ
+with_state root = record nothing { held = put 0 root nothing.held }
+
+abbrev pub first_polled : State
+first_polled = after_all (begun small_begin) (opening ++ visiting_root)
+
+pub first_poll : {A : Type 0} (p : Steps A ℕ) (root : A) → p.first 0 ≡ Gives tt root → Completes p first_polled (with_state root) → IsValidInput p small_begin
+unfolding begun after
+first_poll {A = A} p root makes more =
+    let s1 = after (begun small_begin) (Start 0 0 None 1000000) in
+    let s2 = after s1 (Root 0) in
+    let s3 = after s2 (Round (0 ∷ [])) in
+    let v = with_state root in
+    let now : Held A ℕ = nothing.held in
+    let visits : Completes p s3 v = visiting p s3 v refl 0 (0 ∷ []) [] refl refl tt (entered p (after s3 (Visit 0)) v refl 0 [] refl more) in
+    begins p small_begin
+    (making_gives p s1 nothing refl root now refl (makes, refl) tt
+    (rounds p s2 v (inl refl) tt (λ order perm. rw (only 0 order perm) visits) refl refl))
+
 pub ready_valid : (number : ℕ) → IsValidInput (ready_root number) small_begin
 unfolding begun after
 ready_valid number =
     let p = ready_root number in
-    let s1 = after (begun small_begin) (Start 0 0 None 1000000) in
-    let s2 = after s1 (Root 0) in
-    let s3 = after s2 (Round (0 ∷ [])) in
-    let s4 = after s3 (Visit 0) in
-    let s5 = after s4 (Event process_task (task_fields 0 [])) in
-    let held : Held (Unit {0}) ℕ = nothing.held in
-    let v : Value (Unit {0}) ℕ = record nothing { held = put 0 tt held } in
-    let polls : Completes p s5 v = polling_gives p s5 v refl 0 [] tt refl refl held (Ready number) tt refl (λ text e. cc) (refl, refl) (λ e. absurd (cc)) in
-    let visits : Completes p s3 v = visiting p s3 v refl 0 (0 ∷ []) [] refl refl tt (entered p s4 v refl 0 [] refl polls) in
-    begins p small_begin
-    (making_gives p s1 nothing refl tt held refl (refl, refl) tt
-    (rounds p s2 v (inl refl) tt (λ order perm. rw (only 0 order perm) visits) refl refl))
+    let now : Held (Unit {0}) ℕ = nothing.held in
+    first_poll p tt refl (polling_gives p first_polled (with_state tt) refl 0 [] tt refl refl now (Ready number) tt refl (λ text e. cc) (refl, refl) (λ e. absurd (cc)))
 
 -- a root that sleeps
 
@@ -51,51 +63,37 @@ abbrev pub asleep : ℕ → ℕ → State
 asleep due time = after_all (begun small_begin) (opening ++ visiting_root ++ still_asleep due ++ (Advance time ∷ []))
 
 abbrev pub with_root : ℕ → Option ℕ → Value Sleeper ℕ
-with_root due alarm = record nothing { held = put 0 (record { due = due; alarm = alarm }) nothing.held }
+with_root due alarm = with_state (record { due = due; alarm = alarm })
 
 abbrev pub no_values : Held Sleeper ℕ
 no_values = nothing.held
 
--- in its first poll
-abbrev polled : ℕ → State
-polled due = after_all (begun small_begin) (opening ++ visiting_root)
-
-first-poll : (due : ℕ) → Completes (sleeping_root due) (polled due) (with_root due None) → IsValidInput (sleeping_root due) small_begin
-unfolding begun after
+first-poll : (due : ℕ) → Completes (sleeping_root due) first_polled (with_root due None) → IsValidInput (sleeping_root due) small_begin
 first-poll due more =
-    let p = sleeping_root due in
-    let root : Sleeper = record { due = due; alarm = None } in
-    let s1 = after (begun small_begin) (Start 0 0 None 1000000) in
-    let s2 = after s1 (Root 0) in
-    let s3 = after s2 (Round (0 ∷ [])) in
-    let v = with_root due None in
-    let visits : Completes p s3 v = visiting p s3 v refl 0 (0 ∷ []) [] refl refl tt (entered p (after s3 (Visit 0)) v refl 0 [] refl more) in
     let none : 0 + due ≡ due = omega arith in
-    begins p small_begin
-    (making_gives p s1 nothing refl root no_values refl (rw none refl, refl) tt
-    (rounds p s2 v (inl refl) tt (λ order perm. rw (only 0 order perm) visits) refl refl))
+    first_poll (sleeping_root due) (record { due = due; alarm = None }) (rw none refl) more
 
-falls-asleep : (due : ℕ) → 0 < due → Completes (sleeping_root due) (asleep due 1000000) (with_root due (Some 0)) → Completes (sleeping_root due) (polled due) (with_root due None)
+falls-asleep : (due : ℕ) → 0 < due → Completes (sleeping_root due) (asleep due 1000000) (with_root due (Some 0)) → Completes (sleeping_root due) first_polled (with_root due None)
 unfolding begun after
 falls-asleep due later more =
     let p = sleeping_root due in
     let root : Sleeper = record { due = due; alarm = None } in
-    let s = after (polled due) (Call (Some 0) (SleepPoll due) (PendingAt 0)) in
+    let s = after first_polled (Call (Some 0) (SleepPoll due) (PendingAt 0)) in
     let v = with_root due None in
     let w = with_root due (Some 0) in
     let steps : Completes p (after s (Answered 0 AnswersPending)) w = visited p (after s (Answered 0 AnswersPending)) w refl [] refl refl tt more in
     let answers : Completes p s v = polling_gives p s v refl 0 [] root refl refl no_values Pending (record { due = due; alarm = Some 0 }) refl (λ text e. cc) ((refl, refl), (refl, refl)) (λ e. steps) in
-    polling_sleeps p (polled due) v refl 0 [] root refl refl no_values due None (sleeper_heard root) (refl, refl) later answers
+    polling_sleeps p first_polled v refl 0 [] root refl refl no_values due None (sleeper_heard root) (refl, refl) later answers
 
-stays-awake : Completes (sleeping_root 0) (polled 0) (with_root 0 None)
+stays-awake : Completes (sleeping_root 0) first_polled (with_root 0 None)
 unfolding begun after
 stays-awake =
     let p = sleeping_root 0 in
     let root : Sleeper = record { due = 0; alarm = None } in
-    let s = after (polled 0) (Call (Some 0) (SleepPoll 0) IsOver) in
+    let s = after first_polled (Call (Some 0) (SleepPoll 0) IsOver) in
     let v = with_root 0 None in
     let answers : Completes p s v = polling_gives p s v refl 0 [] root refl refl no_values (Ready 0) root refl (λ text e. cc) ((refl, tt), (refl, refl)) (λ e. absurd (cc)) in
-    polling_wakes p (polled 0) v refl 0 [] root refl refl no_values 0 None (sleeper_heard root) (refl, refl) (omega arith) answers
+    polling_wakes p first_polled v refl 0 [] root refl refl no_values 0 None (sleeper_heard root) (refl, refl) (omega arith) answers
 
 -- where its alarm goes off
 wakes-up : (due time : ℕ) → due ≤ time → Completes (sleeping_root due) (asleep due time) (with_root due (Some 0))

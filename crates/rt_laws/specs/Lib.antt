@@ -1,7 +1,10 @@
 pub mod Aborts
+pub mod Chained
 pub mod Cleanup
+pub mod Drawing
 pub mod Earliest
 pub mod Examples
+pub mod Giving
 pub mod Kin
 pub mod Panics
 pub mod Polls

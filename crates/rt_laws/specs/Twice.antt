@@ -90,6 +90,10 @@ ended_behind rest = visited_once ++ (Answered 1 AnswersReady ∷ []) ++ aborter_
 abbrev pub passed_by : List ℕ → List ℕ → List Entry
 passed_by draws order = ended_behind (Wake 1 ∷ Advance 3000000 ∷ map Draw draws ++ Round order ∷ [])
 
+-- these are drawn for the next round, and it is still to come
+abbrev pub drawn_for_two : List ℕ → List Entry
+drawn_for_two draws = ended_behind (Wake 1 ∷ Advance 3000000 ∷ map Draw draws)
+
 -- an odd draw leaves the last place as it is
 abbrev pub passed_in : List ℕ → List Entry
 passed_in order = passed_by (7 ∷ []) order

@@ -1,7 +1,11 @@
 //! Laws of runs, in the words of the definitions. Each function does nothing: its contract is the law.
 #![tactic(auto)]
 
+mod auditing;
+mod chained;
+mod drawing;
 mod examples;
+mod giving;
 mod kin;
 mod panics;
 mod refusals;
@@ -44,11 +48,28 @@ ghost use Rattle.rt_laws.specs.Spawns.{Spawns};
 ghost use Rattle.rt_laws.specs.Stored.{IsStored};
 ghost use Rattle.rt_laws.specs.Visits.{IsInVisit};
 
+pub use auditing::{
+    an_auditor_is_answered_by_four_bytes, an_auditor_tells_four_zeros_at_first,
+    an_auditor_tells_the_digest_of_the_events_before,
+};
+pub use chained::{a_run_that_begins_too_early_goes_back, time_never_goes_back_over_a_chain};
+pub use drawing::{
+    a_call_comes_behind_its_own_event, a_draw_is_answered_by_what_it_asks_for,
+    a_root_that_draws_has_its_run, inputs_that_draw_are_valid,
+    near_misses_of_drawing_are_lawful_but_for_one_place, near_misses_of_drawing_are_not_lawful,
+    other_answers_of_draws_are_refused, what_was_drawn_stays,
+};
 pub use examples::{
     a_ready_root_has_its_run, a_run_that_lacked_memory_is_cut_off, a_sleeping_root_has_its_run,
     each_other_cause_ends_a_run, near_misses_are_lawful_but_for_one_place, near_misses_are_no_runs,
     near_misses_are_not_cut_off, near_misses_are_not_lawful, small_inputs_are_valid,
     small_rounds_are_not_drawn,
+};
+pub use giving::{
+    a_counting_stream_gives_its_counts, a_draw_orders_two_numbers,
+    a_stream_decides_the_order_of_a_round, a_stream_decides_what_it_gives,
+    a_stream_gives_in_parts_what_it_gives, a_stream_gives_what_it_answers,
+    near_misses_of_giving_are_not_given, what_a_stream_gave_leaves_one_stream,
 };
 pub use kin::{
     a_child_ends_with_its_parent, near_misses_of_ends_are_lawful_but_for_one_place,

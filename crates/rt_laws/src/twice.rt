@@ -10,7 +10,7 @@ ghost use Rattle.rt_model.specs.Rules.{IsLawful, AreDrawn};
 ghost use Rattle.rt_model.specs.Run.{IsRun};
 ghost use Rattle.rt_laws.specs.Examples.{small_begin};
 ghost use Rattle.rt_laws.specs.Supervised.{gave_beside};
-ghost use Rattle.rt_laws.specs.Twice.{twice_root, twice_journal, woken_in, ended_behind, passed_by, passed_in, behind_root, pending_behind};
+ghost use Rattle.rt_laws.specs.Twice.{twice_root, twice_journal, woken_in, ended_behind, passed_by, passed_in, drawn_for_two, behind_root, pending_behind};
 
 /// A task that is woken twice stands twice in the next round. It is ready at its first visit, and its number is passed over
 /// at the second. It was left pending before, so the end of its node queues it: its number stands in the order of the round
@@ -43,17 +43,20 @@ pub fn near_misses_of_double_wakes_are_lawful_but_for_one_place()
 {}
 
 /// The numbers of a round stand as its draws shuffle the ready list, from the last place down, with one draw for each place but the
-/// first.
+/// first. One draw is made for two numbers (`draw`).
 pub fn a_round_is_drawn()
     ensures place { AreDrawn (begun small_begin) (passed_in (0 ∷ 1 ∷ [])) }
     ensures turned { AreDrawn (begun small_begin) (passed_by (6 ∷ []) (1 ∷ 0 ∷ [])) }
     ensures three { shuffled (5 ∷ 6 ∷ 7 ∷ []) (3 ∷ 5 ∷ []) ≡ 7 ∷ 6 ∷ 5 ∷ [] }
+    ensures draw { (one : ℕ) → AreDrawn (begun small_begin) (drawn_for_two (one ∷ [])) }
 {}
 
-/// With another place, with no draw or with two these rounds aren't drawn.
+/// With another place, with no draw or with two these rounds aren't drawn. A second draw for two numbers isn't, whether a round
+/// follows or not (`one_too_many`).
 pub fn near_misses_of_draws_are_not_drawn()
     ensures other_place { AreDrawn (begun small_begin) (passed_in (1 ∷ 0 ∷ [])) → ⊥ }
     ensures unturned { AreDrawn (begun small_begin) (passed_by (6 ∷ []) (0 ∷ 1 ∷ [])) → ⊥ }
     ensures missing_draw { (order : List ℕ) → AreDrawn (begun small_begin) (passed_by [] order) → ⊥ }
     ensures second_draw { (one two : ℕ) (order : List ℕ) → AreDrawn (begun small_begin) (passed_by (one ∷ two ∷ []) order) → ⊥ }
+    ensures one_too_many { (one two : ℕ) → AreDrawn (begun small_begin) (drawn_for_two (one ∷ two ∷ [])) → ⊥ }
 {}

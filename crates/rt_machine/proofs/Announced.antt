@@ -2,13 +2,14 @@
 use Rattle.std.proofs.Common.{◌≡◌, ℕ, ℤ, List, [], ◌∷◌, ◌++◌, codes, refl, ap, Option}
 use Rattle.std.specs.Int.{w32, cast_unsigned, to_be_bytes}
 use Rattle.rt_audit.specs.declared.entry.Entry.TheVariants.{Call as CallEntry, Event}
+use Rattle.rt_audit.specs.declared.call.Call.{Call}
 use Rattle.rt_audit.specs.declared.call.Call.TheVariants.{Stop, Stopped}
 use Rattle.rt_audit.specs.declared.reply.CallReply.TheVariants.{CompletionAt, Done}
 use Rattle.rt_super.specs.Signals.{stop_after, with_stop}
 use Rattle.rt_model.specs.State.{State, Phase, Blank, Making, Between, Visiting, Entered, Polling, Halted, Ending, Leaving, Turning, Over, Cleaning, Closing, Crashed, Finished, Announced, stood_in}
 use Rattle.rt_model.specs.Causes.{ends_next}
 use Rattle.rt_model.specs.Effects.{after, announces, due_called, entered, is_closing}
-use Rattle.rt_model.specs.Events.{IsOfCall}
+use Rattle.rt_model.specs.Events.{IsOfCall, announced_by, drawing}
 use Rattle.rt_model.specs.Rules.{CallsAt, May, MayCall, MayEvent}
 use Rattle.rt_machine.specs.Calls.{turn_in}
 
@@ -67,5 +68,8 @@ may-stop s by value may owes none = (owes, may-event s by _ _ s.phase may (Stop 
 
 pub may-stopped : (s : State) (by : Option ℕ) → MayCall s by → s.owed ≡ [] → s.announced ≡ [] → May s (Event (codes "stopped") [])
 may-stopped s by may owes none = (owes, may-event s by _ _ s.phase may (Stopped, Done, rw none refl))
+
+pub may-drawing : (s : State) (by : Option ℕ) (call : Call) (name : List ℕ) → announced_by call Done ≡ drawing name → MayCall s by → s.owed ≡ [] → s.announced ≡ [] → May s (Event (codes "rand") (name ∷ []))
+may-drawing s by call name is may owes none = (owes, may-event s by _ _ s.phase may (call, Done, rw none is))
 
 pub ruleset event_laws = (after-event)

@@ -7,7 +7,10 @@ use Rattle.rt_model.specs.declared.begin.Begin.{Begin}
 use Rattle.rt_model.specs.State.{State, begun}
 use Rattle.rt_model.specs.Effects.{after, after_all}
 use Rattle.rt_model.specs.Rules.{May, IsDrawn, IsLawful, AreDrawn}
-use Rattle.rt_model.proofs.Append.{after_all-append, IsLawful-append, AreDrawn-append}
+use Rattle.rt_audit.specs.Journal.{digest_of, digest_from}
+use Rattle.rt_audit.specs.Digest.{first_digest}
+use Rattle.rt_model.specs.Digests.{IsDigested, AreDigested}
+use Rattle.rt_model.proofs.Append.{after_all-append, IsLawful-append, AreDrawn-append, AreDigested-append, digest_from-append}
 use Rattle.rt_machine.specs.Told.{told_from, lacked_at, IsKept, IsWithin, AreCalls, is_call, pushed, noted}
 
 -- the parts on both sides of the mark
@@ -36,6 +39,13 @@ lawful-more s es e h k = IsLawful-append s es (e ∷ []) h (k, tt)
 drawn-more : (s : State) (es : List Entry) (e : Entry) → AreDrawn s es → IsDrawn (after_all s es) e → AreDrawn s (es ++ e ∷ [])
 drawn-more s es e h k = AreDrawn-append s es (e ∷ []) h (k, tt)
 
+-- the digest of all entries is that of the given ones, moved by those behind
+digest-joined : (xs : List Entry) (start : ℕ) → digest_of xs ≡ digest_from (digest_of (take start xs)) (drop start xs)
+digest-joined xs start = ap digest_of (sym (take-append-drop start xs)) ∙ digest_from-append first_digest (take start xs) (drop start xs)
+
+digested-more : (xs : List Entry) (start : ℕ) (e : Entry) → AreDigested (digest_of (take start xs)) (drop start xs) → IsDigested (digest_of xs) e → AreDigested (digest_of (take start xs)) (drop start xs ++ e ∷ [])
+digested-more xs start e h k = AreDigested-append (digest_of (take start xs)) (drop start xs) (e ∷ []) h (rw (digest-joined xs start) at k, tt)
+
 within-more : (at : Option ℕ) (xs : List Entry) (e : Entry) → IsWithin at (length xs) → IsWithin at (length (xs ++ e ∷ []))
 within-more None xs e h = tt
 within-more (Some n) xs e h = omega (arith, length-append xs (e ∷ []))
@@ -52,29 +62,38 @@ module _ (b : Begin) (xs : List Entry) (start mark : ℕ) (lacked : Option ℕ) 
   start_within : start ≤ length xs
   start_within = omega (arith, kept.start_first, kept.mark_within)
 
-  pub note-kept : May (after_all (begun b) (drop start xs)) e → is_call e ≡ true → IsKept b (xs ++ e ∷ []) start mark lacked
-  note-kept m k = record {
+  pub note-kept : May (after_all (begun b) (drop start xs)) e → is_call e ≡ true → IsDigested (digest_of xs) e → IsKept b (xs ++ e ∷ []) start mark lacked
+  note-kept m k g = record {
     start_first = kept.start_first;
     mark_within = omega (arith, kept.mark_within, length-append xs (e ∷ []));
     lawful = rw (drop-append-le start xs (e ∷ []) start_within) (lawful-more (begun b) (drop start xs) e kept.lawful m);
     drawn = rw (drop-append-le start xs (e ∷ []) start_within) (drawn-more (begun b) (drop start xs) e kept.drawn (call-drawn (after_all (begun b) (drop start xs)) e k));
+    digested = rw (drop-append-le start xs (e ∷ []) start_within, take-append-le start xs (e ∷ []) start_within) (digested-more xs start e kept.digested g);
     calls = rw (drop-append-le mark xs (e ∷ []) kept.mark_within) (AreCalls-append (drop mark xs) e kept.calls k);
     lacked_within = within-more lacked xs e kept.lacked_within;
   }
+
+  -- all entries, in their parts
+  all-parts : take start xs ++ (drop start (take mark xs) ++ drop mark xs) ≡ xs
+  all-parts = rw (joined xs start mark kept.start_first kept.mark_within) (take-append-drop start xs)
+
+  pub all-digested : IsDigested (digest_of (take start xs ++ (drop start (take mark xs) ++ drop mark xs))) e → IsDigested (digest_of xs) e
+  all-digested h = rw all-parts at h
 
   pub note-told : told_from b (xs ++ e ∷ []) start mark ≡ noted (told_from b xs start mark) e
   note-told =
       let start_within = start_within in
       rw (take-append-le start xs (e ∷ []) start_within, take-append-le mark xs (e ∷ []) kept.mark_within, drop-append-le mark xs (e ∷ []) kept.mark_within, drop-append-le start xs (e ∷ []) start_within, state-more (begun b) (drop start xs) e) refl
 
-  pub push-kept : (len : ℕ) → len ≡ length (xs ++ e ∷ []) → May (after_all (begun b) (drop start xs)) e → IsDrawn (after_all (begun b) (drop start xs)) e → IsKept b (xs ++ e ∷ []) start len lacked
-  push-kept len is m d =
+  pub push-kept : (len : ℕ) → len ≡ length (xs ++ e ∷ []) → May (after_all (begun b) (drop start xs)) e → IsDrawn (after_all (begun b) (drop start xs)) e → IsDigested (digest_of xs) e → IsKept b (xs ++ e ∷ []) start len lacked
+  push-kept len is m d g =
       let all : drop len (xs ++ e ∷ []) ≡ [] = drop_all len (xs ++ e ∷ []) (omega arith) in
       record {
         start_first = omega (arith, kept.start_first, kept.mark_within, length-append xs (e ∷ []));
         mark_within = omega arith;
         lawful = rw (drop-append-le start xs (e ∷ []) start_within) (lawful-more (begun b) (drop start xs) e kept.lawful m);
         drawn = rw (drop-append-le start xs (e ∷ []) start_within) (drawn-more (begun b) (drop start xs) e kept.drawn d);
+        digested = rw (drop-append-le start xs (e ∷ []) start_within, take-append-le start xs (e ∷ []) start_within) (digested-more xs start e kept.digested g);
         calls = rw all tt;
         lacked_within = within-more lacked xs e kept.lacked_within;
       }

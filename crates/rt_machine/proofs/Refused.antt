@@ -2,7 +2,7 @@
 use Rattle.std.proofs.Common.{◌≡◌, ℕ, List, [], ◌∷◌, ◌++◌, refl, true, false, Bool, Option}
 use Rattle.rt_base.specs.declared.error.Error.{Error}
 use Rattle.rt_audit.specs.declared.call.Call.{Call}
-use Rattle.rt_audit.specs.declared.call.Call.TheVariants.{Child, CloseNode, Spawn, Abort, AbortTask, Wake, Join, GiveUp, SleepPoll, Slot, SlotSend, SlotClose, SlotPoll, SlotGiveUp, AbortWait, Signaler, CloneSignal, Signal, SignalPoll, SignalClose, SignalerClose, CompletionPoll, CompletionClose, Stop, Stopped}
+use Rattle.rt_audit.specs.declared.call.Call.TheVariants.{Child, CloseNode, Spawn, Abort, AbortTask, Wake, Join, GiveUp, SleepPoll, Slot, SlotSend, SlotClose, SlotPoll, SlotGiveUp, AbortWait, Signaler, CloneSignal, Signal, SignalPoll, SignalClose, SignalerClose, CompletionPoll, CompletionClose, Stop, Stopped, NextU32, NextU64, FillBytes, Auditor}
 use Rattle.rt_audit.specs.declared.reply.CallReply.TheVariants.{Refused}
 use Rattle.rt_audit.specs.declared.entry.Entry.TheVariants.{Call as CallEntry}
 use Rattle.rt_model.specs.declared.mark.Mark.{Mark}
@@ -37,6 +37,10 @@ due-refused false ms st (CompletionPoll completion) e = refl
 due-refused false ms st (CompletionClose completion) e = refl
 due-refused false ms st (Stop value) e = refl
 due-refused false ms st Stopped e = refl
+due-refused false ms st NextU32 e = refl
+due-refused false ms st NextU64 e = refl
+due-refused false ms st (FillBytes len) e = refl
+due-refused false ms st Auditor e = refl
 
 pub after-refused : (s : State) (by : Option ℕ) (call : Call) (e : Error) → after s (CallEntry by call (Refused e)) ≡ record s { announced = []; owed = []; turns = s.turns ++ turn_in s call (Refused e) ∷ [] }
 unfolding after
@@ -65,5 +69,9 @@ after-refused s by (CompletionPoll completion) e = rw (due-refused (is_closing s
 after-refused s by (CompletionClose completion) e = rw (due-refused (is_closing s.phase) s.marks (stood_in s) (CompletionClose completion) e) refl
 after-refused s by (Stop value) e = rw (due-refused (is_closing s.phase) s.marks (stood_in s) (Stop value) e) refl
 after-refused s by Stopped e = rw (due-refused (is_closing s.phase) s.marks (stood_in s) Stopped e) refl
+after-refused s by NextU32 e = rw (due-refused (is_closing s.phase) s.marks (stood_in s) NextU32 e) refl
+after-refused s by NextU64 e = rw (due-refused (is_closing s.phase) s.marks (stood_in s) NextU64 e) refl
+after-refused s by (FillBytes len) e = rw (due-refused (is_closing s.phase) s.marks (stood_in s) (FillBytes len) e) refl
+after-refused s by Auditor e = rw (due-refused (is_closing s.phase) s.marks (stood_in s) Auditor e) refl
 
 pub ruleset refused_laws = (after-refused)

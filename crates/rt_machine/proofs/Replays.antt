@@ -3,7 +3,7 @@ use Rattle.std.proofs.Common.{◌≡◌, ◌⊎◌, inl, inr, ◌∙◌, sym, ap
 use Rattle.std.specs.List.{list_any}
 use Rattle.rt_base.specs.declared.error.Error.{Error}
 use Rattle.rt_audit.specs.declared.call.Call.{Call}
-use Rattle.rt_audit.specs.declared.call.Call.TheVariants.{Child, CloseNode, Spawn, Abort, AbortTask, Wake, Join, GiveUp, SleepPoll, Slot, SlotSend, SlotClose, SlotPoll, SlotGiveUp, AbortWait, Signaler, CloneSignal, Signal, SignalPoll, SignalClose, SignalerClose, CompletionPoll, CompletionClose, Stop, Stopped}
+use Rattle.rt_audit.specs.declared.call.Call.TheVariants.{Child, CloseNode, Spawn, Abort, AbortTask, Wake, Join, GiveUp, SleepPoll, Slot, SlotSend, SlotClose, SlotPoll, SlotGiveUp, AbortWait, Signaler, CloneSignal, Signal, SignalPoll, SignalClose, SignalerClose, CompletionPoll, CompletionClose, Stop, Stopped, NextU32, NextU64, FillBytes, Auditor}
 use Rattle.rt_audit.specs.declared.reply.CallReply.TheVariants.{Refused}
 use Rattle.rt_audit.specs.declared.finish.FinishCause.{FinishCause}
 use Rattle.rt_audit.specs.declared.finish.FinishCause.TheVariants.{NoMemory, Completed, Timeout, Stalled, TaskPanicked, TimeOverflow, TooManyTasks}
@@ -84,6 +84,10 @@ running-refused ns (CompletionPoll completion) error = refl
 running-refused ns (CompletionClose completion) error = refl
 running-refused ns (Stop value) error = refl
 running-refused ns Stopped error = refl
+running-refused ns NextU32 error = refl
+running-refused ns NextU64 error = refl
+running-refused ns (FillBytes len) error = refl
+running-refused ns Auditor error = refl
 
 module _ (by : Option ℕ) (old new : Seen) (call : Call) (error : Error) where
   pub refused-phase : IsRefused by old new call error → new.told.state.phase ≡ old.told.state.phase

@@ -4,7 +4,7 @@ use Rattle.std.proofs.lemmas.List.{append-nil, map-append}
 use Rattle.std.specs.List.{swap}
 use Rattle.std.proofs.lemmas.List.Edits.{length-swap}
 use Rattle.std.proofs.lemmas.List.Sorted.{length_permutation}
-use Rattle.rand_core.specs.Stream.{Stream, next_u64}
+use Rattle.rand_core.specs.Stream.{Stream, next_u32, next_u64, fill_bytes}
 use Rattle.rt_audit.specs.declared.entry.Entry.{Entry}
 use Rattle.rt_audit.specs.declared.entry.Entry.TheVariants.{Draw, Round}
 use Rattle.rt_base.specs.declared.no_memory.NoMemory.{NoMemory}
@@ -14,7 +14,7 @@ use Rattle.rt_model.specs.declared.begin.Begin.{Begin}
 use Rattle.rt_model.specs.declared.mark.Mark.{Mark}
 use Rattle.rt_model.specs.declared.result.TaskResult.{TaskResult}
 use Rattle.rt_model.specs.Rows.{Rows}
-use Rattle.rt_model.specs.Draws.{shuffled_from, shuffled}
+use Rattle.rt_model.specs.Draws.{Drawn, Short, Long, Filled, shuffled_from, shuffled}
 use Rattle.rt_model.specs.State.{State, Phase, Between, Turning}
 use Rattle.rt_model.specs.Effects.{after, is_closing}
 use Rattle.rt_model.specs.Rules.{May, MayRound, IsDrawn}
@@ -26,23 +26,27 @@ use Rattle.rt_machine.specs.Labels.{Labelled}
 use Rattle.rt_machine.specs.Places.{Seen, Stands, promised_by, visit_places}
 use Rattle.rt_machine.proofs.Turning.{pushed-append, all-begin}
 
-pub gave-gave : (from mid left : Stream) (xs ys : List ℕ) → Gave from xs mid → Gave mid ys left → Gave from (xs ++ ys) left
+pub gave-gave : (from mid left : Stream) (xs ys : List Drawn) → Gave from xs mid → Gave mid ys left → Gave from (xs ++ ys) left
 gave-gave from mid left [] ys h k = rw h k
-gave-gave from mid left (x ∷ xs) ys h k = (h.0, gave-gave (next_u64 from).1 mid left xs ys h.1 k)
+gave-gave from mid left (Short number ∷ xs) ys h k = (h.0, gave-gave (next_u32 from).1 mid left xs ys h.1 k)
+gave-gave from mid left (Long number ∷ xs) ys h k = (h.0, gave-gave (next_u64 from).1 mid left xs ys h.1 k)
+gave-gave from mid left (Filled bytes ∷ xs) ys h k = (h.0, gave-gave (fill_bytes (length bytes) from).1 mid left xs ys h.1 k)
 
 -- a draw more
-gave-more : (from mid left : Stream) (xs : List ℕ) (value : ℕ) → Gave from xs mid → (value, left) ≡ next_u64 mid → Gave from (xs ++ value ∷ []) left
-gave-more from mid left xs value h e = gave-gave from mid left xs (value ∷ []) h (sym (ap (λ (p : ℕ × Stream). p.0) e), sym (ap (λ (p : ℕ × Stream). p.1) e))
+gave-more : (from mid left : Stream) (xs : List ℕ) (value : ℕ) → Gave from (map Long xs) mid → (value, left) ≡ next_u64 mid → Gave from (map Long (xs ++ value ∷ [])) left
+gave-more from mid left xs value h e =
+    rw (map-append Long xs (value ∷ []))
+    (gave-gave from mid left (map Long xs) (Long value ∷ []) h (sym (ap (λ (p : ℕ × Stream). p.0) e), sym (ap (λ (p : ℕ × Stream). p.1) e)))
 
 -- numbers are shuffled from this place down, where these draws have decided the places above
 pub record IsShuffling (from now : Stream) (old new : Journaled) (numbers order : List ℕ) (left : ℕ) : Type 0 where
   pub draws : List ℕ
   pub count : length draws + left ≡ length numbers - 1
-  pub gave : Gave from draws now
+  pub gave : Gave from (map Long draws) now
   pub order_is : (more : List ℕ) → shuffled_from left order more ≡ shuffled numbers (draws ++ more)
   pub long : length order ≡ length numbers
   pub told : new.told ≡ pushed_all old.told (map Draw draws)
-  pub state : new.told.state ≡ record old.told.state { draws = draws }
+  pub state : new.told.state ≡ record old.told.state { draws = draws; drawn = old.told.state.drawn ++ map Long draws }
   pub spare : new.spare + length draws ≡ old.spare
   pub lacked : new.lacked ≡ old.lacked
 
@@ -61,14 +65,17 @@ shuffling-begins from j numbers none = record {
   order_is = λ more. refl;
   long = refl;
   told = refl;
-  state = ap (λ draws. record j.told.state { draws = draws }) none;
+  state = rw (append-nil j.told.state.drawn) (ap (λ draws. record j.told.state { draws = draws }) none);
   spare = omega arith;
   lacked = refl;
 }
 
-after-draw : (s : State) (draws : List ℕ) (value : ℕ) → s.announced ≡ [] → s.owed ≡ [] → after (record s { draws = draws }) (Draw value) ≡ record s { draws = draws ++ value ∷ [] }
+after-draw : (s : State) (draws : List ℕ) (drawn : List Drawn) (value : ℕ) → s.announced ≡ [] → s.owed ≡ [] → after (record s { draws = draws; drawn = drawn }) (Draw value) ≡ record s { draws = draws ++ value ∷ []; drawn = drawn ++ Long value ∷ [] }
 unfolding after
-after-draw s draws value unannounced unowed = rw (unannounced, unowed) refl
+after-draw s draws drawn value unannounced unowed = rw (unannounced, unowed) refl
+
+drawn-more : (drawn : List Drawn) (draws : List ℕ) (value : ℕ) → (drawn ++ map Long draws) ++ Long value ∷ [] ≡ drawn ++ map Long (draws ++ value ∷ [])
+drawn-more drawn draws value = rw (map-append Long draws (value ∷ [])) (append_assoc drawn (map Long draws) (Long value ∷ []))
 
 pub shuffling-more : (from now next : Stream) (old mid new : Journaled) (numbers order : List ℕ) (left value : ℕ) → 0 < left → old.told.state.announced ≡ [] → old.told.state.owed ≡ [] → IsShuffling from now old mid numbers order left → (value, next) ≡ next_u64 now → new.told ≡ pushed mid.told (Draw value) → new.spare + 1 ≡ mid.spare → new.lacked ≡ mid.lacked → IsShuffling from next old new numbers (swap order left (value % (left + 1))) (left - 1)
 shuffling-more from now next old mid new numbers order left value lt unannounced unowed i gives told spare lacked =
@@ -86,7 +93,8 @@ shuffling-more from now next old mid new numbers order left value lt unannounced
       state =
           ap (λ (t : Told). t.state) told
           ∙ ap (λ (s : State). after s (Draw value)) i.state
-          ∙ after-draw old.told.state i.draws value unannounced unowed;
+          ∙ after-draw old.told.state i.draws (old.told.state.drawn ++ map Long i.draws) value unannounced unowed
+          ∙ ap (λ drawn. record old.told.state { draws = i.draws ++ value ∷ []; drawn = drawn }) (drawn-more old.told.state.drawn i.draws value);
       spare = omega (arith, i.spare, spare, length-append i.draws (value ∷ []));
       lacked = lacked ∙ i.lacked;
     }
@@ -103,28 +111,32 @@ shuffling-ends from now old new numbers order zero h i = record {
 }
 
 -- a draw may come wherever one did
-pub round-drawn : (p : Phase) (s : State) (draws : List ℕ) → MayRound p s → MayRound p (record s { draws = draws })
-round-drawn Between s draws m = m
-round-drawn Turning s draws m = m
-round-drawn _ s draws m = m
+pub round-drawn : (p : Phase) (s : State) (draws : List ℕ) (drawn : List Drawn) → MayRound p s → MayRound p (record s { draws = draws; drawn = drawn })
+round-drawn Between s draws drawn m = m
+round-drawn Turning s draws drawn m = m
+round-drawn _ s draws drawn m = m
 
 pub shuffling-may : (from now : Stream) (old new : Journaled) (numbers order : List ℕ) (left : ℕ) → MayRound old.told.state.phase old.told.state → IsShuffling from now old new numbers order left → MayRound new.told.state.phase new.told.state
-shuffling-may from now old new numbers order left may i = rw i.state (round-drawn old.told.state.phase old.told.state i.draws may)
+shuffling-may from now old new numbers order left may i = rw i.state (round-drawn old.told.state.phase old.told.state i.draws _ may)
 
-pub ruleset shuffle_laws = (shuffling-begins, shuffling-more, shuffling-ends, shuffling-may)
+-- while a place is left a draw is wanted
+pub shuffling-wants : (from now : Stream) (old new : Journaled) (numbers order : List ℕ) (left value : ℕ) → 0 < left → old.told.state.ready ≡ numbers → IsShuffling from now old new numbers order left → IsDrawn new.told.state (Draw value)
+shuffling-wants from now old new numbers order left value lt ready i = rw (i.state, ready) (omega (arith, i.count, lt))
+
+pub ruleset shuffle_laws = (shuffling-begins, shuffling-more, shuffling-ends, shuffling-may, shuffling-wants)
 
 pub length-shuffled : (xs draws : List ℕ) → length (shuffled xs draws) ≡ length xs
 length-shuffled xs draws = length_permutation xs (shuffled xs draws) (shuffled-permutes xs draws)
 
 -- numbers that were shuffled are pushed as the order of a round
 module _ (from left : Stream) (j mid end : Journaled) (order : List ℕ) (same : mid.told ≡ j.told) (sh : Shuffles from left mid end j.told.state.ready order) where
-  shuffled_state : end.told.state ≡ record j.told.state { draws = sh.orders.draws }
-  shuffled_state = sh.state ∙ ap (λ (t : Told). record t.state { draws = sh.orders.draws }) same
+  shuffled_state : end.told.state ≡ record j.told.state { draws = sh.orders.draws; drawn = j.told.state.drawn ++ map Long sh.orders.draws }
+  shuffled_state = sh.state ∙ ap (λ (t : Told). record t.state { draws = sh.orders.draws; drawn = t.state.drawn ++ map Long sh.orders.draws }) same
 
   pub shuffled-may : (kept : List ℕ) → kept ≡ order → j.told.state.owed ≡ [] → MayRound j.told.state.phase j.told.state → May end.told.state (Round kept)
   shuffled-may kept e unowed may =
       rw (shuffled_state, e, sh.orders.is)
-      (unowed, (round-drawn j.told.state.phase j.told.state sh.orders.draws may, shuffled-permutes j.told.state.ready sh.orders.draws))
+      (unowed, (round-drawn j.told.state.phase j.told.state sh.orders.draws _ may, shuffled-permutes j.told.state.ready sh.orders.draws))
 
   pub shuffled-drawn : (kept : List ℕ) → kept ≡ order → IsDrawn end.told.state (Round kept)
   shuffled-drawn kept e = rw (shuffled_state, e) (sh.orders.is, sh.orders.count)
@@ -146,7 +158,8 @@ plain-drains stream old new order (Ok done) none ready one h =
     record {
       orders = record { draws = []; count = omega (arith, ap length ready); gave = refl; is = ready };
       told = told;
-      state = ap (λ (t : Told). t.state) told ∙ ap (λ draws. after (record old.told.state { draws = draws }) (Round order)) none;
+      state = ap (λ (t : Told). t.state) told ∙ ap (λ draws. after (record old.told.state { draws = draws }) (Round order)) none
+          ∙ ap (λ drawn. after (record old.told.state { draws = []; drawn = drawn }) (Round order)) (sym (append-nil old.told.state.drawn));
     }
 
 round-open : (p : Phase) (s : State) → MayRound p s → (is_closing p ≡ false) × (visit_places p ≡ 0)

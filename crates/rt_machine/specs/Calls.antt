@@ -12,7 +12,7 @@ use Rattle.rt_model.specs.Alarms.{alarm_of}
 use Rattle.rt_model.specs.Lists.{or_else}
 use Rattle.rt_model.specs.Rules.{Answers}
 use Rattle.rt_model.specs.Turns.{has_place}
-use Rattle.rt_model.specs.Effects.{stood_called, running_called, numbers_called}
+use Rattle.rt_model.specs.Effects.{stood_called, running_called, numbers_called, drawn_called}
 use Rattle.rt_machine.specs.Places.{Seen}
 
 -- a call with its reply, and what stood when it was made
@@ -32,6 +32,7 @@ pub record Noted (by : Option ℕ) (old new : Seen) (call : Call) (reply : CallR
   pub numbers : new.told.state.numbers ≡ numbers_called old.told.state.numbers call reply
   pub running : new.told.state.running ≡ running_called old.told.state.running call reply
   pub stood : stood_in new.told.state ≡ stood_called (stood_in old.told.state) by call reply
+  pub drawn : new.told.state.drawn ≡ drawn_called old.told.state.drawn call reply
   pub lacked : new.lacked ≡ old.lacked
 
 -- the first call that lacked memory came after these turns

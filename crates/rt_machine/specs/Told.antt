@@ -6,6 +6,8 @@ use Rattle.rt_model.specs.declared.begin.Begin.{Begin}
 use Rattle.rt_model.specs.State.{State, Turn, begun}
 use Rattle.rt_model.specs.Effects.{after, after_all}
 use Rattle.rt_model.specs.Rules.{IsLawful, AreDrawn}
+use Rattle.rt_model.specs.Digests.{AreDigested}
+use Rattle.rt_audit.specs.Journal.{digest_of}
 
 -- how the run began, the entries that it was given, its own up to the calls under way, the calls under way, and the state
 pub record Told : Type 0 where
@@ -50,6 +52,7 @@ AreCalls (e ∷ es) = (is_call e ≡ true) × AreCalls es
 
 -- the steps of no task decide the entry, and nothing is drawn by it
 abbrev pub is_quiet : Entry → Bool
+is_quiet (Call by call reply) = false
 is_quiet (Draw value) = false
 is_quiet (Root task) = false
 is_quiet (Answer task kind) = false
@@ -98,5 +101,6 @@ pub record IsKept (begin : Begin) (entries : List Entry) (start mark : ℕ) (lac
   pub mark_within : mark ≤ length entries
   pub lawful : IsLawful (begun begin) (drop start entries)
   pub drawn : AreDrawn (begun begin) (drop start entries)
+  pub digested : AreDigested (digest_of (take start entries)) (drop start entries)
   pub calls : AreCalls (drop mark entries)
   pub lacked_within : IsWithin lacked (length entries)

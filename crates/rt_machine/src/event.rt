@@ -12,10 +12,10 @@ use std::alloc::Global;
 pub fn task_event(alloc: Global, task: u64, label: &str) -> Result<Entry, NoMemory>
     ensures { IfOk result (λ entry. entry ≡ Entry.Event process_task (task_fields task label.now)) }
 {
-    let label = Text::of(label.to_owned(alloc)?);
+    let fields = EventFields::of_labelled_task(alloc, task, label)?;
     Ok(Entry::Event {
         label: EventLabel::process_task(),
-        fields: EventFields::of_task(task, label),
+        fields,
     })
 }
 
@@ -41,4 +41,17 @@ pub fn stopped_event(alloc: Global) -> Result<Entry, NoMemory>
     let label = EventLabel::named(alloc, Text::of("stopped".to_owned(alloc)?))?;
     let fields = EventFields::listed(Items::of(Vec::new(alloc)));
     Ok(Entry::Event { label, fields })
+}
+
+/// The event of a call that draws, by which call it is.
+pub fn draw_event(alloc: Global, name: &str) -> Result<Entry, NoMemory>
+    ensures { IfOk result (λ entry. entry ≡ Entry.Event (codes "rand") (name.now ∷ [])) }
+{
+    let mut fields = Vec::new(alloc);
+    fields.push(Items::of(name.as_bytes().to_vec(alloc)?))?;
+    let label = EventLabel::named(alloc, Text::of("rand".to_owned(alloc)?))?;
+    Ok(Entry::Event {
+        label,
+        fields: EventFields::listed(Items::of(fields)),
+    })
 }

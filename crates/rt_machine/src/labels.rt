@@ -1,25 +1,30 @@
 //! The labels of nodes.
 
-ghost use Rattle.std.specs.Prelude.{◌≡◌, ◌≤◌, ◌<◌, ◌+◌, ◌∷◌, ◌++◌, [], OnOk, IfOk};
+ghost use Rattle.std.specs.Prelude.{◌≡◌, ◌≤◌, ◌<◌, ◌+◌, ◌∷◌, ◌++◌, [], OnOk};
 ghost use Rattle.rt_model.specs.Effects.{label_at};
 
 use rt_base::{NoMemory, Text};
 use std::alloc::Global;
 use std::marker::Model;
 
-/// The labels of nodes, by their numbers.
+/// The labels of nodes, by their numbers. A label that a node shares with an earlier one is kept once.
 #[derive(Drop)]
 pub struct Labels {
     texts: Vec<Text>,
+    /// The place of each node's label among the texts.
+    places: Vec<usize>,
 }
 
 impl Model for Labels {
-    ghost use Rattle.std.specs.Prelude.{◌-◌, vec_len, vec_capacity};
-    ghost use Rattle.rt_machine.specs.Labels.{Labelled, numbered};
+    ghost use Rattle.std.specs.Prelude.{◌-◌, ◌<◌, length, min, vec_len, vec_capacity};
+    ghost use Rattle.std.specs.List.{All};
+    ghost use Rattle.rt_machine.specs.Labels.{Labelled, numbered, placed};
 
     ghost Value = { Labelled };
 
-    ghost view = { λ l. record { items = numbered 0 l.texts.items; count = vec_len l.texts; spare = vec_capacity l.texts - vec_len l.texts } };
+    ghost view = { λ l. record { items = numbered 0 (placed l.texts.items l.places.items); count = vec_len l.places; spare = min (vec_capacity l.texts - vec_len l.texts) (vec_capacity l.places - vec_len l.places) } };
+
+    ghost invariant = { λ l. All (λ place. place < length l.texts.items) l.places.items };
 }
 
 #[tactic(auto, using(crate::proofs::Numbered::label_laws))]
@@ -31,6 +36,7 @@ impl Labels {
     {
         Labels {
             texts: Vec::new(alloc),
+            places: Vec::new(alloc),
         }
     }
 
@@ -41,6 +47,7 @@ impl Labels {
         ensures room { OnOk result (places ≤ self.new.spare) }
     {
         self.texts.reserve(places)?;
+        self.places.reserve(places)?;
         Ok(())
     }
 
@@ -48,19 +55,10 @@ impl Labels {
     pub fn get(&self, node: u64) -> &str
         ensures { result.now ≡ label_at self.now.items node }
     {
-        let place = node as usize;
-        if self.texts.len() <= place {
-            return "";
+        match self.places.get(node as usize) {
+            Some(place) => self.texts[*place].as_str(),
+            None => "",
         }
-        self.texts[place].as_str()
-    }
-
-    /// A copy of the label of a node.
-    pub fn copy(&self, node: u64) -> Result<Text, NoMemory>
-        ensures { IfOk result (λ label. label ≡ label_at self.now.items node) }
-    {
-        let alloc = *self.texts.allocator();
-        Ok(Text::of(self.get(node).to_owned(alloc)?))
     }
 
     /// Adds the label of the next node.
@@ -68,8 +66,23 @@ impl Labels {
         requires { 0 < self.old.spare }
         ensures items { self.new.items ≡ self.old.items ++ (self.old.count, label) ∷ [] }
         ensures count { self.new.count ≡ self.old.count + 1 }
-        ensures spare { self.new.spare + 1 ≡ self.old.spare }
     {
+        self.places.push_reserved(self.texts.len());
         self.texts.push_reserved(label);
+    }
+
+    /// Gives the next node the label of this one.
+    pub fn repeat(&mut self, node: u64)
+        requires { 0 < self.old.spare }
+        ensures items { self.new.items ≡ self.old.items ++ (self.old.count, label_at self.old.items node) ∷ [] }
+        ensures count { self.new.count ≡ self.old.count + 1 }
+    {
+        match self.places.get(node as usize).copied() {
+            Some(place) => self.places.push_reserved(place),
+            None => {
+                let none = String::new(*self.texts.allocator());
+                self.push(Text::of(none));
+            }
+        }
     }
 }

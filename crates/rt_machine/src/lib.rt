@@ -4,6 +4,7 @@
 mod calls;
 mod cause;
 mod clock;
+mod draws;
 mod ends;
 mod event;
 mod groups;

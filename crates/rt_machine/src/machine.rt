@@ -9,6 +9,8 @@ ghost use Rattle.rt_model.specs.Marks.{is_flagged};
 ghost use Rattle.rt_model.specs.Causes.{is_late, from_running};
 ghost use Rattle.rt_model.specs.Effects.{after_all, left_of, task_label};
 ghost use Rattle.rt_model.specs.Events.{process_task, task_fields};
+ghost use Rattle.rt_audit.specs.Journal.{digest_of};
+ghost use Rattle.rt_model.specs.Digests.{AreDigested};
 ghost use Rattle.rt_model.specs.Rules.{IsLawful, AreDrawn, MayAnswer, MayRound, MayCrash, MayFinish};
 ghost use Rattle.rt_machine.specs.Draws.{Drains};
 ghost use Rattle.rt_machine.specs.Told.{AreCalls, fresh, pushed, own};
@@ -345,6 +347,7 @@ impl Machine {
     pub fn facts(&self)
         ensures lawful { IsLawful (begun self.now.told.begin) (own self.now.told) }
         ensures drawn { AreDrawn (begun self.now.told.begin) (own self.now.told) }
+        ensures digested { AreDigested (digest_of self.now.told.given) (own self.now.told) }
         ensures state { self.now.told.state ≡ after_all (begun self.now.told.begin) (own self.now.told) }
         ensures calls { AreCalls self.now.told.calls }
         ensures fresh { (task : ℕ) → self.now.told.state.numbers.next ≤ task → find task self.now.told.state.results ≡ None }

@@ -3,11 +3,13 @@
 ghost use Rattle.std.specs.Prelude.{◌≡◌, ◌≤◌, ◌<◌, ◌+◌, ◌∷◌, ◌++◌, [], length, OnErr, OnOk, true, None, is_some};
 ghost use Rattle.rt_model.specs.State.{begun};
 ghost use Rattle.rt_model.specs.Effects.{after_all};
+ghost use Rattle.rt_audit.specs.Journal.{digest_of};
+ghost use Rattle.rt_model.specs.Digests.{IsDigested, AreDigested};
 ghost use Rattle.rt_model.specs.Rules.{May, IsDrawn, IsLawful, AreDrawn};
 ghost use Rattle.rt_machine.specs.Told.{fresh, pushed, noted, is_call, AreCalls, own};
 ghost use Rattle.rt_machine.specs.Calls.{marked};
 
-use rt_audit::{Entry, Journal};
+use rt_audit::{Auditor, Entry, Journal};
 use rt_base::NoMemory;
 use rt_model::Begin;
 use std::marker::Model;
@@ -74,6 +76,7 @@ impl RunJournal {
         requires room { 0 < self.old.spare }
         requires may { May self.old.told.state entry }
         requires drawn { IsDrawn self.old.told.state entry }
+        requires digested { IsDigested (digest_of (self.old.told.given ++ own self.old.told)) entry }
         ensures told { self.new.told ≡ pushed self.old.told entry }
         ensures spare { self.new.spare + 1 ≡ self.old.spare }
         ensures lacked { self.new.lacked ≡ self.old.lacked }
@@ -87,6 +90,7 @@ impl RunJournal {
         requires room { 0 < self.old.spare }
         requires may { May self.old.told.state entry }
         requires call { is_call entry ≡ true }
+        requires digested { IsDigested (digest_of (self.old.told.given ++ own self.old.told)) entry }
         ensures told { self.new.told ≡ noted self.old.told entry }
         ensures spare { self.new.spare + 1 ≡ self.old.spare }
         ensures lacked { self.new.lacked ≡ self.old.lacked }
@@ -125,10 +129,18 @@ impl RunJournal {
     pub fn facts(&self)
         ensures lawful { IsLawful (begun self.now.told.begin) (own self.now.told) }
         ensures drawn { AreDrawn (begun self.now.told.begin) (own self.now.told) }
+        ensures digested { AreDigested (digest_of self.now.told.given) (own self.now.told) }
         ensures state { self.now.told.state ≡ after_all (begun self.now.told.begin) (own self.now.told) }
         ensures calls { AreCalls self.now.told.calls }
     {
         let _ = &self.start;
+    }
+
+    /// The digest of the events so far, of those that were given too.
+    pub fn auditor(&self) -> Auditor
+        ensures { result ≡ digest_of (self.now.told.given ++ own self.now.told) }
+    {
+        self.journal.auditor()
     }
 
     /// All entries, those that were given and the run's own.

@@ -15,6 +15,7 @@ pub fn shuffle<G: Rng>(journal: &mut RunJournal, numbers: &mut Vec<u64>, rng: &m
     requires undrawn { journal.old.told.state.draws ≡ [] }
     requires unannounced { journal.old.told.state.announced ≡ [] }
     requires unowed { journal.old.told.state.owed ≡ [] }
+    requires ready { journal.old.told.state.ready ≡ numbers.old.items }
     requires room { length numbers.old.items ≤ journal.old.spare }
     ensures shuffles { Shuffles (G.stream rng.old) (G.stream rng.new) journal.old journal.new numbers.old.items numbers.new.items }
 {

@@ -3,7 +3,7 @@
 ghost use Rattle.std.specs.Prelude.{◌≡◌, ◌≤◌, ◌<◌, ◌+◌, ◌^◌, ◌-◌, IfOk, IfErr, OnErr, OnOk, length, true, false, Option, None, Some, is_some, IfSome};
 ghost use Rattle.rt_super.specs.Ancestry.{is_ended, is_known, with_child, with_task};
 ghost use Rattle.rt_model.specs.Lists.{find};
-ghost use Rattle.rt_model.specs.Effects.{is_closing, label_at};
+ghost use Rattle.rt_model.specs.Effects.{is_closing};
 ghost use Rattle.rt_model.specs.Rules.{Answers, MayCall, is_free};
 ghost use Rattle.rt_machine.specs.Calls.{Noted, Spent, IsRefused, lacking, spawn_reply, join_reply};
 ghost use Rattle.rt_machine.specs.Places.{open_places};
@@ -15,7 +15,7 @@ use crate::results::{may_abort, note_abort, places_of, settle};
 use crate::room::take_places;
 use crate::wakes::wake_flagged;
 use rt_audit::{Call, CallReply, Entry};
-use rt_base::{Error, NoMemory, Text};
+use rt_base::{Error, NoMemory};
 use rt_model::{Mark, Outcome, Table, TaskResult};
 use rt_super::Tree;
 
@@ -89,8 +89,7 @@ impl Machine {
             self.lack();
             return Err(Error::NoMemory);
         };
-        let Ok(label) = reserve_task(&mut self.labels, &mut self.marks, &mut self.results, node)
-        else {
+        let Ok(()) = reserve_task(&mut self.labels, &mut self.marks, &mut self.results) else {
             self.lack();
             return Err(Error::NoMemory);
         };
@@ -103,7 +102,7 @@ impl Machine {
             call: Call::Spawn { node },
             reply: CallReply::TaskAt { task, node: number },
         });
-        self.labels.push(label);
+        self.labels.repeat(node);
         self.marks.push(Mark {
             node,
             left: false,
@@ -261,14 +260,12 @@ impl Machine {
     }
 }
 
-/// Takes room for a further task, and copies the label of its node.
+/// Takes room for a further task.
 fn reserve_task(
     labels: &mut Labels,
     marks: &mut Table<Mark>,
     results: &mut Table<TaskResult>,
-    node: u64,
-) -> Result<Text, NoMemory>
-    ensures label { IfOk result (λ label. label ≡ label_at labels.old.items node) }
+) -> Result<(), NoMemory>
     ensures items { labels.new.items ≡ labels.old.items }
     ensures count { labels.new.count ≡ labels.old.count }
     ensures spare { OnOk result (0 < labels.new.spare) }
@@ -281,8 +278,7 @@ fn reserve_task(
 {
     labels.reserve(1)?;
     marks.reserve(1)?;
-    results.reserve(1)?;
-    labels.copy(node)
+    results.reserve(1)
 }
 
 /// Makes a child of a node, and puts a task on the node. Answers the child's number.

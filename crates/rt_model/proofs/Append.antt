@@ -1,9 +1,9 @@
 -- Entries one list after another.
-use Rattle.std.proofs.Common.{◌≡◌, List, [], ◌∷◌, ◌++◌, refl, ap}
+use Rattle.std.proofs.Common.{◌≡◌, ℕ, List, [], ◌∷◌, ◌++◌, refl}
 use Rattle.rt_audit.specs.declared.entry.Entry.{Entry}
-use Rattle.rt_audit.specs.declared.entry.Entry.TheVariants.{Start, Call, Event, Wake, Draw, Root, Round, Visit, Answer, NodeEnd, Advance, Skip, Fire, Cleanup, Crash, Finish}
 use Rattle.rt_model.specs.State.{State}
-use Rattle.rt_model.specs.Draws.{drawn_in}
+use Rattle.rt_audit.specs.Journal.{digest_from, digest_after}
+use Rattle.rt_model.specs.Digests.{AreDigested}
 use Rattle.rt_model.specs.Effects.{after, after_all}
 use Rattle.rt_model.specs.Rules.{IsLawful, AreDrawn}
 use Rattle.rt_model.specs.Runs.{Runs, run_after, runs_after, AreLawful}
@@ -33,21 +33,10 @@ pub IsTied-append : {A O : Type 0} → (p : Steps A O) (s : State) (u v w : Valu
 IsTied-append p s u v w [] ys h k = rw h at k
 IsTied-append p s u v w (x ∷ xs) ys h k = (h.0, h.1, IsTied-append p (after s x) h.0 v w xs ys h.2 k)
 
-pub drawn_in-append : (xs ys : List Entry) → drawn_in (xs ++ ys) ≡ drawn_in xs ++ drawn_in ys
-drawn_in-append [] ys = refl
-drawn_in-append (Draw value ∷ xs) ys = ap (λ draws. value ∷ draws) (drawn_in-append xs ys)
-drawn_in-append (Start next now deadline cycle ∷ xs) ys = drawn_in-append xs ys
-drawn_in-append (Call by call reply ∷ xs) ys = drawn_in-append xs ys
-drawn_in-append (Event label fields ∷ xs) ys = drawn_in-append xs ys
-drawn_in-append (Wake task ∷ xs) ys = drawn_in-append xs ys
-drawn_in-append (Root task ∷ xs) ys = drawn_in-append xs ys
-drawn_in-append (Round order ∷ xs) ys = drawn_in-append xs ys
-drawn_in-append (Visit task ∷ xs) ys = drawn_in-append xs ys
-drawn_in-append (Answer task kind ∷ xs) ys = drawn_in-append xs ys
-drawn_in-append (NodeEnd node ∷ xs) ys = drawn_in-append xs ys
-drawn_in-append (Advance now ∷ xs) ys = drawn_in-append xs ys
-drawn_in-append (Skip now ∷ xs) ys = drawn_in-append xs ys
-drawn_in-append (Fire alarm ∷ xs) ys = drawn_in-append xs ys
-drawn_in-append (Cleanup ∷ xs) ys = drawn_in-append xs ys
-drawn_in-append (Crash choices ∷ xs) ys = drawn_in-append xs ys
-drawn_in-append (Finish cause ∷ xs) ys = drawn_in-append xs ys
+pub AreDigested-append : (digest : List ℕ) (xs ys : List Entry) → AreDigested digest xs → AreDigested (digest_from digest xs) ys → AreDigested digest (xs ++ ys)
+AreDigested-append digest [] ys p q = q
+AreDigested-append digest (x ∷ xs) ys p q = (p.0, AreDigested-append (digest_after digest x) xs ys p.1 q)
+
+pub digest_from-append : (digest : List ℕ) (xs ys : List Entry) → digest_from digest (xs ++ ys) ≡ digest_from (digest_from digest xs) ys
+digest_from-append digest [] ys = refl
+digest_from-append digest (x ∷ xs) ys = digest_from-append (digest_after digest x) xs ys

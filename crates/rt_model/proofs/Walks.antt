@@ -3,9 +3,9 @@ use Rattle.std.proofs.Common.{◌≡◌, ℕ, List, [], ◌∷◌, ◌++◌, ref
 use Rattle.rt_base.specs.declared.error.Error.{Error}
 use Rattle.rt_base.specs.declared.execution.Execution.{Execution}
 use Rattle.rt_audit.specs.declared.call.Call.{Call}
-use Rattle.rt_audit.specs.declared.call.Call.TheVariants.{Child, CloseNode, Spawn, Abort, AbortTask, Wake, Join, GiveUp, SleepPoll, Slot, SlotSend, SlotClose, SlotPoll, SlotGiveUp, AbortWait, Signaler, CloneSignal, Signal, SignalPoll, SignalClose, SignalerClose, CompletionPoll, CompletionClose, Stop, Stopped}
+use Rattle.rt_audit.specs.declared.call.Call.TheVariants.{Child, CloseNode, Spawn, Abort, AbortTask, Wake, Join, GiveUp, SleepPoll, Slot, SlotSend, SlotClose, SlotPoll, SlotGiveUp, AbortWait, Signaler, CloneSignal, Signal, SignalPoll, SignalClose, SignalerClose, CompletionPoll, CompletionClose, Stop, Stopped, NextU32, NextU64, FillBytes, Auditor}
 use Rattle.rt_audit.specs.declared.reply.CallReply.{CallReply}
-use Rattle.rt_audit.specs.declared.reply.CallReply.TheVariants.{Done, NodeAt, TaskAt, Closed, SlotAt, SignalAt, CompletionAt, Value, ClosedWith, Pending, PendingAt, Ready, Refused}
+use Rattle.rt_audit.specs.declared.reply.CallReply.TheVariants.{Done, NodeAt, TaskAt, Closed, SlotAt, SignalAt, CompletionAt, Value, ClosedWith, Pending, PendingAt, Ready, Number, Bytes, Refused}
 use Rattle.rt_model.specs.State.{Stood, Turn}
 use Rattle.rt_model.specs.Turns.{Ask, Plainly, Sleeping, Sending, Spawning, Held, Asks, IsPlain, IsPlainly, call_of, Frees, FreesOne, freed_by, heard_of, moved, moved_by}
 use Rattle.rt_model.specs.Walk.{Step, Does, Spends, Gives, Gave, Goes, Walks, Fronts, Lacks, Stops, then, stood_before}
@@ -122,6 +122,10 @@ frees-plain stood held (CompletionPoll completion) reply h = refl
 frees-plain stood held (CompletionClose completion) reply h = refl
 frees-plain stood held (Stop value) reply h = refl
 frees-plain stood held Stopped reply h = refl
+frees-plain stood held NextU32 reply h = refl
+frees-plain stood held NextU64 reply h = refl
+frees-plain stood held (FillBytes len) reply h = refl
+frees-plain stood held Auditor reply h = refl
 
 frees-spawn : {A O : Type 0} (stood : Stood) (held : Held A O) (node : ℕ) (execution : Execution) (made : ℕ → A) (reply : CallReply) → FreesOne stood held (Spawn node) reply (moved_by stood held (Spawning node execution made) (Spawn node) reply)
 frees-spawn stood held node execution made (TaskAt task number) = (execution, made number, refl)
@@ -136,6 +140,8 @@ frees-spawn stood held node execution made (ClosedWith value) = refl
 frees-spawn stood held node execution made Pending = refl
 frees-spawn stood held node execution made (PendingAt alarm) = refl
 frees-spawn stood held node execution made Ready = refl
+frees-spawn stood held node execution made (Number number) = refl
+frees-spawn stood held node execution made (Bytes bytes) = refl
 frees-spawn stood held node execution made (Refused error) = refl
 
 frees-sending : {A O : Type 0} (stood : Stood) (held : Held A O) (slot : ℕ) (sent : Result O Error) (reply : CallReply) → FreesOne stood held (SlotSend slot) reply (moved_by stood held (Sending slot sent) (SlotSend slot) reply)
@@ -151,6 +157,8 @@ frees-sending stood held slot sent (ClosedWith value) = refl
 frees-sending stood held slot sent Pending = refl
 frees-sending stood held slot sent (PendingAt alarm) = refl
 frees-sending stood held slot sent Ready = refl
+frees-sending stood held slot sent (Number number) = refl
+frees-sending stood held slot sent (Bytes bytes) = refl
 frees-sending stood held slot sent (Refused error) = refl
 
 plainly : {O : Type 0} (sent : List (ℕ × Result O Error)) (call : Call) (reply : CallReply) → IsPlainly sent call reply → IsPlain call

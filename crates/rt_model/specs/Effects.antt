@@ -3,9 +3,9 @@ use Rattle.std.specs.Prelude.{ℕ, List, [], ◌∷◌, ◌++◌, Option, Some, 
 use Rattle.std.specs.Option.{option_map_or}
 use Rattle.rt_base.specs.Label.{prefixed}
 use Rattle.rt_audit.specs.declared.call.Call.{Call}
-use Rattle.rt_audit.specs.declared.call.Call.TheVariants.{Child, CloseNode, Spawn, Abort, AbortTask, Wake as WakeCall, Join, GiveUp, SleepPoll, Slot, SlotSend, SlotClose, SlotPoll, SlotGiveUp, AbortWait, Signaler, CloneSignal, Signal, SignalPoll, SignalClose, SignalerClose, CompletionPoll, CompletionClose, Stop, Stopped as StoppedCall}
+use Rattle.rt_audit.specs.declared.call.Call.TheVariants.{Child, CloseNode, Spawn, Abort, AbortTask, Wake as WakeCall, Join, GiveUp, SleepPoll, Slot, SlotSend, SlotClose, SlotPoll, SlotGiveUp, AbortWait, Signaler, CloneSignal, Signal, SignalPoll, SignalClose, SignalerClose, CompletionPoll, CompletionClose, Stop, Stopped as StoppedCall, NextU32, NextU64, FillBytes}
 use Rattle.rt_audit.specs.declared.reply.CallReply.{CallReply}
-use Rattle.rt_audit.specs.declared.reply.CallReply.TheVariants.{Done, NodeAt, TaskAt, Closed, SlotAt, SignalAt, CompletionAt, Pending as StillPending, PendingAt, Ready as IsReady}
+use Rattle.rt_audit.specs.declared.reply.CallReply.TheVariants.{Done, NodeAt, TaskAt, Closed, SlotAt, SignalAt, CompletionAt, Pending as StillPending, PendingAt, Ready as IsReady, Number, Bytes}
 use Rattle.rt_audit.specs.declared.answer.AnswerKind.{AnswerKind}
 use Rattle.rt_audit.specs.declared.answer.AnswerKind.TheVariants.{Pending, Ready, Panicked, Stopped, NoMemory, Ended}
 use Rattle.rt_audit.specs.declared.finish.FinishCause.{FinishCause}
@@ -19,6 +19,7 @@ use Rattle.rt_model.specs.declared.mark.Mark.{Mark}
 use Rattle.rt_model.specs.declared.result.Outcome.{Outcome}
 use Rattle.rt_model.specs.declared.result.Outcome.TheVariants.{Open, There, Exited, Closed as IsClosed}
 use Rattle.rt_model.specs.declared.result.TaskResult.{TaskResult}
+use Rattle.rt_model.specs.Draws.{Drawn, Short, Long, Filled}
 use Rattle.rt_model.specs.Lists.{find, without, those, without_number, with_number, is_some_number}
 use Rattle.rt_model.specs.Marks.{new_mark, is_flagged, is_ended_at, flag, flag_all, due_of, due_all, leave}
 use Rattle.rt_model.specs.Results.{new_result, waiting, with_outcome, with_abort}
@@ -119,6 +120,19 @@ abbrev pub draws_after : List ℕ → Entry → List ℕ
 draws_after draws (Draw value) = draws ++ value ∷ []
 draws_after draws (Round order) = []
 draws_after draws _ = draws
+
+-- all that was drawn
+
+abbrev pub drawn_called : List Drawn → Call → CallReply → List Drawn
+drawn_called drawn NextU32 (Number number) = drawn ++ Short number ∷ []
+drawn_called drawn NextU64 (Number number) = drawn ++ Long number ∷ []
+drawn_called drawn (FillBytes len) (Bytes bytes) = drawn ++ Filled bytes ∷ []
+drawn_called drawn _ _ = drawn
+
+abbrev pub drawn_after : List Drawn → Entry → List Drawn
+drawn_after drawn (Draw value) = drawn ++ Long value ∷ []
+drawn_after drawn (CallEntry by call reply) = drawn_called drawn call reply
+drawn_after drawn _ = drawn
 
 -- alarms
 
@@ -470,6 +484,7 @@ after s e = record {
   running = running_after s.running e;
   ready = ready_after s.ready e;
   draws = draws_after s.draws e;
+  drawn = drawn_after s.drawn e;
   alarms = alarms_after s.alarms e;
   nodes = nodes_after s e;
   labels = labels_after s.labels e;

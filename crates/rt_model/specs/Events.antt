@@ -2,7 +2,7 @@
 use Rattle.std.specs.Prelude.{◌≡◌, ℕ, List, [], ◌∷◌, ◌++◌, codes}
 use Rattle.std.specs.Int.{w32, w128, cast_unsigned, to_be_bytes}
 use Rattle.rt_audit.specs.declared.call.Call.{Call}
-use Rattle.rt_audit.specs.declared.call.Call.TheVariants.{Stop, Stopped}
+use Rattle.rt_audit.specs.declared.call.Call.TheVariants.{Stop, Stopped, NextU32, NextU64, FillBytes}
 use Rattle.rt_audit.specs.declared.reply.CallReply.{CallReply}
 use Rattle.rt_model.specs.State.{Announced}
 
@@ -13,10 +13,17 @@ process_task = codes "process_task"
 abbrev pub task_fields : ℕ → List ℕ → List (List ℕ)
 task_fields task label = to_be_bytes w128 task ∷ label ∷ []
 
+-- the event of a call that draws, by which call it is
+abbrev pub drawing : List ℕ → List Announced
+drawing name = record { label = codes "rand"; fields = name ∷ [] } ∷ []
+
 -- the events of a call with its reply, which stand directly before it
 abbrev pub announced_by : Call → CallReply → List Announced
 announced_by (Stop value) reply = record { label = codes "stop"; fields = to_be_bytes w32 (cast_unsigned w32 value) ∷ [] } ∷ []
 announced_by Stopped reply = record { label = codes "stopped"; fields = [] } ∷ []
+announced_by NextU32 reply = drawing (codes "next_u32")
+announced_by NextU64 reply = drawing (codes "next_u64")
+announced_by (FillBytes len) reply = drawing (codes "fill_bytes")
 announced_by _ reply = []
 
 -- behind these events this one is the next of a call

@@ -4,9 +4,10 @@ pub mod Marks
 pub mod Results
 pub mod Slots
 pub mod Signals
+pub mod Draws
+pub mod Digests
 pub mod State
 pub mod Alarms
-pub mod Draws
 pub mod Events
 pub mod Causes
 pub mod Effects

@@ -8,9 +8,9 @@ use Rattle.rt_base.specs.declared.poll.Poll.{Poll}
 use Rattle.rt_base.specs.Label.{is_label, is_reserved, prefixed}
 use Rattle.rt_base.specs.declared.time.TheConstants.{MAX_TIME}
 use Rattle.rt_audit.specs.declared.call.Call.{Call}
-use Rattle.rt_audit.specs.declared.call.Call.TheVariants.{Child, CloseNode, Spawn, Abort, AbortTask, Wake as WakeCall, Join, GiveUp, SleepPoll, Slot, SlotSend, SlotClose, SlotPoll, SlotGiveUp, AbortWait, Signaler, CloneSignal, Signal, SignalPoll, SignalClose, SignalerClose, CompletionPoll, CompletionClose, Stop, Stopped as StoppedCall}
+use Rattle.rt_audit.specs.declared.call.Call.TheVariants.{Child, CloseNode, Spawn, Abort, AbortTask, Wake as WakeCall, Join, GiveUp, SleepPoll, Slot, SlotSend, SlotClose, SlotPoll, SlotGiveUp, AbortWait, Signaler, CloneSignal, Signal, SignalPoll, SignalClose, SignalerClose, CompletionPoll, CompletionClose, Stop, Stopped as StoppedCall, NextU32, NextU64, FillBytes, Auditor}
 use Rattle.rt_audit.specs.declared.reply.CallReply.{CallReply}
-use Rattle.rt_audit.specs.declared.reply.CallReply.TheVariants.{Done, NodeAt, TaskAt, Closed, SlotAt, SignalAt, CompletionAt, Pending as StillPending, PendingAt, Ready as IsReady, Refused}
+use Rattle.rt_audit.specs.declared.reply.CallReply.TheVariants.{Done, NodeAt, TaskAt, Closed, SlotAt, SignalAt, CompletionAt, Pending as StillPending, PendingAt, Ready as IsReady, Number, Bytes, Refused}
 use Rattle.rt_audit.specs.declared.answer.AnswerKind.{AnswerKind}
 use Rattle.rt_audit.specs.declared.answer.AnswerKind.TheVariants.{Pending, Ready, Panicked, Stopped, NoMemory, Ended}
 use Rattle.rt_audit.specs.declared.finish.FinishCause.{FinishCause}
@@ -138,6 +138,11 @@ Answers s (CompletionPoll completion) reply = ShownAs met_reply (completion_answ
 Answers s (CompletionClose completion) Done = is_some (find completion s.signals.completions) ≡ true
 Answers s (Stop value) (CompletionAt completion) = completion ≡ s.signals.count
 Answers s StoppedCall reply = reply ≡ stopped_reply (stopped_answer s.signals s.stop)
+-- which number or bytes the generator decides, and which digest the events
+Answers s NextU32 (Number number) = number < 2 ^ 32
+Answers s NextU64 (Number number) = number < 2 ^ 64
+Answers s (FillBytes len) (Bytes bytes) = length bytes ≡ len
+Answers s Auditor (Bytes bytes) = length bytes ≡ 4
 Answers s _ _ = ⊥
 
 -- In a cleanup the task that is ended next makes the calls. Where none is left, a root makes them that was made and not taken in
@@ -249,8 +254,10 @@ abbrev pub IsLawful : State → List Entry → Type 0
 IsLawful s [] = Unit {0}
 IsLawful s (e ∷ es) = May s e × IsLawful (after s e) es
 
--- A round's order is the ready list as its draws shuffle it, one draw for each place but the first. This is what decides among the permutations
+-- A round's order is the ready list as its draws shuffle it, one draw for each place but the first, and no more. This is what decides among
+-- the permutations
 abbrev pub IsDrawn : State → Entry → Type 0
+IsDrawn s (Draw value) = length s.draws + 1 < length s.ready
 IsDrawn s (Round order) = (order ≡ shuffled s.ready s.draws) × (length s.draws ≡ length s.ready - 1)
 IsDrawn s _ = Unit {0}
 

@@ -10,6 +10,7 @@ use Rattle.rt_model.specs.declared.begin.Begin.{Begin}
 use Rattle.rt_model.specs.declared.mark.Mark.{Mark}
 use Rattle.rt_model.specs.declared.result.Outcome.{Outcome}
 use Rattle.rt_model.specs.declared.result.TaskResult.{TaskResult}
+use Rattle.rt_model.specs.Draws.{Drawn}
 use Rattle.rt_model.specs.Slots.{Slotted, no_slots}
 use Rattle.rt_model.specs.Signals.{shutdown_alone, no_stop}
 
@@ -90,6 +91,8 @@ pub record State : Type 0 where
   pub ready : List ℕ
   -- what was drawn for the order of the next round
   pub draws : List ℕ
+  -- all that was drawn so far, in order
+  pub drawn : List Drawn
   pub alarms : AlarmList
   pub nodes : TreeRecord
   -- the label of each node
@@ -124,6 +127,7 @@ begun b = record {
   running = [];
   ready = [];
   draws = [];
+  drawn = [];
   alarms = no_alarms;
   nodes = first_record;
   labels = (0, []) ∷ [];

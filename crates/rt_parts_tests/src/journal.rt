@@ -3,7 +3,7 @@
 use crate::digest::{agree_on_an_event, in_a_list};
 use rt_audit::{
     AnswerKind, Call, CallReply, Entry, EventFields, EventLabel, FinishCause, Journal, Label,
-    Moment, Order, Refusal, error_code,
+    Moment, Order, Payload, Refusal, error_code,
 };
 use rt_base::{Choice, Error, Items, NoMemory, Text};
 use std::alloc::Global;
@@ -88,6 +88,27 @@ fn add_spawns(alloc: Global, text: &mut String) -> Result<(), NoMemory> {
     Ok(())
 }
 
+fn add_draws(alloc: Global, text: &mut String) -> Result<(), NoMemory> {
+    let number = CallReply::Number { number: u64::MAX };
+    add_call(alloc, text, Some(4), Call::NextU64, number)?;
+    add_call(
+        alloc,
+        text,
+        None,
+        Call::NextU32,
+        CallReply::Number { number: 7 },
+    )?;
+    let bytes = Payload::of(alloc, &[0, 255, 16])?;
+    let drawn = CallReply::Bytes { bytes };
+    add_call(alloc, text, Some(4), Call::FillBytes { len: 3 }, drawn)?;
+    let bytes = Payload::of(alloc, &[])?;
+    let none = CallReply::Bytes { bytes };
+    add_call(alloc, text, Some(4), Call::FillBytes { len: 0 }, none)?;
+    let bytes = Payload::of(alloc, vec![in alloc; 171u8; 40]?.as_slice())?;
+    let digest = CallReply::Bytes { bytes };
+    add_call(alloc, text, Some(4), Call::Auditor, digest)
+}
+
 fn add_call(
     alloc: Global,
     text: &mut String,
@@ -156,6 +177,7 @@ fn line_of_each_entry(rt: HostRuntime) -> Result<(), Fail> {
     add_starts(alloc, &mut text)?;
     add_calls(alloc, &mut text)?;
     add_spawns(alloc, &mut text)?;
+    add_draws(alloc, &mut text)?;
     add_event(alloc, &mut text, 2)?;
     add_round(alloc, &mut text, 4, 3)?;
     add_round(alloc, &mut text, 4, 0)?;
@@ -180,6 +202,11 @@ call 4 join 0 -> pending
 call 4 abort 0 -> ok
 call 4 abort-task 5 -> ok
 call 4 give-up 0 -> ok
+call 4 u64 -> 18446744073709551615
+call - u32 -> 7
+call 4 fill 3 -> 00ff10
+call 4 fill 0 -> -
+call 4 auditor -> abababababababababababababababababababababababababababababababababababababababab
 event process_task abab -
 round 4 4 4
 round

@@ -4,7 +4,7 @@ use crate::journals::JOURNALS;
 use crate::reading::{line_of, said_in};
 use crate::replay::{Said, journal_of};
 use crate::steady::STEADY_DRAW;
-use rt_audit::{AnswerKind, Journal};
+use rt_audit::{AnswerKind, Entry, Journal};
 use rt_base::{MAX_TIME, NoMemory};
 use rt_journals::BEGIN;
 use rt_machine::Machine;
@@ -12,36 +12,78 @@ use rt_model::Begin;
 use std::alloc::Global;
 use std::test::Fail;
 
-/// The first line that a run writes otherwise which makes the calls and gives the answers of a journal. The rounds of the
-/// journal have their plain order, and the draws before them aren't in it.
-fn first_other(alloc: Global, begin: Begin, text: &str) -> Result<Option<String>, NoMemory> {
+/// The journal of a run that makes the calls and gives the answers of this one.
+fn journal_again(alloc: Global, begin: Begin, text: &str) -> Result<Journal, NoMemory> {
     if begin.start > MAX_TIME {
         return Err(NoMemory);
     }
     let said = said_in(alloc, text)?;
-    let journal = journal_of(alloc, begin, said.as_slice())?;
+    journal_of(alloc, begin, said.as_slice())
+}
+
+/// The lines that such a run writes. The rounds of the journal have their plain order, and the draws before them aren't in it.
+fn wanted_lines<'a>(alloc: Global, text: &'a str) -> Result<Vec<&'a str>, NoMemory> {
     let mut wanted = Vec::new(alloc);
+    add_wanted(&mut wanted, text)?;
+    Ok(wanted)
+}
+
+fn add_wanted<'a>(wanted: &mut Vec<&'a str>, text: &'a str) -> Result<(), NoMemory> {
     for line in text.lines() {
         if line.starts_with("round ") {
-            for _ in line.split(' ').skip(2) {
-                wanted.push(STEADY_DRAW)?;
-            }
+            add_draws(wanted, line)?;
         }
         if !line.starts_with("silent ") {
             wanted.push(line)?;
         }
     }
-    for (place, entry) in journal.entries().iter().enumerate() {
-        let line = line_of(alloc, entry)?;
-        match wanted.get(place) {
-            Some(text) if *text == line.as_str() => {}
-            _ => return Ok(Some(line)),
+    Ok(())
+}
+
+/// Adds the draws of a round, one for each number but the first.
+fn add_draws<'a>(wanted: &mut Vec<&'a str>, round: &str) -> Result<(), NoMemory> {
+    for _ in round.split(' ').skip(2) {
+        wanted.push(STEADY_DRAW)?;
+    }
+    Ok(())
+}
+
+/// The line of an entry, if it is another one than this.
+fn other_than(
+    alloc: Global,
+    entry: &Entry,
+    wanted: Option<&&str>,
+) -> Result<Option<String>, NoMemory> {
+    let line = line_of(alloc, entry)?;
+    match wanted {
+        Some(text) if *text == line.as_str() => Ok(None),
+        _ => Ok(Some(line)),
+    }
+}
+
+/// The first line of these entries that isn't the one that is wanted there.
+fn first_other_of(
+    alloc: Global,
+    entries: &[Entry],
+    wanted: &[&str],
+) -> Result<Option<String>, NoMemory> {
+    for (place, entry) in entries.iter().enumerate() {
+        let other = other_than(alloc, entry, wanted.get(place))?;
+        if other.is_some() {
+            return Ok(other);
         }
     }
-    if journal.len() == wanted.len() {
+    if entries.len() == wanted.len() {
         return Ok(None);
     }
     Ok(Some("a line is lacking".to_owned(alloc)?))
+}
+
+/// The first line that a run writes otherwise which makes the calls and gives the answers of a journal.
+fn first_other(alloc: Global, begin: Begin, text: &str) -> Result<Option<String>, NoMemory> {
+    let wanted = wanted_lines(alloc, text)?;
+    let journal = journal_again(alloc, begin, text)?;
+    first_other_of(alloc, journal.entries(), wanted.as_slice())
 }
 
 #[test]
@@ -55,124 +97,188 @@ fn journals_of_runs(rt: HostRuntime) -> Result<(), Fail> {
     Ok(())
 }
 
-/// How many entries a run has in which this is said.
-fn count(alloc: Global, said: &[Said]) -> Result<usize, NoMemory> {
-    Ok(journal_of(alloc, BEGIN, said)?.len())
+/// Of what a run has many.
+#[derive(Clone, Copy)]
+enum Many {
+    /// The root spawns so many tasks, each of which is ready at its first visit, and waits for ever.
+    Tasks,
+    /// Each of so many tasks spawns the next. The last wakes the root, which aborts the first, and all of them end.
+    Links,
+    /// The root sets so many alarms at once, and is visited for each.
+    Alarms,
+    /// The root makes a chain of so many nodes, and closes them.
+    Nodes,
+    /// So many tasks wait for one value, which the root gives once they all wait, and for whose completion it waits then.
+    Waiters,
 }
 
-/// A maker that makes no calls.
-fn made(alloc: Global) -> Result<Vec<Said<'static>>, NoMemory> {
-    let mut said = Vec::new(alloc);
-    said.push(Said::Answer(AnswerKind::Ready))?;
-    Ok(said)
-}
-
-/// The root spawns so many tasks, each of which is ready at its first visit, and waits for ever.
-fn many_tasks(alloc: Global, tasks: u64) -> Result<usize, NoMemory> {
-    let mut said = made(alloc)?;
+fn say_tasks(said: &mut Vec<Said<'static>>, tasks: u64) -> Result<(), NoMemory> {
     let mut node = 1u64;
     for _ in 0..tasks {
-        said.push(Said::Child(0, "t"))?;
-        said.push(Said::Spawn(node))?;
+        said.extend_from_slice(&[Said::Child(0, "t"), Said::Spawn(node)])?;
         node = node.wrapping_add(2);
     }
     said.push(Said::Answer(AnswerKind::Pending))?;
-    node = 2;
-    for _ in 0..tasks {
-        said.push(Said::Answer(AnswerKind::Ready))?;
-        said.push(Said::CloseNode(node))?;
-        said.push(Said::Answer(AnswerKind::Ended))?;
-        node = node.wrapping_add(2);
+    for task in 0..tasks {
+        say_end(said, task)?;
     }
-    count(alloc, said.as_slice())
+    Ok(())
 }
 
-/// Each of so many tasks spawns the next. The last wakes the root, which aborts the first, and all of them end.
-fn chain(alloc: Global, tasks: u64) -> Result<usize, NoMemory> {
-    let mut said = made(alloc)?;
-    let mut node = 0u64;
-    for _ in 0..tasks {
-        said.push(Said::Child(node, "t"))?;
-        said.push(Said::Spawn(node.wrapping_add(1)))?;
-        said.push(Said::Answer(AnswerKind::Pending))?;
-        node = node.wrapping_add(2);
-    }
-    said.push(Said::Wake(0))?;
-    said.push(Said::Answer(AnswerKind::Pending))?;
-    said.push(Said::Abort(1))?;
-    said.push(Said::Answer(AnswerKind::Pending))?;
-    count(alloc, said.as_slice())
+/// The end of one of these tasks, which is ready.
+fn say_end(said: &mut Vec<Said<'static>>, task: u64) -> Result<(), NoMemory> {
+    let node = task.wrapping_mul(2).wrapping_add(2);
+    Ok(said.extend_from_slice(&[
+        Said::Answer(AnswerKind::Ready),
+        Said::CloseNode(node),
+        Said::Answer(AnswerKind::Ended),
+    ])?)
 }
 
-/// The root sets so many alarms at once, and is visited for each.
-fn many_alarms(alloc: Global, alarms: u64) -> Result<usize, NoMemory> {
-    let mut said = made(alloc)?;
+/// What is said behind the spawns of a chain.
+const ABORT: &[Said<'static>] = &[
+    Said::Wake(0),
+    Said::Answer(AnswerKind::Pending),
+    Said::Abort(1),
+    Said::Answer(AnswerKind::Pending),
+];
+
+fn say_links(said: &mut Vec<Said<'static>>, tasks: u64) -> Result<(), NoMemory> {
+    for task in 0..tasks {
+        let node = task.wrapping_mul(2);
+        said.extend_from_slice(&[
+            Said::Child(node, "t"),
+            Said::Spawn(node.wrapping_add(1)),
+            Said::Answer(AnswerKind::Pending),
+        ])?;
+    }
+    Ok(said.extend_from_slice(ABORT)?)
+}
+
+fn say_alarms(said: &mut Vec<Said<'static>>, alarms: u64) -> Result<(), NoMemory> {
     for _ in 0..alarms {
         said.push(Said::SleepPoll(5_000_000, None))?;
     }
-    count(alloc, said.as_slice())
+    Ok(())
 }
 
-/// So many tasks wait for one value, which the root gives once they all wait, and for whose completion it waits then.
-fn many_waiters(alloc: Global, tasks: u64) -> Result<usize, NoMemory> {
-    let mut said = made(alloc)?;
-    said.push(Said::Signaler)?;
-    let mut node = 1u64;
-    for _ in 0..tasks {
-        said.push(Said::CloneSignal(1))?;
-        said.push(Said::Child(0, "t"))?;
-        said.push(Said::Spawn(node))?;
-        node = node.wrapping_add(2);
-    }
-    said.push(Said::SleepPoll(5_000_000, None))?;
-    said.push(Said::Answer(AnswerKind::Pending))?;
-    for task in 0..tasks {
-        said.push(Said::SignalPoll(task.wrapping_add(2)))?;
-        said.push(Said::Answer(AnswerKind::Pending))?;
-    }
-    said.push(Said::Signal(1, 5))?;
-    said.push(Said::CompletionPoll(1))?;
-    said.push(Said::SignalClose(1))?;
-    said.push(Said::Answer(AnswerKind::Pending))?;
-    node = 2;
-    for task in 0..tasks {
-        let signal = task.wrapping_add(2);
-        said.push(Said::SignalPoll(signal))?;
-        said.push(Said::Answer(AnswerKind::Ready))?;
-        said.push(Said::SignalClose(signal))?;
-        said.push(Said::CloseNode(node))?;
-        said.push(Said::Answer(AnswerKind::Ended))?;
-        node = node.wrapping_add(2);
-    }
-    said.push(Said::CompletionPoll(1))?;
-    said.push(Said::Answer(AnswerKind::Ready))?;
-    count(alloc, said.as_slice())
-}
-
-/// The root makes a chain of so many nodes, and closes them.
-fn many_nodes(alloc: Global, nodes: u64) -> Result<usize, NoMemory> {
-    let mut said = made(alloc)?;
+fn say_nodes(said: &mut Vec<Said<'static>>, nodes: u64) -> Result<(), NoMemory> {
     for node in 0..nodes {
         said.push(Said::Child(node, "n"))?;
     }
     for node in 0..nodes {
         said.push(Said::CloseNode(node))?;
     }
-    count(alloc, said.as_slice())
+    Ok(())
 }
+
+/// The root makes a signal and a task for each waiter.
+fn say_waiters(said: &mut Vec<Said<'static>>, tasks: u64) -> Result<(), NoMemory> {
+    said.push(Said::Signaler)?;
+    for task in 0..tasks {
+        let node = task.wrapping_mul(2).wrapping_add(1);
+        said.extend_from_slice(&[Said::CloneSignal(1), Said::Child(0, "t"), Said::Spawn(node)])?;
+    }
+    Ok(())
+}
+
+/// The root and each waiter wait.
+fn say_waits(said: &mut Vec<Said<'static>>, tasks: u64) -> Result<(), NoMemory> {
+    said.extend_from_slice(&[
+        Said::SleepPoll(5_000_000, None),
+        Said::Answer(AnswerKind::Pending),
+    ])?;
+    for task in 0..tasks {
+        said.extend_from_slice(&[
+            Said::SignalPoll(task.wrapping_add(2)),
+            Said::Answer(AnswerKind::Pending),
+        ])?;
+    }
+    Ok(())
+}
+
+/// The root gives the value.
+const GIVE: &[Said<'static>] = &[
+    Said::Signal(1, 5),
+    Said::CompletionPoll(1),
+    Said::SignalClose(1),
+    Said::Answer(AnswerKind::Pending),
+];
+
+/// The root finds all waiters done.
+const DONE: &[Said<'static>] = &[Said::CompletionPoll(1), Said::Answer(AnswerKind::Ready)];
+
+/// The end of a waiter, which has the value.
+fn say_waiter_end(said: &mut Vec<Said<'static>>, task: u64) -> Result<(), NoMemory> {
+    let signal = task.wrapping_add(2);
+    let node = task.wrapping_mul(2).wrapping_add(2);
+    Ok(said.extend_from_slice(&[
+        Said::SignalPoll(signal),
+        Said::Answer(AnswerKind::Ready),
+        Said::SignalClose(signal),
+        Said::CloseNode(node),
+        Said::Answer(AnswerKind::Ended),
+    ])?)
+}
+
+/// The root gives the value, and each waiter and the root end.
+fn say_gives(said: &mut Vec<Said<'static>>, tasks: u64) -> Result<(), NoMemory> {
+    said.extend_from_slice(GIVE)?;
+    for task in 0..tasks {
+        say_waiter_end(said, task)?;
+    }
+    Ok(said.extend_from_slice(DONE)?)
+}
+
+/// Says what a run has many of, behind a maker that makes no calls.
+fn say_many(said: &mut Vec<Said<'static>>, many: Many, count: u64) -> Result<(), NoMemory> {
+    said.push(Said::Answer(AnswerKind::Ready))?;
+    match many {
+        Many::Tasks => say_tasks(said, count),
+        Many::Links => say_links(said, count),
+        Many::Alarms => say_alarms(said, count),
+        Many::Nodes => say_nodes(said, count),
+        Many::Waiters => {
+            say_waiters(said, count)?;
+            say_waits(said, count)?;
+            say_gives(said, count)
+        }
+    }
+}
+
+/// How many entries a run has in which this is said.
+fn entries_said(alloc: Global, said: &[Said]) -> Result<usize, NoMemory> {
+    Ok(journal_of(alloc, BEGIN, said)?.len())
+}
+
+/// How many entries a run has that has so many of these.
+fn entries_of(alloc: Global, many: Many, count: u64) -> Result<usize, NoMemory> {
+    let mut said = Vec::new(alloc);
+    say_many(&mut said, many, count)?;
+    entries_said(alloc, said.as_slice())
+}
+
+/// Of what a run has how many, and how many entries it has then.
+const MANY: &[(Many, u64, usize)] = &[
+    (Many::Tasks, 2, 31),
+    (Many::Tasks, 3000, 27_013),
+    (Many::Links, 2, 47),
+    (Many::Links, 1000, 12_023),
+    (Many::Alarms, 1, 21),
+    (Many::Alarms, 3000, 21_014),
+    (Many::Nodes, 3000, 6_012),
+    (Many::Waiters, 1, 53),
+    (Many::Waiters, 3000, 60_033),
+];
 
 #[test]
 fn many_of_each(rt: HostRuntime) -> Result<(), Fail> {
-    let alloc = rt.alloc();
-    assert_eq!(rt; many_tasks(alloc, 2)?, 31);
-    assert_eq!(rt; many_tasks(alloc, 3000)?, 27_013);
-    assert_eq!(rt; chain(alloc, 2)?, 47);
-    assert_eq!(rt; chain(alloc, 1000)?, 12_023);
-    assert_eq!(rt; many_alarms(alloc, 1)?, 21);
-    assert_eq!(rt; many_alarms(alloc, 3000)?, 21_014);
-    assert_eq!(rt; many_nodes(alloc, 3000)?, 6_012);
-    assert_eq!(rt; many_waiters(alloc, 1)?, 53);
-    assert_eq!(rt; many_waiters(alloc, 3000)?, 60_033);
+    for (place, &(many, count, entries)) in MANY.iter().enumerate() {
+        assert!(rt;
+            entries_of(rt.alloc(), many, count)? == entries,
+            "in row {place}"
+        );
+    }
     Ok(())
 }
 

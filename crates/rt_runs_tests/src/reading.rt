@@ -8,66 +8,131 @@ use std::alloc::Global;
 /// What the lines of a journal say.
 pub fn said_in<'a>(alloc: Global, text: &'a str) -> Result<Vec<Said<'a>>, NoMemory> {
     let mut said = Vec::new(alloc);
+    add_lines(alloc, &mut said, text)?;
+    Ok(said)
+}
+
+/// Adds what the lines of a journal say.
+fn add_lines<'a>(alloc: Global, said: &mut Vec<Said<'a>>, text: &'a str) -> Result<(), NoMemory> {
     let mut made = false;
     for line in text.lines() {
-        let mut words = Vec::new(alloc);
-        for word in line.split(' ') {
-            words.push(word)?;
-        }
-        match words.as_slice() {
-            ["root", _] => {
-                made = true;
-                said.push(Said::Answer(AnswerKind::Ready))?;
-            }
-            // a maker without a root has made its calls here
-            ["cleanup"] => {
-                if !made {
-                    said.push(Said::Answer(AnswerKind::Ready))?;
-                }
-            }
-            ["answer", _, "stopped"] => {}
-            ["answer", _, kind] => said.push(Said::Answer(kind_of(kind)))?,
-            ["silent", call @ ..] => {
-                if let Some(call) = call_in(call) {
-                    said.push(call)?;
-                }
-            }
-            call => {
-                if let Some(call) = call_in(call) {
-                    said.push(call)?;
-                }
-            }
+        if let Some(line) = said_in_line(alloc, line, &mut made)? {
+            said.push(line)?;
         }
     }
-    Ok(said)
+    Ok(())
+}
+
+/// What a line says, if it says something.
+fn said_in_line<'a>(
+    alloc: Global,
+    line: &'a str,
+    made: &mut bool,
+) -> Result<Option<Said<'a>>, NoMemory> {
+    let words = words_of(alloc, line)?;
+    Ok(said_by(words.as_slice(), made))
+}
+
+fn words_of<'a>(alloc: Global, line: &'a str) -> Result<Vec<&'a str>, NoMemory> {
+    let mut words = Vec::new(alloc);
+    add_words(&mut words, line)?;
+    Ok(words)
+}
+
+fn add_words<'a>(words: &mut Vec<&'a str>, line: &'a str) -> Result<(), NoMemory> {
+    for word in line.split(' ') {
+        words.push(word)?;
+    }
+    Ok(())
+}
+
+/// What the words of a line say, if they say something. `made` says whether the root was taken in.
+fn said_by<'a>(words: &[&'a str], made: &mut bool) -> Option<Said<'a>> {
+    let (word, rest) = words.split_first()?;
+    match *word {
+        "root" => {
+            *made = true;
+            Some(Said::Answer(AnswerKind::Ready))
+        }
+        // a maker without a root has made its calls here
+        "cleanup" if !*made => Some(Said::Answer(AnswerKind::Ready)),
+        "answer" => answer_in(rest),
+        "silent" => call_in(rest),
+        _ => call_in(words),
+    }
+}
+
+/// The answer of a line. That of a stopped task is not said.
+fn answer_in<'a>(words: &[&'a str]) -> Option<Said<'a>> {
+    match words {
+        [_, "stopped"] => None,
+        [_, kind] => Some(Said::Answer(kind_of(kind))),
+        _ => None,
+    }
 }
 
 /// The call of a line.
 fn call_in<'a>(words: &[&'a str]) -> Option<Said<'a>> {
-    Some(match words {
-        ["call", _, "child", node, label, ..] => Said::Child(number(node)?, label),
-        ["call", _, "sleep-poll", due, "->", "pending", alarm] => {
-            Said::SleepPoll(number(due)? as Nanos, Some(number(alarm)?))
-        }
-        ["call", _, "sleep-poll", due, ..] => Said::SleepPoll(number(due)? as Nanos, None),
-        ["call", _, "close-node", node, ..] => Said::CloseNode(number(node)?),
-        ["call", _, "spawn", node, ..] => Said::Spawn(number(node)?),
-        ["call", _, "slot", ..] => Said::Slot,
-        ["call", _, "slot-poll", slot, "->", "err", "7"] => Said::SlotPoll(number(slot)?, false),
-        ["call", _, "signaler", ..] => Said::Signaler,
-        ["call", _, "signal", signaler, value, ..] => Said::Signal(
-            number(signaler)?,
-            signed(value)?,
-        ),
-        ["call", _, "stop", value, ..] => Said::Stop(signed(value)?),
-        ["call", _, "stopped", ..] => Said::Stopped,
-        ["call", _, word, task, ..] => return call_on_task(word, number(task)?),
-        _ => return None,
-    })
+    let ["call", _, word, rest @ ..] = words else {
+        return None;
+    };
+    match *word {
+        "slot" => Some(Said::Slot),
+        "signaler" => Some(Said::Signaler),
+        "stopped" => Some(Said::Stopped),
+        word => call_of(word, rest),
+    }
+}
+
+/// The call of a line that names what it is about.
+fn call_of<'a>(word: &str, words: &[&'a str]) -> Option<Said<'a>> {
+    let (of, rest) = words.split_first()?;
+    if word == "stop" {
+        return Some(Said::Stop(signed(of)?));
+    }
+    call_with(word, number(of)?, rest)
+}
+
+/// The call of a line that names a number, and what stands behind it.
+fn call_with<'a>(word: &str, of: u64, words: &[&'a str]) -> Option<Said<'a>> {
+    match word {
+        "child" => child(of, words),
+        "sleep-poll" => sleep_poll(of, words),
+        "slot-poll" => Some(Said::SlotPoll(of, !is_failed(words))),
+        "signal" => signal(of, words),
+        word => call_on_task(word, of),
+    }
+}
+
+fn child<'a>(node: u64, words: &[&'a str]) -> Option<Said<'a>> {
+    Some(Said::Child(node, words.first()?))
+}
+
+fn sleep_poll<'a>(due: u64, words: &[&'a str]) -> Option<Said<'a>> {
+    Some(Said::SleepPoll(due as Nanos, alarm_in(words)?))
+}
+
+fn signal<'a>(signaler: u64, words: &[&'a str]) -> Option<Said<'a>> {
+    Some(Said::Signal(signaler, signed(words.first()?)?))
+}
+
+/// The alarm of a sleep that isn't over.
+fn alarm_in(words: &[&str]) -> Option<Option<u64>> {
+    match words {
+        ["->", "pending", alarm] => Some(Some(number(alarm)?)),
+        _ => Some(None),
+    }
+}
+
+/// Whether a poll showed that a send had failed.
+fn is_failed(words: &[&str]) -> bool {
+    matches!(words, ["->", "err", "7"])
 }
 
 fn call_on_task<'a>(word: &str, task: u64) -> Option<Said<'a>> {
     Some(match word {
+        "close-node" => Said::CloseNode(task),
+        "spawn" => Said::Spawn(task),
         "abort" => Said::Abort(task),
         "abort-task" => Said::AbortTask(task),
         "wake" => Said::Wake(task),
@@ -81,7 +146,6 @@ fn call_on_slot<'a>(word: &str, slot: u64) -> Option<Said<'a>> {
     Some(match word {
         "slot-send" => Said::SlotSend(slot),
         "slot-close" => Said::SlotClose(slot),
-        "slot-poll" => Said::SlotPoll(slot, true),
         "slot-give-up" => Said::SlotGiveUp(slot),
         "abort-wait" => Said::AbortWait(slot),
         word => return call_on_signal(word, slot),
@@ -121,25 +185,42 @@ fn kind_of(word: &str) -> AnswerKind {
 /// The line of an entry. In that of a visit's event the number is written plainly, and the label as it is.
 pub fn line_of(alloc: Global, entry: &Entry) -> Result<String, NoMemory> {
     let mut line = String::new(alloc);
+    add_entry(alloc, &mut line, entry)?;
+    Ok(line)
+}
+
+fn add_entry(alloc: Global, line: &mut String, entry: &Entry) -> Result<(), NoMemory> {
     match entry {
         Entry::Event { label, fields } if label.as_str() == "process_task" => {
             line.push_str("event process_task")?;
-            add_fields(alloc, &mut line, fields)?;
+            add_fields(alloc, line, fields)
         }
-        entry => entry.add_to(alloc, &mut line)?,
+        entry => entry.add_to(alloc, line),
     }
-    Ok(line)
 }
 
 fn add_fields(alloc: Global, line: &mut String, fields: &EventFields) -> Result<(), NoMemory> {
     let (Some(number), Some(label), None) = (fields.get(0), fields.get(1), fields.get(2)) else {
         return Ok(());
     };
-    let mut task = 0u128;
-    for byte in number {
-        task = task.wrapping_mul(256).wrapping_add(*byte as u128);
+    add_number(alloc, line, number_of(number))?;
+    add_label(line, label)
+}
+
+fn number_of(bytes: &[u8]) -> u128 {
+    let mut number = 0u128;
+    for byte in bytes {
+        number = number.wrapping_mul(256).wrapping_add(*byte as u128);
     }
-    line.push_str(format!(in alloc; " {task} ")?.as_str())?;
+    number
+}
+
+fn add_number(alloc: Global, line: &mut String, number: u128) -> Result<(), NoMemory> {
+    let number = format!(in alloc; " {number} ")?;
+    Ok(line.push_str(number.as_str())?)
+}
+
+fn add_label(line: &mut String, label: &[u8]) -> Result<(), NoMemory> {
     if label.is_empty() {
         line.push('-')?;
     }

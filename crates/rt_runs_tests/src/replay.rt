@@ -72,11 +72,21 @@ impl<'a> Model for Replay<'a> {
     ghost invariant = { λ r. r.running.items ≡ r.machine.told.state.running };
 }
 
-/// Whether a call lacked memory. Any other refusal is in the journal.
+/// Whether a call was refused for lack of memory. Any other refusal is in the journal.
+fn refused(error: Error) -> Result<(), NoMemory> {
+    let lacked = matches!(error, Error::NoMemory);
+    drop(error);
+    if lacked { Err(NoMemory) } else { Ok(()) }
+}
+
+/// Whether a call lacked memory.
 fn told<T: Drop>(answer: Result<T, Error>) -> Result<(), NoMemory> {
     match answer {
-        Err(Error::NoMemory) => Err(NoMemory),
-        _ => Ok(()),
+        Ok(value) => {
+            drop(value);
+            Ok(())
+        }
+        Err(error) => refused(error),
     }
 }
 
@@ -107,8 +117,7 @@ impl<'a> Replay<'a> {
                 Ok(())
             }
             Ok(None) => Ok(()),
-            Err(Error::NoMemory) => Err(NoMemory),
-            Err(_) => Ok(()),
+            Err(error) => refused(error),
         }
     }
 
@@ -161,7 +170,7 @@ impl<'a> Replay<'a> {
         }
     }
 
-    /// Makes a call on a slot.
+    /// Makes a call on the sender of a slot.
     fn call_on_slot(&mut self, by: Option<u64>, said: Said<'a>) -> Result<(), NoMemory>
         requires calling { MayCall self.old.told.state by }
         requires runs { IfSome by (λ task. has_number task self.old.told.state.running ≡ true) }
@@ -183,6 +192,20 @@ impl<'a> Replay<'a> {
                 self.machine.slot_close(by, slot);
                 Ok(())
             }
+            said => self.call_on_receiver(by, said),
+        }
+    }
+
+    /// Makes a call on the receiver of a slot.
+    fn call_on_receiver(&mut self, by: Option<u64>, said: Said<'a>) -> Result<(), NoMemory>
+        requires calling { MayCall self.old.told.state by }
+        requires runs { IfSome by (λ task. has_number task self.old.told.state.running ≡ true) }
+        ensures phase { self.new.told.state.phase ≡ self.old.told.state.phase }
+        ensures root { self.new.told.state.root ≡ self.old.told.state.root }
+        ensures calling { MayCall self.new.told.state by }
+        ensures runs { IfSome by (λ task. has_number task self.new.told.state.running ≡ true) }
+    {
+        match said {
             Said::SlotPoll(slot, value) => self.poll_slot(by, slot, value),
             Said::SlotGiveUp(slot) => {
                 self.machine.slot_give_up(by, slot);
@@ -196,8 +219,28 @@ impl<'a> Replay<'a> {
         }
     }
 
-    /// Makes a call on a signal or its signaler.
+    /// Makes a call on a signal.
     fn call_on_signal(&mut self, by: Option<u64>, said: Said<'a>) -> Result<(), NoMemory>
+        requires calling { MayCall self.old.told.state by }
+        requires runs { IfSome by (λ task. has_number task self.old.told.state.running ≡ true) }
+        ensures phase { self.new.told.state.phase ≡ self.old.told.state.phase }
+        ensures root { self.new.told.state.root ≡ self.old.told.state.root }
+        ensures calling { MayCall self.new.told.state by }
+        ensures runs { IfSome by (λ task. has_number task self.new.told.state.running ≡ true) }
+    {
+        match said {
+            Said::CloneSignal(signal) => told(self.machine.clone_signal(by, signal)),
+            Said::SignalPoll(signal) => told(self.machine.poll_signal(by, signal)),
+            Said::SignalClose(signal) => {
+                self.machine.close_signal(by, signal);
+                Ok(())
+            }
+            said => self.call_on_signaler(by, said),
+        }
+    }
+
+    /// Makes a call on a signaler.
+    fn call_on_signaler(&mut self, by: Option<u64>, said: Said<'a>) -> Result<(), NoMemory>
         requires calling { MayCall self.old.told.state by }
         requires runs { IfSome by (λ task. has_number task self.old.told.state.running ≡ true) }
         ensures phase { self.new.told.state.phase ≡ self.old.told.state.phase }
@@ -210,14 +253,8 @@ impl<'a> Replay<'a> {
                 let _ = self.machine.signaler(by)?;
                 Ok(())
             }
-            Said::CloneSignal(signal) => told(self.machine.clone_signal(by, signal)),
             Said::Signal(signaler, value) => {
                 self.give(by, signaler, value);
-                Ok(())
-            }
-            Said::SignalPoll(signal) => told(self.machine.poll_signal(by, signal)),
-            Said::SignalClose(signal) => {
-                self.machine.close_signal(by, signal);
                 Ok(())
             }
             Said::SignalerClose(signaler) => {
@@ -282,7 +319,7 @@ impl<'a> Replay<'a> {
         if value {
             self.machine.take_sent(by, slot)
         } else {
-            told::<()>(Err(self.machine.show_sent(by, slot, &Error::SendFailed)))
+            refused(self.machine.show_sent(by, slot, &Error::SendFailed))
         }
     }
 
@@ -319,6 +356,55 @@ impl<'a> Replay<'a> {
         Ok(())
     }
 
+    /// Leaves a task pending, and ends it where it is flagged.
+    fn leave(&mut self, task: u64) -> Result<(), NoMemory>
+        requires phase { self.old.told.state.phase ≡ Polling task (left_of self.old.told.state.phase) }
+        requires runs { has_number task self.old.told.state.running ≡ true }
+        ensures phase { OnOk result (self.new.told.state.phase ≡ Visiting (left_of self.old.told.state.phase)) }
+        ensures root { self.new.told.state.root ≡ self.old.told.state.root }
+    {
+        let flagged = self.machine.is_flagged(task);
+        self.machine.answer(task, AnswerKind::Pending);
+        if flagged {
+            self.end(task, None)?;
+        }
+        Ok(())
+    }
+
+    /// Ends a task that is ready. Answers the cause, where the run ends there.
+    fn end_ready(&mut self, task: u64) -> Result<Option<FinishCause>, NoMemory>
+        requires phase { self.old.told.state.phase ≡ Polling task (left_of self.old.told.state.phase) }
+        requires runs { has_number task self.old.told.state.running ≡ true }
+        ensures goes { IfOk result (λ cause. cause ≡ None → self.new.told.state.phase ≡ Visiting (left_of self.old.told.state.phase)) }
+        ensures over { IfOk result (λ cause. IfSome cause (λ cause. self.new.told.state.phase ≡ Over cause)) }
+        ensures root { self.new.told.state.root ≡ self.old.told.state.root }
+    {
+        let is_root = self.machine.root() == Some(task);
+        self.machine.answer(task, AnswerKind::Ready);
+        if is_root {
+            return Ok(Some(FinishCause::Completed));
+        }
+        self.end(task, Some(Outcome::There))?;
+        Ok(None)
+    }
+
+    /// Ends a task that panicked. Answers the cause, where the run ends there.
+    fn end_panicked(&mut self, task: u64) -> Result<Option<FinishCause>, NoMemory>
+        requires phase { self.old.told.state.phase ≡ Polling task (left_of self.old.told.state.phase) }
+        requires runs { has_number task self.old.told.state.running ≡ true }
+        ensures goes { IfOk result (λ cause. cause ≡ None → self.new.told.state.phase ≡ Visiting (left_of self.old.told.state.phase)) }
+        ensures over { IfOk result (λ cause. IfSome cause (λ cause. self.new.told.state.phase ≡ Over cause)) }
+        ensures root { self.new.told.state.root ≡ self.old.told.state.root }
+    {
+        let is_root = self.machine.root() == Some(task);
+        self.machine.answer(task, AnswerKind::Panicked);
+        if is_root {
+            return Ok(Some(FinishCause::TaskPanicked));
+        }
+        self.end(task, Some(Outcome::Exited))?;
+        Ok(None)
+    }
+
     /// Polls a task. Answers the cause, where the run ends there.
     fn poll(&mut self, task: u64) -> Result<Option<FinishCause>, NoMemory>
         requires phase { self.old.told.state.phase ≡ Polling task (left_of self.old.told.state.phase) }
@@ -327,33 +413,13 @@ impl<'a> Replay<'a> {
         ensures over { IfOk result (λ cause. IfSome cause (λ cause. self.new.told.state.phase ≡ Over cause)) }
         ensures root { self.new.told.state.root ≡ self.old.told.state.root }
     {
-        let kind = self.part(Some(task))?;
-        let is_root = self.machine.root() == Some(task);
-        let flagged = self.machine.is_flagged(task);
-        match kind {
+        match self.part(Some(task))? {
             AnswerKind::Pending => {
-                self.machine.answer(task, AnswerKind::Pending);
-                if flagged {
-                    self.end(task, None)?;
-                }
+                self.leave(task)?;
                 Ok(None)
             }
-            AnswerKind::Ready => {
-                self.machine.answer(task, AnswerKind::Ready);
-                if is_root {
-                    return Ok(Some(FinishCause::Completed));
-                }
-                self.end(task, Some(Outcome::There))?;
-                Ok(None)
-            }
-            AnswerKind::Panicked => {
-                self.machine.answer(task, AnswerKind::Panicked);
-                if is_root {
-                    return Ok(Some(FinishCause::TaskPanicked));
-                }
-                self.end(task, Some(Outcome::Exited))?;
-                Ok(None)
-            }
+            AnswerKind::Ready => self.end_ready(task),
+            AnswerKind::Panicked => self.end_panicked(task),
             _ => {
                 self.machine.answer(task, AnswerKind::NoMemory);
                 Ok(Some(FinishCause::NoMemory))
@@ -401,15 +467,14 @@ impl<'a> Replay<'a> {
         Ok(None)
     }
 
-    /// Goes through the rounds. Answers why the run ends.
-    fn rounds(&mut self) -> Result<FinishCause, NoMemory>
+    /// Goes through the rounds, and keeps the order of each in a list. Answers why the run ends.
+    fn rounds(&mut self, order: &mut Vec<u64>) -> Result<FinishCause, NoMemory>
         requires { MayRound self.old.told.state.phase self.old.told.state }
         ensures closes { IfOk result (λ cause. MayClose self.new.told.state.phase) }
         ensures reached { IfOk result (λ cause. (cause ≡ OutOfMemory) ⊎ (reached self.new.told.state ≡ Some cause)) }
     {
-        let mut order = Vec::new(self.machine.allocator());
         for _ in 0..10_000 {
-            self.machine.round(&mut order, &mut Steady)?;
+            self.machine.round(order, &mut Steady)?;
             if let Some(cause) = self.round(order.as_slice())? {
                 return Ok(cause);
             }
@@ -436,7 +501,8 @@ impl<'a> Replay<'a> {
         if self.machine.is_late() {
             return Ok(FinishCause::Timeout);
         }
-        self.rounds()
+        let mut order = Vec::new(self.machine.allocator());
+        self.rounds(&mut order)
     }
 
     /// Begins the cleanup of a run that ends for this cause.
@@ -483,6 +549,15 @@ impl<'a> Replay<'a> {
         self.machine.finish(cause);
         Ok(())
     }
+
+    /// Goes through a run from its maker to its end.
+    fn run(&mut self) -> Result<(), NoMemory>
+        requires { self.old.told.state.phase ≡ Making }
+    {
+        let _ = self.part(None)?;
+        let cause = self.go()?;
+        self.clean(cause)
+    }
 }
 
 /// The journal of a run in which this is said.
@@ -499,8 +574,10 @@ pub fn journal_of(alloc: Global, begin: Begin, said: &[Said]) -> Result<Journal,
         said,
         at: 0,
     };
-    let _ = replay.part(None)?;
-    let cause = replay.go()?;
-    replay.clean(cause)?;
-    Ok(replay.machine.into_journal())
+    let told = replay.run();
+    let journal = replay.machine.into_journal();
+    match told {
+        Ok(()) => Ok(journal),
+        Err(NoMemory) => Err(NoMemory),
+    }
 }

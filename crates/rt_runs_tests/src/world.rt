@@ -41,7 +41,7 @@ impl Task for Probe {
 }
 
 /// A run that is over: its output, its last cause, and how many entries it has.
-#[derive(Drop)]
+#[derive(Clone, Copy)]
 struct Came {
     output: Option<u64>,
     cause: FinishCause,
@@ -108,9 +108,9 @@ fn run(alloc: Global, taken_in: bool) -> Result<Came, NoMemory> {
 }
 
 /// What comes of spawning a probe.
-fn spawns(world: &mut WorldOf<Probe, Steady>, node: u64) -> Result<Option<(u64, u64)>, Error>
+fn spawns<G: Rng>(world: &mut WorldOf<Probe, G>, node: u64) -> Result<Option<(u64, u64)>, Error>
     requires { MayCall world.old.told.state world.old.out }
-    ensures { Kept world.old world.new }
+    ensures { Kept G.stream world.old world.new }
 {
     match world.spawn(node, Execution::Dedicated, (), |((), _)| Probe) {
         Ok(at) => Ok(at),
@@ -129,11 +129,13 @@ enum SlotCall {
     AbortWait(u64),
 }
 
-/// What is heard of a call on a slot.
-#[derive(Drop, PartialEq, Eq)]
+/// What is heard of a call.
+#[derive(Clone, Copy, PartialEq, Eq)]
 enum Heard {
     Done,
     Slot(u64),
+    Node(u64, bool),
+    Task(u64, u64),
     Pending,
     Value(u64),
     SendFailed,
@@ -172,19 +174,47 @@ fn polled(answer: Result<Option<u64>, Error>) -> Heard {
     match answer {
         Ok(None) => Heard::Pending,
         Ok(Some(value)) => Heard::Value(value),
-        Err(Error::SendFailed) => Heard::SendFailed,
-        Err(Error::Closed) => Heard::Closed,
-        Err(Error::Aborted) => Heard::Aborted,
-        Err(Error::UnknownToken) => Heard::Unknown,
-        Err(_) => Heard::Other,
+        Err(error) => refused(error),
+    }
+}
+
+fn answered(answer: Result<(), Error>) -> Heard {
+    match answer {
+        Ok(()) => Heard::Done,
+        Err(error) => refused(error),
+    }
+}
+
+fn made(answer: Result<(u64, bool), Error>) -> Heard {
+    match answer {
+        Ok((node, ended)) => Heard::Node(node, ended),
+        Err(error) => refused(error),
+    }
+}
+
+fn spawned(answer: Result<Option<(u64, u64)>, Error>) -> Heard {
+    match answer {
+        Ok(None) => Heard::Closed,
+        Ok(Some((task, node))) => Heard::Task(task, node),
+        Err(error) => refused(error),
+    }
+}
+
+fn refused(error: Error) -> Heard {
+    match error {
+        Error::SendFailed => Heard::SendFailed,
+        Error::Closed => Heard::Closed,
+        Error::Aborted => Heard::Aborted,
+        Error::UnknownToken => Heard::Unknown,
+        _ => Heard::Other,
     }
 }
 
 /// Makes a call on a slot.
 #[tactic(auto, using(rt_world::proofs::Walked::close_laws))]
-fn call_slot(world: &mut WorldOf<Probe, Steady>, call: &SlotCall) -> Heard
+fn call_slot<G: Rng>(world: &mut WorldOf<Probe, G>, call: &SlotCall) -> Heard
     requires { MayCall world.old.told.state world.old.out }
-    ensures { Kept world.old world.new }
+    ensures { Kept G.stream world.old world.new }
 {
     match *call {
         SlotCall::Make => match world.slot() {
@@ -203,9 +233,9 @@ fn call_slot(world: &mut WorldOf<Probe, Steady>, call: &SlotCall) -> Heard
 
 /// Whether calls on slots are answered as they should be.
 #[tactic(auto, using(rt_world::proofs::Walked::loop_laws))]
-fn answers_on_slots(world: &mut WorldOf<Probe, Steady>, calls: &[(SlotCall, Heard)]) -> bool
+fn answers_on_slots<G: Rng>(world: &mut WorldOf<Probe, G>, calls: &[(SlotCall, Heard)]) -> bool
     requires { MayCall world.old.told.state world.old.out }
-    ensures { Kept world.old world.new }
+    ensures { Kept G.stream world.old world.new }
 {
     for (call, wanted) in calls {
         if call_slot(world, call) != *wanted {
@@ -231,17 +261,17 @@ fn answers_calls(alloc: Global) -> Result<bool, NoMemory> {
     };
     let over = world.sleep_poll(3, None);
     let waits = world.sleep_poll(5, None);
-    let refused = world.wake(9);
-    let child = world.child(0, "left");
-    let spawned = spawns(&mut world, 1);
-    let again = spawns(&mut world, 1);
+    let woken = answered(world.wake(9));
+    let child = made(world.child(0, "left"));
+    let task = spawned(spawns(&mut world, 1));
+    let again = spawned(spawns(&mut world, 1));
     let hinted = world.executions() == [(0, Execution::Dedicated)].as_slice();
-    let waits_for = world.join(0);
-    let flagged = world.abort_task(0);
-    let unknown = world.abort_task(1);
+    let waits_for = polled(world.join(0));
+    let flagged = answered(world.abort_task(0));
+    let unknown = answered(world.abort_task(1));
     world.abort(0);
     world.give_up(0);
-    let gone = world.join(0);
+    let gone = polled(world.join(0));
     world.close_node(0);
     let now = world.now();
     let cause = world.cleanup_unmade(None, FinishCause::NoMemory);
@@ -250,15 +280,15 @@ fn answers_calls(alloc: Global) -> Result<bool, NoMemory> {
         now == 3
             && over == Ok(None)
             && waits == Ok(Some(0))
-            && refused == Err(Error::UnknownToken)
-            && child == Ok((1, false))
-            && spawned == Ok(Some((0, 2)))
-            && again == Err(Error::UnknownToken)
+            && woken == Heard::Unknown
+            && child == Heard::Node(1, false)
+            && task == Heard::Task(0, 2)
+            && again == Heard::Unknown
             && hinted
-            && waits_for == Ok(None)
-            && flagged == Ok(())
-            && unknown == Err(Error::UnknownToken)
-            && gone == Err(Error::UnknownToken)
+            && waits_for == Heard::Pending
+            && flagged == Heard::Done
+            && unknown == Heard::Unknown
+            && gone == Heard::Unknown
             && came.entries == 19,
     )
 }
@@ -289,12 +319,15 @@ fn slots(rt: HostRuntime) -> Result<(), Fail> {
     Ok(())
 }
 
+/// Whether the root of a run is taken in, the output and the cause that come of it, and how many entries it has.
+const RUNS: &[(bool, Option<u64>, FinishCause, usize)] = &[
+    (true, Some(7), FinishCause::Completed, 12),
+    (false, None, FinishCause::NoMemory, 6),
+];
+
 #[test]
 fn surface(rt: HostRuntime) -> Result<(), Fail> {
-    for (taken_in, output, cause, entries) in [
-        (true, Some(7), FinishCause::Completed, 12usize),
-        (false, None, FinishCause::NoMemory, 6),
-    ] {
+    for &(taken_in, output, cause, entries) in RUNS {
         let came = run(rt.alloc(), taken_in)?;
         assert!(rt; came.output == output);
         assert!(rt; came.cause == cause);

@@ -14,7 +14,7 @@ use Rattle.rt_scenario.specs.declared.scenario.RunLine.{RunLine}
 use Rattle.rt_scenario.specs.declared.scenario.ScriptText.{ScriptText}
 use Rattle.rt_scenario.specs.declared.scenario.Settings.{Settings}
 use Rattle.rt_scenario.specs.declared.word.Word.{Word}
-use Rattle.rt_scenario.specs.declared.word.Word.TheVariants.{Seed, Next, Cycle, Start, Timeout, Catch, Script, Sleep, Until, Yield, Pend, End, Panic, Spawn, Abort, Drop, Join, Within, Select, Stopped, Wait, Stop, Done, Run}
+use Rattle.rt_scenario.specs.declared.word.Word.TheVariants.{Seed, Next, Cycle, Start, Timeout, Catch, Script, Sleep, Until, Yield, Draw, Pend, End, Panic, Spawn, Abort, Drop, Join, Within, Select, Stopped, Wait, Stop, Done, Run}
 
 -- the first place, or else the second
 abbrev pub place_or : Option ℕ → Option ℕ → Option ℕ
@@ -43,6 +43,7 @@ script_at_push (s ∷ ss) t name =
 pub bare_count : (d : Draft) (word : Word) (ws : List (List ℕ)) → IsBare word → 0 < length ws → row d word ws ≡ Err kind.Count
 bare_count d word [] bare some = absurd (omega arith)
 bare_count d Yield (w ∷ ws) bare some = refl
+bare_count d Draw (w ∷ ws) bare some = refl
 bare_count d Pend (w ∷ ws) bare some = refl
 bare_count d Done (w ∷ ws) bare some = refl
 bare_count d Seed (w ∷ ws) bare some = absurd bare

@@ -9,7 +9,7 @@ use Rattle.rt_scenario.specs.declared.scenario.Scenario.{Scenario}
 use Rattle.rt_scenario.specs.declared.reader.Refusal.{Refusal}
 use Rattle.rt_scenario.specs.declared.reader.Refusal.TheVariants.{Broken as Breaks', NoMemory as NoMemory'}
 use Rattle.rt_scenario.specs.declared.word.Word.{Word}
-use Rattle.rt_scenario.specs.declared.word.Word.TheVariants.{Seed, Next, Cycle, Start, Timeout, Catch, Yield, Pend, Done}
+use Rattle.rt_scenario.specs.declared.word.Word.TheVariants.{Seed, Next, Cycle, Start, Timeout, Catch, Yield, Draw, Pend, Done}
 use Rattle.rt_scenario.specs.declared.stop.Stop.{Stop}
 use Rattle.rt_scenario.specs.declared.stop.Stop.TheVariants.{Breaks, NoMemory}
 
@@ -22,6 +22,7 @@ Answers want (Err NoMemory) new = Unit {0}
 -- a line that is its first word alone
 abbrev pub IsBare : Word → Type 0
 IsBare Yield = Unit {0}
+IsBare Draw = Unit {0}
 IsBare Pend = Unit {0}
 IsBare Done = Unit {0}
 IsBare word = ⊥

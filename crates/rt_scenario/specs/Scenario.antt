@@ -18,7 +18,7 @@ use Rattle.rt_scenario.specs.declared.scenario.Scenario.{Scenario}
 use Rattle.rt_scenario.specs.declared.scenario.ScriptText.{ScriptText}
 use Rattle.rt_scenario.specs.declared.scenario.Settings.{Settings}
 use Rattle.rt_scenario.specs.declared.word.Word.{Word}
-use Rattle.rt_scenario.specs.declared.word.Word.TheVariants.{Seed, Next, Cycle, Start, Timeout, Catch, Script, Sleep, Until, Yield, Pend, End, Panic, Spawn as SpawnWord, Abort as AbortWord, Drop as DropWord, Join as JoinWord, Within as WithinWord, Select as SelectWord, Stopped as StoppedWord, Wait as WaitWord, Stop as StopWord, Done, Run}
+use Rattle.rt_scenario.specs.declared.word.Word.TheVariants.{Seed, Next, Cycle, Start, Timeout, Catch, Script, Sleep, Until, Yield, Draw, Pend, End, Panic, Spawn as SpawnWord, Abort as AbortWord, Drop as DropWord, Join as JoinWord, Within as WithinWord, Select as SelectWord, Stopped as StoppedWord, Wait as WaitWord, Stop as StopWord, Done, Run}
 
 -- what the lines so far say: the settings, the scripts, the one whose `done` hasn't come, and the runs
 pub record Draft : Type 0 where
@@ -219,6 +219,7 @@ row d Script (w ∷ []) = script_row d w
 row d Sleep (w ∷ []) = sleep_row d (number_of w)
 row d Until (w ∷ []) = until_row d (number_of w)
 row d Yield [] = step_row d (Plain step.Yield)
+row d Draw [] = step_row d (Plain step.Draw)
 row d Pend [] = step_row d (Plain step.Pend)
 row d End (w ∷ []) = end_row d w
 row d Panic (w ∷ []) = panic_row d w

@@ -2,7 +2,7 @@
 use Rattle.std.specs.Prelude.{ℕ, Bool, true, false, nat_eq, List, codes, if◌then◌else◌, Option, Some, None}
 use Rattle.std.specs.Cmp.Lexicographic.{pointwise}
 use Rattle.rt_scenario.specs.declared.word.Word.{Word}
-use Rattle.rt_scenario.specs.declared.word.Word.TheVariants.{Seed, Next, Cycle, Start, Timeout, Catch, Script, Sleep, Until, Yield, Pend, End, Panic, Spawn, Abort, Drop, Join, Within, Select, Stopped, Wait, Stop, Done, Run}
+use Rattle.rt_scenario.specs.declared.word.Word.TheVariants.{Seed, Next, Cycle, Start, Timeout, Catch, Script, Sleep, Until, Yield, Draw, Pend, End, Panic, Spawn, Abort, Drop, Join, Within, Select, Stopped, Wait, Stop, Done, Run}
 
 abbrev pub is_text : List ℕ → List ℕ → Bool
 is_text = pointwise nat_eq
@@ -19,6 +19,7 @@ word_of text =
     else (if is_text text (codes "sleep") then Some Sleep
     else (if is_text text (codes "until") then Some Until
     else (if is_text text (codes "yield") then Some Yield
+    else (if is_text text (codes "draw") then Some Draw
     else (if is_text text (codes "pend") then Some Pend
     else (if is_text text (codes "end") then Some End
     else (if is_text text (codes "panic") then Some Panic
@@ -33,7 +34,7 @@ word_of text =
     else (if is_text text (codes "stop") then Some Stop
     else (if is_text text (codes "done") then Some Done
     else (if is_text text (codes "run") then Some Run
-    else None)))))))))))))))))))))))
+    else None))))))))))))))))))))))))
 
 abbrev pub switch_of : List ℕ → Option Bool
 switch_of word =

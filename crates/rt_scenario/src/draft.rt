@@ -195,7 +195,7 @@ impl Draft {
         ensures { Answers (row self.old word (words_in args.entry)) result self.new }
     {
         match word {
-            Word::Yield | Word::Pend | Word::Done => self.take_bare(word, args),
+            Word::Yield | Word::Draw | Word::Pend | Word::Done => self.take_bare(word, args),
             Word::Seed | Word::Next | Word::Cycle | Word::Start | Word::Timeout | Word::Catch =>
                 self.set(word, one(args)?),
             Word::Script => self.open_script(one(args)?),
@@ -232,6 +232,7 @@ impl Draft {
         }
         match word {
             Word::Yield => self.push_plain(Line::Yield),
+            Word::Draw => self.push_plain(Line::Draw),
             Word::Pend => self.push_plain(Line::Pend),
             _ => self.close_script(),
         }

@@ -14,6 +14,8 @@ pub enum Line {
     Until(Nanos),
     /// Lets the others go first.
     Yield,
+    /// Draws the generator's next number, and takes it modulo 2^63.
+    Draw,
     /// Answers pending at each poll.
     Pend,
     /// Ends with this value.

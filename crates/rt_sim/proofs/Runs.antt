@@ -9,7 +9,8 @@ use Rattle.rand_chacha.specs.ChaCha.{ChaCha}
 use Rattle.rt_audit.specs.Journal.{last_time}
 use Rattle.rt_audit.specs.declared.journal.Journal.{Journal}
 use Rattle.rt_audit.specs.declared.entry.Entry.{Entry}
-use Rattle.rt_core.specs.Outcome.{Completes, Fails, AreShuffled}
+use Rattle.rt_model.specs.State.{begun}
+use Rattle.rt_core.specs.Outcome.{Completes, Fails, AreShuffled, AreAudited}
 use Rattle.rt_core.specs.declared.run_error.RunError.{RunError}
 use Rattle.rt_core.specs.declared.run_error.RunError.TheVariants.{NoMemory}
 use Rattle.rt_core.specs.Starting.{Starting, Kept, resumed, chacha_stream, assert_of, deadline_of, is_too_late}
@@ -106,20 +107,22 @@ reported-at root result time place given own all is at =
 module _ (scripts : List ScriptText) (line : RunLine) (from : Starting ChaCha) (there : line.root < length scripts) where
   -- it lacked memory before its first entry
   pub nothing-run : Halts scripts line from []
+  unfolding begun
   nothing-run = record {
     script = text_at scripts line.root;
     maker = maker_of scripts line;
     makes = makes-at scripts line there;
     lacks = record { entries = []; extends = refl; failed = inl refl };
     drawn = record { entries = []; extends = refl; drawn = tt; left = chacha_stream from.rng; draws = refl };
+    audited = record { entries = []; extends = refl; digested = tt };
   }
 
   made-at : (m : Maker) → m ≡ maker_of scripts line → Makes scripts line (text_at scripts line.root) m
   made-at m is = rw is (makes-at scripts line there)
 
   -- it gave an output
-  pub comes-whole : (m : Maker) (run : RunReport) (output : ℤ) (kept : Kept ChaCha) (place : ℕ) → m ≡ maker_of scripts line → Completes chacha_stream (root_steps m) from output kept → AreShuffled chacha_stream from kept.journal → place ≡ length from.given → run ≡ report_of (text_at scripts line.root).name (Gave output) kept.time (take place kept.journal) (drop place kept.journal) → CameOf scripts line from (Completed run kept)
-  comes-whole m run output kept place is completes drawn at ran =
+  pub comes-whole : (m : Maker) (run : RunReport) (output : ℤ) (kept : Kept ChaCha) (place : ℕ) → m ≡ maker_of scripts line → Completes chacha_stream (root_steps m) from output kept → AreShuffled chacha_stream from kept.journal → AreAudited from kept.journal → place ≡ length from.given → run ≡ report_of (text_at scripts line.root).name (Gave output) kept.time (take place kept.journal) (drop place kept.journal) → CameOf scripts line from (Completed run kept)
+  comes-whole m run output kept place is completes drawn audited at ran =
       let own = completes.entries in
       let journal = ap (λ (k : Kept ChaCha). k.journal) completes.keeps in
       rw ran (
@@ -131,13 +134,14 @@ module _ (scripts : List ScriptText) (line : RunLine) (from : Starting ChaCha) (
           makes = made-at m is;
           comes = (journal, refl, completes);
           drawn = subst (λ all. AreShuffled chacha_stream from all) journal drawn;
+          audited = subst (λ all. AreAudited from all) journal audited;
           is = reported-at (text_at scripts line.root).name (Gave output) kept.time place from.given own kept.journal journal at;
         },
       )
 
   -- it failed
-  pub comes-failed : (m : Maker) (run : RunReport) (journal : Journal) (error : RunError) (place : ℕ) → m ≡ maker_of scripts line → error ≢ NoMemory → Fails (root_steps m) from journal.entries error → AreShuffled chacha_stream from journal.entries → place ≡ length from.given → run ≡ report_of (text_at scripts line.root).name (Failed error) (last_time journal.entries) (take place journal.entries) (drop place journal.entries) → CameOf scripts line from (HasFailed run journal)
-  comes-failed m run journal error place is other fails drawn at ran =
+  pub comes-failed : (m : Maker) (run : RunReport) (journal : Journal) (error : RunError) (place : ℕ) → m ≡ maker_of scripts line → error ≢ NoMemory → Fails (root_steps m) from journal.entries error → AreShuffled chacha_stream from journal.entries → AreAudited from journal.entries → place ≡ length from.given → run ≡ report_of (text_at scripts line.root).name (Failed error) (last_time journal.entries) (take place journal.entries) (drop place journal.entries) → CameOf scripts line from (HasFailed run journal)
+  comes-failed m run journal error place is other fails drawn audited at ran =
       let own = fails.entries in
       rw ran (
         own,
@@ -148,13 +152,14 @@ module _ (scripts : List ScriptText) (line : RunLine) (from : Starting ChaCha) (
           makes = made-at m is;
           comes = (other, ap last_time (sym fails.extends), subst (λ all. Fails (root_steps m) from all error) fails.extends fails);
           drawn = subst (λ all. AreShuffled chacha_stream from all) fails.extends drawn;
+          audited = subst (λ all. AreAudited from all) fails.extends audited;
           is = reported-at (text_at scripts line.root).name (Failed error) (last_time journal.entries) place from.given own journal.entries fails.extends at;
         },
       )
 
   -- it lacked memory
-  pub halts-at : (m : Maker) (journal : Journal) (error : RunError) → m ≡ maker_of scripts line → error ≡ NoMemory → Fails (root_steps m) from journal.entries error → AreShuffled chacha_stream from journal.entries → CameOf scripts line from (Lacked journal)
-  halts-at m journal error is lacked fails drawn = (
+  pub halts-at : (m : Maker) (journal : Journal) (error : RunError) → m ≡ maker_of scripts line → error ≡ NoMemory → Fails (root_steps m) from journal.entries error → AreShuffled chacha_stream from journal.entries → AreAudited from journal.entries → CameOf scripts line from (Lacked journal)
+  halts-at m journal error is lacked fails drawn audited = (
     fails.entries,
     fails.extends,
     record {
@@ -163,6 +168,7 @@ module _ (scripts : List ScriptText) (line : RunLine) (from : Starting ChaCha) (
       makes = made-at m is;
       lacks = subst (λ cause. Fails (root_steps m) from (from.given ++ fails.entries) cause) lacked (subst (λ all. Fails (root_steps m) from all error) fails.extends fails);
       drawn = subst (λ all. AreShuffled chacha_stream from all) fails.extends drawn;
+      audited = subst (λ all. AreAudited from all) fails.extends audited;
     },
   )
 

@@ -8,7 +8,7 @@ use Rattle.rt_audit.specs.Journal.{digest_of, last_time}
 use Rattle.rt_model.specs.Tied.{Steps, with_first}
 use Rattle.rt_core.specs.declared.run_error.RunError.TheVariants.{NoMemory}
 use Rattle.rt_core.specs.Starting.{Starting, Kept, first_begin, resumed, seeded, default_seed, chacha_stream}
-use Rattle.rt_core.specs.Outcome.{Completes, Fails, AreShuffled}
+use Rattle.rt_core.specs.Outcome.{Completes, Fails, AreShuffled, AreAudited}
 use Rattle.rt_scenario.specs.declared.scenario.RunLine.{RunLine}
 use Rattle.rt_scenario.specs.declared.scenario.Scenario.{Scenario}
 use Rattle.rt_scenario.specs.declared.scenario.Settings.{Settings}
@@ -63,6 +63,7 @@ pub record Halts (scripts : List ScriptText) (line : RunLine) (from : Starting C
   pub makes : Makes scripts line script maker
   pub lacks : Fails (root_steps maker) from (from.given ++ entries) NoMemory
   pub drawn : AreShuffled chacha_stream from (from.given ++ entries)
+  pub audited : AreAudited from (from.given ++ entries)
 
 abbrev pub rounds_in : List Entry → ℕ
 rounds_in [] = 0
@@ -88,6 +89,7 @@ pub record IsReported (scripts : List ScriptText) (line : RunLine) (from : Start
   pub makes : Makes scripts line script maker
   pub comes : Comes maker from entries run.time run.result kept
   pub drawn : AreShuffled chacha_stream from (from.given ++ entries)
+  pub audited : AreAudited from (from.given ++ entries)
   pub is : run ≡ report_of script.name run.result run.time from.given entries
 
 -- the run of a line from this beginning has come to this, and these are all entries

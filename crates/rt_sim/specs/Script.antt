@@ -1,5 +1,5 @@
 -- What a script does, line by line.
-use Rattle.std.specs.Prelude.{◌≡◌, ℕ, ◌+◌, max, Bool, true, false, List, [], ◌∷◌, codes, drop, Option, Some, None, Result, Ok, Err, ℤ, pos, negsuc}
+use Rattle.std.specs.Prelude.{◌≡◌, ℕ, ◌+◌, ◌%◌, ◌^◌, max, Bool, true, false, List, [], ◌∷◌, codes, drop, Option, Some, None, Result, Ok, Err, ℤ, pos, negsuc}
 use Rattle.rt_base.specs.declared.error.Error.{Error}
 use Rattle.rt_base.specs.declared.error.Error.TheVariants.{Exited, Closed as IsClosed, Aborted, Timeout, ClockOverflow, UnknownToken, TooManyTasks, Metric, NoMemory as LacksMemory}
 use Rattle.rt_base.specs.declared.poll.Poll.{Poll}
@@ -16,6 +16,7 @@ use Rattle.rt_core.specs.Contexts.{Context, childs, spawns as spawns_on}
 use Rattle.rt_core.specs.Handles.{TaskHandle, task_polls, task_spends, handle_aborts, aborted}
 use Rattle.rt_core.specs.Sleeper.{Sleeper}
 use Rattle.rt_core.specs.Pollers.{sleep_for, sleep_until, sleep_polls, sleep_spends, reschedule_polls, reschedule_spends, unqueued, closes}
+use Rattle.rt_core.specs.Drawing.{asks_u64}
 use Rattle.rt_core.specs.Signals.{asks_stopped, signal_polls, signal_spends}
 use Rattle.rt_core.specs.Stopping.{stop_polls, stop_spends}
 use Rattle.rt_core.specs.declared.signals.SignalKind.{SignalKind}
@@ -23,7 +24,7 @@ use Rattle.rt_core.specs.declared.stop.Stop.{Stop}
 use Rattle.rt_core.specs.declared.stop.Stopping.TheVariants.{Begins}
 use Rattle.rt_core.specs.declared.yields.Reschedule.{Reschedule}
 use Rattle.rt_scenario.specs.declared.line.Line.{Line}
-use Rattle.rt_scenario.specs.declared.line.Line.TheVariants.{Sleep, Until, Yield, Pend, End, EndLast, Panic, Spawn, Abort, AbortSelf, Drop, Join, Within, Select, Stopped, Wait, Stop as Shutdown}
+use Rattle.rt_scenario.specs.declared.line.Line.TheVariants.{Sleep, Until, Yield, Draw, Pend, End, EndLast, Panic, Spawn, Abort, AbortSelf, Drop, Join, Within, Select, Stopped, Wait, Stop as Shutdown}
 use Rattle.rt_scenario.specs.declared.scenario.ScriptText.{ScriptText}
 use Rattle.rt_sim.specs.Program.{text_at, name_at, word_at, choices_in}
 use Rattle.rt_sim.specs.declared.held.Held.{Held}
@@ -239,6 +240,14 @@ self_aborted s on heard = Gives NoMemory s
 unfoldable pub aborts_itself : Script → (Script → Next) → ℕ → Next
 aborts_itself s on task = Does (Plainly (AbortTask task)) (self_aborted s on)
 
+-- a number was drawn, of which the rest by 2^63 is kept
+abbrev pub drew : Script → (Script → Next) → Result ℕ Error → Next
+drew s on (Ok number) = on (passed s (pos (number % 2 ^ 63)))
+drew s on (Err error) = refused s on error
+
+unfoldable pub draws : Script → (Script → Next) → Next
+draws s on = then asks_u64 (λ drawn u. drew s on drawn)
+
 -- a signal of the shutdown was made
 abbrev pub signaled : Script → (Script → Next) → ℕ → Result SignalKind Error → Next
 signaled s on at (Ok signal) = on (passed (put_back s at (Signal signal)) (pos 0))
@@ -404,6 +413,7 @@ goes_on (EndLast ∷ lines) s time task = Gives (Ready s.last) s
 goes_on (Pend ∷ lines) s time task = Gives Pending s
 goes_on (Panic word ∷ lines) s time task = Gives (Panicked (word_at s.text word)) s
 goes_on (Yield ∷ lines) s time task = yields s (λ next. goes_on lines next time task) task
+goes_on (Draw ∷ lines) s time task = draws s (λ next. goes_on lines next time task)
 goes_on (Sleep duration ∷ lines) s time task = sleeps s (λ next. goes_on lines next time task) (sleep_for time duration)
 goes_on (Until moment ∷ lines) s time task = sleeps s (λ next. goes_on lines next time task) (sleep_until moment)
 goes_on (Spawn at script ∷ lines) s time task = spawns s (λ next. goes_on lines next time task) at script

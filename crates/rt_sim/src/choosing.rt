@@ -25,7 +25,7 @@ impl Script {
     ) -> Option<Answer<i64>>
         requires room { self.old.place < length self.old.text.lines }
         requires polling { IsPolling world.old cx.now.task }
-        ensures kept { Kept world.old world.new }
+        ensures kept { Kept G.stream world.old world.new }
         ensures place { IfNone result (self.new.place ≡ self.old.place + 1) }
         ensures text { self.new.text ≡ self.old.text }
         ensures steps { (on : Script → Next) → Advanced (chooses self.old on first past) (on self.new) world.old world.new result self.new }
@@ -51,7 +51,7 @@ impl Script {
     ) -> Option<Answer<i64>>
         requires room { self.old.place < length self.old.text.lines }
         requires polling { IsPolling world.old cx.now.task }
-        ensures kept { Kept world.old world.new }
+        ensures kept { Kept G.stream world.old world.new }
         ensures place { IfNone result (self.new.place ≡ self.old.place + 1) }
         ensures text { self.new.text ≡ self.old.text }
         ensures steps { (on : Script → Next) → Advanced (goes_choosing self.old on first past) (on self.new) world.old world.new result self.new }
@@ -79,7 +79,7 @@ impl Script {
         past: usize,
     ) -> Poll<Result<i64, Error>>
         requires polling { IsPolling world.old cx.now.task }
-        ensures kept { Kept world.old world.new }
+        ensures kept { Kept G.stream world.old world.new }
         ensures rest { self.new ≡ record self.old { held = self.new.held } }
         ensures steps { Goes (polls_choice (choices_in self.old.text first past) self.old) world.old world.new result self.new }
     {
@@ -118,7 +118,7 @@ impl Script {
         past: usize,
     ) -> Poll<Result<i64, Error>>
         requires polling { IsPolling world.old cx.now.task }
-        ensures kept { Kept world.old world.new }
+        ensures kept { Kept G.stream world.old world.new }
         ensures rest { self.new ≡ record self.old { held = self.new.held } }
         ensures steps { Goes (polls_chosen (choices_in self.old.text first past) self.old) world.old world.new result self.new }
     {
@@ -140,7 +140,7 @@ impl Script {
         at: usize,
     ) -> Poll<Result<i64, Error>>
         requires polling { IsPolling world.old cx.now.task }
-        ensures kept { Kept world.old world.new }
+        ensures kept { Kept G.stream world.old world.new }
         ensures rest { self.new ≡ record self.old { held = self.new.held } }
         ensures steps { Goes (polls_name self.old at (handle_at self.old at)) world.old world.new result self.new }
     {
@@ -156,7 +156,7 @@ impl Script {
     pub(crate) fn leave_under_way<G: Rng>(&mut self, world: &mut World<Script, i64, G>)
         requires { MayCall world.old.told.state world.old.out }
         ensures state { self.new ≡ unchosen (choice_in self.old.text (range_of self.old.waits)) self.old }
-        ensures kept { Kept world.old world.new }
+        ensures kept { Kept G.stream world.old world.new }
         ensures lacked { world.new.lacked ≡ world.old.lacked }
         ensures steps { Spends (leaves_choice (choice_in self.old.text (range_of self.old.waits)) self.old.held) world.old world.new }
     {
@@ -169,7 +169,7 @@ impl Script {
     fn leave_choice<G: Rng>(&mut self, world: &mut World<Script, i64, G>, first: usize, past: usize)
         requires { MayCall world.old.told.state world.old.out }
         ensures state { self.new ≡ unchosen (choices_in self.old.text first past) self.old }
-        ensures kept { Kept world.old world.new }
+        ensures kept { Kept G.stream world.old world.new }
         ensures lacked { world.new.lacked ≡ world.old.lacked }
         ensures steps { Spends (leaves_choice (choices_in self.old.text first past) self.old.held) world.old world.new }
     {
@@ -181,7 +181,7 @@ impl Script {
     fn abort_chosen<G: Rng>(&mut self, world: &mut World<Script, i64, G>, first: usize, past: usize)
         requires { MayCall world.old.told.state world.old.out }
         ensures state { self.new ≡ record self.old { held = aborted_in (choices_in self.old.text first past) self.old.held } }
-        ensures kept { Kept world.old world.new }
+        ensures kept { Kept G.stream world.old world.new }
         ensures lacked { world.new.lacked ≡ world.old.lacked }
         ensures steps { Spends (aborts_chosen (choices_in self.old.text first past) self.old.held) world.old world.new }
     {
@@ -196,7 +196,7 @@ impl Script {
     fn abort_name<G: Rng>(&mut self, world: &mut World<Script, i64, G>, at: usize)
         requires { MayCall world.old.told.state world.old.out }
         ensures state { self.new ≡ record self.old { held = aborted_at at (handle_at self.old at) self.old.held } }
-        ensures kept { Kept world.old world.new }
+        ensures kept { Kept G.stream world.old world.new }
         ensures lacked { world.new.lacked ≡ world.old.lacked }
         ensures steps { Spends (aborts_of (handle_at self.old at)) world.old world.new }
     {
@@ -216,7 +216,7 @@ impl Script {
     )
         requires { MayCall world.old.told.state world.old.out }
         ensures state { self.new ≡ record self.old { held = freed_of (choices_in self.old.text first past) self.old.held } }
-        ensures kept { Kept world.old world.new }
+        ensures kept { Kept G.stream world.old world.new }
         ensures lacked { world.new.lacked ≡ world.old.lacked }
         ensures steps { Spends (releases_chosen (choices_in self.old.text first past) self.old.held) world.old world.new }
     {

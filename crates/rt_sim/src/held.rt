@@ -22,7 +22,7 @@ impl Held {
     /// Gives it up. It takes no memory.
     pub fn give_up<G: Rng>(self, world: &mut World<Script, i64, G>)
         requires { MayCall world.old.told.state world.old.out }
-        ensures kept { Kept world.old world.new }
+        ensures kept { Kept G.stream world.old world.new }
         ensures lacked { world.new.lacked ≡ world.old.lacked }
         ensures steps { Spends (held_spends self) world.old world.new }
     {

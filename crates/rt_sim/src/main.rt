@@ -4,6 +4,7 @@
 mod choosing;
 #[cfg(test)]
 mod choosing_tests;
+mod drawing;
 mod held;
 mod maker;
 mod outcome;

@@ -87,7 +87,7 @@ fn spawn_beside<G: Rng>(
     requires script { script < length program.now }
     requires calling { MayCall world.old.told.state world.old.out }
     ensures context { IfOk result (λ back. back ≡ context) }
-    ensures kept { Kept world.old world.new }
+    ensures kept { Kept G.stream world.old world.new }
     ensures steps { (next : Making) → Prepares (beside context program.now script next) next world.old world.new result }
 {
     let Ok(shared) = program.share() else {
@@ -113,7 +113,7 @@ fn start_beside<G: Rng>(
     requires script { script < length program }
     requires calling { MayCall world.old.told.state world.old.out }
     ensures context { IfOk result (λ back. back ≡ context) }
-    ensures kept { Kept world.old world.new }
+    ensures kept { Kept G.stream world.old world.new }
     ensures steps { (next : Making) → Prepares (placed_beside context program script next (Ok child)) next world.old world.new result }
 {
     let spawned = child.spawn(
@@ -144,7 +144,7 @@ fn pass_over<G: Rng>(
 ) -> Result<Context, NoMemory>
     requires { MayCall world.old.told.state world.old.out }
     ensures context { IfOk result (λ back. back ≡ context) }
-    ensures kept { Kept world.old world.new }
+    ensures kept { Kept G.stream world.old world.new }
     ensures steps { (next : Making) → Prepares (passed_over context next error) next world.old world.new result }
 {
     if let Error::NoMemory = error {

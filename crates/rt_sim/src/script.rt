@@ -144,7 +144,7 @@ impl Script {
     ) -> Option<Answer<i64>>
         requires room { self.old.place < length self.old.text.lines }
         requires polling { IsPolling world.old cx.now.task }
-        ensures kept { Kept world.old world.new }
+        ensures kept { Kept G.stream world.old world.new }
         ensures place { IfNone result (self.new.place ≡ self.old.place + 1) }
         ensures text { self.new.text ≡ self.old.text }
         ensures steps { (on : Script → Next) → Advanced (sleeps self.old on fresh) (on self.new) world.old world.new result self.new }
@@ -176,7 +176,7 @@ impl Script {
     ) -> Option<Answer<i64>>
         requires room { self.old.place < length self.old.text.lines }
         requires polling { IsPolling world.old cx.now.task }
-        ensures kept { Kept world.old world.new }
+        ensures kept { Kept G.stream world.old world.new }
         ensures place { IfNone result (self.new.place ≡ self.old.place + 1) }
         ensures text { self.new.text ≡ self.old.text }
         ensures steps { (on : Script → Next) → Advanced (yields self.old on cx.now.task) (on self.new) world.old world.new result self.new }
@@ -200,7 +200,7 @@ impl Script {
         requires { MayCall world.old.told.state world.old.out }
         ensures state { self.new ≡ loosed self.old at }
         ensures free { find at self.new.held ≡ None }
-        ensures kept { Kept world.old world.new }
+        ensures kept { Kept G.stream world.old world.new }
         ensures lacked { world.new.lacked ≡ world.old.lacked }
         ensures steps { Spends (releases (find at self.old.held)) world.old world.new }
     {
@@ -352,7 +352,7 @@ impl Script {
         requires handle { at < length self.old.text.handles }
         requires script { script < length self.old.program }
         requires calling { MayCall world.old.told.state world.old.out }
-        ensures kept { Kept world.old world.new }
+        ensures kept { Kept G.stream world.old world.new }
         ensures place { IfNone result (self.new.place ≡ self.old.place + 1) }
         ensures text { self.new.text ≡ self.old.text }
         ensures steps { (on : Script → Next) → Advanced (spawns self.old on at script) (on self.new) world.old world.new result self.new }
@@ -386,7 +386,7 @@ impl Script {
         requires place { at < self.old.places }
         requires free { find at self.old.held ≡ None }
         requires program { program ≡ self.old.program }
-        ensures kept { Kept world.old world.new }
+        ensures kept { Kept G.stream world.old world.new }
         ensures place { IfNone result (self.new.place ≡ self.old.place + 1) }
         ensures text { self.new.text ≡ self.old.text }
         ensures steps { (on : Script → Next) → Advanced (placed self.old on at script (Ok context)) (on self.new) world.old world.new result self.new }
@@ -421,7 +421,7 @@ impl Script {
     ) -> Option<Answer<i64>>
         requires room { self.old.place < length self.old.text.lines }
         requires polling { IsPolling world.old cx.now.task }
-        ensures kept { Kept world.old world.new }
+        ensures kept { Kept G.stream world.old world.new }
         ensures place { IfNone result (self.new.place ≡ self.old.place + 1) }
         ensures text { self.new.text ≡ self.old.text }
         ensures steps { (on : Script → Next) → Advanced (joins self.old on at) (on self.new) world.old world.new result self.new }
@@ -458,7 +458,7 @@ impl Script {
     ) -> Option<Answer<i64>>
         requires room { self.old.place < length self.old.text.lines }
         requires polling { IsPolling world.old cx.now.task }
-        ensures kept { Kept world.old world.new }
+        ensures kept { Kept G.stream world.old world.new }
         ensures place { IfNone result (self.new.place ≡ self.old.place + 1) }
         ensures text { self.new.text ≡ self.old.text }
         ensures steps { (on : Script → Next) → Advanced (joins_within self.old on at fresh) (on self.new) world.old world.new result self.new }
@@ -490,7 +490,7 @@ impl Script {
         requires polling { IsPolling world.old cx.now.task }
         requires place { at < self.old.places }
         requires free { find at self.old.held ≡ None }
-        ensures kept { Kept world.old world.new }
+        ensures kept { Kept G.stream world.old world.new }
         ensures place { IfNone result (self.new.place ≡ self.old.place + 1) }
         ensures text { self.new.text ≡ self.old.text }
         ensures steps { (on : Script → Next) → Advanced (limits self.old on at sleep handle) (on self.new) world.old world.new result self.new }
@@ -524,7 +524,7 @@ impl Script {
         requires polling { IsPolling world.old cx.now.task }
         requires place { at < self.old.places }
         requires free { find at self.old.held ≡ None }
-        ensures kept { Kept world.old world.new }
+        ensures kept { Kept G.stream world.old world.new }
         ensures place { IfNone result (self.new.place ≡ self.old.place + 1) }
         ensures text { self.new.text ≡ self.old.text }
         ensures steps { (on : Script → Next) → Advanced (limited self.old on at sleep IsPending handle) (on self.new) world.old world.new result self.new }
@@ -552,7 +552,7 @@ impl Script {
     fn abort<G: Rng>(&mut self, world: &mut World<Script, i64, G>, at: usize)
         requires room { self.old.place < length self.old.text.lines }
         requires calling { MayCall world.old.told.state world.old.out }
-        ensures kept { Kept world.old world.new }
+        ensures kept { Kept G.stream world.old world.new }
         ensures place { self.new.place ≡ self.old.place + 1 }
         ensures text { self.new.text ≡ self.old.text }
         ensures steps { (on : Script → Next) → Leads (aborts self.old on at) (on self.new) world.old world.new }
@@ -570,7 +570,7 @@ impl Script {
     fn drop_handle<G: Rng>(&mut self, world: &mut World<Script, i64, G>, at: usize)
         requires room { self.old.place < length self.old.text.lines }
         requires calling { MayCall world.old.told.state world.old.out }
-        ensures kept { Kept world.old world.new }
+        ensures kept { Kept G.stream world.old world.new }
         ensures place { self.new.place ≡ self.old.place + 1 }
         ensures text { self.new.text ≡ self.old.text }
         ensures steps { (on : Script → Next) → Leads (drops self.old on at) (on self.new) world.old world.new }
@@ -591,7 +591,7 @@ impl Script {
     ) -> Option<Answer<i64>>
         requires room { self.old.place < length self.old.text.lines }
         requires polling { IsPolling world.old cx.now.task }
-        ensures kept { Kept world.old world.new }
+        ensures kept { Kept G.stream world.old world.new }
         ensures place { IfNone result (self.new.place ≡ self.old.place + 1) }
         ensures text { self.new.text ≡ self.old.text }
         ensures steps { (on : Script → Next) → Advanced (aborts_itself self.old on cx.now.task) (on self.new) world.old world.new result self.new }
@@ -616,7 +616,7 @@ impl Script {
         requires room { self.old.place < length self.old.text.lines }
         requires within { IsWithin (length self.old.program) self.old.text line }
         requires polling { IsPolling world.old cx.now.task }
-        ensures kept { Kept world.old world.new }
+        ensures kept { Kept G.stream world.old world.new }
         ensures place { IfNone result (self.new.place ≡ self.old.place + 1) }
         ensures text { self.new.text ≡ self.old.text }
         ensures steps { (lines : List Line) → Advanced (goes_on (line ∷ lines) self.old world.old.told.state.clock.time cx.now.task) (goes_on lines self.new world.old.told.state.clock.time cx.now.task) world.old world.new result self.new }
@@ -631,6 +631,7 @@ impl Script {
                 self.sleep(world, cx, fresh)
             }
             Line::Yield => self.give_way(world, cx),
+            Line::Draw => self.draw(world),
             Line::Pend => Some(Answer::Pending),
             Line::End(value) => Some(Answer::Ready(value)),
             Line::EndLast => Some(Answer::Ready(self.last)),
@@ -742,7 +743,7 @@ pub(crate) fn only_one(room: &mut Vec<Stop>) -> Option<Stop>
 #[tactic(auto, using(rt_world::proofs::Walked::task_laws))]
 fn give_stop_up<G: Rng>(world: &mut World<Script, i64, G>, stop: Option<Stop>)
     requires { MayCall world.old.told.state world.old.out }
-    ensures kept { Kept world.old world.new }
+    ensures kept { Kept G.stream world.old world.new }
     ensures lacked { world.new.lacked ≡ world.old.lacked }
     ensures steps { Spends (gives_stop_up stop) world.old world.new }
 {
@@ -761,7 +762,7 @@ fn stop_waiting<G: Rng>(
     requires { MayCall world.old.told.state world.old.out }
     ensures left { result.items ≡ left_by waits held.items }
     ensures first { result.first ≡ held.first }
-    ensures kept { Kept world.old world.new }
+    ensures kept { Kept G.stream world.old world.new }
     ensures lacked { world.new.lacked ≡ world.old.lacked }
     ensures steps { Spends (stops_waiting waits held.items) world.old world.new }
 {
@@ -784,7 +785,7 @@ fn stop_waiting<G: Rng>(
 #[tactic(auto, using(rt_world::proofs::Walked::loop_laws))]
 fn release_all<G: Rng>(world: &mut World<Script, i64, G>, held: Tasks<Held>)
     requires { MayCall world.old.told.state world.old.out }
-    ensures kept { Kept world.old world.new }
+    ensures kept { Kept G.stream world.old world.new }
     ensures lacked { world.new.lacked ≡ world.old.lacked }
     ensures steps { (next : Last Script ℤ) (end : AnyWorld Script ℤ G) → Spent next world.new end → Spent (releases_all held.items next) world.old end }
 {

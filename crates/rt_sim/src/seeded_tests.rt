@@ -82,6 +82,82 @@ digest f4108541
     expect_report(&rt, rt.alloc(), input, 0, report)
 }
 
+/// Rounds and the tasks of all runs draw from one generator, each what comes next. The root draws, then the next round, then the task
+/// that was spawned, and the second run goes on behind that. Its number has the highest bit, which an output has not.
+#[test]
+fn draws_of_tasks(rt: HostRuntime) -> Result<(), Fail> {
+    let input =
+        "seed 7\nscript a\ndraw\nend last\ndone\nscript main\nspawn h a\ndraw\nyield\njoin h\nend last\ndone\nrun main\nrun a\n";
+    let report = "\
+run main
+start 0 - 1000000 0
+root 0
+round 0
+visit 0
+event process_task 00000000000000000000000000000000 -
+call 0 child 0 h -> node 1
+call 0 spawn 1 -> task 1 node 2
+event rand 6e6578745f753634
+call 0 u64 -> 559256596868823998
+call 0 wake 0 -> ok
+wake 0
+answer 0 pending
+advance 1000000
+draw 5664742077951270790
+round 0 1
+visit 0
+event process_task 00000000000000000000000000000000 -
+call 0 join 1 -> pending
+answer 0 pending
+visit 1
+event process_task 00000000000000000000000000000001 68
+event rand 6e6578745f753634
+call 1 u64 -> 2631283358781127885
+answer 1 ready
+call 1 close-node 2 -> ok
+answer 1 ended
+wake 0
+nodeend 1
+advance 2000000
+round 0
+visit 0
+event process_task 00000000000000000000000000000000 -
+call 0 join 1 -> ready
+call 0 give-up 1 -> ok
+answer 0 ready
+cleanup
+nodeend 0
+call 0 close-node 0 -> ok
+answer 0 ended
+crash
+finish ok
+result ok 2631283358781127885
+time 2000000
+rounds 3
+digest 2589718c
+run a
+start 2000000 - 1000000 0
+root 0
+round 0
+visit 0
+event process_task 00000000000000000000000000000000 -
+event rand 6e6578745f753634
+call 0 u64 -> 10007675695454462105
+answer 0 ready
+cleanup
+nodeend 0
+call 0 close-node 0 -> ok
+answer 0 ended
+crash
+finish ok
+result ok 784303658599686297
+time 2000000
+rounds 1
+digest ef3d4546
+";
+    expect_report(&rt, rt.alloc(), input, 0, report)
+}
+
 /// A later run begins at the last moment of the one before, and its tasks and alarms have numbers from 0 on.
 #[test]
 fn resumed_times(rt: HostRuntime) -> Result<(), Fail> {

@@ -22,7 +22,7 @@ impl Script {
     ) -> Option<Answer<i64>>
         requires room { self.old.place < length self.old.text.lines }
         requires calling { MayCall world.old.told.state world.old.out }
-        ensures kept { Kept world.old world.new }
+        ensures kept { Kept G.stream world.old world.new }
         ensures place { IfNone result (self.new.place ≡ self.old.place + 1) }
         ensures text { self.new.text ≡ self.old.text }
         ensures steps { (on : Script → Next) → Advanced (asks self.old on at) (on self.new) world.old world.new result self.new }
@@ -52,7 +52,7 @@ impl Script {
     ) -> Option<Answer<i64>>
         requires room { self.old.place < length self.old.text.lines }
         requires polling { IsPolling world.old cx.now.task }
-        ensures kept { Kept world.old world.new }
+        ensures kept { Kept G.stream world.old world.new }
         ensures place { IfNone result (self.new.place ≡ self.old.place + 1) }
         ensures text { self.new.text ≡ self.old.text }
         ensures steps { (on : Script → Next) → Advanced (awaits self.old on at) (on self.new) world.old world.new result self.new }
@@ -84,7 +84,7 @@ impl Script {
     ) -> Option<Answer<i64>>
         requires room { self.old.place < length self.old.text.lines }
         requires polling { IsPolling world.old cx.now.task }
-        ensures kept { Kept world.old world.new }
+        ensures kept { Kept G.stream world.old world.new }
         ensures place { IfNone result (self.new.place ≡ self.old.place + 1) }
         ensures text { self.new.text ≡ self.old.text }
         ensures steps { (on : Script → Next) → Advanced (stops self.old on value limit world.old.told.state.clock.time cx.now.task) (on self.new) world.old world.new result self.new }
@@ -121,7 +121,7 @@ impl Script {
         requires room { self.old.place < length self.old.text.lines }
         requires polling { IsPolling world.old cx.now.task }
         requires free { self.old.stop ≡ None }
-        ensures kept { Kept world.old world.new }
+        ensures kept { Kept G.stream world.old world.new }
         ensures place { IfNone result (self.new.place ≡ self.old.place + 1) }
         ensures text { self.new.text ≡ self.old.text }
         ensures steps { (on : Script → Next) → Advanced (stop_goes self.old on world.old.told.state.clock.time cx.now.task stop) (on self.new) world.old world.new result self.new }

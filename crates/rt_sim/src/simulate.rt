@@ -31,6 +31,7 @@ const USAGE: &str = "usage: rt_sim run | gen N | load N | workers N\n";
 /// The status is 0 where each run gave an output, 2 where the words are no command, 3 where the input is no scenario,
 /// 4 where a read failed, 5 where a write failed, 6 where a run failed, which is then the last, and 7 where it was out of memory.
 /// After a failed write the outcome is as without it but for the status, and the first bytes of the text were written.
+/// Each call keeps the memory of its scenario's scripts until the process ends.
 pub fn simulate_alone<S: Source, K: Sink8>(
     alloc: Global,
     words: &[String],
@@ -136,6 +137,8 @@ fn run_scenario<K: Sink8>(alloc: Global, scenario: Scenario, sink: &mut K) -> Ou
     };
     let first = first_runner(settings);
     let ran = run_lines(alloc, &program, first, lines.as_slice(), room);
+    // The scripts stand until the process ends, which gives their memory back whole.
+    std::mem::forget(program);
     let Ran {
         runs,
         journal,

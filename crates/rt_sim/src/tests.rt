@@ -67,91 +67,93 @@ pub(crate) fn expect_end(
     Ok(())
 }
 
+const STATUSES_AND_TEXTS: &[(&str, &str, u8, &str)] = &[
+    (
+        "run",
+        "script a\nend 7\ndone\nrun a\n",
+        0,
+        "finish ok\nresult ok 7\ntime 0\nrounds 1\ndigest 32ffd0c0\n",
+    ),
+    (
+        "run",
+        "# it naps\n\nscript a\nsleep 2500000\nyield\nend last\ndone\nrun a\n",
+        0,
+        "finish ok\nresult ok 0\ntime 3500000\nrounds 3\ndigest 173af621\n",
+    ),
+    (
+        "run",
+        "timeout 1500000\nscript a\nsleep 9000000\ndone\nrun a\n",
+        6,
+        "finish timeout\nresult timeout\ntime 9000000\nrounds 1\ndigest 32ffd0c0\n",
+    ),
+    (
+        "run",
+        "script a\npend\ndone\nrun a\n",
+        6,
+        "finish stalled\nresult stalled\ntime 1000000\nrounds 1\ndigest 32ffd0c0\n",
+    ),
+    (
+        "run",
+        "script a\nsleep 9223372036854775808000000000\nend last\ndone\nrun a\n",
+        0,
+        "finish ok\nresult ok -11\ntime 0\nrounds 1\ndigest 32ffd0c0\n",
+    ),
+    (
+        "run",
+        "script w\nend 5\ndone\nscript a\nspawn h w\nwithin 9223372036854775808000000000 h\nend last\ndone\nrun a\n",
+        0,
+        "finish ok\nresult ok -11\ntime 0\nrounds 1\ndigest 32ffd0c0\n",
+    ),
+    (
+        "run",
+        "script w\nend 5\ndone\nscript a\nspawn h w\nwithin 4000000 h\nend last\ndone\nrun a\n",
+        0,
+        "finish ok\nresult ok 5\ntime 2000000\nrounds 3\ndigest 7f1bd155\n",
+    ),
+    (
+        "run",
+        "script w\nend 5\ndone\nscript a\nspawn h w\nabort h\nwithin 4000000 h\nend last\ndone\nrun a\n",
+        0,
+        "finish ok\nresult ok -2\ntime 2000000\nrounds 3\ndigest 7f1bd155\n",
+    ),
+    (
+        "run",
+        "script a\nwithin 5 h\nend last\ndone\nrun a\n",
+        0,
+        "finish ok\nresult ok -99\ntime 0\nrounds 1\ndigest 32ffd0c0\n",
+    ),
+    ("run", "", 3, "error 1 norun\n"),
+    ("run", "script a\nend 7\ndone\nrun a", 3, "error 4 cut\n"),
+    (
+        "run",
+        "script a\ndone\nrun a\nscript b\n",
+        3,
+        "error 4 place\n",
+    ),
+    (
+        "run",
+        "script a\ndone\nrun a with b\n",
+        3,
+        "error 3 missing\n",
+    ),
+    (
+        "run",
+        "script a\nwalk\ndone\nrun a\n",
+        3,
+        "error 2 unknown\n",
+    ),
+    (
+        "walk",
+        "",
+        2,
+        "usage: rt_sim run | gen N | load N | workers N\n",
+    ),
+];
+
 #[test]
 fn statuses_and_texts(rt: HostRuntime) -> Result<(), Fail> {
     let alloc = rt.alloc();
-    for (word, input, status, end) in [
-        (
-            "run",
-            "script a\nend 7\ndone\nrun a\n",
-            0u8,
-            "finish ok\nresult ok 7\ntime 0\nrounds 1\ndigest 32ffd0c0\n",
-        ),
-        (
-            "run",
-            "# it naps\n\nscript a\nsleep 2500000\nyield\nend last\ndone\nrun a\n",
-            0,
-            "finish ok\nresult ok 0\ntime 3500000\nrounds 3\ndigest 173af621\n",
-        ),
-        (
-            "run",
-            "timeout 1500000\nscript a\nsleep 9000000\ndone\nrun a\n",
-            6,
-            "finish timeout\nresult timeout\ntime 9000000\nrounds 1\ndigest 32ffd0c0\n",
-        ),
-        (
-            "run",
-            "script a\npend\ndone\nrun a\n",
-            6,
-            "finish stalled\nresult stalled\ntime 1000000\nrounds 1\ndigest 32ffd0c0\n",
-        ),
-        (
-            "run",
-            "script a\nsleep 9223372036854775808000000000\nend last\ndone\nrun a\n",
-            0,
-            "finish ok\nresult ok -11\ntime 0\nrounds 1\ndigest 32ffd0c0\n",
-        ),
-        (
-            "run",
-            "script w\nend 5\ndone\nscript a\nspawn h w\nwithin 9223372036854775808000000000 h\nend last\ndone\nrun a\n",
-            0,
-            "finish ok\nresult ok -11\ntime 0\nrounds 1\ndigest 32ffd0c0\n",
-        ),
-        (
-            "run",
-            "script w\nend 5\ndone\nscript a\nspawn h w\nwithin 4000000 h\nend last\ndone\nrun a\n",
-            0,
-            "finish ok\nresult ok 5\ntime 2000000\nrounds 3\ndigest 7f1bd155\n",
-        ),
-        (
-            "run",
-            "script w\nend 5\ndone\nscript a\nspawn h w\nabort h\nwithin 4000000 h\nend last\ndone\nrun a\n",
-            0,
-            "finish ok\nresult ok -2\ntime 2000000\nrounds 3\ndigest 7f1bd155\n",
-        ),
-        (
-            "run",
-            "script a\nwithin 5 h\nend last\ndone\nrun a\n",
-            0,
-            "finish ok\nresult ok -99\ntime 0\nrounds 1\ndigest 32ffd0c0\n",
-        ),
-        ("run", "", 3, "error 1 norun\n"),
-        ("run", "script a\nend 7\ndone\nrun a", 3, "error 4 cut\n"),
-        (
-            "run",
-            "script a\ndone\nrun a\nscript b\n",
-            3,
-            "error 4 place\n",
-        ),
-        (
-            "run",
-            "script a\ndone\nrun a with b\n",
-            3,
-            "error 3 missing\n",
-        ),
-        (
-            "run",
-            "script a\nwalk\ndone\nrun a\n",
-            3,
-            "error 2 unknown\n",
-        ),
-        (
-            "walk",
-            "",
-            2,
-            "usage: rt_sim run | gen N | load N | workers N\n",
-        ),
-    ] {
+    for &(word, input, status, end) in STATUSES_AND_TEXTS {
         expect_end(&rt, alloc, word, input, status, end)?;
     }
     Ok(())

@@ -203,21 +203,21 @@ task_state nodes n = same (slice_get nodes n) ∙ ap (λ o. option_and_then (λ 
 pub set_keeps : {X : Type 0} (f : Node → X) (nodes : List Node) (p : ℕ) (x y : Node) → x ≡ get_or nodes p x → f y ≡ f x → map f (set nodes p y) ≡ map f nodes
 set_keeps f nodes p x y at same = map-set_same f nodes p y x (same ∙ ap f at)
 
-pub children_set : (nodes : List Node) (p child : ℕ) (x y : Node) → p < length nodes → x ≡ get_or nodes p x → y.children.items ≡ x.children.items ++ child ∷ [] → children_lists (set nodes p y) ≡ adopted (children_lists nodes) (Some p) child
+pub children_set : (nodes : List Node) (p child : ℕ) (x y : Node) → p < length nodes → x ≡ get_or nodes p x → y.children ≡ x.children ++ child ∷ [] → children_lists (set nodes p y) ≡ adopted (children_lists nodes) (Some p) child
 children_set nodes p child x y known at more =
     let there : slice_get nodes p ≡ Some x = slice_get-get_or nodes p x known ∙ ap (λ z. Some z) (sym at) in
-    let had : get_or (children_lists nodes) p [] ≡ x.children.items = get_or_from_slice_get (children_lists nodes) p x.children.items [] (slice_get-map (λ z. z.children.items) nodes p ∙ ap (λ o. option_map (λ z. z.children.items) o) there) in
-    map-set (λ z. z.children.items) nodes p y ∙ ap (λ l. set (children_lists nodes) p l) (more ∙ ap (λ l. l ++ child ∷ []) (sym had))
+    let had : get_or (children_lists nodes) p [] ≡ x.children = get_or_from_slice_get (children_lists nodes) p x.children [] (slice_get-map (λ z. z.children) nodes p ∙ ap (λ o. option_map (λ z. z.children) o) there) in
+    map-set (λ z. z.children) nodes p y ∙ ap (λ l. set (children_lists nodes) p l) (more ∙ ap (λ l. l ++ child ∷ []) (sym had))
 
 -- a node more
 
-pub sound_added : (A B : List Node) (x : Node) (ended : List Bool) (flag : Bool) (n : ℕ) → IsSound (parents B) (children_lists B) ended → parents A ≡ parents B → children_lists A ≡ adopted (children_lists B) x.parent n → x.children.items ≡ [] → n ≡ length B → IsOlder x.parent (length B) → IsUnmarked ended x.parent → (x.parent ≡ None → (flag ≡ true) ⊎ (length B ≡ 0)) → IsSound (parents (A ++ x ∷ [])) (children_lists (A ++ x ∷ [])) (ended ++ flag ∷ [])
+pub sound_added : (A B : List Node) (x : Node) (ended : List Bool) (flag : Bool) (n : ℕ) → IsSound (parents B) (children_lists B) ended → parents A ≡ parents B → children_lists A ≡ adopted (children_lists B) x.parent n → x.children ≡ [] → n ≡ length B → IsOlder x.parent (length B) → IsUnmarked ended x.parent → (x.parent ≡ None → (flag ≡ true) ⊎ (length B ≡ 0)) → IsSound (parents (A ++ x ∷ [])) (children_lists (A ++ x ∷ [])) (ended ++ flag ∷ [])
 sound_added A B x ended flag n s same lists none place older unmarked alone =
     let count : length (parents B) ≡ length B = length-map B (λ y. y.parent) in
     let pushed = sound_push (parents B) (children_lists B) ended x.parent flag s (rw count older) unmarked (λ e. rw count (alone e)) in
     let at : n ≡ length (parents B) = place ∙ sym count in
     let ps : parents (A ++ x ∷ []) ≡ parents B ++ x.parent ∷ [] = map-append (λ y. y.parent) A (x ∷ []) ∙ ap (λ qs. qs ++ x.parent ∷ []) same in
-    let first : children_lists (A ++ x ∷ []) ≡ children_lists A ++ x.children.items ∷ [] = map-append (λ y. y.children.items) A (x ∷ []) in
+    let first : children_lists (A ++ x ∷ []) ≡ children_lists A ++ x.children ∷ [] = map-append (λ y. y.children) A (x ∷ []) in
     let ls : children_lists (A ++ x ∷ []) ≡ adopted (children_lists B) x.parent (length (parents B)) ++ [] ∷ [] = first ∙ ap (λ l. children_lists A ++ l ∷ []) none ∙ ap (λ l. l ++ [] ∷ []) (lists ∙ ap (λ k. adopted (children_lists B) x.parent k) at) in
     rw (ps, ls) pushed
 

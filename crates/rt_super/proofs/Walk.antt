@@ -159,10 +159,10 @@ popped_within nodes tasks was first n v mark pending all flags w popped known =
 
 -- a node's children, its mark and its task, as they are kept
 
-pub children_at : (nodes : List Node) (ended : List Bool) (v : ℕ) (x : Node) → IsSound (parents nodes) (children_lists nodes) ended → v < length nodes → x ≡ get_or nodes v x → x.children.items ≡ children_from v 0 (parents nodes)
+pub children_at : (nodes : List Node) (ended : List Bool) (v : ℕ) (x : Node) → IsSound (parents nodes) (children_lists nodes) ended → v < length nodes → x ≡ get_or nodes v x → x.children ≡ children_from v 0 (parents nodes)
 children_at nodes ended v x s known at =
     let there : slice_get nodes v ≡ Some x = slice_get-get_or nodes v x known ∙ ap (λ y. Some y) (sym at) in
-    sym (get_or_from_slice_get (children_lists nodes) v x.children.items [] (slice_get-map (λ y. y.children.items) nodes v ∙ ap (λ o. option_map (λ y. y.children.items) o) there)) ∙ s.lists v
+    sym (get_or_from_slice_get (children_lists nodes) v x.children [] (slice_get-map (λ y. y.children) nodes v ∙ ap (λ o. option_map (λ y. y.children) o) there)) ∙ s.lists v
 
 pub count_marks : (nodes : List Node) (ls : List (List ℕ)) (ended : List Bool) → IsSound (parents nodes) ls ended → length ended ≡ length nodes
 count_marks nodes ls ended s = s.lengths ∙ length-map nodes (λ x. x.parent)

@@ -11,7 +11,7 @@ abbrev pub states : List Node → List (Bool × Option ℕ)
 states nodes = map {B = Bool × Option ℕ} (λ x. (x.live, x.task)) nodes
 
 abbrev pub children_lists : List Node → List (List ℕ)
-children_lists nodes = map (λ x. x.children.items) nodes
+children_lists nodes = map (λ x. x.children) nodes
 
 -- each parent with the place of its child, from a place on
 abbrev pub placed : ℕ → List (Option ℕ) → List (ℕ × Option ℕ)

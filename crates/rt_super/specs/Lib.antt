@@ -13,3 +13,4 @@ pub mod Signals
 pub mod Tokens
 pub mod TokensInside
 pub mod SignalsInside
+pub mod Children

@@ -38,7 +38,7 @@ pub fn end_subtree(
             ended[at] = true;
             let place = &nodes[at];
             flag(place.task, flags);
-            push_children(&place.children, pending);
+            push_children(place.children.as_slice(), pending);
         }
     }
 }

@@ -2,6 +2,7 @@
 #![tactic(auto)]
 
 mod alarms;
+mod children;
 mod ending;
 mod history;
 mod node;

@@ -1,4 +1,5 @@
 // A node of the tree.
+use crate::children::Children;
 
 /// A node. Its number is its place in the tree's list.
 #[derive(Drop)]
@@ -8,5 +9,5 @@ pub struct Node {
     pub live: bool,
     pub task: Option<u64>,
     /// The places of its children, the eldest first.
-    pub children: Vec<usize>,
+    pub children: Children,
 }

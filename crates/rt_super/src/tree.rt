@@ -5,6 +5,7 @@ ghost use Rattle.rt_super.specs.Inside.{parents, states, children_lists, adopted
 ghost use Rattle.std.specs.Option.{ForSome};
 ghost use Rattle.std.specs.VecDeque.{deque_capacity};
 
+use crate::children::Children;
 use crate::ending::end_subtree;
 use crate::history::{Change, History};
 use crate::node::Node;
@@ -224,13 +225,12 @@ impl Tree {
         self.ended.reserve(1)?;
         self.pending.reserve(places)?;
         reserve_flags(&mut self.flags, places)?;
-        let children = Vec::new(*self.nodes.allocator());
         adopt(&mut self.nodes, parent, number)?;
         self.nodes.push_reserved(Node {
             parent,
             live: true,
             task: None,
-            children,
+            children: Children::new(),
         });
         self.ended.push_reserved(ended);
         let added = Change::Added(number as u64, parent, ended);
@@ -249,7 +249,8 @@ fn adopt(nodes: &mut Vec<Node>, parent: Option<u64>, child: usize) -> Result<(),
     ensures room { vec_capacity nodes.new ≡ vec_capacity nodes.old }
 {
     if let Some(parent) = parent {
-        nodes[parent as usize].children.push(child)?;
+        let alloc = *nodes.allocator();
+        nodes[parent as usize].children.push(alloc, child)?;
     }
     Ok(())
 }

@@ -8,7 +8,7 @@ use std::test::Fail;
 #[test]
 fn surface(rt: HostRuntime) -> Result<(), Fail> {
     let text =
-        b"# two scripts\n\ntimeout 9223372036854775807999999999\nscript a\nsleep 0\nyield\npend\nend 7\ndone\nscript b_2\nsleep 340282366920938463463374607431768211455\nend -9223372036854775808\nend last\ndone\nscript c\ndone\nrun b_2\n";
+        b"# two scripts\n\ntimeout 9223372036854775807999999999\nscript a\nsleep 0\nyield\ndraw\npend\nend 7\ndone\nscript b_2\nsleep 340282366920938463463374607431768211455\nend -9223372036854775808\nend last\ndone\nscript c\ndone\nrun b_2\n";
     let scenario = read_scenario(rt.alloc(), text)?;
     assert!(rt; scenario.settings.timeout == Some(rt_base::MAX_TIME));
     assert!(rt;
@@ -22,7 +22,14 @@ fn surface(rt: HostRuntime) -> Result<(), Fail> {
     assert!(rt; scripts[0].name.as_str() == "a");
     assert!(rt;
         scripts[0].lines.as_slice()
-            == [Line::Sleep(0), Line::Yield, Line::Pend, Line::End(7)].as_slice()
+            == [
+                Line::Sleep(0),
+                Line::Yield,
+                Line::Draw,
+                Line::Pend,
+                Line::End(7)
+            ]
+            .as_slice()
     );
     assert!(rt; scripts[1].name.as_str() == "b_2");
     assert!(rt;
@@ -83,6 +90,7 @@ fn first_broken_lines(rt: HostRuntime) -> Result<(), Fail> {
         ("script a\nSleep 1\n", 2, "unknown"),
         ("timeout\n", 1, "count"),
         ("script a\nyield 1\n", 2, "count"),
+        ("script a\ndraw 1\n", 2, "count"),
         ("timeout 1 2\n", 1, "count"),
         ("script a b\n", 1, "count"),
         ("script 9a\n", 1, "name"),

@@ -1,1 +1,2 @@
 pub mod Naps
+pub mod Deals

@@ -1,10 +1,14 @@
-//! Tests of what waits: a poller of one's own, and many slots, signals and guards at once.
+//! Tests of what waits and what draws: a poller and tasks of one's own, and many slots, signals and guards at once.
 #![tactic(auto)]
 
+mod dealer;
+#[cfg(test)]
+mod deals;
 #[cfg(test)]
 mod many;
 mod nap;
 #[cfg(test)]
 mod naps;
 
+pub use dealer::Dealer;
 pub use nap::{Nap, Napper};

@@ -5,7 +5,7 @@ ghost use Rattle.rt_world.specs.Calls.{Kept};
 
 use crate::nap::Napper;
 use rand_chacha::ChaCha12Rng;
-use rand_core::SeedableRng;
+use rand_core::{Rng, SeedableRng};
 use rt_audit::{FinishCause, Journal};
 use rt_core::{
     AbortOnDrop, AbortOnDropOf, Convert, Error, HandleOf, JoinAll, NoMemory, NoPoller, Poller,
@@ -22,13 +22,13 @@ use std::test::Fail;
 const MANY: usize = 1_000;
 
 /// The world of a run whose maker is under way.
-type Making = WorldOf<Napper, ChaCha12Rng>;
+type Making<G> = WorldOf<Napper, G>;
 
 /// Makes so many slots, and gives their ends up once all are made. Answers whether all were made.
 #[tactic(auto, using(rt_world::proofs::Walked::close_laws))]
-fn makes_slots(world: &mut Making, left: usize) -> bool
+fn makes_slots<G: Rng>(world: &mut Making<G>, left: usize) -> bool
     requires { MayCall world.old.told.state world.old.out }
-    ensures { Kept world.old world.new }
+    ensures { Kept G.stream world.old world.new }
 {
     if left == 0 {
         return true;
@@ -44,9 +44,9 @@ fn makes_slots(world: &mut Making, left: usize) -> bool
 
 /// Makes so many groups of signals, and gives them up once all are made. Answers whether all were made.
 #[tactic(auto, using(rt_world::proofs::Walked::close_laws))]
-fn makes_groups(world: &mut Making, left: usize) -> bool
+fn makes_groups<G: Rng>(world: &mut Making<G>, left: usize) -> bool
     requires { MayCall world.old.told.state world.old.out }
-    ensures { Kept world.old world.new }
+    ensures { Kept G.stream world.old world.new }
 {
     if left == 0 {
         return true;
@@ -62,9 +62,9 @@ fn makes_groups(world: &mut Making, left: usize) -> bool
 
 /// Makes so many signals of the shutdown, and gives them up once all are made. Answers whether all were made.
 #[tactic(auto, using(rt_world::proofs::Walked::close_laws))]
-fn waits_for_the_shutdown(world: &mut Making, left: usize) -> bool
+fn waits_for_the_shutdown<G: Rng>(world: &mut Making<G>, left: usize) -> bool
     requires { MayCall world.old.told.state world.old.out }
-    ensures { Kept world.old world.new }
+    ensures { Kept G.stream world.old world.new }
 {
     if left == 0 {
         return true;
@@ -108,18 +108,18 @@ fn grouped<R: Abort>(rt: &R, alloc: Global, count: usize) -> JoinAll<Napper, NoP
 
 /// Makes a group of many, and gives it up.
 #[tactic(auto, using(rt_world::proofs::Walked::close_laws))]
-fn joins<R: Abort>(rt: &R, alloc: Global, world: &mut Making)
+fn joins<R: Abort, G: Rng>(rt: &R, alloc: Global, world: &mut Making<G>)
     requires { MayCall world.old.told.state world.old.out }
-    ensures { Kept world.old world.new }
+    ensures { Kept G.stream world.old world.new }
 {
     grouped(rt, alloc, MANY).give_up(world);
 }
 
 /// Makes many of each. Answers whether all were made.
 #[tactic(auto, using(rt_world::proofs::Walked::close_laws))]
-fn makes_many<R: Abort>(rt: &R, alloc: Global, world: &mut Making) -> bool
+fn makes_many<R: Abort, G: Rng>(rt: &R, alloc: Global, world: &mut Making<G>) -> bool
     requires { MayCall world.old.told.state world.old.out }
-    ensures { Kept world.old world.new }
+    ensures { Kept G.stream world.old world.new }
 {
     let slots = makes_slots(world, MANY);
     let groups = makes_groups(world, MANY);
@@ -139,7 +139,7 @@ fn made<R: Abort>(rt: &R, alloc: Global) -> Result<(bool, usize), NoMemory> {
         catch: false,
     };
     let rng = ChaCha12Rng::seed_from_u64(1);
-    let Ok(mut world) = Making::begin(alloc, Journal::new(alloc), begin, rng) else {
+    let Ok(mut world) = Making::<ChaCha12Rng>::begin(alloc, Journal::new(alloc), begin, rng) else {
         return Err(NoMemory);
     };
     let made = makes_many(rt, alloc, &mut world);

@@ -1,5 +1,5 @@
 -- Who makes calls in a cleanup.
-use Rattle.std.proofs.Common.{◌≡◌, ℕ, Option, Some, None, refl}
+use Rattle.std.proofs.Common.{ℕ, Option, Some, None, refl}
 use Rattle.rt_model.specs.Rules.{IsEndedNext}
 
 -- only who is ended next does

@@ -1,5 +1,5 @@
 -- Lists of the fields of an event.
-use Rattle.std.proofs.Common.{◌≡◌, ◌≤◌, ◌<◌, ◌+◌, ◌∙◌, ap, sym, arith, length, List, ℕ, [], ◌∷◌, ◌++◌, take, Option, Some}
+use Rattle.std.proofs.Common.{◌≡◌, ◌≤◌, ◌<◌, ◌+◌, ◌∙◌, ap, sym, arith, length, List, ℕ, [], ◌∷◌, ◌++◌, take, Some}
 use Rattle.std.proofs.Common.{get_or}
 use Rattle.std.specs.List.{slice_get}
 use Rattle.std.proofs.lemmas.List.{take_more}

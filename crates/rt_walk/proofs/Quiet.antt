@@ -1,4 +1,4 @@
--- The calls under way make no difference to what may come, and none to what is kept.
+-- The calls under way, and what was drawn, make no difference to what may come, and none to what is kept.
 use Rattle.std.proofs.Common.{◌≡◌, ◌↔◌, ℕ, List, Bool, true, false, IsTrue, refl, ap, not, leb, ◌-◌, ◌^◌}
 use Rattle.rt_base.specs.declared.error.Error.{Error}
 use Rattle.rt_base.specs.declared.no_memory.NoMemory.{NoMemory as OutOfMemory}

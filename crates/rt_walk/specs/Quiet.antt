@@ -2,7 +2,7 @@
 use Rattle.std.specs.Prelude.{[]}
 use Rattle.rt_model.specs.State.{State}
 
--- the state without its calls under way: no rule asks for them
+-- the state without its calls under way, and without all that was drawn: no rule asks for them
 abbrev pub quiet : State → State
 quiet s = record {
   clock = s.clock;
@@ -14,6 +14,7 @@ quiet s = record {
   running = s.running;
   ready = s.ready;
   draws = s.draws;
+  drawn = [];
   alarms = s.alarms;
   nodes = s.nodes;
   labels = s.labels;

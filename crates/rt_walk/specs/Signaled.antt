@@ -1,5 +1,5 @@
 -- The groups of signals and the shutdown, as a walker keeps them.
-use Rattle.std.specs.Prelude.{ℕ, Bool, true, false, List, [], ◌∷◌, Option}
+use Rattle.std.specs.Prelude.{ℕ, Bool, false, List, [], ◌∷◌, Option}
 use Rattle.rt_audit.specs.declared.call.Call.{Call}
 use Rattle.rt_audit.specs.declared.call.Call.TheVariants.{Abort, AbortTask, Wake as WakeCall, SlotSend, SlotClose, AbortWait, Signal, SignalClose, SignalerClose, Stop}
 use Rattle.rt_audit.specs.declared.reply.CallReply.{CallReply}

@@ -1,6 +1,6 @@
 //! The events that stand before a call.
 
-ghost use Rattle.std.specs.Prelude.{◌≡◌, ◌≢◌, ◌∷◌, [], ◌↔◌, IfOk, IfNone, IfSome, IsTrue, codes, length, ℤ};
+ghost use Rattle.std.specs.Prelude.{◌≡◌, ◌≢◌, ◌∷◌, [], ◌↔◌, ◌⊎◌, IfOk, IfNone, IfSome, IsTrue, codes, length, ℤ};
 ghost use Rattle.std.specs.Int.{cast_unsigned, to_be_bytes, w32};
 ghost use Rattle.rt_model.specs.Events.{announced_by, IsOfCall};
 
@@ -98,6 +98,13 @@ fn is_stopped(event: &Announced) -> bool
     event.is_named("stopped") && event.has_none()
 }
 
+/// Whether this is the event of a call of this name, which draws.
+fn is_draw(event: &Announced, name: &str) -> bool
+    ensures { IsTrue result ↔ (event.now ≡ record { label = codes "rand"; fields = name.now ∷ [] }) }
+{
+    event.is_named("rand") && event.has_one(name.as_bytes())
+}
+
 /// Whether this event is the next of a call, behind these.
 pub fn is_of_call(announced: &[Announced], label: &EventLabel, fields: &EventFields) -> bool
     ensures { IsTrue result ↔ IsOfCall announced.now label.now fields.now }
@@ -106,6 +113,7 @@ pub fn is_of_call(announced: &[Announced], label: &EventLabel, fields: &EventFie
         && match label.as_str() {
             "stop" => is_a_value(fields),
             "stopped" => fields.is_empty(),
+            "rand" => is_a_draw_name(fields),
             _ => false,
         }
 }
@@ -118,6 +126,25 @@ fn is_a_value(fields: &EventFields) -> bool
         Some(field) => fields.len() == 1 && value_of(field).is_some(),
         None => false,
     }
+}
+
+/// Whether these fields name a call that draws, alone.
+fn is_a_draw_name(fields: &EventFields) -> bool
+    ensures { IsTrue result ↔ ((fields.now ≡ codes "next_u32" ∷ []) ⊎ (fields.now ≡ codes "next_u64" ∷ []) ⊎ (fields.now ≡ codes "fill_bytes" ∷ [])) }
+{
+    match fields.get(0) {
+        Some(name) => fields.len() == 1 && names_a_draw(name),
+        None => false,
+    }
+}
+
+/// Whether this names a call that draws.
+fn names_a_draw(name: &[u8]) -> bool
+    ensures { IsTrue result ↔ ((name.now ≡ codes "next_u32") ⊎ (name.now ≡ codes "next_u64") ⊎ (name.now ≡ codes "fill_bytes")) }
+{
+    name == "next_u32".as_bytes()
+        || name == "next_u64".as_bytes()
+        || name == "fill_bytes".as_bytes()
 }
 
 /// The value of four bytes, the highest first.
@@ -138,7 +165,17 @@ pub fn are_of(announced: &[Announced], call: &Call, reply: &CallReply) -> bool
     match (call, announced) {
         (Call::Stop { value }, [event]) => is_stop(event, *value),
         (Call::Stopped, [event]) => is_stopped(event),
-        (Call::Stop { .. } | Call::Stopped, _) => false,
+        (Call::NextU32, [event]) => is_draw(event, "next_u32"),
+        (Call::NextU64, [event]) => is_draw(event, "next_u64"),
+        (Call::FillBytes { .. }, [event]) => is_draw(event, "fill_bytes"),
+        (
+            Call::Stop { .. }
+            | Call::Stopped
+            | Call::NextU32
+            | Call::NextU64
+            | Call::FillBytes { .. },
+            _,
+        ) => false,
         _ => announced.is_empty(),
     }
 }

@@ -1,6 +1,7 @@
 //! The first entry that may not come where it stands.
 
 ghost use Rattle.std.specs.Prelude.{IfOk, OnOk, ◌↔◌, ◌≡◌, None, drop};
+ghost use Rattle.rt_model.specs.State.{begun};
 ghost use Rattle.rt_model.specs.Runs.{Runs, renewed, runs_from, AreLawful};
 ghost use Rattle.rt_walk.specs.First.{IsFirstUnlawful};
 ghost use Rattle.rt_walk.specs.Quiet.{quiet};
@@ -66,9 +67,17 @@ fn begin_next(
     if walker.renews(entry)
         && let Some(begin) = later.get(*begun)
     {
-        let next = Walker::new(alloc, *begin)?;
-        drop(mem::replace(walker, next));
+        begin_anew(alloc, walker, *begin)?;
         *begun += 1;
     }
+    Ok(())
+}
+
+/// Begins a run in the place of the one before.
+fn begin_anew(alloc: Global, walker: &mut Walker, begin: Begin) -> Result<(), NoMemory>
+    ensures { OnOk result (walker.new ≡ begun begin) }
+{
+    let next = Walker::new(alloc, begin)?;
+    drop(mem::replace(walker, next));
     Ok(())
 }

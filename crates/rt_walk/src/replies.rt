@@ -1,8 +1,9 @@
 //! What a call may be answered.
 
-ghost use Rattle.std.specs.Prelude.{◌≡◌, ◌↔◌, ◌⊎◌, IfErr, IfOk, IfSome, OnErr, IsTrue, Some, option_map};
+ghost use Rattle.std.specs.Prelude.{◌≡◌, ◌↔◌, ◌⊎◌, ◌-◌, ◌^◌, IfErr, IfOk, IfSome, OnErr, IsTrue, Some, option_map};
 ghost use Rattle.rt_base.specs.declared.error.Error.TheVariants.{UnknownToken, Metric};
-ghost use Rattle.rt_audit.specs.declared.call.Call.TheVariants.{Abort, AbortTask, Child, CloneSignal, CloseNode, GiveUp, SleepPoll, Slot, Spawn, Wake};
+ghost use Rattle.rt_audit.specs.declared.call.Call.TheVariants.{Abort, AbortTask, Auditor, Child, CloneSignal, CloseNode, FillBytes, GiveUp, NextU32, NextU64, SleepPoll, Slot, Spawn, Wake};
+ghost use Rattle.rt_model.specs.State.{State};
 ghost use Rattle.rt_model.specs.Signals.{met_reply, shown_reply, stopped_reply};
 ghost use Rattle.rt_model.specs.Lists.{find};
 ghost use Rattle.rt_walk.specs.Memory.{HasLabel};
@@ -52,6 +53,10 @@ impl Walker {
             }
             Call::Stop { .. } => is_completion(reply, self.signals.count()),
             Call::Stopped => is_stopped(&self.signals.stopped(), reply),
+            Call::NextU32 => is_number(reply, u32::MAX as u64),
+            Call::NextU64 => is_number(reply, u64::MAX),
+            Call::FillBytes { len } => are_bytes(reply, *len),
+            Call::Auditor => are_bytes(reply, 4),
         })
     }
 
@@ -271,6 +276,28 @@ fn is_stopped(stopped: &Stopped, reply: &CallReply) -> bool
     match (stopped, reply) {
         (Stopped::Waiting(number), CallReply::SignalAt { signal }) => signal == number,
         (Stopped::Resolved(came), CallReply::ClosedWith { value }) => value == came,
+        _ => false,
+    }
+}
+
+/// Whether a number may be told so that is drawn and no higher than this.
+fn is_number(reply: &CallReply, last: u64) -> bool
+    ensures short { (s : State) → last ≡ 2 ^ 32 - 1 → (IsTrue result ↔ Answers s NextU32 reply.now) }
+    ensures long { (s : State) → last ≡ 2 ^ 64 - 1 → (IsTrue result ↔ Answers s NextU64 reply.now) }
+{
+    match reply {
+        CallReply::Number { number } => *number <= last,
+        _ => false,
+    }
+}
+
+/// Whether so many bytes may be told so: what is drawn, or a digest, which has four.
+fn are_bytes(reply: &CallReply, len: u64) -> bool
+    ensures filled { (s : State) → IsTrue result ↔ Answers s (FillBytes len) reply.now }
+    ensures digest { (s : State) → len ≡ 4 → (IsTrue result ↔ Answers s Auditor reply.now) }
+{
+    match reply {
+        CallReply::Bytes { bytes } => bytes.as_slice().len() as u64 == len,
         _ => false,
     }
 }

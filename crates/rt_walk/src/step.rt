@@ -64,7 +64,7 @@ impl Walker {
 
     /// The run stands so from here on, and nobody is to be woken.
     fn stand_at(&mut self, stage: Stage)
-        ensures { self.new ≡ record self.old { phase = phase_of stage; owed = []; announced = []; turns = [] } }
+        ensures { self.new ≡ record self.old { phase = phase_of stage; owed = []; announced = []; drawn = []; turns = [] } }
     {
         drop(mem::replace(&mut self.stage, stage));
         self.owe_nobody();
@@ -72,7 +72,7 @@ impl Walker {
 
     /// Nobody is to be woken.
     fn owe_nobody(&mut self)
-        ensures { self.new ≡ record self.old { owed = []; announced = []; turns = [] } }
+        ensures { self.new ≡ record self.old { owed = []; announced = []; drawn = []; turns = [] } }
     {
         let nobody = Left::new(self.allocator());
         self.owe(nobody);
@@ -80,7 +80,7 @@ impl Walker {
 
     /// These are to be woken, and no event stands before the next call.
     fn owe(&mut self, owed: Left)
-        ensures { self.new ≡ record self.old { owed = owed; announced = []; turns = [] } }
+        ensures { self.new ≡ record self.old { owed = owed; announced = []; drawn = []; turns = [] } }
     {
         drop(mem::replace(&mut self.owed, owed));
         self.announced.clear();
@@ -112,7 +112,7 @@ impl Walker {
         reply: &CallReply,
     ) -> Result<Vec<u64>, NoMemory>
         ensures due { IfOk result (λ due. due.items ≡ due_called (is_closing self.old.phase) self.old.marks (stood_in self.old) call.now reply.now) }
-        ensures state { OnOk result (self.new ≡ record self.old { signals = signals_called self.old.signals self.old.stop by call.now reply.now; stop = stop_called self.old.stop call.now reply.now; turns = [] }) }
+        ensures state { OnOk result (self.new ≡ record self.old { signals = signals_called self.old.signals self.old.stop by call.now reply.now; stop = stop_called self.old.stop call.now reply.now; drawn = []; turns = [] }) }
     {
         let mut due = self.due_beside(call, reply)?;
         let alloc = self.allocator();
@@ -269,7 +269,7 @@ impl Walker {
 
     /// A task has finished so.
     fn finish_task(&mut self, task: u64, cause: FinishCause, outcome: Outcome)
-        ensures { self.new ≡ record self.old { phase = finished (is_some_number task self.old.root) cause outcome task (left_of self.old.phase); owed = []; announced = []; turns = [] } }
+        ensures { self.new ≡ record self.old { phase = finished (is_some_number task self.old.root) cause outcome task (left_of self.old.phase); owed = []; announced = []; drawn = []; turns = [] } }
     {
         let left = self.take_left();
         let stage = Stage::after_last(self.root == Some(task), cause, outcome, task, left);
@@ -278,7 +278,7 @@ impl Walker {
 
     /// The rounds end for this cause.
     fn go_over(&mut self, cause: FinishCause)
-        ensures { self.new ≡ record self.old { phase = Over cause; owed = []; announced = []; turns = [] } }
+        ensures { self.new ≡ record self.old { phase = Over cause; owed = []; announced = []; drawn = []; turns = [] } }
     {
         self.stand_at(Stage::Over { cause });
     }

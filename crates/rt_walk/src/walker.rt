@@ -27,7 +27,8 @@ use rt_model::{Begin, Mark, TaskResult};
 use std::alloc::Global;
 use std::marker::Model;
 
-/// What the entries of a journal tell so far. Contracts see the state of a run without its calls under way.
+/// What the entries of a journal tell so far. Contracts see the state of a run without its calls under way and
+/// without all that was drawn.
 #[derive(Drop)]
 pub struct Walker {
     pub(crate) begin: Begin,
@@ -59,7 +60,7 @@ impl Model for Walker {
 
     ghost Value = { State };
 
-    ghost view = { λ w. record { clock = record { time = w.time; fixed = w.begin }; phase = phase_of w.stage; numbers = record { first = w.begin.first; next = w.next }; root = w.root; root_left = w.root_left; panicked = w.panicked; running = w.running; ready = w.ready.items; draws = w.draws.items; alarms = w.alarms; nodes = w.nodes; labels = w.labels; marks = w.marks; results = w.results; slots = w.slots; signals = w.signals.signals; stop = w.signals.stop; announced = w.announced.items; owed = w.owed; turns = [] } };
+    ghost view = { λ w. record { clock = record { time = w.time; fixed = w.begin }; phase = phase_of w.stage; numbers = record { first = w.begin.first; next = w.next }; root = w.root; root_left = w.root_left; panicked = w.panicked; running = w.running; ready = w.ready.items; draws = w.draws.items; drawn = []; alarms = w.alarms; nodes = w.nodes; labels = w.labels; marks = w.marks; results = w.results; slots = w.slots; signals = w.signals.signals; stop = w.signals.stop; announced = w.announced.items; owed = w.owed; turns = [] } };
 }
 
 #[tactic(auto, unfolding(rt_model::specs::Effects::after, rt_model::specs::State::begun))]
@@ -71,6 +72,8 @@ impl Walker {
     {
         let mut labels = Table::new(alloc);
         labels.push(0, Text::of(String::new(alloc)))?;
+        let nodes = Nodes::new(alloc)?;
+        let signals = ToldSignals::new(alloc)?;
         Ok(Walker {
             begin,
             time: begin.start,
@@ -83,12 +86,12 @@ impl Walker {
             ready: Vec::new(alloc),
             draws: Vec::new(alloc),
             alarms: ToldAlarms::new(alloc),
-            nodes: Nodes::new(alloc)?,
+            nodes,
             labels,
             marks: Table::new(alloc),
             results: Table::new(alloc),
             slots: Slots::new(alloc),
-            signals: ToldSignals::new(alloc)?,
+            signals,
             announced: Vec::new(alloc),
             owed: Left::new(alloc),
         })

@@ -1010,6 +1010,61 @@ pub const OF_THE_SHUTDOWN: &[Copied] = &[
     ("a stop in the cleanup without its event", 37, Missing),
 ];
 
+/// Over a root that draws and asks for the digest.
+pub const OF_DRAWS: &[Copied] = &[
+    (
+        "32 bits that are more",
+        6,
+        Instead("call 0 u32 -> 4294967296"),
+    ),
+    (
+        "a value where a number was drawn",
+        6,
+        Instead("call 0 u32 -> ok 7"),
+    ),
+    (
+        "bytes where a number was drawn",
+        8,
+        Instead("call 0 u64 -> bytes 0 0 0 0 0 0 0 7"),
+    ),
+    ("a draw without its event", 7, Missing),
+    ("the event of another draw", 8, Instead("call 0 u32 -> 7")),
+    ("the event of no draw", 7, Instead("event rand next_u16")),
+    (
+        "an event of another label",
+        7,
+        Instead("event random next_u64"),
+    ),
+    ("an event without a name", 7, Instead("event rand")),
+    (
+        "an event of two draws",
+        7,
+        Instead("event rand next_u64 next_u32"),
+    ),
+    ("two events before a draw", 8, Before("event rand next_u64")),
+    (
+        "one byte too few",
+        10,
+        Instead("call 0 fill 3 -> bytes 0 7"),
+    ),
+    (
+        "a number where bytes were drawn",
+        10,
+        Instead("call 0 fill 3 -> 7"),
+    ),
+    (
+        "a digest behind the event of a draw",
+        12,
+        Instead("call 0 auditor -> bytes 1 2 3 4"),
+    ),
+    (
+        "a digest of three bytes",
+        13,
+        Instead("call 0 auditor -> bytes 1 2 3"),
+    ),
+    ("a draw at the end without its event", 17, Missing),
+];
+
 /// Over a value that is given in a cleanup.
 pub const LATE_ONES: &[Copied] = &[
     ("a wake in the cleanup", 13, Before("wake 0")),

@@ -289,6 +289,32 @@ crash
 finish ok
 ";
 
+/// A root draws by each of the calls, and asks for the digest. It draws once more where it ends.
+pub const DRAWS: &str = "start 0 - 1000000 0
+root 0
+round 0
+visit 0
+event process_task 0 -
+event rand next_u32
+call 0 u32 -> 4294967295
+event rand next_u64
+call 0 u64 -> 18446744073709551615
+event rand fill_bytes
+call 0 fill 3 -> bytes 0 7 255
+event rand fill_bytes
+call 0 fill 0 -> bytes
+call 0 auditor -> bytes 1 2 3 4
+answer 0 ready
+cleanup
+nodeend 0
+event rand next_u64
+call 0 u64 -> 7
+call 0 close-node 0 -> ok
+answer 0 ended
+crash
+finish ok
+";
+
 /// A task that ends in the cleanup gives the value for which the root waits, and nobody is woken.
 pub const LATE_SIGNAL: &str = "start 0 - 1000000 0
 root 0

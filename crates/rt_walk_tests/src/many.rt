@@ -43,12 +43,22 @@ pub const MANY_TASKS: &[Piece] = &[
 pub fn joined(alloc: Global, pieces: &[Piece], first: u64, end: u64) -> Result<String, NoMemory> {
     let mut text = String::new(alloc);
     for piece in pieces {
-        match piece {
-            Piece::Once(lines) => text.push_str(lines)?,
-            Piece::Each(lines) => add_each(alloc, &mut text, lines, first, end)?,
-        }
+        add_piece(alloc, &mut text, piece, first, end)?;
     }
     Ok(text)
+}
+
+fn add_piece(
+    alloc: Global,
+    text: &mut String,
+    piece: &Piece,
+    first: u64,
+    end: u64,
+) -> Result<(), NoMemory> {
+    match piece {
+        Piece::Once(lines) => Ok(text.push_str(lines)?),
+        Piece::Each(lines) => add_each(alloc, text, lines, first, end),
+    }
 }
 
 fn add_each(
@@ -59,9 +69,14 @@ fn add_each(
     end: u64,
 ) -> Result<(), NoMemory> {
     for number in first..end {
-        let number = format!(in alloc; "{number}")?;
-        let lines = lines.replace(alloc, "#", number.as_str())?;
+        let lines = numbered(alloc, lines, number)?;
         text.push_str(lines.as_str())?;
     }
     Ok(())
+}
+
+/// The lines with this number.
+fn numbered(alloc: Global, lines: &str, number: u64) -> Result<String, NoMemory> {
+    let number = format!(in alloc; "{number}")?;
+    Ok(lines.replace(alloc, "#", number.as_str())?)
 }

@@ -2,7 +2,7 @@
 
 use rt_audit::{
     AnswerKind, Call, CallReply, Entry, EventFields, EventLabel, FinishCause, Label, Moment, Order,
-    Refusal,
+    Payload, Refusal,
 };
 use rt_base::{Choice, Error, Items, MetricError, Nanos, NoMemory, Text};
 use std::alloc::Global;
@@ -24,76 +24,108 @@ impl From<NoMemory> for Unread {
 /// The entries of lines.
 pub fn entries_of(alloc: Global, lines: &[&str]) -> Result<Vec<Entry>, Unread> {
     let mut entries = Vec::new(alloc);
+    add_entries(alloc, &mut entries, lines)?;
+    Ok(entries)
+}
+
+fn add_entries(alloc: Global, entries: &mut Vec<Entry>, lines: &[&str]) -> Result<(), Unread> {
     for (place, line) in lines.iter().enumerate() {
         match entry(alloc, line)? {
-            Some(entry) => entries.push(entry).map_err(NoMemory::from)?,
+            Some(entry) => add_entry(entries, entry)?,
             None => return Err(Unread::Line(place)),
         }
     }
-    Ok(entries)
+    Ok(())
+}
+
+fn add_entry(entries: &mut Vec<Entry>, entry: Entry) -> Result<(), NoMemory> {
+    Ok(entries.push(entry)?)
 }
 
 /// The entry of a line.
 fn entry(alloc: Global, line: &str) -> Result<Option<Entry>, NoMemory> {
+    let words = words_of(alloc, line)?;
+    match words.split_first() {
+        Some((word, rest)) => entry_by(alloc, word, rest),
+        None => Ok(None),
+    }
+}
+
+fn words_of<'a>(alloc: Global, line: &'a str) -> Result<Vec<&'a str>, NoMemory> {
     let mut words = Vec::new(alloc);
+    add_words(&mut words, line)?;
+    Ok(words)
+}
+
+fn add_words<'a>(words: &mut Vec<&'a str>, line: &'a str) -> Result<(), NoMemory> {
     for word in line.split(' ') {
         words.push(word)?;
     }
-    match words.as_slice() {
-        ["call", by, rest @ ..] => called(alloc, by, rest),
-        ["event", "process_task", task, label] => event(alloc, task, label),
-        ["event", label, values @ ..] => call_event(alloc, label, values),
-        ["round", order @ ..] => round(alloc, order),
-        ["crash", "k"] => Ok(Some(crash(vec![in alloc; Choice::Kept]?))),
-        words => Ok(plain_entry(alloc, words)),
+    Ok(())
+}
+
+/// The entry of a line that begins with this word.
+fn entry_by(alloc: Global, word: &str, words: &[&str]) -> Result<Option<Entry>, NoMemory> {
+    match word {
+        "call" => called(alloc, words),
+        "event" => event(alloc, words),
+        "round" => round(alloc, words),
+        "crash" => crash(alloc, words),
+        word => Ok(plain_entry(word, words)),
     }
 }
 
 /// The entry of a line that takes no memory.
-fn plain_entry(alloc: Global, words: &[&str]) -> Option<Entry> {
-    Some(match words {
-        ["start", now, deadline, cycle, next] => Entry::Start {
-            next: number(next)?,
-            now: moment(now)?,
-            deadline: deadline_of(deadline)?,
-            cycle: moment(cycle)?,
-        },
-        ["wake", task] => Entry::Wake {
-            task: number(task)?,
-        },
-        ["draw", value] => Entry::Draw {
-            value: number(value)?,
-        },
-        ["root", task] => Entry::Root {
-            task: number(task)?,
-        },
-        ["visit", task] => Entry::Visit {
-            task: number(task)?,
-        },
-        ["answer", task, kind] => Entry::Answer {
-            task: number(task)?,
-            kind: kind_of(kind)?,
-        },
-        words => return clock_entry(alloc, words),
+fn plain_entry(word: &str, words: &[&str]) -> Option<Entry> {
+    match words {
+        [] if word == "cleanup" => Some(Entry::Cleanup),
+        [value] => entry_of(word, value),
+        [task, kind] if word == "answer" => answer(task, kind),
+        [now, deadline, cycle, next] if word == "start" => start(now, deadline, cycle, next),
+        _ => None,
+    }
+}
+
+fn start(now: &str, deadline: &str, cycle: &str, next: &str) -> Option<Entry> {
+    Some(Entry::Start {
+        next: number(next)?,
+        now: moment(now)?,
+        deadline: deadline_of(deadline)?,
+        cycle: moment(cycle)?,
     })
 }
 
-/// The entry of a line outside of visits.
-fn clock_entry(alloc: Global, words: &[&str]) -> Option<Entry> {
-    Some(match words {
-        ["nodeend", node] => Entry::NodeEnd {
-            node: number(node)?,
-        },
-        ["advance", now] => Entry::Advance { now: moment(now)? },
-        ["skip", now] => Entry::Skip { now: moment(now)? },
-        ["fire", alarm] => Entry::Fire {
-            alarm: number(alarm)?,
-        },
-        ["cleanup"] => Entry::Cleanup,
-        ["crash"] => crash(Vec::new(alloc)),
-        ["finish", cause] => Entry::Finish {
-            cause: cause_of(cause)?,
-        },
+fn answer(task: &str, kind: &str) -> Option<Entry> {
+    Some(Entry::Answer {
+        task: number(task)?,
+        kind: kind_of(kind)?,
+    })
+}
+
+/// The entry of a word and a value.
+fn entry_of(word: &str, value: &str) -> Option<Entry> {
+    match word {
+        "advance" => Some(Entry::Advance {
+            now: moment(value)?,
+        }),
+        "skip" => Some(Entry::Skip {
+            now: moment(value)?,
+        }),
+        "finish" => Some(Entry::Finish {
+            cause: cause_of(value)?,
+        }),
+        word => numbered(word, number(value)?),
+    }
+}
+
+fn numbered(word: &str, of: u64) -> Option<Entry> {
+    Some(match word {
+        "wake" => Entry::Wake { task: of },
+        "draw" => Entry::Draw { value: of },
+        "root" => Entry::Root { task: of },
+        "visit" => Entry::Visit { task: of },
+        "nodeend" => Entry::NodeEnd { node: of },
+        "fire" => Entry::Fire { alarm: of },
         _ => return None,
     })
 }
@@ -117,10 +149,15 @@ fn deadline_of(word: &str) -> Option<Option<Nanos>> {
     Some(Some(moment(word)?))
 }
 
-fn crash(choices: Vec<Choice>) -> Entry {
-    Entry::Crash {
+fn crash(alloc: Global, words: &[&str]) -> Result<Option<Entry>, NoMemory> {
+    let choices = match words {
+        [] => Vec::new(alloc),
+        ["k"] => vec![in alloc; Choice::Kept]?,
+        _ => return Ok(None),
+    };
+    Ok(Some(Entry::Crash {
         choices: Items::of(choices),
-    }
+    }))
 }
 
 fn kind_of(word: &str) -> Option<AnswerKind> {
@@ -147,31 +184,49 @@ fn cause_of(word: &str) -> Option<FinishCause> {
     })
 }
 
+fn event(alloc: Global, words: &[&str]) -> Result<Option<Entry>, NoMemory> {
+    match words {
+        ["process_task", task, label] => visit_event(alloc, task, label),
+        [label, values @ ..] => call_event(alloc, label, values),
+        [] => Ok(None),
+    }
+}
+
 /// A visit's event. Its number is written plainly here, and its label as it is.
-fn event(alloc: Global, task: &str, label: &str) -> Result<Option<Entry>, NoMemory> {
+fn visit_event(alloc: Global, task: &str, label: &str) -> Result<Option<Entry>, NoMemory> {
     let Some(task) = number(task) else {
         return Ok(None);
     };
     let label = if label == "-" { "" } else { label };
+    let label = Text::of(label.to_owned(alloc)?);
     Ok(Some(Entry::Event {
         label: EventLabel::process_task(),
-        fields: EventFields::of_task(task, Text::of(label.to_owned(alloc)?)),
+        fields: EventFields::of_task(task, label),
     }))
 }
 
-/// An event of a call. Its values are written as numbers here.
+/// An event of a call.
 fn call_event(alloc: Global, label: &str, values: &[&str]) -> Result<Option<Entry>, NoMemory> {
+    let label = EventLabel::named(alloc, Text::of(label.to_owned(alloc)?))?;
+    let fields = fields_of(alloc, values)?;
+    Ok(Some(Entry::Event { label, fields }))
+}
+
+fn fields_of(alloc: Global, values: &[&str]) -> Result<EventFields, NoMemory> {
     let mut fields = Vec::new(alloc);
     for value in values {
-        match signed(value) {
-            Some(value) => fields.push(Items::of(value.to_be_bytes().to_vec(alloc)?))?,
-            None => return Ok(None),
-        }
+        add_field(alloc, &mut fields, value)?;
     }
-    Ok(Some(Entry::Event {
-        label: EventLabel::named(alloc, Text::of(label.to_owned(alloc)?))?,
-        fields: EventFields::listed(Items::of(fields)),
-    }))
+    Ok(EventFields::listed(Items::of(fields)))
+}
+
+/// Adds a field. A value is written as a number here, and a name as it is.
+fn add_field(alloc: Global, fields: &mut Vec<Items<u8>>, value: &str) -> Result<(), NoMemory> {
+    let field = match signed(value) {
+        Some(value) => value.to_be_bytes().to_vec(alloc)?,
+        None => value.as_bytes().to_vec(alloc)?,
+    };
+    Ok(fields.push(Items::of(field))?)
 }
 
 fn round(alloc: Global, words: &[&str]) -> Result<Option<Entry>, NoMemory> {
@@ -188,7 +243,10 @@ fn round(alloc: Global, words: &[&str]) -> Result<Option<Entry>, NoMemory> {
 }
 
 /// A call with its reply. `-` calls for the maker.
-fn called(alloc: Global, by: &str, words: &[&str]) -> Result<Option<Entry>, NoMemory> {
+fn called(alloc: Global, words: &[&str]) -> Result<Option<Entry>, NoMemory> {
+    let Some((by, words)) = words.split_first() else {
+        return Ok(None);
+    };
     let (asked, told) = halves(words);
     let Some(call) = call_in(alloc, asked)? else {
         return Ok(None);
@@ -240,6 +298,9 @@ fn call_alone(word: &str) -> Option<Call> {
         "slot" => Call::Slot,
         "signaler" => Call::Signaler,
         "stopped" => Call::Stopped,
+        "u32" => Call::NextU32,
+        "u64" => Call::NextU64,
+        "auditor" => Call::Auditor,
         _ => return None,
     })
 }
@@ -274,7 +335,10 @@ fn call(word: &str, of: &str) -> Option<Call> {
             due: Moment::new(moment(of)?),
         });
     }
-    let of = number(of)?;
+    call_on_task(word, number(of)?)
+}
+
+fn call_on_task(word: &str, of: u64) -> Option<Call> {
     Some(match word {
         "close-node" => Call::CloseNode { node: of },
         "spawn" => Call::Spawn { node: of },
@@ -283,17 +347,30 @@ fn call(word: &str, of: &str) -> Option<Call> {
         "wake" => Call::Wake { task: of },
         "join" => Call::Join { task: of },
         "give-up" => Call::GiveUp { task: of },
+        word => return call_on_slot(word, of),
+    })
+}
+
+fn call_on_slot(word: &str, of: u64) -> Option<Call> {
+    Some(match word {
         "slot-send" => Call::SlotSend { slot: of },
         "slot-close" => Call::SlotClose { slot: of },
         "slot-poll" => Call::SlotPoll { slot: of },
         "slot-give-up" => Call::SlotGiveUp { slot: of },
         "abort-wait" => Call::AbortWait { slot: of },
+        word => return call_on_signal(word, of),
+    })
+}
+
+fn call_on_signal(word: &str, of: u64) -> Option<Call> {
+    Some(match word {
         "clone-signal" => Call::CloneSignal { signal: of },
         "signal-poll" => Call::SignalPoll { signal: of },
         "signal-close" => Call::SignalClose { signal: of },
         "signaler-close" => Call::SignalerClose { signaler: of },
         "completion-poll" => Call::CompletionPoll { completion: of },
         "completion-close" => Call::CompletionClose { completion: of },
+        "fill" => Call::FillBytes { len: of },
         _ => return None,
     })
 }
@@ -301,48 +378,78 @@ fn call(word: &str, of: &str) -> Option<Call> {
 fn reply(alloc: Global, words: &[&str]) -> Result<Option<CallReply>, NoMemory> {
     match words {
         ["err", code] => refused(alloc, code),
+        ["bytes", bytes @ ..] => filled(alloc, bytes),
         words => Ok(plain_reply(words)),
     }
 }
 
 fn plain_reply(words: &[&str]) -> Option<CallReply> {
-    Some(match words {
-        ["ok"] => CallReply::Done,
-        ["ok", value] => CallReply::Value {
-            value: signed(value)?,
-        },
-        ["closed", value] => CallReply::ClosedWith {
-            value: signed(value)?,
-        },
-        ["signal", signal] => CallReply::SignalAt {
-            signal: number(signal)?,
-        },
-        ["completion", completion] => CallReply::CompletionAt {
-            completion: number(completion)?,
-        },
-        ["node", node] => CallReply::NodeAt {
-            node: number(node)?,
-            ended: false,
-        },
-        ["node", node, "ended"] => CallReply::NodeAt {
+    match words {
+        [word] => reply_alone(word),
+        [word, value] => reply_of(word, value),
+        ["node", node, "ended"] => Some(CallReply::NodeAt {
             node: number(node)?,
             ended: true,
-        },
-        ["task", task, "node", node] => CallReply::TaskAt {
+        }),
+        ["task", task, "node", node] => Some(CallReply::TaskAt {
             task: number(task)?,
             node: number(node)?,
+        }),
+        _ => None,
+    }
+}
+
+fn reply_alone(word: &str) -> Option<CallReply> {
+    Some(match word {
+        "ok" => CallReply::Done,
+        "closed" => CallReply::Closed,
+        "pending" => CallReply::Pending,
+        "ready" => CallReply::Ready,
+        drawn => CallReply::Number {
+            number: number(drawn)?,
         },
-        ["closed"] => CallReply::Closed,
-        ["slot", slot] => CallReply::SlotAt {
-            slot: number(slot)?,
+    })
+}
+
+/// The reply of a word and a value.
+fn reply_of(word: &str, value: &str) -> Option<CallReply> {
+    match word {
+        "ok" => Some(CallReply::Value {
+            value: signed(value)?,
+        }),
+        "closed" => Some(CallReply::ClosedWith {
+            value: signed(value)?,
+        }),
+        word => reply_at(word, number(value)?),
+    }
+}
+
+fn reply_at(word: &str, of: u64) -> Option<CallReply> {
+    Some(match word {
+        "signal" => CallReply::SignalAt { signal: of },
+        "completion" => CallReply::CompletionAt { completion: of },
+        "node" => CallReply::NodeAt {
+            node: of,
+            ended: false,
         },
-        ["pending"] => CallReply::Pending,
-        ["pending", alarm] => CallReply::PendingAt {
-            alarm: number(alarm)?,
-        },
-        ["ready"] => CallReply::Ready,
+        "slot" => CallReply::SlotAt { slot: of },
+        "pending" => CallReply::PendingAt { alarm: of },
         _ => return None,
     })
+}
+
+/// Bytes, which are written as numbers here.
+fn filled(alloc: Global, words: &[&str]) -> Result<Option<CallReply>, NoMemory> {
+    let mut bytes = Vec::new(alloc);
+    for word in words {
+        match word.parse::<u8>() {
+            Ok(byte) => bytes.push(byte)?,
+            Err(_) => return Ok(None),
+        }
+    }
+    Ok(Some(CallReply::Bytes {
+        bytes: Payload::of(alloc, bytes.as_slice())?,
+    }))
 }
 
 /// A refusal. The number of a metric's error names none of them, so these have names here.

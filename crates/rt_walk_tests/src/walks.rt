@@ -3,15 +3,15 @@
 use crate::copies::Change::{Before, Instead, Missing};
 use crate::copies::{
     ABORTS_OF_ITSELF, CAUGHT_PANICS, CLEANUPS, CUTS, Change, Copied, DEADLINES, FAMILIES, FIRES,
-    LAST_TASKS, LATE_ONES, NO_ROOTS, NODES, OF_SIGNALS, OF_THE_SHUTDOWN, ORDERS, PANICS, REFUSALS,
-    ROOT_PANICS, SLEEPS, SLOT_POLLS, SLOT_SENDS, SPAWNS, SPAWNS_ON_AN_ENDED_NODE, STARTS,
+    LAST_TASKS, LATE_ONES, NO_ROOTS, NODES, OF_DRAWS, OF_SIGNALS, OF_THE_SHUTDOWN, ORDERS, PANICS,
+    REFUSALS, ROOT_PANICS, SLEEPS, SLOT_POLLS, SLOT_SENDS, SPAWNS, SPAWNS_ON_AN_ENDED_NODE, STARTS,
     STOPS_OF_ITSELF, TWICE_WOKEN, UNMADES, VISITS, VISITS_WITH_AN_END, WAKES,
 };
 use crate::journals::{
-    CLEANUP, CUT, LATE, LATE_SIGNAL, ONE_LEFT, READY, REFUSED, SHUTDOWN, SIGNALS, SLEEP, SLOTS,
-    STALL, TIMED, TWO_LEFT, UNMADE,
+    CLEANUP, CUT, DRAWS, LATE, LATE_SIGNAL, ONE_LEFT, READY, REFUSED, SHUTDOWN, SIGNALS, SLEEP,
+    SLOTS, STALL, TIMED, TWO_LEFT, UNMADE,
 };
-use crate::many::{MANY_ALARMS, MANY_TASKS, joined};
+use crate::many::{MANY_ALARMS, MANY_TASKS, Piece, joined};
 use crate::told_text::{Unread, entries_of};
 use rt_audit::Entry;
 use rt_base::NoMemory;
@@ -62,7 +62,9 @@ fn first_of(
     lines: &[&str],
 ) -> Result<Option<usize>, Unread> {
     let entries = entries_of(alloc, lines)?;
-    Ok(first_unlawful(alloc, begin, later, entries.as_slice())?)
+    let first = first_unlawful(alloc, begin, later, entries.as_slice());
+    drop(entries);
+    Ok(first?)
 }
 
 /// Journals with what begins each.
@@ -93,19 +95,25 @@ const JOURNALS: &[(&str, Begin, &str)] = &[
     ("signals of a task and the root", BEGIN, SIGNALS),
     ("a shutdown", BEGIN, SHUTDOWN),
     ("a value that is given in a cleanup", BEGIN, LATE_SIGNAL),
+    ("draws and a digest", BEGIN, DRAWS),
     ("the last numbers", TWO_LEFT, LAST_NUMBERS),
     ("no number for the root", ONE_LEFT, NO_NUMBER),
 ];
 
-/// The end of the first front of a journal that isn't lawful.
-fn unlawful_front(alloc: Global, begin: Begin, text: &str) -> Result<Option<usize>, Unread> {
-    let lines = lines_of(alloc, &[text])?;
+/// The end of the first front of these lines that isn't lawful.
+fn first_front(alloc: Global, begin: Begin, lines: &[&str]) -> Result<Option<usize>, Unread> {
     for end in 0..lines.len() {
         if first_of(alloc, begin, &[], &lines[..end])?.is_some() {
             return Ok(Some(end));
         }
     }
-    first_of(alloc, begin, &[], lines.as_slice())
+    first_of(alloc, begin, &[], lines)
+}
+
+/// The end of the first front of a journal that isn't lawful.
+fn unlawful_front(alloc: Global, begin: Begin, text: &str) -> Result<Option<usize>, Unread> {
+    let lines = lines_of(alloc, &[text])?;
+    first_front(alloc, begin, lines.as_slice())
 }
 
 #[test]
@@ -124,12 +132,16 @@ const OF_A_ROOT: &[Copies] = &[
     (BEGIN, READY, STARTS),
     (BEGIN, READY, VISITS),
     (BEGIN, READY, CLEANUPS),
+    (BEGIN, CUT, CUTS),
+    (BEGIN, UNMADE, UNMADES),
+];
+
+const OF_CLOCK_AND_DRAWS: &[Copies] = &[
     (BEGIN, SLEEP, SLEEPS),
     (BEGIN, SLEEP, FIRES),
     (TIMED, LATE, DEADLINES),
     (BEGIN, STALL, WAKES),
-    (BEGIN, CUT, CUTS),
-    (BEGIN, UNMADE, UNMADES),
+    (BEGIN, DRAWS, OF_DRAWS),
 ];
 
 const OF_TASKS: &[Copies] = &[
@@ -165,6 +177,18 @@ const OF_GROUPS: &[Copies] = &[
     (BEGIN, LATE_SIGNAL, LATE_ONES),
 ];
 
+/// The place of the first line of a changed journal that may not come where it stands.
+fn first_changed(
+    alloc: Global,
+    begin: Begin,
+    text: &'static str,
+    at: usize,
+    change: Change,
+) -> Result<Option<usize>, Unread> {
+    let lines = changed(lines_of(alloc, &[text])?, at, change)?;
+    first_of(alloc, begin, &[], lines.as_slice())
+}
+
 /// The first of the copies of a journal that isn't refused at its place.
 fn not_refused(
     alloc: Global,
@@ -173,8 +197,7 @@ fn not_refused(
     copies: &[Copied],
 ) -> Result<Option<&'static str>, Unread> {
     for (name, at, change) in copies {
-        let lines = changed(lines_of(alloc, &[text])?, *at, *change)?;
-        if first_of(alloc, begin, &[], lines.as_slice())? != Some(*at) {
+        if first_changed(alloc, begin, text, *at, *change)? != Some(*at) {
             return Ok(Some(*name));
         }
     }
@@ -195,6 +218,12 @@ fn first_kept(alloc: Global, table: &[Copies]) -> Result<Option<&'static str>, U
 #[test]
 fn damaged_copies_of_a_root(rt: HostRuntime) -> Result<(), Fail> {
     assert!(rt; first_kept(rt.alloc(), OF_A_ROOT)?.is_none());
+    Ok(())
+}
+
+#[test]
+fn damaged_copies_of_clock_and_draws(rt: HostRuntime) -> Result<(), Fail> {
+    assert!(rt; first_kept(rt.alloc(), OF_CLOCK_AND_DRAWS)?.is_none());
     Ok(())
 }
 
@@ -243,12 +272,18 @@ struct Walk {
     first: Option<usize>,
 }
 
+/// The lines of a walk.
+fn lines_in(alloc: Global, walk: &Walk) -> Result<Vec<&'static str>, NoMemory> {
+    let lines = lines_of(alloc, walk.texts)?;
+    match walk.change {
+        Some((at, change)) => changed(lines, at, change),
+        None => Ok(lines),
+    }
+}
+
 fn walked(alloc: Global, walk: &Walk) -> Result<Option<usize>, Unread> {
     let (begin, later) = walk.begins;
-    let mut lines = lines_of(alloc, walk.texts)?;
-    if let Some((at, change)) = walk.change {
-        lines = changed(lines, at, change)?;
-    }
+    let lines = lines_in(alloc, walk)?;
     first_of(alloc, begin, later, lines.as_slice())
 }
 
@@ -393,37 +428,76 @@ fn several_runs(rt: HostRuntime) -> Result<(), Fail> {
     Ok(())
 }
 
+/// Pieces of which so many numbers make a journal, and how many entries it has.
+const MANY: &[(&[Piece], u64, u64, usize)] = &[
+    (MANY_ALARMS, 0, 1000, 6015),
+    (MANY_TASKS, 1, 1001, 9014),
+];
+
+/// How many lines a journal has, and the first that may not come where it stands.
+fn lines_and_first(alloc: Global, text: &str) -> Result<(usize, Option<usize>), Unread> {
+    let lines = lines_of(alloc, &[text])?;
+    let count = lines.len();
+    let first = first_of(alloc, BEGIN, &[], lines.as_slice());
+    drop(lines);
+    Ok((count, first?))
+}
+
+/// The same of a journal of pieces.
+fn walked_pieces(
+    alloc: Global,
+    pieces: &[Piece],
+    first: u64,
+    end: u64,
+) -> Result<(usize, Option<usize>), Unread> {
+    let text = joined(alloc, pieces, first, end)?;
+    lines_and_first(alloc, text.as_str())
+}
+
 #[test]
 fn thousands(rt: HostRuntime) -> Result<(), Fail> {
-    let alloc = rt.alloc();
-    for (pieces, first, end, entries) in [
-        (MANY_ALARMS, 0, 1000, 6015),
-        (MANY_TASKS, 1, 1001, 9014),
-    ] {
-        let text = joined(alloc, pieces, first, end)?;
-        let lines = lines_of(alloc, &[text.as_str()])?;
-        assert!(rt; lines.len() == entries);
-        assert!(rt; first_of(alloc, BEGIN, &[], lines.as_slice())?.is_none());
+    for &(pieces, first, end, entries) in MANY {
+        assert!(rt; walked_pieces(rt.alloc(), pieces, first, end)? == (entries, None));
     }
     Ok(())
 }
 
 /// Whether a walker takes this start in, and no second one.
-fn starts_once(alloc: Global, start: &Entry) -> Result<bool, NoMemory> {
-    let mut walker = Walker::new(alloc, BEGIN)?;
+fn takes_once(walker: &mut Walker, start: &Entry) -> Result<bool, NoMemory> {
     let may = walker.may(start)?;
     walker.step(start)?;
     Ok(may && !walker.may(start)?)
 }
 
+/// Whether a new walker takes this start in, and no second one.
+fn starts_once(alloc: Global, start: &Entry) -> Result<bool, NoMemory> {
+    let mut walker = Walker::new(alloc, BEGIN)?;
+    takes_once(&mut walker, start)
+}
+
+/// Whether new walkers take each of these starts in, and no second one.
+fn start_once(alloc: Global, starts: &[Entry]) -> Result<bool, NoMemory> {
+    for start in starts {
+        if !starts_once(alloc, start)? {
+            return Ok(false);
+        }
+    }
+    Ok(true)
+}
+
+/// How many starts these lines are, and whether each is taken in once.
+fn starts(alloc: Global, lines: &[&str]) -> Result<(usize, bool), Unread> {
+    let entries = entries_of(alloc, lines)?;
+    let count = entries.len();
+    let once = start_once(alloc, entries.as_slice());
+    drop(entries);
+    Ok((count, once?))
+}
+
 #[test]
 fn surface(rt: HostRuntime) -> Result<(), Fail> {
     let alloc = rt.alloc();
-    let entries = entries_of(alloc, &["start 0 - 1000000 0"])?;
-    for start in &entries {
-        assert!(rt; starts_once(alloc, start)?);
-    }
-    assert!(rt; entries.len() == 1);
+    assert!(rt; starts(alloc, &["start 0 - 1000000 0"])? == (1, true));
     assert!(rt; first_unlawful(alloc, BEGIN, &[], &[])?.is_none());
     Ok(())
 }

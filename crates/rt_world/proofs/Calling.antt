@@ -5,7 +5,7 @@ use Rattle.rt_base.specs.declared.error.Error.TheVariants.{UnknownToken, TooMany
 use Rattle.rt_base.specs.declared.no_memory.NoMemory.{NoMemory as OutOfMemory}
 use Rattle.rt_base.specs.declared.execution.Execution.{Execution}
 use Rattle.rt_audit.specs.declared.call.Call.{Call}
-use Rattle.rt_audit.specs.declared.call.Call.TheVariants.{Child, CloseNode, Spawn, Abort, AbortTask, Wake, Join, GiveUp, SleepPoll, Slot, SlotSend, SlotClose, SlotPoll, SlotGiveUp, AbortWait, Signaler, CloneSignal, Signal, SignalPoll, SignalClose, SignalerClose, CompletionPoll, CompletionClose, Stop, Stopped}
+use Rattle.rt_audit.specs.declared.call.Call.TheVariants.{Child, CloseNode, Spawn, Abort, AbortTask, Wake, Join, GiveUp, SleepPoll, Slot, SlotSend, SlotClose, SlotPoll, SlotGiveUp, AbortWait, Signaler, CloneSignal, Signal, SignalPoll, SignalClose, SignalerClose, CompletionPoll, CompletionClose, Stop, Stopped, NextU32, NextU64, FillBytes, Auditor}
 use Rattle.rt_audit.specs.declared.reply.CallReply.{CallReply}
 use Rattle.rt_audit.specs.declared.reply.CallReply.TheVariants.{Done, NodeAt, TaskAt, SlotAt, Pending, PendingAt, Ready, Refused}
 use Rattle.rt_model.specs.declared.result.Outcome.{Outcome}
@@ -77,6 +77,10 @@ module _ {A O : Type 0} (tasks : Roomed (ℕ × A)) (outputs : Roomed (ℕ × O)
     quiet-refused (CompletionClose completion) e = (refl, refl, refl)
     quiet-refused (Stop value) e = (refl, refl, refl)
     quiet-refused Stopped e = (refl, refl, refl)
+    quiet-refused NextU32 e = (refl, refl, refl)
+    quiet-refused NextU64 e = (refl, refl, refl)
+    quiet-refused (FillBytes len) e = (refl, refl, refl)
+    quiet-refused Auditor e = (refl, refl, refl)
 
     seated-refused : (call : Call) (e : Error) → IsRefused by old new call e → AreSeated tasks outputs out new.told.state
     seated-refused call e (inl lack) = seated-lacking lack.1
@@ -221,7 +225,7 @@ module _ {A O G : Type 0} (old new : Seen) (held end : Held A O) (panic : Option
   behind = record { told = new.told; lacked = new.lacked; held = end; panic = panic; out = out; rng = rng }
 
   pub made-noted : (ask : Ask A O) (reply : CallReply) → Noted out old new (call_of ask) reply → end ≡ moved_by (stood_in old.told.state) held ask (call_of ask) reply → Made before behind ask reply
-  made-noted ask reply n e = record { answers = n.answers; turns = n.turns; held = e; lacked = n.lacked; stood = n.stood }
+  made-noted ask reply n e = record { answers = n.answers; turns = n.turns; held = e; lacked = n.lacked; stood = n.stood; drawn = n.drawn }
 
   pub child-calls : (node : ℕ) (label : List ℕ) (result : Result (ℕ × Bool) Error) → end ≡ held → IfOk result (λ made. Noted out old new (Child node label) (NodeAt made.0 made.1)) → IfErr result (λ e. IsRefused out old new (Child node label) e) → Called (Plainly (Child node label)) before behind (child_told result)
   child-calls node label (Ok made) e n r = child-called before behind node label (Ok made) (made-noted (Plainly (Child node label)) (NodeAt made.0 made.1) n e) tt

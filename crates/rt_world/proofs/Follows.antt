@@ -59,6 +59,7 @@ module _ {A O : Type 0} (p : Steps A O) where
 
   -- entries that the steps don't decide
   follows-one : (t : Told) (v : Value A O) (e : Entry) → v.whole ≡ true → Follows p t v → AreQuiet (e ∷ []) → Follows p (pushed t e) v
+  follows-one t v (Call by call reply) h f q = cc
   follows-one t v (Root task) h f q = cc
   follows-one t v (AnswerEntry task kind) h f q = cc
   follows-one t v Cleanup h f q = cc
@@ -110,7 +111,7 @@ module _ {A O : Type 0} (p : Steps A O) where
   agrees-stopped old new task e f = let v = value_of old None None true in rw e (follows-pushed old.told v v (AnswerEntry task IsStopped) f refl)
 
   -- a poll: the worlds before the state is taken out, before the poll, and after it
-  module _ {G : Type 0} (w0 w1 w2 : World A O G) (task : ℕ) (a b : A) (began : w1 ≡ record w0 { held = taken task w0.held; out = Some task }) (there : find task w0.held.tasks ≡ Some a) (none : w0.told.calls ≡ []) (kept : Kept w1 w2) (calls : AreCalls w2.told.calls) (state : w2.told.state ≡ after_all (begun w2.told.begin) (own w2.told)) where
+  module _ {G : Type 0} (w0 w1 w2 : World A O G) (task : ℕ) (a b : A) (began : w1 ≡ record w0 { held = taken task w0.held; out = Some task }) (there : find task w0.held.tasks ≡ Some a) (none : w0.told.calls ≡ []) {stream : G → Stream} (kept : Kept stream w1 w2) (calls : AreCalls w2.told.calls) (state : w2.told.state ≡ after_all (begun w2.told.begin) (own w2.told)) where
     polled : Agrees p true w0 None → Follows p w2.told (value_of w0 None None true)
     polled f =
         follows-called w0.told w2.told (value_of w0 None None true) f none (kept.begin ∙ ap (λ (w : World A O G). w.told.begin) began) (kept.past ∙ ap (λ (w : World A O G). w.told.past) began) calls state
@@ -204,7 +205,7 @@ module _ {A O : Type 0} (p : Steps A O) where
       rw (e, calm) (follows-pushed old.told (unmade_of m.before) w (Root task) m.follows (root, old.held, m.walks, refl))
 
   -- the end of a task: the worlds before its state is taken out, before the calls of its end, and after them
-  module _ {G : Type 0} (w0 w1 w2 : World A O G) (task : ℕ) (a : A) (began : w1 ≡ record w0 { held = taken task w0.held; out = Some task }) (none : w0.told.calls ≡ []) (kept : Kept w1 w2) (calls : AreCalls w2.told.calls) (state : w2.told.state ≡ after_all (begun w2.told.begin) (own w2.told)) (output : Option O) (unmade : Option A) (whole : Bool) (there : find task w0.held.tasks ≡ Some a) where
+  module _ {G : Type 0} (w0 w1 w2 : World A O G) (task : ℕ) (a : A) (began : w1 ≡ record w0 { held = taken task w0.held; out = Some task }) (none : w0.told.calls ≡ []) {stream : G → Stream} (kept : Kept stream w1 w2) (calls : AreCalls w2.told.calls) (state : w2.told.state ≡ after_all (begun w2.told.begin) (own w2.told)) (output : Option O) (unmade : Option A) (whole : Bool) (there : find task w0.held.tasks ≡ Some a) where
     ending : AgreesWith p whole w0 output unmade → Follows p w2.told (value_of w0 output unmade whole)
     ending f = follows-called w0.told w2.told (value_of w0 output unmade whole) f none (kept.begin ∙ ap (λ (w : World A O G). w.told.begin) began) (kept.past ∙ ap (λ (w : World A O G). w.told.past) began) calls state
 
@@ -224,7 +225,7 @@ module _ {A O : Type 0} (p : Steps A O) where
         ended false (inr (rw (← ap (λ (w : World A O G). w.held) began, ap (λ (c : Clock). c.time) kept.clock) breaks, rw same-panic refl)) f
 
   -- the end of a root that was not taken in: the worlds before its calls and after them
-  module _ {G : Type 0} (w0 w2 : World A O G) (a : A) (none : w0.told.calls ≡ []) (kept : Kept w0 w2) (calls : AreCalls w2.told.calls) (state : w2.told.state ≡ after_all (begun w2.told.begin) (own w2.told)) (output : Option O) (whole : Bool) where
+  module _ {G : Type 0} (w0 w2 : World A O G) (a : A) (none : w0.told.calls ≡ []) {stream : G → Stream} (kept : Kept stream w0 w2) (calls : AreCalls w2.told.calls) (state : w2.told.state ≡ after_all (begun w2.told.begin) (own w2.told)) (output : Option O) (whole : Bool) where
     unmade-as : (still : Bool) → EndsState p w2.told.state no_number a w0.held (value_of w0 output None whole) (value_of w2 output None still) → AgreesWith p whole w0 output (Some a) → Follows p (pushed w2.told (Crash [])) (value_of w2 output None still)
     unmade-as still ends f =
         follows-pushed w2.told (value_of w0 output (Some a) whole) (value_of w2 output None still) (Crash []) (follows-called w0.told w2.told (value_of w0 output (Some a) whole) f none kept.begin kept.past calls state) ends

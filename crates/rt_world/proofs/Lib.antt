@@ -1,3 +1,4 @@
+pub mod Lasting
 pub mod Texts
 pub mod Walked
 pub mod Places
@@ -7,7 +8,9 @@ pub mod Follows
 pub mod Coming
 pub mod Calling
 pub mod Fronts
+pub mod Drawn
 pub mod Running
 pub mod Ending
 pub mod Slotted
 pub mod Signaled
+pub mod Drawing

@@ -1,48 +1,65 @@
 -- What lasts over rounds and clock steps, and over the ends of tasks.
-use Rattle.std.proofs.Common.{ap, ◌∙◌, ◌≡◌, ◌<◌, ◌+◌, List, [], ◌∷◌, ℕ, refl, map, None, true, false, length, drop, get_or, drop-cons, add-one}
+use Rattle.std.proofs.Common.{ap, ◌∙◌, ◌≡◌, ◌<◌, ◌+◌, List, [], ◌∷◌, ℕ, refl, map, None, true, false, length, drop, get_or, drop-cons, add-one, Result, Ok, Err, OnOk}
 use Rattle.rand_core.specs.Stream.{Stream}
-use Rattle.rt_audit.specs.declared.entry.Entry.TheVariants.{Draw}
+use Rattle.rt_audit.specs.declared.answer.AnswerKind.TheVariants.{Stopped}
+use Rattle.rt_audit.specs.declared.entry.Entry.TheVariants.{Draw, Event, Visit, Answer}
 use Rattle.rt_model.specs.Causes.{from_running}
 use Rattle.rt_model.specs.Effects.{after, left_of}
+use Rattle.rt_model.specs.Events.{process_task}
 use Rattle.rt_model.specs.Lists.{has_number}
 use Rattle.rt_model.specs.State.{Clock, State, Visiting}
 use Rattle.rt_machine.specs.Draws.{Drains}
 use Rattle.rt_machine.specs.Steps.{Turns}
-use Rattle.rt_machine.specs.Told.{Told}
+use Rattle.rt_machine.specs.Told.{Told, pushed}
 use Rattle.rt_machine.proofs.Turning.{all-begin, all-given}
 use Rattle.rt_world.specs.World.{World}
 use Rattle.rt_world.specs.Visits.{Passes}
 use Rattle.rt_world.specs.Rounds.{Runs}
-use Rattle.rt_world.proofs.Fronts.{front-same, front-front, front-quietly, draws-front, draws-draws, draws-drained}
+use Rattle.rt_world.proofs.Fronts.{front-pushed, front-twice, front-quietly, front-drained}
+use Rattle.rt_world.proofs.Drawn.{quietly-drawn, drew-same, drew-drained, writes-of, writes-same, writes-writes}
 
-module _ {A O G : Type 0} (a b c : World A O G) where
-  pub passes-passes : Passes a b → Passes b c → Passes a c
+module _ {A O G : Type 0} (stream : G → Stream) (a b c : World A O G) where
+  pub passes-passes : Passes stream a b → Passes stream b c → Passes stream a c
   passes-passes h k = record {
     begin = k.begin ∙ h.begin;
     given = k.given ∙ h.given;
-    front = front-front a.told b.told c.told h.front k.front;
     clock = k.clock ∙ h.clock;
     root = k.root ∙ h.root;
     out = k.out;
-    rng = k.rng ∙ h.rng;
+    writes = writes-writes stream a b c h.writes k.writes;
   }
+
+module _ {A O G : Type 0} (stream : G → Stream) (a b : World A O G) where
+  -- nothing has happened
+  pub passes-same : a.out ≡ None → b ≡ a → Passes stream a b
+  passes-same out e = rw e record { begin = refl; given = refl; clock = refl; root = refl; out = out; writes = writes-same stream a a refl refl }
+
+  -- a visit has begun
+  pub passes-entered : (task : ℕ) (fields : List (List ℕ)) → a.out ≡ None → b ≡ record a { told = pushed (pushed a.told (Visit task)) (Event process_task fields) } → Passes stream a b
+  unfolding after
+  passes-entered task fields out e = rw e record { begin = refl; given = refl; clock = refl; root = refl; out = out; writes = writes-of stream a _ (front-twice a.told _ (Visit task) (Event process_task fields) refl) (drew-same stream a _ refl refl) }
+
+  -- the root was stopped at its visit
+  pub passes-stopped : (task : ℕ) → a.out ≡ None → b ≡ record a { told = pushed a.told (Answer task Stopped) } → Passes stream a b
+  unfolding after
+  passes-stopped task out e = rw e record { begin = refl; given = refl; clock = refl; root = refl; out = out; writes = writes-of stream a _ (front-pushed a.told _ (Answer task Stopped) refl) (drew-same stream a _ refl refl) }
 
 module _ {A O G : Type 0} (stream : G → Stream) (a b c : World A O G) where
   pub runs-runs : Runs stream a b → Runs stream b c → Runs stream a c
   runs-runs h k = record {
     begin = k.begin ∙ h.begin;
     given = k.given ∙ h.given;
-    draws = draws-draws (stream a.rng) (stream b.rng) (stream c.rng) a.told b.told c.told h.draws k.draws;
+    writes = writes-writes stream a b c h.writes k.writes;
     fixed = k.fixed ∙ h.fixed;
     root = k.root ∙ h.root;
     out = k.out;
   }
 
-  pub runs-passes : Runs stream a b → Passes b c → Runs stream a c
+  pub runs-passes : Runs stream a b → Passes stream b c → Runs stream a c
   runs-passes h k = record {
     begin = k.begin ∙ h.begin;
     given = k.given ∙ h.given;
-    draws = rw k.rng (draws-draws (stream a.rng) (stream b.rng) (stream b.rng) a.told b.told c.told h.draws (draws-front (stream b.rng) b.told c.told k.front));
+    writes = writes-writes stream a b c h.writes k.writes;
     fixed = ap (λ (x : Clock). x.fixed) k.clock ∙ h.fixed;
     root = k.root ∙ h.root;
     out = k.out;
@@ -52,7 +69,7 @@ module _ {A O G : Type 0} (stream : G → Stream) (a b c : World A O G) where
   runs-turns h k out rng = record {
     begin = k.begin ∙ h.begin;
     given = k.given ∙ h.given;
-    draws = rw rng (draws-draws (stream a.rng) (stream b.rng) (stream b.rng) a.told b.told c.told h.draws (draws-front (stream b.rng) b.told c.told (front-quietly b.told c.told k.quiet)));
+    writes = writes-writes stream a b c h.writes (writes-of stream b c (front-quietly b.told c.told k.quiet) (drew-same stream b c rng (quietly-drawn b.told c.told k.quiet)));
     fixed = k.fixed ∙ h.fixed;
     root = k.root ∙ h.root;
     out = out ∙ h.out;
@@ -64,7 +81,7 @@ module _ {A O G : Type 0} (stream : G → Stream) (a b : World A O G) (out : a.o
   runs-same e = rw e record {
     begin = refl;
     given = refl;
-    draws = draws-front (stream a.rng) a.told a.told (front-same a.told a.told refl);
+    writes = writes-same stream a a refl refl;
     fixed = refl;
     root = refl;
     out = out;
@@ -77,11 +94,16 @@ module _ {A O G : Type 0} (stream : G → Stream) (a b : World A O G) (out : a.o
       record {
         begin = ap (λ (t : Told). t.begin) d.told ∙ all-begin a.told (map Draw d.orders.draws);
         given = ap (λ (t : Told). t.given) d.told ∙ all-given a.told (map Draw d.orders.draws);
-        draws = draws-drained (stream a.rng) (stream b.rng) a.told b.told order d;
+        writes = writes-of stream a b (front-drained (stream a.rng) (stream b.rng) a.told b.told order d) (drew-drained stream a b order d);
         fixed = ap (λ (s : State). s.clock.fixed) d.state;
         root = ap (λ (s : State). s.root) d.state;
         out = ap (λ (w : World A O G). w.out) same ∙ out;
       }
+
+-- what holds in any case
+pub on-ok : {A E P : Type 0} (result : Result A E) → P → OnOk result P
+on-ok (Ok a) p = p
+on-ok (Err e) p = tt
 
 -- a number of a round was visited, or passed over since it doesn't run
 module _ (s : State) (order : List ℕ) (i : ℕ) (lt : i < length order) (left : from_running s.running (left_of s.phase) ≡ from_running s.running (drop i order)) where
@@ -99,4 +121,4 @@ module _ (s : State) (order : List ℕ) (i : ℕ) (lt : i < length order) (left 
 
 pub ruleset run_laws = (runs-runs, runs-passes, runs-turns, runs-same)
 
-pub ruleset pass_laws = (passes-passes)
+pub ruleset pass_laws = (passes-passes, passes-same, passes-entered, passes-stopped)

@@ -8,7 +8,10 @@ use Rattle.rt_model.specs.Turns.{with_task}
 use Rattle.std.proofs.Common.{Bool}
 use Rattle.rt_model.specs.State.{Phase}
 use Rattle.rt_model.specs.Effects.{is_closing}
-use Rattle.rt_world.specs.Calls.{Grows}
+use Rattle.rand_core.specs.Stream.{Stream}
+use Rattle.rt_world.specs.World.{World}
+use Rattle.rt_world.specs.Calls.{Grows, Kept}
+use Rattle.rt_world.proofs.Lasting.{grows-of}
 use Rattle.rt_world.specs.Seats.{numbers_of, seated, OutRuns, AreRising}
 
 pub numbers-without : {A : Type 0} → (k : ℕ) (ts : List (ℕ × A)) → numbers_of (without k ts) ≡ without_number k (numbers_of ts)
@@ -98,6 +101,9 @@ pub grows-closing : (phase : Phase) (old new : List ℕ) → Grows phase old new
 unfolding Grows
 grows-closing phase old new grows closing = grows.0 closing
 
+pub closing-kept : {A O G : Type 0} {stream : G → Stream} (a b : World A O G) → Kept stream a b → is_closing a.told.state.phase ≡ true → b.told.state.running ≡ a.told.state.running
+closing-kept {stream = stream} a b kept closing = grows-closing _ _ _ (grows-of stream a b kept.lasts) closing
+
 pub not-closing : (b : Bool) → (b ≡ true → ⊥) → b ≡ false
 not-closing true h = absurd (h refl)
 not-closing false h = refl
@@ -136,4 +142,4 @@ has-last k (n ∷ ns) = grind (arith, has-last k ns)
 
 pub ruleset seat_laws = (rising-more, numbers-none, ends-found, find-some, numbers-without, numbers-with, find-none, find-gone, put-back, rising-without, rising-gone, rising-has, rising-none, runs-next)
 
-pub ruleset closing_laws = (has-last, grows-closing)
+pub ruleset closing_laws = (has-last, closing-kept)

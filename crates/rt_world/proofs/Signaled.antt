@@ -1,48 +1,56 @@
 -- Calls on signals move no value.
 use Rattle.std.proofs.Common.{◌≡◌, ◌∙◌, ap, inl, inr, ℕ, ℤ, List, refl, Bool, true, false, Option, Result, Ok, Err, IfOk, IfErr, OnErr}
+use Rattle.rand_core.specs.Stream.{Stream}
 use Rattle.rt_base.specs.declared.error.Error.{Error}
 use Rattle.rt_base.specs.declared.error.Error.TheVariants.{NoMemory}
 use Rattle.rt_base.specs.declared.no_memory.NoMemory.{NoMemory as OutOfMemory}
 use Rattle.rt_base.specs.declared.poll.Poll.{Poll}
 use Rattle.rt_audit.specs.declared.call.Call.{Call}
-use Rattle.rt_audit.specs.declared.call.Call.TheVariants.{Signaler, CloneSignal, Signal, SignalPoll, SignalClose, SignalerClose, CompletionPoll, CompletionClose, Stop, Stopped}
+use Rattle.rt_audit.specs.declared.call.Call.TheVariants.{Signaler, CloneSignal, Signal, SignalPoll, SignalClose, SignalerClose, CompletionPoll, CompletionClose, Stop, Stopped, NextU32, NextU64, FillBytes, Auditor}
 use Rattle.rt_audit.specs.declared.reply.CallReply.{CallReply}
 use Rattle.rt_audit.specs.declared.reply.CallReply.TheVariants.{Done, SignalAt, CompletionAt, Refused}
 use Rattle.rt_super.specs.declared.stopper.Stopped.{Stopped as StopAnswer}
 use Rattle.rt_model.specs.Signals.{met_reply, shown_reply, stopped_reply}
 use Rattle.rt_model.specs.State.{State, stood_in}
 use Rattle.rt_model.specs.Turns.{Held, Heard, Plainly, Plain, has_place}
-use Rattle.rt_model.specs.Effects.{numbers_called, results_called, running_called, slots_called}
+use Rattle.rt_model.specs.Effects.{drawn_called, numbers_called, results_called, running_called, slots_called}
 use Rattle.rt_machine.specs.Calls.{IsRefused, Noted, Spent, lacking}
 use Rattle.rt_machine.specs.Places.{Seen}
 use Rattle.rt_world.specs.Seats.{Roomed, AreSeated, AreSlotted}
 use Rattle.rt_world.specs.World.{World}
 use Rattle.rt_world.specs.Calls.{Kept, Made, IsRefused as WorldRefused, lacking as world_lacking}
 use Rattle.rt_world.specs.Walked.{Called, Goes, tells, clone_told, met_told, shown_told, signaler_told, stop_told, stopped_told}
-use Rattle.rt_world.proofs.Walked.{called-lacking, called-made, called-refused, tells-lacking, tells-made, tells-refused, stays-same, stays-marked, grows-same, grows-kept, stays-kept, calling-kept}
+use Rattle.rt_world.proofs.Walked.{called-lacking, called-made, called-refused, tells-lacking, tells-made, tells-refused, stays-same, stays-marked, grows-same, lasts-kept, calling-kept}
+use Rattle.rt_world.proofs.Lasting.{lasts-of}
+use Rattle.rt_world.proofs.Drawn.{drew-same}
 use Rattle.rt_world.proofs.Calling.{seated-quiet}
 use Rattle.rt_world.proofs.Slotted.{slotted-noted}
 
-abbrev is_signaling : Call → Bool
-is_signaling Signaler = true
-is_signaling (CloneSignal signal) = true
-is_signaling (Signal signaler value) = true
-is_signaling (SignalPoll signal) = true
-is_signaling (SignalClose signal) = true
-is_signaling (SignalerClose signaler) = true
-is_signaling (CompletionPoll completion) = true
-is_signaling (CompletionClose completion) = true
-is_signaling (Stop value) = true
-is_signaling Stopped = true
-is_signaling _ = false
+-- the call moves no task, no result and no slot
+abbrev pub is_apart : Call → Bool
+is_apart Signaler = true
+is_apart (CloneSignal signal) = true
+is_apart (Signal signaler value) = true
+is_apart (SignalPoll signal) = true
+is_apart (SignalClose signal) = true
+is_apart (SignalerClose signaler) = true
+is_apart (CompletionPoll completion) = true
+is_apart (CompletionClose completion) = true
+is_apart (Stop value) = true
+is_apart Stopped = true
+is_apart NextU32 = true
+is_apart NextU64 = true
+is_apart (FillBytes len) = true
+is_apart Auditor = true
+is_apart _ = false
 
-record Quiet (s : State) (by : Option ℕ) (call : Call) (reply : CallReply) : Type 0 where
-  running : running_called s.running call reply ≡ s.running
-  numbers : numbers_called s.numbers call reply ≡ s.numbers
-  results : results_called s.results by call reply ≡ s.results
-  slots : slots_called s.slots by call reply ≡ s.slots
+pub record Quiet (s : State) (by : Option ℕ) (call : Call) (reply : CallReply) : Type 0 where
+  pub running : running_called s.running call reply ≡ s.running
+  pub numbers : numbers_called s.numbers call reply ≡ s.numbers
+  pub results : results_called s.results by call reply ≡ s.results
+  pub slots : slots_called s.slots by call reply ≡ s.slots
 
-quiet : (s : State) (by : Option ℕ) (call : Call) (reply : CallReply) → is_signaling call ≡ true → Quiet s by call reply
+pub quiet : (s : State) (by : Option ℕ) (call : Call) (reply : CallReply) → is_apart call ≡ true → Quiet s by call reply
 quiet s by Signaler reply h = record { running = refl; numbers = refl; results = refl; slots = refl }
 quiet s by (CloneSignal signal) reply h = record { running = refl; numbers = refl; results = refl; slots = refl }
 quiet s by (Signal signaler value) reply h = record { running = refl; numbers = refl; results = refl; slots = refl }
@@ -53,21 +61,25 @@ quiet s by (CompletionPoll completion) reply h = record { running = refl; number
 quiet s by (CompletionClose completion) reply h = record { running = refl; numbers = refl; results = refl; slots = refl }
 quiet s by (Stop value) reply h = record { running = refl; numbers = refl; results = refl; slots = refl }
 quiet s by Stopped reply h = record { running = refl; numbers = refl; results = refl; slots = refl }
+quiet s by NextU32 reply h = record { running = refl; numbers = refl; results = refl; slots = refl }
+quiet s by NextU64 reply h = record { running = refl; numbers = refl; results = refl; slots = refl }
+quiet s by (FillBytes len) reply h = record { running = refl; numbers = refl; results = refl; slots = refl }
+quiet s by Auditor reply h = record { running = refl; numbers = refl; results = refl; slots = refl }
 quiet s by _ reply h = absurd (cc)
 
 module _ {A O V : Type 0} (tasks : Roomed (ℕ × A)) (outputs : Roomed (ℕ × O)) (sent : Roomed (ℕ × V)) (out by : Option ℕ) (old new : Seen) (i : AreSeated tasks outputs out old.told.state × AreSlotted sent old.told.state.slots) where
-  abbrev Stand : Type 0
+  abbrev pub Stand : Type 0
   Stand = AreSeated tasks outputs out new.told.state × AreSlotted sent new.told.state.slots
 
-  noted : (call : Call) (reply : CallReply) → is_signaling call ≡ true → Noted by old new call reply → Stand
+  pub noted : (call : Call) (reply : CallReply) → is_apart call ≡ true → Noted by old new call reply → Stand
   noted call reply h n =
       let q = quiet old.told.state by call reply h in
       (seated-quiet tasks outputs out by old new i.0 call reply n q.running q.numbers q.results, slotted-noted sent by old new i.1 call reply n q.slots)
 
-  lacked : new ≡ lacking old → Stand
+  pub lacked : new ≡ lacking old → Stand
   lacked e = rw e i
 
-  refused : (call : Call) (e : Error) → is_signaling call ≡ true → IsRefused by old new call e → Stand
+  refused : (call : Call) (e : Error) → is_apart call ≡ true → IsRefused by old new call e → Stand
   refused call e h (inl lack) = lacked lack.1
   refused call e h (inr n) = noted call (Refused e) h n
 
@@ -95,7 +107,7 @@ module _ {A O V : Type 0} (tasks : Roomed (ℕ × A)) (outputs : Roomed (ℕ × 
   met-stands completion (Ok met) n r = noted (CompletionPoll completion) (met_reply met) refl n
   met-stands completion (Err e) n r = refused (CompletionPoll completion) e refl r
 
-  spent : (call : Call) → is_signaling call ≡ true → Spent by old new call → Stand
+  spent : (call : Call) → is_apart call ≡ true → Spent by old new call → Stand
   spent call h s = with (has_place (stood_in old.told.state) call) refl
     where
       with : (b : Bool) → has_place (stood_in old.told.state) call ≡ b → Stand
@@ -140,27 +152,27 @@ module _ {A O G : Type 0} (old new : World A O G) where
   met-called completion (Err e) made r = called-refused old new (Plainly (CompletionPoll completion)) e (λ reply. (refl, tt)) refl r
 
 -- a token that is spent keeps all that a call keeps
-module _ {A O G : Type 0} (held : Held A O) (panic : Option (List ℕ)) (out : Option ℕ) (rng : G) (by : Option ℕ) (old new : Seen) where
+module _ {A O G : Type 0} (stream : G → Stream) (held : Held A O) (panic : Option (List ℕ)) (out : Option ℕ) (rng : G) (by : Option ℕ) (old new : Seen) where
   abbrev Keeps : Type 0
-  Keeps = Kept (record { told = old.told; lacked = old.lacked; held = held; panic = panic; out = out; rng = rng }) (record { told = new.told; lacked = new.lacked; held = held; panic = panic; out = out; rng = rng })
+  Keeps = Kept stream (record { told = old.told; lacked = old.lacked; held = held; panic = panic; out = out; rng = rng }) (record { told = new.told; lacked = new.lacked; held = held; panic = panic; out = out; rng = rng })
 
-  spent-keeps : (call : Call) → is_signaling call ≡ true → Spent by old new call → Keeps
-  spent-keeps call h s = with (has_place (stood_in old.told.state) call) refl
+  spent-keeps : (call : Call) → is_apart call ≡ true → drawn_called old.told.state.drawn call Done ≡ old.told.state.drawn → Spent by old new call → Keeps
+  spent-keeps call h undrawn s = with (has_place (stood_in old.told.state) call) refl
     where
       with : (b : Bool) → has_place (stood_in old.told.state) call ≡ b → Keeps
       with true e =
           let n = s.there e in
           let q = quiet old.told.state by call Done h in
-          record { begin = n.begin; given = n.given; past = n.past; phase = n.phase; clock = n.clock; root = n.root; panic = refl; out = refl; rng = refl; running = grows-same old.told.state.phase old.told.state.running new.told.state.running (n.running ∙ q.running); marked = stays-same old.lacked new.lacked n.lacked }
+          record { begin = n.begin; given = n.given; past = n.past; phase = n.phase; clock = n.clock; root = n.root; panic = refl; out = refl; lasts = lasts-of stream _ _ (grows-same old.told.state.phase old.told.state.running new.told.state.running (n.running ∙ q.running)) (stays-same old.lacked new.lacked n.lacked) (drew-same stream _ _ refl (n.drawn ∙ undrawn)) }
       with false e =
           let same = s.gone e in
-          record { begin = ap (λ (x : Seen). x.told.begin) same; given = ap (λ (x : Seen). x.told.given) same; past = ap (λ (x : Seen). x.told.past) same; phase = ap (λ (x : Seen). x.told.state.phase) same; clock = ap (λ (x : Seen). x.told.state.clock) same; root = ap (λ (x : Seen). x.told.state.root) same; panic = refl; out = refl; rng = refl; running = grows-same old.told.state.phase old.told.state.running new.told.state.running (ap (λ (x : Seen). x.told.state.running) same); marked = stays-same old.lacked new.lacked (ap (λ (x : Seen). x.lacked) same) }
+          record { begin = ap (λ (x : Seen). x.told.begin) same; given = ap (λ (x : Seen). x.told.given) same; past = ap (λ (x : Seen). x.told.past) same; phase = ap (λ (x : Seen). x.told.state.phase) same; clock = ap (λ (x : Seen). x.told.state.clock) same; root = ap (λ (x : Seen). x.told.state.root) same; panic = refl; out = refl; lasts = lasts-of stream _ _ (grows-same old.told.state.phase old.told.state.running new.told.state.running (ap (λ (x : Seen). x.told.state.running) same)) (stays-same old.lacked new.lacked (ap (λ (x : Seen). x.lacked) same)) (drew-same stream _ _ refl (ap (λ (x : Seen). x.told.state.drawn) same)) }
 
   pub signal-keeps : (signaler : ℕ) (value : ℤ) → Spent by old new (Signal signaler value) → Keeps
-  signal-keeps signaler value s = spent-keeps (Signal signaler value) refl s
+  signal-keeps signaler value s = spent-keeps (Signal signaler value) refl refl s
 
   pub signaler-close-keeps : (signaler : ℕ) → Spent by old new (SignalerClose signaler) → Keeps
-  signaler-close-keeps signaler s = spent-keeps (SignalerClose signaler) refl s
+  signaler-close-keeps signaler s = spent-keeps (SignalerClose signaler) refl refl s
 
 -- and what is read of them
 module _ {A O G V : Type 0} (old new : World A O G) (read : Heard O → V) (value : V) where
@@ -180,6 +192,6 @@ module _ {A O G V : Type 0} (old new : World A O G) (read : Heard O → V) (valu
   clone-tells signal (Ok further) made r e = tells-made old new read value (Plainly (CloneSignal signal)) (SignalAt further) (Plain (SignalAt further)) made (refl, tt) refl e
   clone-tells signal (Err error) made r e = tells-refused old new read value (Plainly (CloneSignal signal)) error (refl, tt) refl r e
 
-pub ruleset signal_tell_laws = (signaler-tells, stop-tells, stopped-tells, clone-tells, stays-same, stays-marked, grows-same, grows-kept, stays-kept, calling-kept)
+pub ruleset signal_tell_laws = (signaler-tells, stop-tells, stopped-tells, clone-tells, lasts-of, stays-same, stays-marked, grows-same, drew-same, lasts-kept, calling-kept)
 
 pub ruleset signal_laws = (signal-keeps, signaler-close-keeps, signaler-stands, stop-stands, stopped-stands, clone-stands, shown-stands, met-stands, signal-stands, close-stands, signaler-close-stands, completion-close-stands, signaler-called, stop-called, stopped-called, clone-called, shown-called, met-called)

@@ -3,7 +3,7 @@ use Rattle.std.proofs.Common.{◌≡◌, ◌≢◌, ◌+◌, ◌∙◌, sym, ap,
 use Rattle.rt_base.specs.declared.error.Error.{Error}
 use Rattle.rt_base.specs.declared.no_memory.NoMemory.{NoMemory as OutOfMemory}
 use Rattle.rt_audit.specs.declared.call.Call.{Call}
-use Rattle.rt_audit.specs.declared.call.Call.TheVariants.{Child, CloseNode, Spawn, Abort, AbortTask, Wake, Join, GiveUp, SleepPoll, Slot, SlotSend, SlotClose, SlotPoll, SlotGiveUp, AbortWait, Signaler, CloneSignal, Signal, SignalPoll, SignalClose, SignalerClose, CompletionPoll, CompletionClose, Stop, Stopped}
+use Rattle.rt_audit.specs.declared.call.Call.TheVariants.{Child, CloseNode, Spawn, Abort, AbortTask, Wake, Join, GiveUp, SleepPoll, Slot, SlotSend, SlotClose, SlotPoll, SlotGiveUp, AbortWait, Signaler, CloneSignal, Signal, SignalPoll, SignalClose, SignalerClose, CompletionPoll, CompletionClose, Stop, Stopped, NextU32, NextU64, FillBytes, Auditor}
 use Rattle.rt_audit.specs.declared.reply.CallReply.{CallReply}
 use Rattle.rt_audit.specs.declared.reply.CallReply.TheVariants.{Done, NodeAt, SlotAt, Pending, PendingAt, Ready, Refused}
 use Rattle.rt_model.specs.Effects.{after, slots_called}
@@ -66,6 +66,10 @@ module _ {V : Type 0} (sent : Roomed (ℕ × V)) where
     slots-refused (CompletionClose completion) e = refl
     slots-refused (Stop value) e = refl
     slots-refused Stopped e = refl
+    slots-refused NextU32 e = refl
+    slots-refused NextU64 e = refl
+    slots-refused (FillBytes len) e = refl
+    slots-refused Auditor e = refl
 
     pub slotted-refused : (call : Call) (e : Error) → IsRefused by old new call e → AreSlotted sent new.told.state.slots
     slotted-refused call e (inl lack) = slotted-lacking lack.1

@@ -21,8 +21,11 @@ use Rattle.rt_world.specs.Receiving.{heard_result, polled}
 use Rattle.rt_model.specs.Walk.{Step, Last, Does, Spends, Gives, Walks, Fronts, Lacks, Stops, Breaks, then, followed_by, stood_before}
 use Rattle.rt_model.proofs.Walks.{IsSpending, walks-then, fronts-then, stops-then, stops-first, frees-append, frees-moved, frees-spent}
 use Rattle.rt_machine.specs.Calls.{turn_in, marked, sleep_reply, slept_number, spawn_reply}
-use Rattle.rt_world.specs.World.{World}
-use Rattle.rt_world.specs.Calls.{Stays, Grows, Kept, Made, IsRefused, IsUnreceived, IsUnsent, SpentBy, Joined, Received, lacking}
+use Rattle.rand_core.specs.Stream.{Stream}
+use Rattle.rt_world.specs.World.{World, Drew}
+use Rattle.rt_world.proofs.Drawn.{drew-same, drew-drew}
+use Rattle.rt_world.proofs.Lasting.{lasts-of, grows-of, stays-of, drawn-of}
+use Rattle.rt_world.specs.Calls.{Stays, Grows, Kept, Made, IsRefused, IsUnreceived, IsUnsent, SpentBy, Joined, Received, lacking, Lasts}
 use Rattle.rt_world.specs.Walked.{Broke, EndsWith, Turned, Walked, Spent, Polled, answered_by, Rooted, root_by, Goes, Called, tells, wake_told, sleep_told, slot_told, child_told, spawn_told, join_told, Spends as MaySpend, Closes, Leads}
 
 stood-more : (ts us : List Turn) (n0 n1 n2 : Stood) → stood_before us n2 ≡ n1 → stood_before ts n1 ≡ n0 → stood_before (ts ++ us) n2 ≡ n0
@@ -594,8 +597,8 @@ unfolding Grows
 grows-grows phase a b c h k = (λ closing. k.0 closing ∙ h.0 closing, λ task runs. k.1 task (h.1 task runs))
 
 -- no call was made
-pub kept-same : {A O G : Type 0} (w : World A O G) → Kept w w
-kept-same w = record {
+pub kept-same : {A O G : Type 0} (stream : G → Stream) (w : World A O G) → Kept stream w w
+kept-same stream w = record {
   begin = refl;
   given = refl;
   past = refl;
@@ -604,14 +607,12 @@ kept-same w = record {
   root = refl;
   panic = refl;
   out = refl;
-  rng = refl;
-  running = grows-same _ _ _ refl;
-  marked = stays-same _ _ refl;
+  lasts = lasts-of stream w w (grows-same _ _ _ refl) (stays-same _ _ refl) (drew-same stream w w refl refl);
 }
 
 -- what calls keep, one after another
-module _ {A O G : Type 0} (a b c : World A O G) where
-  pub kept-kept : Kept a b → Kept b c → Kept a c
+module _ {A O G : Type 0} {stream : G → Stream} (a b c : World A O G) where
+  pub kept-kept : Kept stream a b → Kept stream b c → Kept stream a c
   kept-kept h k = record {
     begin = k.begin ∙ h.begin;
     given = k.given ∙ h.given;
@@ -621,18 +622,13 @@ module _ {A O G : Type 0} (a b c : World A O G) where
     root = k.root ∙ h.root;
     panic = k.panic ∙ h.panic;
     out = k.out ∙ h.out;
-    rng = k.rng ∙ h.rng;
-    running = grows-grows _ _ _ _ h.running (rw h.phase at k.running);
-    marked = stays-stays _ _ _ h.marked k.marked;
+    lasts = lasts-of stream a c (grows-grows _ _ _ _ (grows-of stream a b h.lasts) (rw h.phase at (grows-of stream b c k.lasts))) (stays-stays _ _ _ (stays-of stream a b h.lasts) (stays-of stream b c k.lasts)) (drew-drew stream a b c (drawn-of stream a b h.lasts) (drawn-of stream b c k.lasts));
   }
 
 -- what is kept over two parts, for who runs and for the mark
-module _ {A O G : Type 0} (a b c : World A O G) where
-  pub grows-kept : Kept a b → Kept b c → Grows a.told.state.phase a.told.state.running c.told.state.running
-  grows-kept h k = (kept-kept a b c h k).running
-
-  pub stays-kept : Kept a b → Kept b c → Stays a.lacked c.lacked
-  stays-kept h k = (kept-kept a b c h k).marked
+module _ {A O G : Type 0} {stream : G → Stream} (a b c : World A O G) where
+  pub lasts-kept : Kept stream a b → Kept stream b c → Lasts stream a c
+  lasts-kept h k = (kept-kept a b c h k).lasts
 
 -- whoever may call may go on calling
 calls-kept : (phase : Phase) (root out : Option ℕ) (old new : List ℕ) → Grows phase old new → CallsAt phase root (ends_next old root) out → CallsAt phase root (ends_next new root) out
@@ -643,8 +639,8 @@ calls-kept (Polling task left) root out old new grows calls = calls
 calls-kept (Ending task result left) root out old new grows calls = calls
 calls-kept _ root out old new grows calls = absurd calls
 
-pub calling-kept : {A O G : Type 0} (old new : World A O G) → Kept old new → MayCall old.told.state old.out → MayCall new.told.state new.out
-calling-kept old new k calls = rw (k.phase, k.root, k.out) (calls-kept old.told.state.phase old.told.state.root old.out old.told.state.running new.told.state.running k.running calls)
+pub calling-kept : {A O G : Type 0} {stream : G → Stream} (old new : World A O G) → Kept stream old new → MayCall old.told.state old.out → MayCall new.told.state new.out
+calling-kept old new k calls = rw (k.phase, k.root, k.out) (calls-kept old.told.state.phase old.told.state.root old.out old.told.state.running new.told.state.running (grows-of _ old new k.lasts) calls)
 
 -- from there on
 module _ {A L O R G : Type 0} (old new : World A O G) (step : Step A L O R) (r : R) (a : L) where
@@ -705,16 +701,16 @@ pub leads-same : {A O G : Type 0} (step : Step A A O (Answer O)) (w : World A O 
 leads-same step w = record { leads = λ end answer left walked. walked }
 
 -- for pollers, for tasks, and for what closes a context
-pub ruleset poller_laws = (walked-then, walked-followed, walked-wake, walked-join, walked-sleep, walked-spend, walked-gives, walked-lacking, spent-followed, spent-spend, spent-nothing, stays-same, stays-marked, grows-same, grows-kept, stays-kept, calling-kept)
+pub ruleset poller_laws = (walked-then, walked-followed, walked-wake, walked-join, walked-sleep, walked-spend, walked-gives, walked-lacking, spent-followed, spent-spend, spent-nothing, lasts-of, stays-same, stays-marked, grows-same, drew-same, lasts-kept, calling-kept)
 
-pub ruleset close_laws = (closes-on, spent-nothing, stays-same, stays-marked, grows-same, grows-kept, stays-kept, calling-kept)
+pub ruleset close_laws = (closes-on, spent-nothing, lasts-of, stays-same, stays-marked, grows-same, drew-same, lasts-kept, calling-kept)
 
-pub ruleset task_laws = (polled-wake, polled-sleep, polled-spend, polled-gives, polled-lacks, polled-lacking, spent-nothing, stays-same, stays-marked, grows-same, grows-kept, stays-kept, calling-kept)
+pub ruleset task_laws = (polled-wake, polled-sleep, polled-spend, polled-gives, polled-lacks, polled-lacking, spent-nothing, lasts-of, stays-same, stays-marked, grows-same, drew-same, lasts-kept, calling-kept)
 
-pub ruleset maker_laws = (rooted-spend, rooted-gives, rooted-lacks, rooted-lacking, stays-same, stays-marked, grows-same, grows-kept, stays-kept, calling-kept)
+pub ruleset maker_laws = (rooted-spend, rooted-gives, rooted-lacks, rooted-lacking, lasts-of, stays-same, stays-marked, grows-same, drew-same, lasts-kept, calling-kept)
 
-pub ruleset tell_laws = (tells-lacking, child-tells, spawn-tells, stays-same, stays-marked, grows-same, grows-kept, stays-kept, calling-kept)
+pub ruleset tell_laws = (tells-lacking, child-tells, spawn-tells, lasts-of, stays-same, stays-marked, grows-same, drew-same, lasts-kept, calling-kept)
 
-pub ruleset stay_laws = (stays-same, stays-marked, grows-same)
+pub ruleset stay_laws = (lasts-of, stays-same, stays-marked, grows-same, drew-same)
 
-pub ruleset loop_laws = (stays-same, stays-marked, grows-same, grows-kept, stays-kept, calling-kept, leads-same, polled-gives, polled-lacks)
+pub ruleset loop_laws = (lasts-of, stays-same, stays-marked, grows-same, drew-same, lasts-kept, calling-kept, leads-same, polled-gives, polled-lacks)

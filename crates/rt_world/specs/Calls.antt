@@ -1,5 +1,6 @@
 -- What a call on the world leaves.
 use Rattle.std.specs.Prelude.{◌≡◌, ◌⊎◌, ℕ, List, [], ◌∷◌, ◌++◌, true, false, Option, Some, None, Ok, Err}
+use Rattle.rand_core.specs.Stream.{Stream}
 use Rattle.rt_base.specs.declared.error.Error.{Error}
 use Rattle.rt_base.specs.declared.error.Error.TheVariants.{NoMemory}
 use Rattle.rt_base.specs.declared.execution.Execution.{Execution}
@@ -10,10 +11,10 @@ use Rattle.rt_model.specs.Lists.{find, has_number}
 use Rattle.rt_model.specs.Slots.{is_there}
 use Rattle.rt_model.specs.State.{Phase, Turn, stood_in}
 use Rattle.rt_model.specs.Turns.{Ask, Plainly, Spawning, call_of, moved_by, has_place}
-use Rattle.rt_model.specs.Effects.{stood_called, is_closing}
+use Rattle.rt_model.specs.Effects.{stood_called, drawn_called, is_closing}
 use Rattle.rt_model.specs.Rules.{Answers, MayCall}
 use Rattle.rt_machine.specs.Calls.{turn_in, marked}
-use Rattle.rt_world.specs.World.{World}
+use Rattle.rt_world.specs.World.{World, Drew}
 
 -- the mark of a call that lacked memory stays
 unfoldable pub Stays : Option (List Turn) → Option (List Turn) → Type 0
@@ -23,8 +24,12 @@ Stays old new = (made : List Turn) → old ≡ Some made → new ≡ Some made
 unfoldable pub Grows : Phase → List ℕ → List ℕ → Type 0
 Grows phase old new = (is_closing phase ≡ true → new ≡ old) × ((task : ℕ) → has_number task old ≡ true → has_number task new ≡ true)
 
--- what every call leaves as it is
-pub record Kept {A O G : Type 0} (old new : World A O G) : Type 0 where
+-- whoever runs goes on running, a mark stays, and the generator gave what was drawn
+unfoldable pub Lasts : {A O G : Type 0} → (G → Stream) → World A O G → World A O G → Type 0
+Lasts stream old new = Grows old.told.state.phase old.told.state.running new.told.state.running × Stays old.lacked new.lacked × Drew stream old new
+
+-- what every call leaves as it is, and that its generator gave what it drew
+pub record Kept {A O G : Type 0} (stream : G → Stream) (old new : World A O G) : Type 0 where
   pub begin : new.told.begin ≡ old.told.begin
   pub given : new.told.given ≡ old.told.given
   pub past : new.told.past ≡ old.told.past
@@ -33,9 +38,7 @@ pub record Kept {A O G : Type 0} (old new : World A O G) : Type 0 where
   pub root : new.told.state.root ≡ old.told.state.root
   pub panic : new.panic ≡ old.panic
   pub out : new.out ≡ old.out
-  pub rng : new.rng ≡ old.rng
-  pub running : Grows old.told.state.phase old.told.state.running new.told.state.running
-  pub marked : Stays old.lacked new.lacked
+  pub lasts : Lasts stream old new
 
 -- the world is in the poll of this task, which may call it
 pub record IsPolling {A O G : Type 0} (w : World A O G) (task : ℕ) : Type 0 where
@@ -50,6 +53,7 @@ pub record Made {A O G : Type 0} (old new : World A O G) (ask : Ask A O) (reply 
   pub held : new.held ≡ moved_by (stood_in old.told.state) old.held ask (call_of ask) reply
   pub lacked : new.lacked ≡ old.lacked
   pub stood : stood_in new.told.state ≡ stood_called (stood_in old.told.state) old.out (call_of ask) reply
+  pub drawn : new.told.state.drawn ≡ drawn_called old.told.state.drawn (call_of ask) reply
 
 -- the call lacked memory, and nothing else has changed
 abbrev pub lacking : {A O G : Type 0} → World A O G → World A O G

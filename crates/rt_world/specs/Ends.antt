@@ -1,12 +1,13 @@
 -- What the end of a run leaves.
 use Rattle.std.specs.Prelude.{◌≡◌, ◌⊎◌, [], Bool, Option, Some, None}
+use Rattle.rand_core.specs.Stream.{Stream}
 use Rattle.rt_audit.specs.declared.finish.FinishCause.{FinishCause}
 use Rattle.rt_audit.specs.declared.finish.FinishCause.TheVariants.{NoMemory}
 use Rattle.rt_model.specs.State.{State, Closing}
 use Rattle.rt_model.specs.Causes.{reached}
 use Rattle.rt_model.specs.Effects.{cause_of}
 use Rattle.rt_model.specs.Tied.{Steps}
-use Rattle.rt_world.specs.World.{World, IsFront}
+use Rattle.rt_world.specs.World.{World, Writes}
 use Rattle.rt_world.specs.Follows.{AgreesWith, still}
 
 -- a cleanup is under way, and no call of it
@@ -25,15 +26,13 @@ pub record Ends {A O G : Type 0} (old new : World A O G) : Type 0 where
   pub given : new.told.given ≡ old.told.given
   pub clock : new.told.state.clock ≡ old.told.state.clock
   pub root : new.told.state.root ≡ old.told.state.root
-  pub rng : new.rng ≡ old.rng
 
 -- what the cleanup of a run leaves as it is
-pub record Seals {A O G : Type 0} (old new : World A O G) : Type 0 where
+pub record Seals {A O G : Type 0} (stream : G → Stream) (old new : World A O G) : Type 0 where
   pub begin : new.told.begin ≡ old.told.begin
   pub given : new.told.given ≡ old.told.given
-  pub front : IsFront old.told new.told
   pub clock : new.told.state.clock ≡ old.told.state.clock
-  pub rng : new.rng ≡ old.rng
+  pub writes : Writes stream old new
   pub tasks : new.held.tasks ≡ []
 
 -- the run has reached this cause, unless it lacked memory

@@ -1,13 +1,15 @@
 -- What the rounds of a run leave.
-use Rattle.std.specs.Prelude.{◌≡◌, ◌⊎◌, true, Some, None, Result, Ok, Err}
+use Rattle.std.specs.Prelude.{◌≡◌, ◌⊎◌, ℕ, List, true, Some, None, Result, Ok, Err}
 use Rattle.rand_core.specs.Stream.{Stream}
 use Rattle.rt_audit.specs.declared.finish.FinishCause.{FinishCause}
 use Rattle.rt_audit.specs.declared.finish.FinishCause.TheVariants.{Completed}
 use Rattle.rt_model.specs.State.{State, Between, Turning, Over}
 use Rattle.rt_model.specs.Rules.{MayRound}
 use Rattle.rt_model.specs.Tied.{Steps}
+use Rattle.rt_machine.specs.Draws.{Drains}
 use Rattle.rt_machine.specs.Steps.{StandsFor}
-use Rattle.rt_world.specs.World.{World, Draws}
+use Rattle.rt_machine.specs.Told.{Told}
+use Rattle.rt_world.specs.World.{World, IsFront, Writes}
 use Rattle.rt_world.specs.Follows.{Agrees}
 use Rattle.rt_world.specs.Visits.{CauseAgrees}
 
@@ -15,10 +17,17 @@ use Rattle.rt_world.specs.Visits.{CauseAgrees}
 pub record Runs {A O G : Type 0} (stream : G → Stream) (old new : World A O G) : Type 0 where
   pub begin : new.told.begin ≡ old.told.begin
   pub given : new.told.given ≡ old.told.given
-  pub draws : Draws (stream old.rng) (stream new.rng) old.told new.told
+  pub writes : Writes stream old new
   pub fixed : new.told.state.clock.fixed ≡ old.told.state.clock.fixed
   pub root : new.told.state.root ≡ old.told.state.root
   pub out : new.out ≡ None
+
+-- a round was drained in this order, and its visits came behind
+pub record Begins {A O G : Type 0} (stream : G → Stream) (old new : World A O G) (order : List ℕ) : Type 0 where
+  pub drained : Told
+  pub left : Stream
+  pub drains : Drains (stream old.rng) left old.told drained order
+  pub front : IsFront drained new.told
 
 -- a round may begin, once the deadline was tested
 abbrev pub StandsBetween : State → Type 0

@@ -1,5 +1,6 @@
 -- What a visit leaves, and what the visits of a round leave.
 use Rattle.std.specs.Prelude.{◌≡◌, ℕ, List, [], true, Option, Some, None, Result, Ok, Err}
+use Rattle.rand_core.specs.Stream.{Stream}
 use Rattle.rt_audit.specs.declared.finish.FinishCause.{FinishCause}
 use Rattle.rt_audit.specs.declared.finish.FinishCause.TheVariants.{Completed, NoMemory}
 use Rattle.rt_model.specs.State.{State, Visiting, Ending, Over}
@@ -8,20 +9,19 @@ use Rattle.rt_model.specs.Effects.{left_of}
 use Rattle.rt_model.specs.Tied.{Steps}
 use Rattle.rt_machine.specs.Ends.{open_in}
 use Rattle.rt_machine.specs.Steps.{StandsFor}
-use Rattle.rt_world.specs.World.{World, IsFront}
+use Rattle.rt_world.specs.World.{World, Writes}
 use Rattle.rt_world.specs.Follows.{Agrees, AgreesAtLeast}
 use Rattle.rt_world.specs.declared.visits.Turnout.{Turnout}
 use Rattle.rt_world.specs.declared.visits.Turnout.TheVariants.{Stays, Gave, Ends}
 
--- what visits leave as it is
-pub record Passes {A O G : Type 0} (old new : World A O G) : Type 0 where
+-- what visits leave as it is, and that the generator gave what was drawn in them
+pub record Passes {A O G : Type 0} (stream : G → Stream) (old new : World A O G) : Type 0 where
   pub begin : new.told.begin ≡ old.told.begin
   pub given : new.told.given ≡ old.told.given
-  pub front : IsFront old.told new.told
   pub clock : new.told.state.clock ≡ old.told.state.clock
   pub root : new.told.state.root ≡ old.told.state.root
   pub out : new.out ≡ None
-  pub rng : new.rng ≡ old.rng
+  pub writes : Writes stream old new
 
 -- no call of a part is under way
 pub record IsFresh {A O G : Type 0} (w : World A O G) : Type 0 where

@@ -5,7 +5,7 @@ use Rattle.rt_base.specs.declared.error.Error.TheVariants.{NoMemory as LacksMemo
 use Rattle.rt_base.specs.declared.no_memory.NoMemory.{NoMemory as OutOfMemory}
 use Rattle.rt_base.specs.declared.poll.Poll.{Poll}
 use Rattle.rt_base.specs.declared.poll.Poll.TheVariants.{Ready as IsReady}
-use Rattle.rt_audit.specs.declared.reply.CallReply.TheVariants.{Done, NodeAt, SlotAt, SignalAt, CompletionAt, Pending, Refused}
+use Rattle.rt_audit.specs.declared.reply.CallReply.TheVariants.{Done, NodeAt, SlotAt, SignalAt, CompletionAt, Pending, Number, Bytes, Refused}
 use Rattle.rt_model.specs.declared.answer.Answer.{Answer}
 use Rattle.rt_model.specs.declared.answer.Answer.TheVariants.{NoMemory}
 use Rattle.rt_model.specs.State.{Turn, Stood, stood_in}
@@ -125,6 +125,20 @@ stop_told (Err lack) = Plain (Refused LacksMemory)
 abbrev pub stopped_told : {O : Type 0} → Result Stopped OutOfMemory → Heard O
 stopped_told (Ok stopped) = Plain (stopped_reply stopped)
 stopped_told (Err lack) = Plain (Refused LacksMemory)
+
+-- a number that was drawn
+abbrev pub number_told : {O : Type 0} → Result ℕ OutOfMemory → Heard O
+number_told (Ok number) = Plain (Number number)
+number_told (Err lack) = Plain (Refused LacksMemory)
+
+-- bytes that were drawn
+abbrev pub filled_told : {O : Type 0} → List ℕ → Result (Unit {0}) OutOfMemory → Heard O
+filled_told bytes (Ok done) = Plain (Bytes bytes)
+filled_told bytes (Err lack) = Plain (Refused LacksMemory)
+
+abbrev pub auditor_told : {O : Type 0} → Result (List ℕ) OutOfMemory → Heard O
+auditor_told (Ok digest) = Plain (Bytes digest)
+auditor_told (Err lack) = Plain (Refused LacksMemory)
 
 abbrev pub ends_told : {O : Type 0} → Result (ℕ × ℕ) Error → Heard O
 ends_told (Ok ends) = Plain (SlotAt ends.0)

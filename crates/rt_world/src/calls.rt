@@ -10,10 +10,11 @@ ghost use Rattle.rt_world.specs.Calls.{Kept, Made, SpentBy, IsRefused, Joined, l
 ghost use Rattle.rt_world.specs.Walked.{Called, child_told, join_told, sleep_told, wake_told};
 
 use crate::World;
+use rand_core::Rng;
 use rt_base::{Error, MAX_TIME, Nanos, NoMemory};
 
 #[tactic(auto, using(crate::proofs::Walked::call_laws, crate::proofs::Walked::stay_laws, crate::proofs::Calling::seated_laws, crate::proofs::Slotted::slotted_laws), unfolding(rt_model::specs::Effects::after))]
-impl<T, O, G> World<T, O, G> {
+impl<T, O, G: Rng> World<T, O, G> {
     /// Marks that a call lacked memory, for one that takes memory of its own before it calls the world.
     pub fn lack(&mut self)
         ensures { self.new ≡ lacking self.old }
@@ -28,7 +29,7 @@ impl<T, O, G> World<T, O, G> {
     /// the label isn't valid or the full one is reserved.
     pub fn child(&mut self, node: u64, label: &str) -> Result<(u64, bool), Error>
         requires { MayCall self.old.told.state self.old.out }
-        ensures kept { Kept self.old self.new }
+        ensures kept { Kept G.stream self.old self.new }
         ensures ok { IfOk result (λ made. Made self.old self.new (Plainly (Child node label.now)) (NodeAt made.0 made.1)) }
         ensures err { IfErr result (λ e. IsRefused self.old self.new (Plainly (Child node label.now)) e) }
         ensures called { Called (Plainly (Child node label.now)) self.old self.new (child_told result) }
@@ -39,7 +40,7 @@ impl<T, O, G> World<T, O, G> {
     /// Closes the context of a node. It takes no memory. Where the node isn't live it does nothing, and writes no entry.
     pub fn close_node(&mut self, node: u64)
         requires { MayCall self.old.told.state self.old.out }
-        ensures kept { Kept self.old self.new }
+        ensures kept { Kept G.stream self.old self.new }
         ensures spent { SpentBy self.old self.new (Plainly (CloseNode node)) }
         ensures lacked { self.new.lacked ≡ self.old.lacked }
     {
@@ -50,7 +51,7 @@ impl<T, O, G> World<T, O, G> {
     /// handle was used so before it does nothing, and writes no entry.
     pub fn abort(&mut self, task: u64)
         requires { MayCall self.old.told.state self.old.out }
-        ensures kept { Kept self.old self.new }
+        ensures kept { Kept G.stream self.old self.new }
         ensures spent { SpentBy self.old self.new (Plainly (Abort task)) }
         ensures lacked { self.new.lacked ≡ self.old.lacked }
     {
@@ -61,7 +62,7 @@ impl<T, O, G> World<T, O, G> {
     /// takes memory.
     pub fn abort_task(&mut self, task: u64) -> Result<(), Error>
         requires { MayCall self.old.told.state self.old.out }
-        ensures kept { Kept self.old self.new }
+        ensures kept { Kept G.stream self.old self.new }
         ensures ok { OnOk result (Made self.old self.new (Plainly (AbortTask task)) Done) }
         ensures err { IfErr result (λ e. IsRefused self.old self.new (Plainly (AbortTask task)) e) }
         ensures called { Called (Plainly (AbortTask task)) self.old self.new (wake_told result) }
@@ -73,7 +74,7 @@ impl<T, O, G> World<T, O, G> {
     /// takes memory.
     pub fn wake(&mut self, task: u64) -> Result<(), Error>
         requires { MayCall self.old.told.state self.old.out }
-        ensures kept { Kept self.old self.new }
+        ensures kept { Kept G.stream self.old self.new }
         ensures ok { OnOk result (Made self.old self.new (Plainly (WakeCall task)) Done) }
         ensures err { IfErr result (λ e. IsRefused self.old self.new (Plainly (WakeCall task)) e) }
         ensures called { Called (Plainly (WakeCall task)) self.old self.new (wake_told result) }
@@ -87,7 +88,7 @@ impl<T, O, G> World<T, O, G> {
     pub fn sleep_poll(&mut self, due: Nanos, alarm: Option<u64>) -> Result<Option<u64>, NoMemory>
         requires calling { MayCall self.old.told.state self.old.out }
         requires due { due ≤ MAX_TIME }
-        ensures kept { Kept self.old self.new }
+        ensures kept { Kept G.stream self.old self.new }
         ensures told { IfOk result (λ told. told ≡ slept_number self.old.told.state.clock.time self.old.told.state.alarms due alarm) }
         ensures ok { IfOk result (λ told. Made self.old self.new (Sleeping due alarm) (sleep_reply told)) }
         ensures err { OnErr result (self.new ≡ lacking self.old) }
@@ -98,14 +99,14 @@ impl<T, O, G> World<T, O, G> {
 }
 
 #[tactic(auto, using(crate::proofs::Walked::call_laws, crate::proofs::Walked::stay_laws, crate::proofs::Calling::seated_laws, crate::proofs::Slotted::slotted_laws), unfolding(rt_model::specs::Effects::after))]
-impl<T, O: Drop, G> World<T, O, G> {
+impl<T, O: Drop, G: Rng> World<T, O, G> {
     /// Polls the result of a task. Answers the output where it is there, once. It takes memory.
     ///
     /// Errors: `Exited` where the task reported a panic, `Closed` where it ended without a result or the result was
     /// taken, `UnknownToken` where the result was given up, `NoMemory`.
     pub fn join(&mut self, task: u64) -> Result<Option<O>, Error>
         requires { MayCall self.old.told.state self.old.out }
-        ensures kept { Kept self.old self.new }
+        ensures kept { Kept G.stream self.old self.new }
         ensures ok { IfOk result (λ value. Joined self.old self.new task value) }
         ensures err { IfErr result (λ e. IsRefused self.old self.new (Plainly (Join task)) e) }
         ensures called { Called (Plainly (Join task)) self.old self.new (join_told result) }
@@ -123,7 +124,7 @@ impl<T, O: Drop, G> World<T, O, G> {
     /// entry.
     pub fn give_up(&mut self, task: u64)
         requires { MayCall self.old.told.state self.old.out }
-        ensures kept { Kept self.old self.new }
+        ensures kept { Kept G.stream self.old self.new }
         ensures spent { SpentBy self.old self.new (Plainly (GiveUp task)) }
         ensures lacked { self.new.lacked ≡ self.old.lacked }
     {

@@ -9,7 +9,7 @@ ghost use Rattle.rt_model.specs.Rules.{MayClose, MayCrash, MayFinish};
 ghost use Rattle.rt_model.specs.Tied.{Steps, First, with_first};
 ghost use Rattle.rt_machine.specs.Steps.{IsCut};
 ghost use Rattle.rt_machine.specs.Told.{pushed};
-ghost use Rattle.rt_world.specs.World.{IsFront};
+ghost use Rattle.rt_world.specs.World.{IsFront, Writes};
 ghost use Rattle.rt_world.specs.Follows.{Agrees, AgreesWith, MakingAgrees, still};
 ghost use Rattle.rt_world.specs.Ends.{Ends, EndsFor, IsClosing, IsFinal, Makes, Reaches, Seals, unless};
 
@@ -28,6 +28,7 @@ impl<T, O, G> World<T, O, G> {
         ensures begin { self.new.told.begin ≡ self.old.told.begin }
         ensures given { self.new.told.given ≡ self.old.told.given }
         ensures front { IsFront self.old.told self.new.told }
+        ensures drawn { self.new.told.state.drawn ≡ self.old.told.state.drawn }
         ensures clock { self.new.told.state.clock ≡ self.old.told.state.clock }
         ensures root { self.new.told.state.root ≡ self.old.told.state.root }
         ensures rng { self.new.rng ≡ self.old.rng }
@@ -75,11 +76,11 @@ impl<T, O, G> World<T, O, G> {
 
 impl<T: Task, G: Rng> World<T, T::Output, G> {
     /// Ends the state of the next task, if one is left. Answers whether its end lacked memory.
-    #[tactic(auto, using(rt_machine::proofs::Counts::count_laws, crate::proofs::Seats::closing_laws), unfolding(rt_model::specs::Effects::after))]
+    #[tactic(auto, using(rt_machine::proofs::Counts::count_laws, crate::proofs::Seats::closing_laws, crate::proofs::Drawn::part_laws), unfolding(rt_model::specs::Effects::after))]
     fn end_task(&mut self) -> Option<bool>
         requires { IsClosing self.old }
         ensures ends { Ends self.old self.new }
-        ensures front { IsFront self.old.told self.new.told }
+        ensures writes { Writes G.stream self.old self.new }
         ensures fewer { OnSome result (length self.new.told.state.running < length self.old.told.state.running) }
         ensures none { IfNone result ((self.new.told.state.running ≡ []) × (self.new.held.tasks ≡ [])) }
         ensures agrees { (first : First T T.Output) (whole : Bool) (output : Option T.Output) (unmade : Option T) → AgreesWith (with_first T.steps first) whole self.old output unmade → AgreesWith (with_first T.steps first) (unless result whole) self.new output unmade }
@@ -101,11 +102,11 @@ impl<T: Task, G: Rng> World<T, T::Output, G> {
     }
 
     /// Ends the states of all tasks. Answers whether an end lacked memory.
-    #[tactic(auto, using(crate::proofs::Fronts::front_laws))]
+    #[tactic(auto, using(crate::proofs::Drawn::part_laws))]
     fn end_all(&mut self) -> bool
         requires { IsClosing self.old }
         ensures ends { Ends self.old self.new }
-        ensures front { IsFront self.old.told self.new.told }
+        ensures writes { Writes G.stream self.old self.new }
         ensures none { (self.new.told.state.running ≡ []) × (self.new.held.tasks ≡ []) }
         ensures agrees { (first : First T T.Output) (whole : Bool) (output : Option T.Output) (unmade : Option T) → AgreesWith (with_first T.steps first) whole self.old output unmade → AgreesWith (with_first T.steps first) (still result whole) self.new output unmade }
     {
@@ -124,7 +125,7 @@ impl<T: Task, G: Rng> World<T, T::Output, G> {
         requires made { IsCut self.old.told.state.phase }
         requires none_out { self.old.out ≡ None }
         ensures phase { self.new.told.state.phase ≡ Finished result }
-        ensures seals { Seals self.old self.new }
+        ensures seals { Seals G.stream self.old self.new }
         ensures cause { IsFinal cause result }
         ensures agrees { (first : First T T.Output) (whole : Bool) (output : Option T.Output) → Agrees (with_first T.steps first) whole self.old output → EndsFor (with_first T.steps first) self.new result output whole }
     {
@@ -145,7 +146,7 @@ impl<T: Task, G: Rng> World<T, T::Output, G> {
         requires running { self.old.told.state.running ≡ [] }
         requires root { self.old.told.state.root ≡ None }
         ensures phase { self.new.told.state.phase ≡ Crashed (cause_of self.old.told.state.phase) }
-        ensures seals { Seals self.old self.new }
+        ensures seals { Seals G.stream self.old self.new }
         ensures agrees { (first : First T T.Output) (whole : Bool) (output : Option T.Output) → AgreesWith (with_first T.steps first) whole self.old output (Some unmade) → Agrees (with_first T.steps first) (still result whole) self.new output }
     {
         unmade.end(self);
@@ -169,7 +170,7 @@ impl<T: Task, G: Rng> World<T, T::Output, G> {
         requires calm { self.old.panic ≡ None }
         requires none_out { self.old.out ≡ None }
         ensures phase { self.new.told.state.phase ≡ Finished result }
-        ensures seals { Seals self.old self.new }
+        ensures seals { Seals G.stream self.old self.new }
         ensures cause { IsFinal cause result }
         ensures agrees { (first : First T T.Output) (whole : Bool) → MakingAgrees (with_first T.steps first) whole self.old unmade → EndsFor (with_first T.steps first) self.new result None whole }
     {

@@ -3,6 +3,7 @@
 
 mod calls;
 mod cx;
+mod draws;
 mod ends;
 mod outcome;
 mod poller;

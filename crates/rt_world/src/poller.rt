@@ -31,14 +31,14 @@ pub trait Poller<T: Outcome, V>: Sized {
         cx: &Cx,
     ) -> Poll<Result<V, Error>>
         requires polling { IsPolling world.old cx.now.task }
-        ensures kept { Kept world.old world.new }
+        ensures kept { Kept G.stream world.old world.new }
         ensures steps { Goes (polls self.old world.old.told.state.clock.time cx.now.task) world.old world.new result self.new }
         ensures lack { SaysLack world.old world.new result };
 
     /// Gives it up. It takes no memory.
     fn give_up<G: Rng>(self, world: &mut World<T, T::Output, G>)
         requires calling { MayCall world.old.told.state world.old.out }
-        ensures kept { Kept world.old world.new }
+        ensures kept { Kept G.stream world.old world.new }
         ensures lacked { world.new.lacked ≡ world.old.lacked }
         ensures steps { Spends (spends self) world.old world.new };
 }

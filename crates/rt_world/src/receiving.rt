@@ -51,11 +51,11 @@ impl Model for ResultReceiver {
 }
 
 #[tactic(auto, using(crate::proofs::Walked::call_laws))]
-impl<T, O, G> World<T, O, G> {
+impl<T, O, G: Rng> World<T, O, G> {
     /// Makes a slot, and hands out its two ends. Its only error is `NoMemory`.
     pub fn result_slot(&mut self) -> Result<(ResultSender, ResultReceiver), Error>
         requires { MayCall self.old.told.state self.old.out }
-        ensures kept { Kept self.old self.new }
+        ensures kept { Kept G.stream self.old self.new }
         ensures pair { IfOk result (λ ends. ends.1 ≡ ends.0) }
         ensures ok { IfOk result (λ ends. Made self.old self.new (Plainly Slot) (SlotAt ends.0)) }
         ensures err { IfErr result (λ e. (e ≡ Error.NoMemory) × (self.new ≡ lacking self.old)) }
@@ -71,9 +71,9 @@ impl<T, O, G> World<T, O, G> {
 impl ResultSender {
     /// Sends the result, which the receiver gets where it still waits for it. It takes no memory.
     #[tactic(auto, using(crate::proofs::Walked::close_laws))]
-    pub fn send<T, O: Drop, G>(self, world: &mut World<T, O, G>, answer: Result<O, Error>)
+    pub fn send<T, O: Drop, G: Rng>(self, world: &mut World<T, O, G>, answer: Result<O, Error>)
         requires { MayCall world.old.told.state world.old.out }
-        ensures kept { Kept world.old world.new }
+        ensures kept { Kept G.stream world.old world.new }
         ensures lacked { world.new.lacked ≡ world.old.lacked }
         ensures steps { Closes (Sending self answer) world.old world.new }
     {
@@ -82,9 +82,9 @@ impl ResultSender {
 
     /// Gives the sender up: the receiver gets `Closed`. It takes no memory.
     #[tactic(auto, using(crate::proofs::Walked::close_laws))]
-    pub fn give_up<T, O, G>(self, world: &mut World<T, O, G>)
+    pub fn give_up<T, O, G: Rng>(self, world: &mut World<T, O, G>)
         requires { MayCall world.old.told.state world.old.out }
-        ensures kept { Kept world.old world.new }
+        ensures kept { Kept G.stream world.old world.new }
         ensures lacked { world.new.lacked ≡ world.old.lacked }
         ensures steps { Closes (Plainly (SlotClose self)) world.old world.new }
     {
@@ -103,10 +103,10 @@ impl ResultSender {
 impl ResultReceiver {
     /// Aborts the wait: from then on a poll answers `Aborted`. Later calls do nothing. It takes no memory.
     #[tactic(auto, using(crate::proofs::Walked::close_laws))]
-    pub fn abort<T, O: Drop, G>(&mut self, world: &mut World<T, O, G>)
+    pub fn abort<T, O: Drop, G: Rng>(&mut self, world: &mut World<T, O, G>)
         requires { MayCall world.old.told.state world.old.out }
         ensures receiver { self.new ≡ self.old }
-        ensures kept { Kept world.old world.new }
+        ensures kept { Kept G.stream world.old world.new }
         ensures lacked { world.new.lacked ≡ world.old.lacked }
         ensures steps { Closes (Plainly (AbortWait self.old)) world.old world.new }
     {

@@ -6,11 +6,10 @@ ghost use Rattle.rt_model.specs.Causes.{from_running, is_late};
 ghost use Rattle.rt_model.specs.Effects.{left_of};
 ghost use Rattle.rt_model.specs.Tied.{First, with_first, Steps};
 ghost use Rattle.rt_model.specs.Rules.{MayRound};
-ghost use Rattle.rt_machine.specs.Draws.{Drains, Orders};
+ghost use Rattle.rt_machine.specs.Draws.{Drains};
 ghost use Rattle.rt_machine.specs.Steps.{Turns, StepStands};
-ghost use Rattle.rt_world.specs.World.{IsFront};
 ghost use Rattle.rt_world.specs.Follows.{Agrees};
-ghost use Rattle.rt_world.specs.Rounds.{Runs, StandsBetween, EndStands, EndAgrees};
+ghost use Rattle.rt_world.specs.Rounds.{Begins, Runs, StandsBetween, EndStands, EndAgrees};
 ghost use Rattle.rt_world.specs.Visits.{RoundStands, AgreesAfter};
 
 use crate::{Task, World};
@@ -26,7 +25,7 @@ impl<T, O, G> World<T, O, G> {
         requires phase { self.old.told.state.phase ≡ Visiting (left_of self.old.told.state.phase) }
         requires round { from_running self.old.told.state.running (left_of self.old.told.state.phase) ≡ [] }
         ensures turns { Turns self.old.told self.new.told }
-        ensures front { IsFront self.old.told self.new.told }
+        ensures drawn { self.new.told.state.drawn ≡ self.old.told.state.drawn }
         ensures later { OnOk result (self.old.told.state.clock.time + self.old.told.state.clock.fixed.cycle ≤ self.new.told.state.clock.time) }
         ensures within { OnOk result (self.old.told.state.clock.time + self.old.told.state.clock.fixed.cycle ≤ MAX_TIME) }
         ensures stands { StepStands self.new.told.state result }
@@ -59,7 +58,7 @@ impl<T: Task, G: Rng> World<T, T::Output, G> {
         requires early { is_late self.old.told.state.clock ≡ false }
         requires none_out { self.old.out ≡ None }
         requires unmarked { self.old.lacked ≡ None }
-        ensures order { OnOk result (Orders (G.stream self.old.rng) (G.stream self.new.rng) self.old.told.state.ready order.new.items) }
+        ensures order { OnOk result (Begins G.stream self.old self.new order.new.items) }
         ensures runs { Runs G.stream self.old self.new }
         ensures clock { self.new.told.state.clock ≡ self.old.told.state.clock }
         ensures stands { RoundStands self.new.told.state result }

@@ -10,16 +10,17 @@ ghost use Rattle.rt_world.specs.Calls.{Kept, Made, SpentBy, IsRefused, lacking};
 ghost use Rattle.rt_world.specs.Walked.{Called, clone_told, met_told, shown_told, signaler_told, stop_told, stopped_told};
 
 use crate::World;
+use rand_core::Rng;
 use rt_base::{Error, NoMemory, Poll};
 use rt_super::Stopped;
 
 #[tactic(auto, using(crate::proofs::Signaled::signal_laws, crate::proofs::Walked::stay_laws), unfolding(rt_model::specs::Effects::after))]
-impl<T, O, G> World<T, O, G> {
+impl<T, O, G: Rng> World<T, O, G> {
     /// Makes a group of signals, and answers the number that its signaler, its first signal and its completion have. It
     /// takes memory.
     pub fn signaler(&mut self) -> Result<u64, NoMemory>
         requires { MayCall self.old.told.state self.old.out }
-        ensures kept { Kept self.old self.new }
+        ensures kept { Kept G.stream self.old self.new }
         ensures ok { IfOk result (λ signal. Made self.old self.new (Plainly Signaler) (SignalAt signal)) }
         ensures err { OnErr result (self.new ≡ lacking self.old) }
         ensures called { Called (Plainly Signaler) self.old self.new (signaler_told result) }
@@ -32,7 +33,7 @@ impl<T, O, G> World<T, O, G> {
     /// Errors: `UnknownToken` exactly where no open signal has the number, `NoMemory`.
     pub fn clone_signal(&mut self, signal: u64) -> Result<u64, Error>
         requires { MayCall self.old.told.state self.old.out }
-        ensures kept { Kept self.old self.new }
+        ensures kept { Kept G.stream self.old self.new }
         ensures ok { IfOk result (λ further. Made self.old self.new (Plainly (CloneSignal signal)) (SignalAt further)) }
         ensures err { IfErr result (λ e. IsRefused self.old self.new (Plainly (CloneSignal signal)) e) }
         ensures called { Called (Plainly (CloneSignal signal)) self.old self.new (clone_told result) }
@@ -44,7 +45,7 @@ impl<T, O, G> World<T, O, G> {
     /// takes no memory. Where the signaler was spent before it does nothing, and writes no entry.
     pub fn signal(&mut self, signaler: u64, value: i32)
         requires { MayCall self.old.told.state self.old.out }
-        ensures kept { Kept self.old self.new }
+        ensures kept { Kept G.stream self.old self.new }
         ensures spent { SpentBy self.old self.new (Plainly (Signal signaler value)) }
         ensures lacked { self.new.lacked ≡ self.old.lacked }
     {
@@ -57,7 +58,7 @@ impl<T, O, G> World<T, O, G> {
     /// `NoMemory`.
     pub fn poll_signal(&mut self, signal: u64) -> Result<Poll<i32>, Error>
         requires { MayCall self.old.told.state self.old.out }
-        ensures kept { Kept self.old self.new }
+        ensures kept { Kept G.stream self.old self.new }
         ensures ok { IfOk result (λ shown. Made self.old self.new (Plainly (SignalPoll signal)) (shown_reply shown)) }
         ensures err { IfErr result (λ e. IsRefused self.old self.new (Plainly (SignalPoll signal)) e) }
         ensures called { Called (Plainly (SignalPoll signal)) self.old self.new (shown_told result) }
@@ -69,7 +70,7 @@ impl<T, O, G> World<T, O, G> {
     /// takes no memory. Where it was given up before it does nothing, and writes no entry.
     pub fn close_signal(&mut self, signal: u64)
         requires { MayCall self.old.told.state self.old.out }
-        ensures kept { Kept self.old self.new }
+        ensures kept { Kept G.stream self.old self.new }
         ensures spent { SpentBy self.old self.new (Plainly (SignalClose signal)) }
         ensures lacked { self.new.lacked ≡ self.old.lacked }
     {
@@ -80,7 +81,7 @@ impl<T, O, G> World<T, O, G> {
     /// memory. Where the signaler was spent before it does nothing, and writes no entry.
     pub fn close_signaler(&mut self, signaler: u64)
         requires { MayCall self.old.told.state self.old.out }
-        ensures kept { Kept self.old self.new }
+        ensures kept { Kept G.stream self.old self.new }
         ensures spent { SpentBy self.old self.new (Plainly (SignalerClose signaler)) }
         ensures lacked { self.new.lacked ≡ self.old.lacked }
     {
@@ -92,7 +93,7 @@ impl<T, O, G> World<T, O, G> {
     /// Errors: `UnknownToken` where the completion was given up, `NoMemory`.
     pub fn poll_completion(&mut self, completion: u64) -> Result<Poll<()>, Error>
         requires { MayCall self.old.told.state self.old.out }
-        ensures kept { Kept self.old self.new }
+        ensures kept { Kept G.stream self.old self.new }
         ensures ok { IfOk result (λ met. Made self.old self.new (Plainly (CompletionPoll completion)) (met_reply met)) }
         ensures err { IfErr result (λ e. IsRefused self.old self.new (Plainly (CompletionPoll completion)) e) }
         ensures called { Called (Plainly (CompletionPoll completion)) self.old self.new (met_told result) }
@@ -103,7 +104,7 @@ impl<T, O, G> World<T, O, G> {
     /// Gives a completion up. It takes no memory. Where it was given up before it does nothing, and writes no entry.
     pub fn close_completion(&mut self, completion: u64)
         requires { MayCall self.old.told.state self.old.out }
-        ensures kept { Kept self.old self.new }
+        ensures kept { Kept G.stream self.old self.new }
         ensures spent { SpentBy self.old self.new (Plainly (CompletionClose completion)) }
         ensures lacked { self.new.lacked ≡ self.old.lacked }
     {
@@ -115,7 +116,7 @@ impl<T, O, G> World<T, O, G> {
     /// takes memory.
     pub fn stop(&mut self, value: i32) -> Result<u64, NoMemory>
         requires { MayCall self.old.told.state self.old.out }
-        ensures kept { Kept self.old self.new }
+        ensures kept { Kept G.stream self.old self.new }
         ensures ok { IfOk result (λ completion. Made self.old self.new (Plainly (Stop value)) (CompletionAt completion)) }
         ensures err { OnErr result (self.new ≡ lacking self.old) }
         ensures called { Called (Plainly (Stop value)) self.old self.new (stop_told result) }
@@ -126,7 +127,7 @@ impl<T, O, G> World<T, O, G> {
     /// The same, by what it writes alone.
     fn begin_stop(&mut self, value: i32) -> Result<u64, NoMemory>
         requires { MayCall self.old.told.state self.old.out }
-        ensures kept { Kept self.old self.new }
+        ensures kept { Kept G.stream self.old self.new }
         ensures ok { IfOk result (λ completion. Made self.old self.new (Plainly (Stop value)) (CompletionAt completion)) }
         ensures err { OnErr result (self.new ≡ lacking self.old) }
     {
@@ -136,7 +137,7 @@ impl<T, O, G> World<T, O, G> {
     /// Makes a signal of the shutdown, or answers the value with which that began. It takes memory.
     pub fn stopped(&mut self) -> Result<Stopped, NoMemory>
         requires { MayCall self.old.told.state self.old.out }
-        ensures kept { Kept self.old self.new }
+        ensures kept { Kept G.stream self.old self.new }
         ensures ok { IfOk result (λ stopped. Made self.old self.new (Plainly StoppedCall) (stopped_reply stopped)) }
         ensures err { OnErr result (self.new ≡ lacking self.old) }
         ensures called { Called (Plainly StoppedCall) self.old self.new (stopped_told result) }

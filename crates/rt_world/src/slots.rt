@@ -9,15 +9,16 @@ ghost use Rattle.rt_world.specs.Calls.{Kept, Made, SpentBy, Received, IsUnreceiv
 ghost use Rattle.rt_world.specs.Walked.{Called, slot_told, join_told};
 
 use crate::World;
+use rand_core::Rng;
 use rt_base::{Error, NoMemory};
 
 #[tactic(auto, using(crate::proofs::Walked::call_laws, crate::proofs::Walked::stay_laws, crate::proofs::Calling::seated_laws, crate::proofs::Slotted::slotted_laws), unfolding(rt_model::specs::Effects::after))]
-impl<T, O, G> World<T, O, G> {
+impl<T, O, G: Rng> World<T, O, G> {
     /// Makes a slot, into which one result is sent by hand and from which it is received, and answers its number. It
     /// takes memory.
     pub fn slot(&mut self) -> Result<u64, NoMemory>
         requires { MayCall self.old.told.state self.old.out }
-        ensures kept { Kept self.old self.new }
+        ensures kept { Kept G.stream self.old self.new }
         ensures ok { IfOk result (λ slot. Made self.old self.new (Plainly Slot) (SlotAt slot)) }
         ensures err { OnErr result (self.new ≡ lacking self.old) }
         ensures called { Called (Plainly Slot) self.old self.new (slot_told result) }
@@ -36,7 +37,7 @@ impl<T, O, G> World<T, O, G> {
     /// does nothing, and writes no entry.
     pub fn slot_close(&mut self, slot: u64)
         requires { MayCall self.old.told.state self.old.out }
-        ensures kept { Kept self.old self.new }
+        ensures kept { Kept G.stream self.old self.new }
         ensures spent { SpentBy self.old self.new (Plainly (SlotClose slot)) }
         ensures lacked { self.new.lacked ≡ self.old.lacked }
     {
@@ -45,12 +46,12 @@ impl<T, O, G> World<T, O, G> {
 }
 
 #[tactic(auto, using(crate::proofs::Walked::call_laws, crate::proofs::Walked::stay_laws, crate::proofs::Calling::seated_laws, crate::proofs::Slotted::slotted_laws), unfolding(rt_model::specs::Effects::after))]
-impl<T, O: Drop, G> World<T, O, G> {
+impl<T, O: Drop, G: Rng> World<T, O, G> {
     /// Sends a result into a slot, and spends its sender. What is sent is let go where the receiver was spent or doesn't
     /// wait for it any more. It takes no memory. Where the sender was spent before it does nothing, and writes no entry.
     pub fn slot_send(&mut self, slot: u64, sent: Result<O, Error>)
         requires { MayCall self.old.told.state self.old.out }
-        ensures kept { Kept self.old self.new }
+        ensures kept { Kept G.stream self.old self.new }
         ensures spent { SpentBy self.old self.new (Sending slot sent) }
         ensures lacked { self.new.lacked ≡ self.old.lacked }
     {
@@ -70,7 +71,7 @@ impl<T, O: Drop, G> World<T, O, G> {
     /// where the wait was aborted, `UnknownToken` where the receiver was spent, `NoMemory`.
     pub fn slot_poll(&mut self, slot: u64) -> Result<Option<O>, Error>
         requires { MayCall self.old.told.state self.old.out }
-        ensures kept { Kept self.old self.new }
+        ensures kept { Kept G.stream self.old self.new }
         ensures ok { IfOk result (λ value. Received self.old self.new slot value) }
         ensures err { IfErr result (λ e. IsUnreceived self.old self.new slot e) }
         ensures called { Called (Plainly (SlotPoll slot)) self.old self.new (join_told result) }
@@ -97,7 +98,7 @@ impl<T, O: Drop, G> World<T, O, G> {
     /// does nothing, and writes no entry.
     pub fn slot_give_up(&mut self, slot: u64)
         requires { MayCall self.old.told.state self.old.out }
-        ensures kept { Kept self.old self.new }
+        ensures kept { Kept G.stream self.old self.new }
         ensures spent { SpentBy self.old self.new (Plainly (SlotGiveUp slot)) }
         ensures lacked { self.new.lacked ≡ self.old.lacked }
     {
@@ -112,7 +113,7 @@ impl<T, O: Drop, G> World<T, O, G> {
     /// Where it was aborted or given up before it does nothing, and writes no entry.
     pub fn abort_wait(&mut self, slot: u64)
         requires { MayCall self.old.told.state self.old.out }
-        ensures kept { Kept self.old self.new }
+        ensures kept { Kept G.stream self.old self.new }
         ensures spent { SpentBy self.old self.new (Plainly (AbortWait slot)) }
         ensures lacked { self.new.lacked ≡ self.old.lacked }
     {

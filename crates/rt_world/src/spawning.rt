@@ -10,11 +10,12 @@ ghost use Rattle.rt_world.specs.Walked.{Called, spawn_told};
 use crate::World;
 use crate::states::{States, block_of};
 use crate::tasks::Tasks;
+use rand_core::Rng;
 use rt_base::{Error, Execution, NoMemory};
 use std::alloc::Global;
 
 #[tactic(auto, using(crate::proofs::Walked::call_laws, crate::proofs::Walked::stay_laws, crate::proofs::Calling::seated_laws, crate::proofs::Slotted::slotted_laws))]
-impl<T, O, G> World<T, O, G> {
+impl<T, O, G: Rng> World<T, O, G> {
     /// Spawns a task on a node, which asks to run there: its state is made of what is given and of the number of the fresh
     /// node on which its own context stands. Answers the task's number and that node's, or nothing where the node has
     /// ended; it is closed then. A refusal hands back what was given. It takes memory.
@@ -30,7 +31,7 @@ impl<T, O, G> World<T, O, G> {
     ) -> Result<Option<(u64, u64)>, (Error, C)>
         requires calling { MayCall self.old.told.state self.old.out }
         requires callable { F.IsAlwaysCallable make }
-        ensures kept { Kept self.old self.new }
+        ensures kept { Kept G.stream self.old self.new }
         ensures back { IfErr result (λ back. back.1 ≡ given) }
         ensures ok { (made : ℕ → T) → IsMadeBy (F.post make) given made → IfOk result (λ at. Made self.old self.new (Spawning node execution made) (spawn_reply at)) }
         ensures taken_in { IfOk result (λ at. IsTakenIn (F.post make) given self.old self.new node execution at) }

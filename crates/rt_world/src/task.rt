@@ -30,7 +30,7 @@ pub trait Task: Outcome + Sized {
         requires polling { IsPolling world.old cx.now.task }
         requires fresh { world.old.told.state.turns ≡ [] }
         requires unmarked { world.old.lacked ≡ None }
-        ensures kept { Kept world.old world.new }
+        ensures kept { Kept G.stream world.old world.new }
         ensures steps { Polled (steps.next self.old world.old.told.state.clock.time cx.now.task) world.old world.new result self.new };
 
     /// Gives up what the task holds, after its last poll. It runs once for each task.
@@ -38,6 +38,6 @@ pub trait Task: Outcome + Sized {
         requires calling { MayCall world.old.told.state world.old.out }
         requires fresh { world.old.told.state.turns ≡ [] }
         requires unmarked { world.old.lacked ≡ None }
-        ensures kept { Kept world.old world.new }
+        ensures kept { Kept G.stream world.old world.new }
         ensures steps { Spent (steps.last self world.old.told.state.clock.time (number_of world.old.out)) world.old world.new };
 }

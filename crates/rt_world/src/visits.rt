@@ -73,7 +73,7 @@ impl<T, O, G> World<T, O, G> {
 }
 
 #[tactic(auto, using(crate::proofs::Seats::seat_laws, crate::proofs::Coming::coming_laws), unfolding(rt_model::specs::Effects::after))]
-impl<T, O: Drop, G> World<T, O, G> {
+impl<T, O: Drop, G: Rng> World<T, O, G> {
     /// Ends the poll of a spawned task that has finished, and puts its state back. Its output is its result, if that
     /// wasn't given up.
     fn answer_result(&mut self, task: u64, block: Vec<T>, output: O)
@@ -98,7 +98,7 @@ impl<T, O: Drop, G> World<T, O, G> {
         requires own { open_in own ≡ 0 }
         ensures phase { self.new.told.state.phase ≡ Visiting (left_of self.old.told.state.phase) }
         ensures calm { Calmly (pushed self.old.told (Entry.Answer task AnswerKind.Ended)) self.new.told }
-        ensures passes { Passes self.old self.new }
+        ensures passes { Passes G.stream self.old self.new }
         ensures rest { self.new ≡ record self.old { told = self.new.told; out = None } }
     {
         self.machine.end_visit(task, own);
@@ -115,7 +115,7 @@ impl<T: Task, G: Rng> World<T, T::Output, G> {
         requires next { from_running self.old.told.state.running (left_of self.old.told.state.phase) ≡ task ∷ drop 1 (from_running self.old.told.state.running (left_of self.old.told.state.phase)) }
         requires none_out { self.old.out ≡ None }
         requires unmarked { self.old.lacked ≡ None }
-        ensures passes { Passes self.old self.new }
+        ensures passes { Passes G.stream self.old self.new }
         ensures stands { StandsAfter self.new.told.state (drop 1 (from_running self.old.told.state.running (left_of self.old.told.state.phase))) result }
         ensures unmarked { OnOk result (self.new.lacked ≡ None) }
         ensures agrees { (first : First T T.Output) → Agrees (with_first T.steps first) true self.old None → AgreesAfter (with_first T.steps first) self.new result }
@@ -133,13 +133,13 @@ impl<T: Task, G: Rng> World<T, T::Output, G> {
 
 impl<T: Task, G: Rng> World<T, T::Output, G> {
     /// Begins a visit, and polls its task, unless this is the root and is stopped, or it is flagged.
-    #[tactic(auto, unfolding(rt_model::specs::Effects::after))]
+    #[tactic(auto, using(crate::proofs::Running::pass_laws), unfolding(rt_model::specs::Effects::after))]
     fn turn(&mut self, task: u64) -> Result<Turnout<T::Output>, FinishCause>
         requires phase { self.old.told.state.phase ≡ Visiting (left_of self.old.told.state.phase) }
         requires next { from_running self.old.told.state.running (left_of self.old.told.state.phase) ≡ task ∷ drop 1 (from_running self.old.told.state.running (left_of self.old.told.state.phase)) }
         requires none_out { self.old.out ≡ None }
         requires unmarked { self.old.lacked ≡ None }
-        ensures passes { Passes self.old self.new }
+        ensures passes { Passes G.stream self.old self.new }
         ensures stands { TurnoutStands self.new.told.state task (drop 1 (from_running self.old.told.state.running (left_of self.old.told.state.phase))) result }
         ensures fresh { OnOk result (IsFresh self.new) }
         ensures runs { has_number task self.new.told.state.running ≡ true }
@@ -165,7 +165,7 @@ impl<T: Task, G: Rng> World<T, T::Output, G> {
         requires runs { has_number task self.old.told.state.running ≡ true }
         requires none_out { self.old.out ≡ None }
         requires fresh { IsFresh self.old }
-        ensures passes { Passes self.old self.new }
+        ensures passes { Passes G.stream self.old self.new }
         ensures stands { TurnoutStands self.new.told.state task (left_of self.old.told.state.phase) result }
         ensures fresh { OnOk result (IsFresh self.new) }
         ensures runs { has_number task self.new.told.state.running ≡ true }
@@ -219,7 +219,7 @@ impl<T: Task, G: Rng> World<T, T::Output, G> {
         requires runs { has_number task self.old.told.state.running ≡ true }
         requires none_out { self.old.out ≡ None }
         requires fresh { IsFresh self.old }
-        ensures passes { Passes self.old self.new }
+        ensures passes { Passes G.stream self.old self.new }
         ensures phase { self.new.told.state.phase ≡ Visiting (left_of self.old.told.state.phase) }
         ensures unmarked { self.new.lacked ≡ None }
         ensures cause { IfErr result (λ cause. cause ≡ NoMemory) }
@@ -246,7 +246,7 @@ impl<T: Task, G: Rng> World<T, T::Output, G> {
         requires phase { self.old.told.state.phase ≡ Visiting order.now }
         requires none_out { self.old.out ≡ None }
         requires unmarked { self.old.lacked ≡ None }
-        ensures passes { Passes self.old self.new }
+        ensures passes { Passes G.stream self.old self.new }
         ensures stands { RoundStands self.new.told.state result }
         ensures unmarked { OnOk result (self.new.lacked ≡ None) }
         ensures agrees { (first : First T T.Output) → Agrees (with_first T.steps first) true self.old None → AgreesAfter (with_first T.steps first) self.new result }

@@ -8,6 +8,8 @@ ghost use Rattle.rt_model.specs.Effects.{after_all, is_closing, left_of, cause_o
 ghost use Rattle.rt_model.specs.Events.{process_task, task_fields};
 ghost use Rattle.rt_model.specs.Marks.{is_flagged};
 ghost use Rattle.rt_model.specs.Rules.{IsLawful, AreDrawn, MayAnswer, MayCall, MayRound};
+ghost use Rattle.rt_audit.specs.Journal.{digest_of};
+ghost use Rattle.rt_model.specs.Digests.{AreDigested};
 ghost use Rattle.rt_model.specs.Tied.{Steps, Value, taken};
 ghost use Rattle.rt_model.specs.Turns.{put};
 ghost use Rattle.rt_machine.specs.Ends.{Calmly, Visited, open_in};
@@ -273,11 +275,12 @@ impl<T, O, G> World<T, O, G> {
         self.executions.as_slice()
     }
 
-    /// What is known of each world: its entries are lawful, each round's order is the ready list as its draws shuffle it, and its
-    /// state is what they tell.
+    /// What is known of each world: its entries are lawful, each round's order is the ready list as its draws shuffle it, each
+    /// auditor's answer is the digest so far, and its state is what they tell.
     pub fn facts(&self)
         ensures lawful { IsLawful (begun self.now.told.begin) (own self.now.told) }
         ensures drawn { AreDrawn (begun self.now.told.begin) (own self.now.told) }
+        ensures digested { AreDigested (digest_of self.now.told.given) (own self.now.told) }
         ensures state { self.now.told.state ≡ after_all (begun self.now.told.begin) (own self.now.told) }
         ensures calls { AreCalls self.now.told.calls }
         ensures runs { IfSome self.now.out (λ task. has_number task self.now.told.state.running ≡ true) }

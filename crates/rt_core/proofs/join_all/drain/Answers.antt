@@ -13,7 +13,7 @@ loop-left-init g c =
     let all : c.len-left.result ≡ length c.args.group.now.handles = rw (← c.group.view_is) (c.len-left.ensures ∙ c.group.inside.handles.ok.0) in
     record {
       polling = c.requires.polling;
-      kept = kept-same _;
+      kept = kept-same _ _;
       long = λ e. e;
       within = omega (arith, all);
       convert = refl;

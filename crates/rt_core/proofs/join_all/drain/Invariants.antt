@@ -10,7 +10,7 @@ use Rattle.rt_core.proofs.join_all.drain.Given as goal
 abbrev pub invariant-loop-left : goal.invariant-loop-left
 invariant-loop-left g l = record {
   polling : IsPolling l.world l.cx.task;
-  kept : Kept l.fn.world l.world;
+  kept : Kept g.G.Rng.stream l.fn.world l.world;
   long : l.fn.world.lacked ≡ None → l.world.lacked ≡ None;
   within : l.left ≤ length l.group.handles;
   convert : l.group.convert ≡ l.fn.group.convert;

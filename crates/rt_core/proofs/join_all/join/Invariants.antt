@@ -10,7 +10,7 @@ use Rattle.rt_core.proofs.join_all.join.Given as goal
 abbrev pub invariant-loop-handle : goal.invariant-loop-handle
 invariant-loop-handle g l = record {
   polling : IsPolling l.world l.cx.task;
-  kept : Kept l.fn.world l.world;
+  kept : Kept g.G.Rng.stream l.fn.world l.world;
   long : l.fn.world.lacked ≡ None → l.world.lacked ≡ None;
   fine : l.group.failure ≡ None;
   convert : l.group.convert ≡ l.fn.group.convert;

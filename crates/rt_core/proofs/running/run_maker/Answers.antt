@@ -35,8 +35,8 @@ returns-clause-agrees g c f =
 
 pub returns-in_default-clause-leaves : goal.returns-in_default-clause-leaves
 returns-in_default-clause-leaves g c =
-    leaves-unmade _ c.args.world.now c.make.new.world c.cleanup_unmade.new.self _ c.requires.calls c.facts.ensures.calls c.make.ensures.kept c.cleanup_unmade.ensures.seals c.cleanup_unmade.ensures.phase c.cleanup_unmade.ensures.cause
+    leaves-unmade _ c.args.world.now c.make.new.world c.cleanup_unmade.new.self _ c.make.ensures.kept c.cleanup_unmade.ensures.seals c.cleanup_unmade.ensures.phase c.cleanup_unmade.ensures.cause
 
 pub returns-then-is_short-clause-leaves : goal.returns-then-is_short-clause-leaves
 returns-then-is_short-clause-leaves g c =
-    leaves-unmade _ c.args.world.now c.make.new.world c.cleanup_unmade-then-is_short.new.self _ c.requires.calls c.facts-2.ensures.calls c.make.ensures.kept c.cleanup_unmade-then-is_short.ensures.seals c.cleanup_unmade-then-is_short.ensures.phase c.cleanup_unmade-then-is_short.ensures.cause
+    leaves-unmade _ c.args.world.now c.make.new.world c.cleanup_unmade-then-is_short.new.self _ c.make.ensures.kept c.cleanup_unmade-then-is_short.ensures.seals c.cleanup_unmade-then-is_short.ensures.phase c.cleanup_unmade-then-is_short.ensures.cause

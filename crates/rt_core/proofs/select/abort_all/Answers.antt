@@ -9,7 +9,7 @@ pub loop-place-init : goal.loop-place-init
 loop-place-init g c = record {
   handles = sym (changed-none aborted c.args.handles.now);
   calling = c.requires;
-  kept = kept-same _;
+  kept = kept-same _ _;
   lacked = refl;
   goes = λ end spent. spent;
 }

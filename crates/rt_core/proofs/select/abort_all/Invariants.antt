@@ -12,7 +12,7 @@ abbrev pub invariant-loop-place : goal.invariant-loop-place
 invariant-loop-place g l = record {
   handles : l.handles ≡ changed aborted l.place l.fn.handles;
   calling : MayCall l.world.told.state l.world.out;
-  kept : Kept l.fn.world l.world;
+  kept : Kept g.G.Rng.stream l.fn.world l.world;
   lacked : l.world.lacked ≡ l.fn.world.lacked;
   goes : (end : World g.row.T.Denot g.row.O.Denot g.row.G.Denot) → Spent (each handle_aborts (drop l.place l.fn.handles)) l.world end → Spent (each handle_aborts l.fn.handles) l.fn.world end;
 }

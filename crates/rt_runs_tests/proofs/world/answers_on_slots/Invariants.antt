@@ -3,7 +3,7 @@ use Rattle.rt_world.specs.Calls.{Kept}
 use Rattle.rt_runs_tests.proofs.world.answers_on_slots.Given as goal
 
 abbrev pub invariant-loop-call : goal.invariant-loop-call
-invariant-loop-call l = record {
-  kept : Kept l.fn.world l.world;
+invariant-loop-call g l = record {
+  kept : Kept g.G.Rng.stream l.fn.world l.world;
   calling : MayCall l.world.told.state l.world.out;
 }

@@ -3,11 +3,14 @@ use Rattle.rt_base.specs.declared.error.Error.TheVariants.{NoMemory as LacksMemo
 use Rattle.rt_audit.specs.declared.call.Call.TheVariants.{Child}
 use Rattle.rt_model.specs.Turns.{Plainly}
 use Rattle.rt_core.specs.Contexts.{childs, child_heard}
-use Rattle.rt_world.proofs.Walked.{tells-lacking, rooted-lacks}
+use Rattle.rt_world.proofs.Walked.{kept-kept, tells-lacking, rooted-lacks}
 use Rattle.rt_sim.specs.Making.{beside, passed_over, placed_beside}
 use Rattle.rt_sim.specs.Program.{text_at}
-use Rattle.rt_sim.proofs.Makings.{prepares-after}
+use Rattle.rt_sim.proofs.Makings.{kept-lacking, prepares-after}
 use Rattle.rt_sim.proofs.maker.spawn_beside.Goals as goal
+
+pub returns-in_default-clause-kept : goal.returns-in_default-clause-kept
+returns-in_default-clause-kept g c = kept-kept c.args.world.now c.lack.new.self c.close.new.world (rw c.lack.ensures (kept-lacking _ c.args.world.now)) c.close.ensures.kept
 
 pub returns-in_default-clause-steps : goal.returns-in_default-clause-steps
 unfolding beside childs

@@ -5,7 +5,7 @@ use Rattle.rt_sim.proofs.script.release_all.Given as goal
 
 abbrev pub invariant-loop-at : goal.invariant-loop-at
 invariant-loop-at g l = record {
-  kept : Kept l.fn.world l.world;
+  kept : Kept g.G.Rng.stream l.fn.world l.world;
   lacked : l.world.lacked ≡ l.fn.world.lacked;
   releases : Releases l.fn.held.items l.held.items l.fn.world l.world;
 }

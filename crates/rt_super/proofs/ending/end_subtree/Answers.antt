@@ -33,14 +33,14 @@ push_children-requires c =
     let few = walk_room _ _ _ _ _ _ _ _ next c.requires.sound.older (omega (arith, c.requires.sound.lengths)) in
     let turned = length-reverse (children_from c.in-Some.at 0 (parents c.args.nodes.now)) in
     let both = length-append c.pop.new.self.items (reverse (children_from c.in-Some.at 0 (parents c.args.nodes.now))) in
-    let same = ap length (c.deref.ensures.value ∙ children) in
+    let same = ap length (c.as_slice.ensures ∙ children) in
     record { room = omega arith }
 
 pub loop-at-smaller-then-not-ended-at : goal.loop-at-smaller-then-not-ended-at
 loop-at-smaller-then-not-ended-at c =
     let within = popped_within _ _ _ _ _ _ _ _ _ _ c.loop-at.invariant.walk c.in-Some.ensures.items c.requires.known in
     let children = children_at c.args.nodes.now _ c.in-Some.at _ c.requires.sound within c.index-nodes-at.is in
-    rw (c.push_children.ensures.pushed, c.deref.ensures.value, children, c.in-Some.ensures.items) (walk_shorter_by_one (parents c.args.nodes.now) c.pop.new.self.items c.in-Some.at c.requires.sound.older)
+    rw (c.push_children.ensures.pushed, c.as_slice.ensures, children, c.in-Some.ensures.items) (walk_shorter_by_one (parents c.args.nodes.now) c.pop.new.self.items c.in-Some.at c.requires.sound.older)
 
 pub loop-at-preserved-then-not-ended-at : goal.loop-at-preserved-then-not-ended-at
 loop-at-preserved-then-not-ended-at c =
@@ -52,7 +52,7 @@ loop-at-preserved-then-not-ended-at c =
     let next = walk_mark _ _ _ _ _ _ _ (is_marked (set c.loop-at.ended c.in-Some.at true)) _ _ w c.requires.sound.older c.if-not-ended-at.true (λ m. is_marked-set c.loop-at.ended c.in-Some.at m (omega arith)) in
     let more = marks_set-set c.loop-at.ended c.in-Some.at (omega arith) c.if-not-ended-at.true in
     record {
-      walk = rw (c.push_children.ensures.pushed, c.deref.ensures.value, children, c.flag.ensures.noted, ← task) next;
+      walk = rw (c.push_children.ensures.pushed, c.as_slice.ensures, children, c.flag.ensures.noted, ← task) next;
       few = few_flags c.loop-at.flags.items c.index-nodes-at.result.task _ _ _ c.flag.ensures.noted more c.loop-at.invariant.few;
       visits = c.push_children.ensures.room ∙ c.in-Some.ensures.capacity ∙ c.loop-at.invariant.visits;
       room = c.flag.ensures.room ∙ c.loop-at.invariant.room;

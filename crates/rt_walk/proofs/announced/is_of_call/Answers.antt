@@ -1,6 +1,6 @@
-use Rattle.std.proofs.Common.{◌≡◌, [], ◌∙◌, sym, arith, length}
+use Rattle.std.proofs.Common.{◌≡◌, ◌∙◌, sym, arith, length}
 use Rattle.std.proofs.lemmas.List.{nil_from_length}
-use Rattle.rt_walk.proofs.OfCall.{stop-decides, stopped-decides}
+use Rattle.rt_walk.proofs.OfCall.{draw-decides, stop-decides, stopped-decides}
 use Rattle.rt_walk.proofs.announced.is_of_call.Goals as goal
 
 pub returns-in-stop : goal.returns-in-stop
@@ -12,3 +12,8 @@ pub returns-in-stopped : goal.returns-in-stopped
 returns-in-stopped c =
     let none : length c.args.announced.now ≡ 0 = grind (arith, c.is_empty.ensures, c.if-is_empty.true) in
     stopped-decides c.args.announced.now c.args.label.now c.args.fields.now (nil_from_length c.args.announced.now none) c.is_empty-in-stopped.result (sym c.as_str.ensures ∙ c.in-stopped.is) c.is_empty-in-stopped.ensures
+
+pub returns-in-rand : goal.returns-in-rand
+returns-in-rand c =
+    let none : length c.args.announced.now ≡ 0 = grind (arith, c.is_empty.ensures, c.if-is_empty.true) in
+    draw-decides c.args.announced.now c.args.label.now c.args.fields.now (nil_from_length c.args.announced.now none) c.is_a_draw_name.result (sym c.as_str.ensures ∙ c.in-rand.is) c.is_a_draw_name.ensures

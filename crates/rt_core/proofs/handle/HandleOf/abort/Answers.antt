@@ -11,7 +11,7 @@ unfolding handle_aborts
 returns-in-Received-clause-steps g c = rw (← c.self.view_is, c.in-Received.is) c.abort-in-Received.ensures.steps
 
 pub returns-clause-kept : goal.returns-clause-kept
-returns-clause-kept g c = kept-same _
+returns-clause-kept g c = kept-same _ _
 
 pub returns-clause-steps : goal.returns-clause-steps
 unfolding handle_aborts

@@ -16,3 +16,8 @@ pub returns-clause-state : goal.returns-clause-state
 returns-clause-state c =
     let i = c.self.inside in
     rw (← c.self.view_is, joined i.journal.entries i.start i.mark c.self.invariant.start_first c.self.invariant.mark_within) refl
+
+pub returns-clause-digested : goal.returns-clause-digested
+returns-clause-digested c =
+    let i = c.self.inside in
+    rw (← c.self.view_is, joined i.journal.entries i.start i.mark c.self.invariant.start_first c.self.invariant.mark_within) c.self.invariant.digested

@@ -9,7 +9,7 @@ use Rattle.rt_sim.proofs.maker.RootScriptRootMakerScript.make.Given as goal
 
 abbrev pub invariant-loop-place : goal.invariant-loop-place
 invariant-loop-place g l = record {
-  kept : Kept l.fn.world l.world;
+  kept : Kept g.G.Rng.stream l.fn.world l.world;
   context : l.context ≡ root_context;
   within : All (λ place. place < length l.fn.self.program) l.rest;
   leads : Leads (making l.fn.self) (besides root_context l.fn.self.program l.rest (Gives tt (begun l.fn.self))) l.fn.world l.world;

@@ -12,6 +12,11 @@ unfolding goes_on
 returns-in-Yield-clause-steps g c lines =
     rw (c.in-Yield.is) (c.give_way.ensures.steps (λ next. goes_on lines next c.args.world.now.told.state.clock.time c.args.cx.now.task))
 
+pub returns-in-Draw-clause-steps : goal.returns-in-Draw-clause-steps
+unfolding goes_on
+returns-in-Draw-clause-steps g c lines =
+    rw (c.in-Draw.is) (c.draw.ensures.steps (λ next. goes_on lines next c.args.world.now.told.state.clock.time c.args.cx.now.task))
+
 pub returns-in-Spawn-clause-steps : goal.returns-in-Spawn-clause-steps
 unfolding goes_on
 returns-in-Spawn-clause-steps g c lines =

@@ -6,7 +6,7 @@ use Rattle.rt_sim.proofs.script.ScriptTask.poll.Given as goal
 
 abbrev pub invariant-loop-line : goal.invariant-loop-line
 invariant-loop-line g l = record {
-  kept : Kept l.fn.world l.world;
+  kept : Kept g.G.Rng.stream l.fn.world l.world;
   text : l.self.text ≡ l.fn.self.text;
   leads : Leads (polled l.fn.self l.fn.world.told.state.clock.time l.cx.task) (polled l.self l.fn.world.told.state.clock.time l.cx.task) l.fn.world l.world;
 }

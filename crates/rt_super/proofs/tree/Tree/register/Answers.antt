@@ -12,7 +12,7 @@ invariant_of-self c =
     let live = rw (← c.self.view_is) at (sym c.lives.ensures ∙ c.if-not-lives.false) in
     let within : c.args.node < length c.self.inside.nodes.items = omega (arith, live_within _ _ _ _ _ c.self.invariant.right c.args.node live, count_states c.self.inside.nodes.items) in
     let parents_same = set_keeps (λ z. z.parent) c.self.inside.nodes.items c.args.node x y c.index_mut.ensures.value refl in
-    let children_same = set_keeps (λ z. z.children.items) c.self.inside.nodes.items c.args.node x y c.index_mut.ensures.value refl in
+    let children_same = set_keeps (λ z. z.children) c.self.inside.nodes.items c.args.node x y c.index_mut.ensures.value refl in
     record {
       sound = rw (parents_same, children_same) c.self.invariant.sound;
       right = rw (parents_same, c.after-self-inside.ensures) (right_changed (λ z. record z { task = Some c.args.task }) c.self.inside.nodes.items _ _ _ c.args.node x y (record { number = λ z. refl; parent = λ z. refl; born = λ z. refl }) (λ z live task. rw live refl) c.self.invariant.right within c.index_mut.ensures.value);

@@ -9,7 +9,7 @@ invariant_of-self c =
     let x = c.index_mut.result.now in
     let y : Node = record { parent = x.parent; live = false; task = x.task; children = x.children } in
     let parents_same = set_keeps (λ z. z.parent) c.self.inside.nodes.items c.args.node x y c.index_mut.ensures.value refl in
-    let children_same = set_keeps (λ z. z.children.items) c.self.inside.nodes.items c.args.node x y c.index_mut.ensures.value refl in
+    let children_same = set_keeps (λ z. z.children) c.self.inside.nodes.items c.args.node x y c.index_mut.ensures.value refl in
     record {
       sound = rw (parents_same, children_same) c.self.invariant.sound;
       right = rw (parents_same, c.after-self-inside.ensures) (right_changed (λ z. record z { live = false }) c.self.inside.nodes.items _ _ _ c.args.node x y (record { number = λ z. refl; parent = λ z. refl; born = λ z. refl }) (λ z live task. rw task refl) c.self.invariant.right (omega arith) c.index_mut.ensures.value);

@@ -1,7 +1,7 @@
 use Rattle.std.proofs.Common.{refl, sym, ◌∙◌}
 use Rattle.rt_model.specs.Tied.{with_first, Steps}
 use Rattle.rt_world.proofs.Follows.{unmade-tied, unmade-broken}
-use Rattle.rt_world.proofs.Fronts.{seals-crashed}
+use Rattle.rt_world.proofs.Drawn.{seals-crashed}
 use Rattle.rt_world.proofs.Walked.{spent-fresh, spent-short, long}
 use Rattle.rt_world.proofs.ends.World+T+T+Output+G.crash_unmade.Goals as goal
 
@@ -21,8 +21,8 @@ returns-clause-agrees g c first whole output f =
 
 pub returns-then-lacked-clause-seals : goal.returns-then-lacked-clause-seals
 returns-then-lacked-clause-seals g c =
-    seals-crashed c.args.self.now c.end.new.world c.crash.new.self c.requires.closing c.requires.running c.facts.ensures.calls c.end.ensures.kept c.facts.ensures.none (rw (c.crash.ensures, c.take_short-lacked.ensures.gone) refl)
+    seals-crashed g.G.Rng.stream c.args.self.now c.end.new.world c.crash.new.self c.requires.closing c.requires.running c.end.ensures.kept c.facts.ensures.none (rw (c.crash.ensures, c.take_short-lacked.ensures.gone) refl)
 
 pub returns-clause-seals : goal.returns-clause-seals
 returns-clause-seals g c =
-    seals-crashed c.args.self.now c.end.new.world c.crash.new.self c.requires.closing c.requires.running c.facts.ensures.calls c.end.ensures.kept c.facts.ensures.none (rw (c.crash.ensures, c.take_short-lacked.ensures.gone) refl)
+    seals-crashed g.G.Rng.stream c.args.self.now c.end.new.world c.crash.new.self c.requires.closing c.requires.running c.end.ensures.kept c.facts.ensures.none (rw (c.crash.ensures, c.take_short-lacked.ensures.gone) refl)

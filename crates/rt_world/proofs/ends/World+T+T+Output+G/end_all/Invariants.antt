@@ -1,14 +1,14 @@
 use Rattle.std.proofs.Common.{Bool, Option, length}
 use Rattle.rt_model.specs.Tied.{First, with_first}
 use Rattle.rt_world.specs.Follows.{AgreesWith, still}
-use Rattle.rt_world.specs.World.{IsFront}
+use Rattle.rt_world.specs.World.{Writes}
 use Rattle.rt_world.specs.Ends.{Ends}
 use Rattle.rt_world.proofs.ends.World+T+T+Output+G.end_all.Given as goal
 
 abbrev pub invariant-loop-one : goal.invariant-loop-one
 invariant-loop-one g l = record {
   ends : Ends l.fn.self l.self;
-  front : IsFront l.fn.self.told l.self.told;
+  writes : Writes g.G.Rng.stream l.fn.self l.self;
   agrees : (first : First g.row.T.Denot g.row.T-Output.Denot) (whole : Bool) (output : Option g.row.T-Output.Denot) (unmade : Option g.row.T.Denot) → AgreesWith (with_first g.T.Task.steps first) whole l.fn.self output unmade → AgreesWith (with_first g.T.Task.steps first) (still l.lacked whole) l.self output unmade;
 }
 

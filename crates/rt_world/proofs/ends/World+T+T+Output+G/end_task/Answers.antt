@@ -3,7 +3,7 @@ use Rattle.rt_model.specs.Tied.{with_first, Steps}
 use Rattle.rt_machine.specs.Places.{number_of}
 use Rattle.rt_world.proofs.Blocks.{popped}
 use Rattle.rt_world.proofs.Follows.{ended-tied, ended-broken}
-use Rattle.rt_world.proofs.Fronts.{front-ended}
+use Rattle.rt_world.proofs.Drawn.{writes-ended}
 use Rattle.rt_world.proofs.Walked.{spent-fresh, spent-short, long}
 use Rattle.rt_world.proofs.ends.World+T+T+Output+G.end_task.Goals as goal
 
@@ -30,12 +30,12 @@ returns-clause-agrees g c first whole output unmade f =
     rw (c.task_ended.ensures, c.take_short-lacked.ensures.gone)
     (ended-tied p c.args.self.now c.take_state-block.new.self c.end.new.world c.in_ok-task.task c.in-Some.state taken c.requires.calls c.end.ensures.kept c.facts.ensures.calls c.facts.ensures.state output unmade whole state (rw number at (spent-fresh c.take_state-block.new.self c.end.new.world _ (rw taken c.requires.turns) (long (sym c.if-lacked.false ∙ c.take_short-lacked.ensures.was)) c.end.ensures.steps)) f)
 
-pub returns-then-lacked-clause-front : goal.returns-then-lacked-clause-front
-returns-then-lacked-clause-front g c =
-    front-ended c.args.self.now c.take_state-block.new.self c.end.new.world c.in_ok-task.task c.requires.calls (rw c.ends_next.ensures.same at c.take_state-block.ensures.rest) c.end.ensures.kept c.facts.ensures.calls c.task_ended.new.self.told
-    (rw (c.task_ended.ensures, c.take_short-lacked.ensures.gone) refl)
+pub returns-then-lacked-clause-writes : goal.returns-then-lacked-clause-writes
+returns-then-lacked-clause-writes g c =
+    writes-ended g.G.Rng.stream c.args.self.now c.take_state-block.new.self c.end.new.world c.in_ok-task.task c.requires.calls (rw c.ends_next.ensures.same at c.take_state-block.ensures.rest) c.end.ensures.kept c.task_ended.new.self
+    (rw (c.task_ended.ensures, c.take_short-lacked.ensures.gone) refl) (rw (c.task_ended.ensures, c.take_short-lacked.ensures.gone) refl)
 
-pub returns-clause-front : goal.returns-clause-front
-returns-clause-front g c =
-    front-ended c.args.self.now c.take_state-block.new.self c.end.new.world c.in_ok-task.task c.requires.calls (rw c.ends_next.ensures.same at c.take_state-block.ensures.rest) c.end.ensures.kept c.facts.ensures.calls c.task_ended.new.self.told
-    (rw (c.task_ended.ensures, c.take_short-lacked.ensures.gone) refl)
+pub returns-clause-writes : goal.returns-clause-writes
+returns-clause-writes g c =
+    writes-ended g.G.Rng.stream c.args.self.now c.take_state-block.new.self c.end.new.world c.in_ok-task.task c.requires.calls (rw c.ends_next.ensures.same at c.take_state-block.ensures.rest) c.end.ensures.kept c.task_ended.new.self
+    (rw (c.task_ended.ensures, c.take_short-lacked.ensures.gone) refl) (rw (c.task_ended.ensures, c.take_short-lacked.ensures.gone) refl)

@@ -3,7 +3,7 @@ use Rattle.rt_model.specs.Tied.{with_first, Steps}
 use Rattle.rt_machine.specs.Places.{number_of}
 use Rattle.rt_world.proofs.Blocks.{popped}
 use Rattle.rt_world.proofs.Follows.{ended-tied, ended-broken, follows-calmly}
-use Rattle.rt_world.proofs.Fronts.{passes-ended}
+use Rattle.rt_world.proofs.Drawn.{passes-ended}
 use Rattle.rt_world.proofs.Walked.{spent-fresh, spent-short, long}
 use Rattle.rt_world.proofs.visits.World+T+T+Output+G.end_in_visit.Goals as goal
 
@@ -37,10 +37,10 @@ returns-clause-agrees g c first f =
 
 pub returns-then-lacked-clause-passes : goal.returns-then-lacked-clause-passes
 returns-then-lacked-clause-passes g c =
-    passes-ended c.args.self.now c.take_state-block.new.self c.end.new.world c.args.task c.requires.fresh.calls c.take_state-block.ensures.rest c.end.ensures.kept c.facts.ensures.calls c.end_visit.new.self
+    passes-ended g.G.Rng.stream c.args.self.now c.take_state-block.new.self c.end.new.world c.args.task c.requires.fresh.calls c.take_state-block.ensures.rest c.end.ensures.kept c.end_visit.new.self
     (rw c.take_short-lacked.ensures.gone at c.end_visit.ensures.passes)
 
 pub returns-clause-passes : goal.returns-clause-passes
 returns-clause-passes g c =
-    passes-ended c.args.self.now c.take_state-block.new.self c.end.new.world c.args.task c.requires.fresh.calls c.take_state-block.ensures.rest c.end.ensures.kept c.facts.ensures.calls c.end_visit.new.self
+    passes-ended g.G.Rng.stream c.args.self.now c.take_state-block.new.self c.end.new.world c.args.task c.requires.fresh.calls c.take_state-block.ensures.rest c.end.ensures.kept c.end_visit.new.self
     (rw c.take_short-lacked.ensures.gone at c.end_visit.ensures.passes)

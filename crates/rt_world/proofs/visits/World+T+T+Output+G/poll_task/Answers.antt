@@ -3,7 +3,7 @@ use Rattle.rt_model.specs.Lists.{find, is_some_number}
 use Rattle.rt_model.specs.Tied.{with_first, Steps}
 use Rattle.rt_world.proofs.Blocks.{set-top, top-of}
 use Rattle.rt_world.proofs.Follows.{visit-pending, visit-ready, visit-panicked, visit-cut}
-use Rattle.rt_world.proofs.Fronts.{passes-answered}
+use Rattle.rt_world.proofs.Drawn.{passes-answered}
 use Rattle.rt_world.proofs.Walked.{polled-fresh, polled-short, polled-broken, long}
 use Rattle.rt_world.proofs.visits.World+T+T+Output+G.poll_task.Goals as goal
 
@@ -105,32 +105,32 @@ returns-else-root-clause-agrees g c first f =
 
 pub returns-then-is_short-clause-passes : goal.returns-then-is_short-clause-passes
 returns-then-is_short-clause-passes g c =
-    passes-answered c.args.self.now c.take_state-block.new.self c.poll-answer.new.world c.args.task c.requires.fresh.calls c.take_state-block.ensures.rest c.poll-answer.ensures.kept c.facts.ensures.calls c.answer.new.self _ _ _ c.answer.ensures
+    passes-answered g.G.Rng.stream c.args.self.now c.take_state-block.new.self c.poll-answer.new.world c.args.task c.requires.fresh.calls c.take_state-block.ensures.rest c.poll-answer.ensures.kept c.answer.new.self _ _ _ c.answer.ensures
 
 pub returns-then-flagged-clause-passes : goal.returns-then-flagged-clause-passes
 returns-then-flagged-clause-passes g c =
-    passes-answered c.args.self.now c.take_state-block.new.self c.poll-answer.new.world c.args.task c.requires.fresh.calls c.take_state-block.ensures.rest c.poll-answer.ensures.kept c.facts.ensures.calls c.answer-in-Pending.new.self _ _ _ c.answer-in-Pending.ensures
+    passes-answered g.G.Rng.stream c.args.self.now c.take_state-block.new.self c.poll-answer.new.world c.args.task c.requires.fresh.calls c.take_state-block.ensures.rest c.poll-answer.ensures.kept c.answer-in-Pending.new.self _ _ _ c.answer-in-Pending.ensures
 
 pub returns-else-flagged-clause-passes : goal.returns-else-flagged-clause-passes
 returns-else-flagged-clause-passes g c =
-    passes-answered c.args.self.now c.take_state-block.new.self c.poll-answer.new.world c.args.task c.requires.fresh.calls c.take_state-block.ensures.rest c.poll-answer.ensures.kept c.facts.ensures.calls c.answer-in-Pending.new.self _ _ _ c.answer-in-Pending.ensures
+    passes-answered g.G.Rng.stream c.args.self.now c.take_state-block.new.self c.poll-answer.new.world c.args.task c.requires.fresh.calls c.take_state-block.ensures.rest c.poll-answer.ensures.kept c.answer-in-Pending.new.self _ _ _ c.answer-in-Pending.ensures
 
 pub returns-then-is_root-clause-passes : goal.returns-then-is_root-clause-passes
 returns-then-is_root-clause-passes g c =
-    passes-answered c.args.self.now c.take_state-block.new.self c.poll-answer.new.world c.args.task c.requires.fresh.calls c.take_state-block.ensures.rest c.poll-answer.ensures.kept c.facts.ensures.calls c.answer_root.new.self _ _ _ c.answer_root.ensures
+    passes-answered g.G.Rng.stream c.args.self.now c.take_state-block.new.self c.poll-answer.new.world c.args.task c.requires.fresh.calls c.take_state-block.ensures.rest c.poll-answer.ensures.kept c.answer_root.new.self _ _ _ c.answer_root.ensures
 
 pub returns-else-is_root-clause-passes : goal.returns-else-is_root-clause-passes
 returns-else-is_root-clause-passes g c =
-    passes-answered c.args.self.now c.take_state-block.new.self c.poll-answer.new.world c.args.task c.requires.fresh.calls c.take_state-block.ensures.rest c.poll-answer.ensures.kept c.facts.ensures.calls c.answer_result.new.self _ _ _ c.answer_result.ensures
+    passes-answered g.G.Rng.stream c.args.self.now c.take_state-block.new.self c.poll-answer.new.world c.args.task c.requires.fresh.calls c.take_state-block.ensures.rest c.poll-answer.ensures.kept c.answer_result.new.self _ _ _ c.answer_result.ensures
 
 pub returns-then-root-clause-passes : goal.returns-then-root-clause-passes
 returns-then-root-clause-passes g c =
-    passes-answered c.args.self.now c.take_state-block.new.self c.poll-answer.new.world c.args.task c.requires.fresh.calls c.take_state-block.ensures.rest c.poll-answer.ensures.kept c.facts.ensures.calls c.answer_panicked.new.self _ _ _ c.answer_panicked.ensures
+    passes-answered g.G.Rng.stream c.args.self.now c.take_state-block.new.self c.poll-answer.new.world c.args.task c.requires.fresh.calls c.take_state-block.ensures.rest c.poll-answer.ensures.kept c.answer_panicked.new.self _ _ _ c.answer_panicked.ensures
 
 pub returns-else-root-clause-passes : goal.returns-else-root-clause-passes
 returns-else-root-clause-passes g c =
-    passes-answered c.args.self.now c.take_state-block.new.self c.poll-answer.new.world c.args.task c.requires.fresh.calls c.take_state-block.ensures.rest c.poll-answer.ensures.kept c.facts.ensures.calls c.answer_panicked.new.self _ _ _ c.answer_panicked.ensures
+    passes-answered g.G.Rng.stream c.args.self.now c.take_state-block.new.self c.poll-answer.new.world c.args.task c.requires.fresh.calls c.take_state-block.ensures.rest c.poll-answer.ensures.kept c.answer_panicked.new.self _ _ _ c.answer_panicked.ensures
 
 pub returns-in-NoMemory-clause-passes : goal.returns-in-NoMemory-clause-passes
 returns-in-NoMemory-clause-passes g c =
-    passes-answered c.args.self.now c.take_state-block.new.self c.poll-answer.new.world c.args.task c.requires.fresh.calls c.take_state-block.ensures.rest c.poll-answer.ensures.kept c.facts.ensures.calls c.answer-in-NoMemory.new.self _ _ _ c.answer-in-NoMemory.ensures
+    passes-answered g.G.Rng.stream c.args.self.now c.take_state-block.new.self c.poll-answer.new.world c.args.task c.requires.fresh.calls c.take_state-block.ensures.rest c.poll-answer.ensures.kept c.answer-in-NoMemory.new.self _ _ _ c.answer-in-NoMemory.ensures

@@ -8,7 +8,7 @@ use Rattle.rt_world.proofs.visits.World+T+T+Output+G.visit_all.Given as goal
 
 abbrev pub invariant-loop-task : goal.invariant-loop-task
 invariant-loop-task g l = record {
-  passes : Passes l.fn.self l.self;
+  passes : Passes g.G.Rng.stream l.fn.self l.self;
   phase : l.self.told.state.phase ≡ Visiting (left_of l.self.told.state.phase);
   left : from_running l.self.told.state.running (left_of l.self.told.state.phase) ≡ from_running l.self.told.state.running (drop l.task-index l.order);
   unmarked : l.self.lacked ≡ None;

@@ -1,11 +1,11 @@
 use Rattle.std.proofs.Common.{refl}
 use Rattle.rt_world.proofs.Ending.{stepped-seated}
 use Rattle.rt_world.proofs.Follows.{follows-quietly}
-use Rattle.rt_world.proofs.Fronts.{front-quietly}
+use Rattle.rt_world.proofs.Drawn.{quietly-drawn}
 use Rattle.rt_world.proofs.world.World.clock_step.Goals as goal
 
-pub returns-clause-front : goal.returns-clause-front
-returns-clause-front g c = rw (← c.self.view_is) (front-quietly c.self.inside.machine.told c.clock_step.new.self.told c.clock_step.ensures.turns.quiet)
+pub returns-clause-drawn : goal.returns-clause-drawn
+returns-clause-drawn g c = rw (← c.self.view_is) (quietly-drawn c.self.inside.machine.told c.clock_step.new.self.told c.clock_step.ensures.turns.quiet)
 
 pub returns-clause-agrees : goal.returns-clause-agrees
 returns-clause-agrees g c p f =

@@ -2,6 +2,7 @@ use Rattle.std.proofs.Common.{refl}
 use Rattle.rt_machine.proofs.Replays.{cleaned}
 use Rattle.rt_world.proofs.Ending.{closed-seated}
 use Rattle.rt_world.proofs.Follows.{follows-closed, closed-unmade}
+use Rattle.rt_world.proofs.Drawn.{cleaned-drawn}
 use Rattle.rt_world.proofs.Fronts.{front-cleaned}
 use Rattle.rt_world.proofs.Slotted.{closed-slotted}
 use Rattle.rt_world.proofs.world.World.close.Goals as goal
@@ -13,6 +14,10 @@ returns-clause-phase g c =
 pub returns-clause-front : goal.returns-clause-front
 returns-clause-front g c =
     rw (← c.self.view_is) (front-cleaned c.self.inside.machine.told c.cleanup.new.self.told (rw (c.cleanup.ensures, c.take_short.ensures.gone) refl))
+
+pub returns-clause-drawn : goal.returns-clause-drawn
+returns-clause-drawn g c =
+    rw (← c.self.view_is) (cleaned-drawn c.self.inside.machine.told c.cleanup.new.self.told (rw (c.cleanup.ensures, c.take_short.ensures.gone) refl))
 
 pub returns-clause-agrees : goal.returns-clause-agrees
 returns-clause-agrees g c p whole output made f =

@@ -6,6 +6,8 @@ use Rattle.rt_machine.specs.Calls.{Noted}
 use Rattle.rt_model.specs.Turns.{Spawning}
 use Rattle.rt_model.specs.Effects.{is_closing}
 use Rattle.rt_world.proofs.Seats.{grows-more, not-closing, some-none}
+use Rattle.rt_world.proofs.Drawn.{drew-same}
+use Rattle.rt_world.proofs.Lasting.{lasts-of}
 use Rattle.rt_world.proofs.Walked.{stays-same}
 use Rattle.rt_world.proofs.Calling.{refused-calls, refused-spawn, spawned-calls, spawned-seated, made-noted, spawns-next, ending-runs}
 use Rattle.rt_world.proofs.Slotted.{slotted-noted}
@@ -64,9 +66,7 @@ returns-in-Ok-Some-clause-kept g c =
       root = noted.root;
       panic = refl;
       out = refl;
-      rng = refl;
-      running = rw noted.running (grows-more s.phase c.in-Ok-Some.task s.running going);
-      marked = stays-same _ _ noted.lacked;
+      lasts = lasts-of g.G.Rng.stream _ _ (rw noted.running (grows-more s.phase c.in-Ok-Some.task s.running going)) (stays-same _ _ noted.lacked) (drew-same g.G.Rng.stream _ _ refl noted.drawn);
     }
 
 pub returns-in-Ok-Some-clause-called : goal.returns-in-Ok-Some-clause-called

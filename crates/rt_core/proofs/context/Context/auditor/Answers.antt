@@ -1,0 +1,12 @@
+use Rattle.std.proofs.Common.{refl}
+use Rattle.rt_core.specs.Drawing.{asks_auditor}
+use Rattle.rt_world.proofs.Drawing.{auditor-tells}
+use Rattle.rt_core.proofs.context.Context.auditor.Goals as goal
+
+pub returns-in-Ok-clause-steps : goal.returns-in-Ok-clause-steps
+unfolding asks_auditor
+returns-in-Ok-clause-steps g c = auditor-tells c.args.world.now c.auditor.new.self _ _ c.auditor.result c.auditor.ensures.ok c.auditor.ensures.err (rw c.in-Ok.is refl)
+
+pub returns-in-Err-clause-steps : goal.returns-in-Err-clause-steps
+unfolding asks_auditor
+returns-in-Err-clause-steps g c = auditor-tells c.args.world.now c.auditor.new.self _ _ c.auditor.result c.auditor.ensures.ok c.auditor.ensures.err (rw c.in-Err.is refl)

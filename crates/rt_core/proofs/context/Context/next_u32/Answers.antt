@@ -1,0 +1,12 @@
+use Rattle.std.proofs.Common.{refl}
+use Rattle.rt_core.specs.Drawing.{asks_u32}
+use Rattle.rt_world.proofs.Drawing.{short-tells}
+use Rattle.rt_core.proofs.context.Context.next_u32.Goals as goal
+
+pub returns-in-Ok-clause-steps : goal.returns-in-Ok-clause-steps
+unfolding asks_u32
+returns-in-Ok-clause-steps g c = short-tells c.args.world.now c.next_u32.new.self _ _ c.next_u32.result c.next_u32.ensures.ok c.next_u32.ensures.err (rw c.in-Ok.is refl)
+
+pub returns-in-Err-clause-steps : goal.returns-in-Err-clause-steps
+unfolding asks_u32
+returns-in-Err-clause-steps g c = short-tells c.args.world.now c.next_u32.new.self _ _ c.next_u32.result c.next_u32.ensures.ok c.next_u32.ensures.err (rw c.in-Err.is refl)

@@ -1,0 +1,76 @@
+//! The definitions tried on calls that draw.
+
+ghost use Rattle.std.specs.Prelude.{◌≡◌, ◌≢◌, ◌≤◌, ◌<◌, ◌^◌, ◌++◌, [], ◌∷◌, ℕ, List, Option, Some, length, codes};
+ghost use Rattle.rt_base.specs.declared.error.Error.{Error};
+ghost use Rattle.rt_audit.specs.declared.call.Call.{Call as CallOf};
+ghost use Rattle.rt_audit.specs.declared.call.Call.TheVariants.{NextU32, NextU64, FillBytes};
+ghost use Rattle.rt_audit.specs.declared.reply.CallReply.{CallReply};
+ghost use Rattle.rt_audit.specs.declared.reply.CallReply.TheVariants.{Number, Bytes, Refused};
+ghost use Rattle.rt_audit.specs.declared.entry.Entry.{Entry};
+ghost use Rattle.rt_audit.specs.declared.entry.Entry.TheVariants.{Call};
+ghost use Rattle.rt_audit.specs.declared.finish.FinishCause.TheVariants.{Completed};
+ghost use Rattle.rt_model.specs.Draws.{Drawn, Long, Filled};
+ghost use Rattle.rt_model.specs.State.{State, begun};
+ghost use Rattle.rt_model.specs.Effects.{after_all};
+ghost use Rattle.rt_model.specs.Events.{announced_by};
+ghost use Rattle.rt_model.specs.Rules.{Answers, IsLawful, AreDrawn};
+ghost use Rattle.rt_model.specs.Run.{IsRun, IsValidInput};
+ghost use Rattle.rt_laws.specs.Examples.{small_begin, gave};
+ghost use Rattle.rt_laws.specs.Drawing.{drawing_root, asking_root, visited_again, draws_by, drawing_journal};
+
+/// A root draws a number and then four bytes in a round for which 6 was drawn, and gives the number, whichever that is and
+/// whichever the bytes are. These three were drawn, in this order.
+pub fn a_root_that_draws_has_its_run()
+    ensures run { (number : ℕ) (bytes : List ℕ) → number < 2 ^ 64 → length bytes ≡ 4 → IsRun drawing_root small_begin (drawing_journal number bytes) Completed (after_all (begun small_begin) (drawing_journal number bytes)) (gave number) }
+    ensures order { (number : ℕ) (bytes : List ℕ) → AreDrawn (begun small_begin) (drawing_journal number bytes) }
+    ensures drawn { (number : ℕ) (bytes : List ℕ) → (after_all (begun small_begin) (drawing_journal number bytes)).drawn ≡ Long 6 ∷ Long number ∷ Filled bytes ∷ [] }
+{}
+
+/// Each run of a root that draws completes, whatever is drawn: of the one above, and of one that draws bytes, however many, and
+/// asks an auditor before it is ready.
+pub fn inputs_that_draw_are_valid()
+    ensures drawing { IsValidInput drawing_root small_begin }
+    ensures asking { (len : ℕ) → IsValidInput (asking_root len) small_begin }
+{}
+
+/// In every state a call comes behind the events that announce it, and no others: one that announces none, behind none.
+pub fn a_call_comes_behind_its_own_event()
+    ensures { (s : State) (by : Option ℕ) (call : CallOf) (reply : CallReply) → IsLawful s (Call by call reply ∷ []) → s.announced ≡ announced_by call reply }
+{}
+
+/// What was drawn stays, and what is drawn later stands behind it. It decides nothing of what may come.
+pub fn what_was_drawn_stays()
+    ensures stays { (s : State) (x y : List Entry) → (more : List Drawn) × ((after_all s (x ++ y)).drawn ≡ (after_all s x).drawn ++ more) }
+    ensures decides_nothing { (s : State) (drawn : List Drawn) (x : List Entry) → IsLawful (record s { drawn = drawn }) x → IsLawful s x }
+{}
+
+/// No call draws without its event (`unannounced`) or behind that of another (`announced`). No number is too great for its bits
+/// (`short`, `long`), and no fewer or more bytes are drawn than were asked for (`bytes`).
+pub fn near_misses_of_drawing_are_not_lawful()
+    ensures unannounced { (number : ℕ) → IsLawful (begun small_begin) (visited_again (Call (Some 0) NextU64 (Number number) ∷ [])) → ⊥ }
+    ensures announced { (number : ℕ) → IsLawful (begun small_begin) (visited_again (draws_by (codes "next_u32") NextU64 (Number number))) → ⊥ }
+    ensures short { (number : ℕ) → 2 ^ 32 ≤ number → IsLawful (begun small_begin) (visited_again (draws_by (codes "next_u32") NextU32 (Number number))) → ⊥ }
+    ensures long { (number : ℕ) → 2 ^ 64 ≤ number → IsLawful (begun small_begin) (visited_again (draws_by (codes "next_u64") NextU64 (Number number))) → ⊥ }
+    ensures bytes { (bytes : List ℕ) → length bytes ≢ 4 → IsLawful (begun small_begin) (visited_again (draws_by (codes "fill_bytes") (FillBytes 4) (Bytes bytes))) → ⊥ }
+{}
+
+/// One of those with what may come there, a number of 32 bits that isn't too great. The others stand in the run above.
+pub fn near_misses_of_drawing_are_lawful_but_for_one_place()
+    ensures { (number : ℕ) → number < 2 ^ 32 → IsLawful (begun small_begin) (visited_again (draws_by (codes "next_u32") NextU32 (Number number))) }
+{}
+
+/// In every state a call that draws is answered by what it asks for alone: a number that fits its bits, or as many bytes.
+pub fn a_draw_is_answered_by_what_it_asks_for()
+    ensures short { (s : State) (reply : CallReply) → Answers s NextU32 reply → (number : ℕ) × (reply ≡ Number number) × (number < 2 ^ 32) }
+    ensures long { (s : State) (reply : CallReply) → Answers s NextU64 reply → (number : ℕ) × (reply ≡ Number number) × (number < 2 ^ 64) }
+    ensures bytes { (s : State) (len : ℕ) (reply : CallReply) → Answers s (FillBytes len) reply → (bytes : List ℕ) × (reply ≡ Bytes bytes) × (length bytes ≡ len) }
+{}
+
+/// So no draw is refused, for want of memory or for any other cause, and none that asks for bytes is answered by more or fewer of
+/// them (`count`).
+pub fn other_answers_of_draws_are_refused()
+    ensures short { (s : State) (error : Error) → Answers s NextU32 (Refused error) → ⊥ }
+    ensures long { (s : State) (error : Error) → Answers s NextU64 (Refused error) → ⊥ }
+    ensures bytes { (s : State) (len : ℕ) (error : Error) → Answers s (FillBytes len) (Refused error) → ⊥ }
+    ensures count { (s : State) (len : ℕ) (bytes : List ℕ) → length bytes ≢ len → Answers s (FillBytes len) (Bytes bytes) → ⊥ }
+{}

@@ -1,0 +1,8 @@
+use Rattle.std.proofs.Common.{refl}
+use Rattle.rt_audit.specs.declared.call.Call.TheVariants.{NextU32}
+use Rattle.rt_machine.proofs.Announced.{may-drawing}
+use Rattle.rt_machine.proofs.machine.Machine.next_u32.Goals as goal
+
+pub note-requires-clause-may : goal.note-requires-clause-may
+note-requires-clause-may g c =
+    rw (c.in-Ok.ensures.told, c.in-Ok.ensures.event) (may-drawing c.self.inside.journal.told.state c.args.by NextU32 _ refl (rw (← c.self.view_is) at c.requires) c.self.invariant.none_owed c.self.invariant.none_announced)
