@@ -18,7 +18,7 @@ pub enum Ending {
     Other,
 }
 
-pub fn seen_error(error: &Error) -> Ending {
+fn named(error: &Error) -> Ending {
     match error {
         Error::Closed => Ending::Closed,
         Error::RecvFailed => Ending::RecvFailed,
@@ -31,17 +31,29 @@ pub fn seen_error(error: &Error) -> Ending {
     }
 }
 
-pub fn seen<V>(answer: &Result<Poll<V>, Error>) -> Ending {
+pub fn seen_error(error: Error) -> Ending {
+    let ending = named(&error);
+    drop(error);
+    ending
+}
+
+pub fn seen(answer: Result<Poll<()>, Error>) -> Ending {
     match answer {
-        Ok(Poll::Ready(_)) => Ending::Done,
+        Ok(Poll::Ready(())) => Ending::Done,
         Ok(Poll::Pending) => Ending::Waits,
         Err(error) => seen_error(error),
     }
 }
 
-pub fn got(answer: &Result<Poll<IoBufs>, Error>) -> Ending {
+fn counted(bufs: IoBufs) -> Ending {
+    let count = bufs.len();
+    drop(bufs);
+    Ending::Got(count)
+}
+
+pub fn got(answer: Result<Poll<IoBufs>, Error>) -> Ending {
     match answer {
-        Ok(Poll::Ready(bufs)) => Ending::Got(bufs.len()),
+        Ok(Poll::Ready(bufs)) => counted(bufs),
         Ok(Poll::Pending) => Ending::Waits,
         Err(error) => seen_error(error),
     }

@@ -19,6 +19,9 @@ pub enum Step {
     Peek(usize),
 }
 
+// A call, how it ends, and the task that it wakes.
+pub type Taken = (Step, Ending, Option<u64>);
+
 // The two halves of a channel, and how many bytes were sent and received.
 pub struct Line<K, M> {
     pub alloc: Global,
@@ -69,19 +72,25 @@ fn read_from(bytes: &[u8], from: usize) -> Ending {
     Ending::Got(bytes.len())
 }
 
+// How many bytes there are, where they are those that come next.
+fn read_next(bufs: IoBufs, received: &mut usize) -> Ending {
+    match bufs.coalesce().ok() {
+        Some(all) => {
+            let read = read_from(all.as_slice(), *received);
+            *received = received.wrapping_add(all.len());
+            drop(all);
+            read
+        }
+        None => Ending::Other,
+    }
+}
+
 // What was answered to a `recv`, where it is the bytes that come next.
 fn came(answer: Result<Poll<IoBufs>, Error>, received: &mut usize) -> Ending {
     match answer {
-        Ok(Poll::Ready(bufs)) => match bufs.coalesce() {
-            Ok(all) => {
-                let read = read_from(all.as_slice(), *received);
-                *received = received.wrapping_add(all.len());
-                read
-            }
-            Err(_) => Ending::Other,
-        },
+        Ok(Poll::Ready(bufs)) => read_next(bufs, received),
         Ok(Poll::Pending) => Ending::Waits,
-        Err(error) => seen_error(&error),
+        Err(error) => seen_error(error),
     }
 }
 
@@ -119,7 +128,7 @@ pub fn poll_put<N: Network, E: Env>(
     if !sink.is_sending() {
         return Ending::Other;
     }
-    seen(&net.poll_send(env, sink, task))
+    seen(net.poll_send(env, sink, task))
 }
 
 fn sends<N: Network, E: Env>(
@@ -131,12 +140,14 @@ fn sends<N: Network, E: Env>(
     if line.sink.is_sending() {
         return (Ending::Other, None);
     }
-    let Ok(bufs) = halved(line.alloc, line.sent, count) else {
-        return (Ending::Other, None);
-    };
-    line.sent = line.sent.wrapping_add(count);
-    let reply = net.send(env, &mut line.sink, bufs, 1);
-    (seen(&reply.value), reply.wake)
+    match halved(line.alloc, line.sent, count).ok() {
+        Some(bufs) => {
+            line.sent = line.sent.wrapping_add(count);
+            let reply = net.send(env, &mut line.sink, bufs, 1);
+            (seen(reply.value), reply.wake)
+        }
+        None => (Ending::Other, None),
+    }
 }
 
 fn receives<N: Network, E: Env>(
@@ -150,7 +161,7 @@ fn receives<N: Network, E: Env>(
     }
     match net.recv(env, &mut line.stream, len, 2) {
         Ok(reply) => (came(Ok(reply.value), &mut line.received), reply.wake),
-        Err(error) => (seen_error(&error), None),
+        Err(error) => (seen_error(error), None),
     }
 }
 
@@ -173,8 +184,12 @@ fn peeks<N: Network, E: Env>(
     most: usize,
 ) -> Ending {
     match net.peek(env, &line.stream, most) {
-        Ok(first) => read_from(first.as_slice(), line.received),
-        Err(error) => seen_error(&error),
+        Ok(first) => {
+            let read = read_from(first.as_slice(), line.received);
+            drop(first);
+            read
+        }
+        Err(error) => seen_error(error),
     }
 }
 
@@ -184,7 +199,7 @@ pub fn takes<N: Network, E: Env>(
     net: &mut N,
     env: &mut E,
     line: &mut Line<N::Sink, N::Stream>,
-    steps: &[(Step, Ending, Option<u64>)],
+    steps: &[Taken],
 ) {
     for (next, ending, wake) in steps {
         let seen = take_step(net, env, line, *next);

@@ -1,7 +1,7 @@
 // Worked examples on the network in memory. Each body is over any network, so it is proved from the trait alone.
 
 use crate::ending::{Ending, got, seen, seen_error};
-use crate::line::{Line, Step, poll_put, takes};
+use crate::line::{Line, Step, Taken, poll_put, takes};
 use crate::notebook::Notebook;
 use crate::noting::{Noting, NotingSink, NotingStream, take_room_of_calls};
 use rt_base::{Addr, Env, Error, Ip, NoEnv, Poll};
@@ -9,7 +9,11 @@ use rt_bufs::{IoBuf, IoBufs};
 use rt_net::{Channel, Net, Network, Receiving, Reply, Sending, Sink, Stream};
 use std::alloc::Global;
 use std::process::Abort;
-use std::test::Fail;
+
+// A network in memory.
+fn memory(rt: &impl Abort, alloc: Global) -> Net {
+    Net::new(alloc).expect(rt, "room")
+}
 
 // As many bytes of 7.
 fn bytes(alloc: Global, count: usize) -> Result<IoBufs, Error> {
@@ -50,9 +54,10 @@ fn put<N: Network, E: Env>(
     task: u64,
 ) -> Ending {
     if sink.is_sending() {
+        drop(bufs);
         return Ending::Other;
     }
-    seen(&net.send(env, sink, bufs, task).value)
+    seen(net.send(env, sink, bufs, task).value)
 }
 
 // Receives where no `recv` waits, and else polls it.
@@ -64,11 +69,11 @@ fn get<N: Network, E: Env>(
     task: u64,
 ) -> Ending {
     if stream.is_receiving() {
-        return got(&net.poll_recv(env, stream, task));
+        return got(net.poll_recv(env, stream, task));
     }
     match net.recv(env, stream, len, task) {
-        Ok(reply) => got(&Ok(reply.value)),
-        Err(error) => seen_error(&error),
+        Ok(reply) => got(Ok(reply.value)),
+        Err(error) => seen_error(error),
     }
 }
 
@@ -105,75 +110,92 @@ fn hangs_up<N: Network>(
     assert!(rt; close(net, sink, stream) == woken);
 }
 
-// Takes the steps on one more channel, which has this buffer size and is closed then, which wakes these tasks.
+// Takes the steps on a channel that is closed then, which wakes no task.
+fn takes_all<N: Network, E: Env>(
+    rt: &impl Abort,
+    net: &mut N,
+    env: &mut E,
+    mut line: Line<N::Sink, N::Stream>,
+    steps: &[Taken],
+) {
+    takes(rt, net, env, &mut line, steps);
+    hangs_up(rt, net, line, (None, None));
+}
+
+// Takes the steps on one more channel, which has this buffer size.
 fn takes_on_new(
     rt: &impl Abort,
     alloc: Global,
     net: &mut Net,
     buffer_size: usize,
-    steps: &[(Step, Ending, Option<u64>)],
-    woken: (Option<u64>, Option<u64>),
+    steps: &[Taken],
 ) {
-    let mut line = line_of(rt, alloc, net, buffer_size);
-    takes(rt, net, &mut NoEnv, &mut line, steps);
-    hangs_up(rt, net, line, woken);
+    let line = line_of(rt, alloc, net, buffer_size);
+    takes_all(rt, net, &mut NoEnv, line, steps);
+}
+
+// Takes the steps on the one channel of a network.
+fn takes_alone(rt: &impl Abort, alloc: Global, buffer_size: usize, steps: &[Taken]) {
+    let mut net = memory(rt, alloc);
+    takes_on_new(rt, alloc, &mut net, buffer_size, steps);
+    drop(net);
 }
 
 // A `recv` and a `send` that block each other.
-const BLOCK: [(Step, Ending, Option<u64>); 2] = [
+const BLOCK: &[Taken] = &[
     (Step::Recv(100), Ending::Waits, None),
     (Step::Send(50), Ending::Waits, None),
 ];
 
 #[test]
-fn long_halves_block(rt: HostRuntime) -> Result<(), Fail> {
-    let mut net = Net::new(rt.alloc())?;
+fn long_halves_block(rt: HostRuntime) {
+    let mut net = memory(&rt, rt.alloc());
     let mut line = line_of(&rt, rt.alloc(), &mut net, 10);
-    takes(&rt, &mut net, &mut NoEnv, &mut line, &BLOCK);
+    takes(&rt, &mut net, &mut NoEnv, &mut line, BLOCK);
     assert!(rt; net.waiting_halves(0) == (Some(2), Some(1)));
     hangs_up(&rt, &mut net, line, (Some(2), None));
-    Ok(())
+    drop(net);
 }
 
 #[test]
-fn empty_receive(rt: HostRuntime) -> Result<(), Fail> {
-    let mut net = Net::new(rt.alloc())?;
-    let steps = [(Step::Recv(0), Ending::Got(0), None)];
-    takes_on_new(&rt, rt.alloc(), &mut net, 10, &steps, (None, None));
-    Ok(())
+fn empty_receive(rt: HostRuntime) {
+    takes_alone(
+        &rt,
+        rt.alloc(),
+        10,
+        &[(Step::Recv(0), Ending::Got(0), None)],
+    );
 }
+
+const SENDS_AFTER: &[Taken] = &[
+    (Step::Send(20), Ending::Waits, None),
+    (Step::GiveUpSend, Ending::Done, None),
+    (Step::Recv(20), Ending::Got(20), None),
+    (Step::Send(1), Ending::Closed, None),
+    (Step::Send(1), Ending::Closed, None),
+];
 
 // Its bytes stay, and the sink is spent.
 #[test]
-fn send_after_a_given_up_send(rt: HostRuntime) -> Result<(), Fail> {
-    let mut net = Net::new(rt.alloc())?;
-    let steps = [
-        (Step::Send(20), Ending::Waits, None),
-        (Step::GiveUpSend, Ending::Done, None),
-        (Step::Recv(20), Ending::Got(20), None),
-        (Step::Send(1), Ending::Closed, None),
-        (Step::Send(1), Ending::Closed, None),
-    ];
-    takes_on_new(&rt, rt.alloc(), &mut net, 10, &steps, (None, None));
-    Ok(())
+fn send_after_a_given_up_send(rt: HostRuntime) {
+    takes_alone(&rt, rt.alloc(), 10, SENDS_AFTER);
 }
+
+const CALLS_AFTER: &[Taken] = &[
+    (Step::Recv(1), Ending::Waits, None),
+    (Step::GiveUpRecv, Ending::Done, None),
+    (Step::Send(5), Ending::Done, None),
+    (Step::Recv(1), Ending::Closed, None),
+];
 
 // The sink goes on, and the stream is spent.
 #[test]
-fn calls_after_a_given_up_receive(rt: HostRuntime) -> Result<(), Fail> {
-    let mut net = Net::new(rt.alloc())?;
-    let steps = [
-        (Step::Recv(1), Ending::Waits, None),
-        (Step::GiveUpRecv, Ending::Done, None),
-        (Step::Send(5), Ending::Done, None),
-        (Step::Recv(1), Ending::Closed, None),
-    ];
-    takes_on_new(&rt, rt.alloc(), &mut net, 10, &steps, (None, None));
-    Ok(())
+fn calls_after_a_given_up_receive(rt: HostRuntime) {
+    takes_alone(&rt, rt.alloc(), 10, CALLS_AFTER);
 }
 
 // Calls with a token whose number no live object has.
-const REFUSED: [(Step, Ending, Option<u64>); 5] = [
+const REFUSED: &[Taken] = &[
     (Step::PollSend, Ending::UnknownToken, None),
     (Step::PollRecv, Ending::UnknownToken, None),
     (Step::GiveUpRecv, Ending::Done, None),
@@ -181,66 +203,100 @@ const REFUSED: [(Step, Ending, Option<u64>); 5] = [
     (Step::Peek(1), Ending::UnknownToken, None),
 ];
 
-const WAITING_SEND: [(Step, Ending, Option<u64>); 1] = [(Step::Send(20), Ending::Waits, None)];
+const WAITING_SEND: &[Taken] = &[(Step::Send(20), Ending::Waits, None)];
 
-const GIVEN_UP_SEND: [(Step, Ending, Option<u64>); 4] = [
+const GIVEN_UP_SEND: &[Taken] = &[
     (Step::Recv(20), Ending::Got(20), Some(3)),
     (Step::PollSend, Ending::Done, None),
     (Step::Send(20), Ending::Waits, None),
     (Step::GiveUpSend, Ending::Done, None),
 ];
 
+// The halves of a channel that wait in their own network are refused in the other one.
+fn refuses<N: Network>(
+    rt: &impl Abort,
+    there: &mut N,
+    net: &mut N,
+    other: &mut Line<N::Sink, N::Stream>,
+) {
+    takes(rt, there, &mut NoEnv, other, BLOCK);
+    takes(rt, net, &mut NoEnv, other, REFUSED);
+}
+
+// The other network's `send` waits in the place of the channel's own, and for nothing where that was given up.
+fn polls_in_its_place<N: Network>(
+    rt: &impl Abort,
+    net: &mut N,
+    line: &mut Line<N::Sink, N::Stream>,
+    other: &mut Line<N::Sink, N::Stream>,
+) {
+    takes(rt, net, &mut NoEnv, line, WAITING_SEND);
+    let started = poll_put(net, &mut NoEnv, &mut other.sink, 3);
+    takes(rt, net, &mut NoEnv, line, GIVEN_UP_SEND);
+    let given_up = poll_put(net, &mut NoEnv, &mut other.sink, 3);
+    assert!(rt; (started, given_up) == (Ending::Waits, Ending::Done));
+}
+
+// Closes the channel, after which the other network's token is refused, and then that one's channel.
+fn hangs_up_both<N: Network>(
+    rt: &impl Abort,
+    there: &mut N,
+    net: &mut N,
+    line: Line<N::Sink, N::Stream>,
+    mut other: Line<N::Sink, N::Stream>,
+) {
+    let empty = IoBufs::new(line.alloc);
+    hangs_up(rt, net, line, (None, None));
+    let closed = put(net, &mut NoEnv, &mut other.sink, empty, 1);
+    assert!(rt; closed == Ending::UnknownToken);
+    hangs_up(rt, there, other, (Some(2), None));
+}
+
 // Another network's token, whose halves wait there, is refused where no channel has its number, and its channel goes on
 // waiting. Where one has, its `send` waits in the place of one that waits here, and for nothing where that was given up.
 #[test]
-fn calls_by_the_tokens_of_another_network(rt: HostRuntime) -> Result<(), Fail> {
+fn calls_by_the_tokens_of_another_network(rt: HostRuntime) {
     let alloc = rt.alloc();
-    let mut there = Net::new(alloc)?;
-    let mut net = Net::new(alloc)?;
+    let mut there = memory(&rt, alloc);
+    let mut net = memory(&rt, alloc);
     let mut other = line_of(&rt, alloc, &mut there, 10);
-    takes(&rt, &mut there, &mut NoEnv, &mut other, &BLOCK);
-    takes(&rt, &mut net, &mut NoEnv, &mut other, &REFUSED);
+    refuses(&rt, &mut there, &mut net, &mut other);
     assert!(rt; there.waiting_halves(0) == (Some(2), Some(1)));
     let mut line = line_of(&rt, alloc, &mut net, 10);
-    takes(&rt, &mut net, &mut NoEnv, &mut line, &WAITING_SEND);
-    let started = poll_put(&mut net, &mut NoEnv, &mut other.sink, 3);
-    takes(&rt, &mut net, &mut NoEnv, &mut line, &GIVEN_UP_SEND);
-    let given_up = poll_put(&mut net, &mut NoEnv, &mut other.sink, 3);
-    assert!(rt; (started, given_up) == (Ending::Waits, Ending::Done));
+    polls_in_its_place(&rt, &mut net, &mut line, &mut other);
     assert!(rt; !net.anyone_waits());
-    hangs_up(&rt, &mut net, line, (None, None));
-    let closed = put(&mut net, &mut NoEnv, &mut other.sink, IoBufs::new(alloc), 1);
-    assert!(rt; closed == Ending::UnknownToken);
-    hangs_up(&rt, &mut there, other, (Some(2), None));
-    Ok(())
+    hangs_up_both(&rt, &mut there, &mut net, line, other);
+    drop(net);
+    drop(there);
 }
+
+const LEFT_OVER: &[Taken] = &[
+    (Step::Send(2), Ending::Done, None),
+    (Step::Recv(9), Ending::Waits, None),
+    (Step::Peek(9), Ending::Got(2), None),
+    (Step::Send(3), Ending::Done, None),
+    (Step::Send(10), Ending::Done, Some(2)),
+    (Step::Send(1), Ending::Done, None),
+    (Step::PollRecv, Ending::Got(9), None),
+    (Step::Peek(9), Ending::Got(6), None),
+];
 
 #[test]
-fn bytes_left_over(rt: HostRuntime) -> Result<(), Fail> {
-    let mut net = Net::new(rt.alloc())?;
-    let steps = [
-        (Step::Send(2), Ending::Done, None),
-        (Step::Recv(9), Ending::Waits, None),
-        (Step::Peek(9), Ending::Got(2), None),
-        (Step::Send(3), Ending::Done, None),
-        (Step::Send(10), Ending::Done, Some(2)),
-        (Step::Send(1), Ending::Done, None),
-        (Step::PollRecv, Ending::Got(9), None),
-        (Step::Peek(9), Ending::Got(6), None),
-    ];
-    takes_on_new(&rt, rt.alloc(), &mut net, 100, &steps, (None, None));
-    Ok(())
+fn bytes_left_over(rt: HostRuntime) {
+    takes_alone(&rt, rt.alloc(), 100, LEFT_OVER);
 }
 
-// The sink closes first, which wakes this task, and then the stream gives this.
+// Takes the steps. Then the sink closes, which wakes this task, and the stream gives this.
 fn outlives<N: Network, E: Env>(
     rt: &impl Abort,
     net: &mut N,
     env: &mut E,
-    line: Line<N::Sink, N::Stream>,
+    mut line: Line<N::Sink, N::Stream>,
+    steps: &[Taken],
     woken: Option<u64>,
     receives: &[(usize, Ending)],
 ) {
+    takes(rt, net, env, &mut line, steps);
     let Line {
         alloc: _,
         sink,
@@ -255,29 +311,30 @@ fn outlives<N: Network, E: Env>(
     let _ = net.close_stream(stream);
 }
 
+// The stream outlives its sink on the one channel of a network, and no task is woken.
+fn outlives_alone(rt: &impl Abort, alloc: Global, steps: &[Taken], receives: &[(usize, Ending)]) {
+    let mut net = memory(rt, alloc);
+    let line = line_of(rt, alloc, &mut net, 10);
+    outlives(rt, &mut net, &mut NoEnv, line, steps, None, receives);
+    drop(net);
+}
+
 #[test]
-fn receive_after_the_sink_closed(rt: HostRuntime) -> Result<(), Fail> {
-    let mut net = Net::new(rt.alloc())?;
-    let line = line_of(&rt, rt.alloc(), &mut net, 10);
+fn receive_after_the_sink_closed(rt: HostRuntime) {
     let receives = [(1, Ending::RecvFailed), (1, Ending::Closed)];
-    outlives(&rt, &mut net, &mut NoEnv, line, None, &receives);
-    Ok(())
+    outlives_alone(&rt, rt.alloc(), &[], &receives);
 }
 
 // All bytes, then too few, then nothing more.
 #[test]
-fn bytes_left_by_a_closed_sink(rt: HostRuntime) -> Result<(), Fail> {
-    let mut net = Net::new(rt.alloc())?;
-    let mut line = line_of(&rt, rt.alloc(), &mut net, 10);
+fn bytes_left_by_a_closed_sink(rt: HostRuntime) {
     let steps = [(Step::Send(5), Ending::Done, None)];
     let receives = [
         (3, Ending::Got(3)),
         (3, Ending::RecvFailed),
         (1, Ending::Closed),
     ];
-    takes(&rt, &mut net, &mut NoEnv, &mut line, &steps);
-    outlives(&rt, &mut net, &mut NoEnv, line, None, &receives);
-    Ok(())
+    outlives_alone(&rt, rt.alloc(), &steps, &receives);
 }
 
 // Dials, closes what was dialed, and says how that was refused.
@@ -288,7 +345,7 @@ fn dial<N: Network, E: Env>(net: &mut N, env: &mut E, socket: Addr) -> Ending {
             let _ = close(net, sink, stream);
             Ending::Done
         }
-        Err(error) => seen_error(&error),
+        Err(error) => seen_error(error),
     }
 }
 
@@ -299,7 +356,7 @@ fn bind<N: Network, E: Env>(net: &mut N, env: &mut E, socket: Addr) -> Ending {
             net.close_listener(listener);
             Ending::Done
         }
-        Err(error) => seen_error(&error),
+        Err(error) => seen_error(error),
     }
 }
 
@@ -322,53 +379,52 @@ fn dials<N: Network, E: Env>(
 
 // Dials with a listener at the address, which is closed then.
 fn dials_listener<N: Network>(net: &mut N, socket: Addr, count: usize, end: Ending) -> usize {
-    match net.bind(&mut NoEnv, socket) {
-        Ok(listener) => {
+    match net.bind(&mut NoEnv, socket).ok() {
+        Some(listener) => {
             let ended = dials(net, &mut NoEnv, socket, count, end);
             net.close_listener(listener);
             ended
         }
-        Err(_) => 0,
+        None => 0,
     }
 }
 
 // So many dials are taken and the others refused, and then no port is left.
-fn uses_ports_up(rt: &impl Abort, alloc: Global, taken: usize) -> Result<(), Fail> {
-    let mut net = Net::new(alloc)?;
+fn uses_ports_up<N: Network>(rt: &impl Abort, net: &mut N, taken: usize) {
     let refused = 28232usize.saturating_sub(taken);
-    let reached = dials_listener(&mut net, here(4000), taken, Ending::Done);
+    let reached = dials_listener(net, here(4000), taken, Ending::Done);
     let failed = dials(
-        &mut net,
+        net,
         &mut NoEnv,
         here(4000),
         refused,
         Ending::ConnectionFailed,
     );
     assert!(rt; (reached, failed) == (taken, refused));
-    let last = dial(&mut net, &mut NoEnv, here(4000));
+    let last = dial(net, &mut NoEnv, here(4000));
     assert!(rt; last == Ending::PortsExhausted);
-    let heard = dials_listener(&mut net, here(5000), 1, Ending::PortsExhausted);
+    let heard = dials_listener(net, here(5000), 1, Ending::PortsExhausted);
     assert!(rt; heard == 1);
-    Ok(())
 }
 
 #[test]
-fn ports_run_out(rt: HostRuntime) -> Result<(), Fail> {
+fn ports_run_out(rt: HostRuntime) {
     for taken in [28232, 14116, 0] {
-        uses_ports_up(&rt, rt.alloc(), taken)?;
+        let mut net = memory(&rt, rt.alloc());
+        uses_ports_up(&rt, &mut net, taken);
+        drop(net);
     }
-    Ok(())
 }
 
 // Binds twice while the listener lives, and once after it.
 fn binds_again<N: Network>(net: &mut N, socket: Addr) -> (Ending, Ending) {
-    match net.bind(&mut NoEnv, socket) {
-        Ok(listener) => {
+    match net.bind(&mut NoEnv, socket).ok() {
+        Some(listener) => {
             let again = bind(net, &mut NoEnv, socket);
             net.close_listener(listener);
             (again, bind(net, &mut NoEnv, socket))
         }
-        Err(_) => (Ending::Other, Ending::Other),
+        None => (Ending::Other, Ending::Other),
     }
 }
 
@@ -383,13 +439,18 @@ fn binds<N: Network>(net: &mut N, count: u16) -> usize {
     bound
 }
 
+// A dialer's address and one that was bound before can't be bound at, and many others can.
+fn binds_addresses<N: Network>(rt: &impl Abort, net: &mut N) {
+    assert!(rt; bind(net, &mut NoEnv, here(32768)) == Ending::BindFailed);
+    assert!(rt; binds_again(net, here(61000)) == (Ending::BindFailed, Ending::BindFailed));
+    assert!(rt; binds(net, 10000) == 10000);
+}
+
 #[test]
-fn bound_addresses(rt: HostRuntime) -> Result<(), Fail> {
-    let mut net = Net::new(rt.alloc())?;
-    assert!(rt; bind(&mut net, &mut NoEnv, here(32768)) == Ending::BindFailed);
-    assert!(rt; binds_again(&mut net, here(61000)) == (Ending::BindFailed, Ending::BindFailed));
-    assert!(rt; binds(&mut net, 10000) == 10000);
-    Ok(())
+fn bound_addresses(rt: HostRuntime) {
+    let mut net = memory(&rt, rt.alloc());
+    binds_addresses(&rt, &mut net);
+    drop(net);
 }
 
 // Receives pieces of so many bytes, and says how many bytes came.
@@ -417,30 +478,26 @@ fn passes<N: Network>(
 }
 
 #[test]
-fn a_mebibyte_through_one_channel(rt: HostRuntime) -> Result<(), Fail> {
-    let mut net = Net::new(rt.alloc())?;
-    let bufs = pieces(rt.alloc(), 4096, 256)?;
+fn a_mebibyte_through_one_channel(rt: HostRuntime) {
+    let bufs = pieces(rt.alloc(), 4096, 256).expect(&rt, "room");
+    let mut net = memory(&rt, rt.alloc());
     let (sink, stream) = Channel::init(&mut net).expect(&rt, "room");
-    let seen = passes(&mut net, sink, stream, bufs);
-    assert!(rt; seen == (Ending::Waits, 1048576, Ending::Done));
-    Ok(())
+    let passed = passes(&mut net, sink, stream, bufs);
+    drop(net);
+    assert!(rt; passed == (Ending::Waits, 1048576, Ending::Done));
 }
 
-// Sends, receives, peeks, waits and gives up on one channel, which is closed then.
-fn exercise<N: Network>(rt: &impl Abort, net: &mut N, mut line: Line<N::Sink, N::Stream>) {
-    let steps = [
-        (Step::Send(9), Ending::Waits, None),
-        (Step::Recv(5), Ending::Got(5), Some(1)),
-        (Step::PollSend, Ending::Done, None),
-        (Step::Peek(1), Ending::Got(1), None),
-        (Step::Recv(90), Ending::Waits, None),
-        (Step::PollRecv, Ending::Waits, None),
-        (Step::GiveUpSend, Ending::Done, None),
-        (Step::GiveUpRecv, Ending::Done, None),
-    ];
-    takes(rt, net, &mut NoEnv, &mut line, &steps);
-    hangs_up(rt, net, line, (None, None));
-}
+// Sends, receives, peeks, waits and gives up.
+const EACH_STEP: &[Taken] = &[
+    (Step::Send(9), Ending::Waits, None),
+    (Step::Recv(5), Ending::Got(5), Some(1)),
+    (Step::PollSend, Ending::Done, None),
+    (Step::Peek(1), Ending::Got(1), None),
+    (Step::Recv(90), Ending::Waits, None),
+    (Step::PollRecv, Ending::Waits, None),
+    (Step::GiveUpSend, Ending::Done, None),
+    (Step::GiveUpRecv, Ending::Done, None),
+];
 
 // Accepts a connection, closes it, and answers its dialer's port, or 0 where none waits, or how that was refused.
 fn accept<N: Network, E: Env>(
@@ -460,7 +517,7 @@ fn accept<N: Network, E: Env>(
             Ok(dialer.port)
         }
         Ok(Poll::Pending) => Ok(0),
-        Err(error) => Err(seen_error(&error)),
+        Err(error) => Err(seen_error(error)),
     }
 }
 
@@ -479,8 +536,15 @@ fn listens<N: Network>(net: &mut N, socket: Addr) -> Heard {
             net.close_listener(listener);
             (address.port, first, dialed, second)
         }
-        Err(error) => (0, Ok(0), seen_error(&error), Ok(0)),
+        Err(error) => (0, Ok(0), seen_error(error), Ok(0)),
     }
+}
+
+// Takes each step on a channel of 7 bytes of buffer, and then listens.
+fn exercise<N: Network>(rt: &impl Abort, net: &mut N, line: Line<N::Sink, N::Stream>) {
+    takes_all(rt, net, &mut NoEnv, line, EACH_STEP);
+    let heard = listens(net, here(4000));
+    assert!(rt; heard == (4000, Ok(0), Ending::Done, Ok(32768)));
 }
 
 // A listener is unknown to another network. At home a task waits at it.
@@ -498,24 +562,24 @@ fn hears_at_home(rt: &impl Abort, home: &mut Net, away: &mut Net) {
 }
 
 #[test]
-fn surface(rt: HostRuntime) -> Result<(), Fail> {
-    let mut net = Net::new(rt.alloc())?;
+fn surface(rt: HostRuntime) {
+    let mut net = memory(&rt, rt.alloc());
+    let mut away = memory(&rt, rt.alloc());
     let line = line_of(&rt, rt.alloc(), &mut net, 7);
     exercise(&rt, &mut net, line);
-    let seen = listens(&mut net, here(4000));
-    assert!(rt; seen == (4000, Ok(0), Ending::Done, Ok(32768)));
     assert!(rt; net.waiting_halves(0) == (None, None));
-    hears_at_home(&rt, &mut net, &mut Net::new(rt.alloc())?);
+    hears_at_home(&rt, &mut net, &mut away);
+    drop(away);
     assert!(rt; (net.waiting_acceptor(0), net.waiting_acceptor(1)) == (None, None));
     assert!(rt; !net.anyone_waits());
     let (sink, stream) = Channel::init(&mut net).expect(&rt, "room");
     assert!(rt; close(&mut net, sink, stream) == (None, None));
     assert!(rt; net.next_woken().is_none());
-    Ok(())
+    drop(net);
 }
 
 // The halves of a channel of what the wrapper passes calls on to.
-fn noted(line: Line<Sink, Stream>, remote: Addr) -> Line<NotingSink<Sink>, NotingStream<Stream>> {
+fn noted<K, M>(line: Line<K, M>, remote: Addr) -> Line<NotingSink<K>, NotingStream<M>> {
     let Line {
         alloc,
         sink,
@@ -534,17 +598,25 @@ fn noted(line: Line<Sink, Stream>, remote: Addr) -> Line<NotingSink<Sink>, Notin
     Line::new(alloc, sink, stream)
 }
 
-#[test]
-fn surface_of_what_passes_on(rt: HostRuntime) -> Result<(), Fail> {
-    let mut inner = Net::new(rt.alloc())?;
-    let line = noted(line_of(&rt, rt.alloc(), &mut inner, 7), here(4000));
-    let mut net = Noting::new(rt.alloc(), inner);
-    exercise(&rt, &mut net, line);
-    let heard = listens(&mut net, here(4000));
-    assert!(rt; heard == (4000, Ok(0), Ending::Done, Ok(32768)));
-    let (_, sent, received) = net.into_parts();
+// The same through a wrapper, which counts the bytes.
+fn passes_on<N: Network>(
+    rt: &impl Abort,
+    alloc: Global,
+    inner: N,
+    line: Line<N::Sink, N::Stream>,
+) -> N {
+    let mut net = Noting::new(alloc, inner);
+    exercise(rt, &mut net, noted(line, here(4000)));
+    let (inner, sent, received) = net.into_parts();
     assert!(rt; (sent, received) == (9, 5));
-    Ok(())
+    inner
+}
+
+#[test]
+fn surface_of_what_passes_on(rt: HostRuntime) {
+    let mut inner = memory(&rt, rt.alloc());
+    let line = line_of(&rt, rt.alloc(), &mut inner, 7);
+    drop(passes_on(&rt, rt.alloc(), inner, line));
 }
 
 // How many entries a call of a network uses at most, and whether this many calls get their room.
@@ -554,13 +626,17 @@ fn room_of<N: Network>(alloc: Global, calls: usize) -> (Option<usize>, bool) {
     (N::most_entries(), taken.is_ok())
 }
 
+// The room of calls of a network that uses no entry, and of wrappers over it.
+fn gets_room<N: Network, A: Abort>(rt: &A, alloc: Global) {
+    assert!(rt; room_of::<N>(alloc, usize::MAX) == (Some(0), true));
+    assert!(rt; room_of::<Noting<N>>(alloc, 1_000) == (Some(2), true));
+    assert!(rt; room_of::<Noting<Noting<N>>>(alloc, 1_000) == (Some(4), true));
+    assert!(rt; room_of::<Noting<N>>(alloc, usize::MAX) == (Some(2), false));
+}
+
 #[test]
 fn room_of_several_calls(rt: HostRuntime) {
-    let alloc = rt.alloc();
-    assert!(rt; room_of::<Net>(alloc, usize::MAX) == (Some(0), true));
-    assert!(rt; room_of::<Noting<Net>>(alloc, 1_000) == (Some(2), true));
-    assert!(rt; room_of::<Noting<Noting<Net>>>(alloc, 1_000) == (Some(4), true));
-    assert!(rt; room_of::<Noting<Net>>(alloc, usize::MAX) == (Some(2), false));
+    gets_room::<Net, HostRuntime>(&rt, rt.alloc());
 }
 
 // Dials, receives so many bytes for one task and sends these for another, which ends so.
@@ -583,38 +659,35 @@ fn dials_and_waits<N: Network>(
     (sink, stream)
 }
 
+const WOKEN: &[Option<u64>] = &[Some(7), Some(1), Some(8), Some(2), None];
+
 // In the order of their dials, each one's receiver before its sender. The second waits to receive alone, the third to send.
-#[test]
-fn closed_listener_wakes_its_dialers(rt: HostRuntime) -> Result<(), Fail> {
-    let alloc = rt.alloc();
-    let mut net = Net::new(alloc)?;
-    let first = bytes(alloc, 65537)?;
-    let second = bytes(alloc, 1)?;
-    let third = bytes(alloc, 65537)?;
+fn wakes_dialers<N: Network>(rt: &impl Abort, alloc: Global, net: &mut N) {
     let at = here(4000);
-    let listener = net.bind(&mut NoEnv, at).expect(&rt, "the address is free");
+    let listener = net.bind(&mut NoEnv, at).expect(rt, "the address is free");
+    let long = bytes(alloc, 65537).expect(rt, "room");
     let waits = (Ending::Waits, Ending::Waits);
-    let (sink, stream) = dials_and_waits(&rt, &mut net, at, 1, first, (7, 1), waits);
+    let (sink, stream) = dials_and_waits(rt, net, at, 1, long, (7, 1), waits);
+    let short = bytes(alloc, 1).expect(rt, "room");
     let receives = (Ending::Waits, Ending::Done);
-    let (second_sink, second_stream) = dials_and_waits(
-        &rt,
-        &mut net,
-        at,
-        1,
-        second,
-        (8, 3),
-        receives,
-    );
+    let (second_sink, second_stream) = dials_and_waits(rt, net, at, 1, short, (8, 3), receives);
+    let long = bytes(alloc, 65537).expect(rt, "room");
     let sends = (Ending::Got(0), Ending::Waits);
-    let (third_sink, third_stream) = dials_and_waits(&rt, &mut net, at, 0, third, (9, 2), sends);
+    let (third_sink, third_stream) = dials_and_waits(rt, net, at, 0, long, (9, 2), sends);
     net.close_listener(listener);
-    for task in [Some(7), Some(1), Some(8), Some(2), None] {
-        assert!(rt; net.next_woken() == task);
+    for task in WOKEN {
+        assert!(rt; net.next_woken() == *task);
     }
-    let _ = close(&mut net, sink, stream);
-    let _ = close(&mut net, second_sink, second_stream);
-    let _ = close(&mut net, third_sink, third_stream);
-    Ok(())
+    let _ = close(net, sink, stream);
+    let _ = close(net, second_sink, second_stream);
+    let _ = close(net, third_sink, third_stream);
+}
+
+#[test]
+fn closed_listener_wakes_its_dialers(rt: HostRuntime) {
+    let mut net = memory(&rt, rt.alloc());
+    wakes_dialers(&rt, rt.alloc(), &mut net);
+    drop(net);
 }
 
 // A dial wakes the task that waits at the listener, which takes the connection: the channel that leads to the
@@ -636,63 +709,48 @@ fn connects<N: Network, E: Env>(
     } = reply;
     let (sink, stream) = value;
     assert!(rt; wake == Some(5));
-    match net.poll_accept(env, listener, 5) {
-        Ok(Poll::Ready((dialer, back, there))) => {
+    let taken = net
+        .poll_accept(env, listener, 5)
+        .expect(rt, "a connection waits");
+    match taken {
+        Poll::Ready((dialer, back, there)) => {
             (
                 Line::new(alloc, sink, there),
                 Line::new(alloc, back, stream),
                 dialer.port,
             )
         }
-        Ok(Poll::Pending) | Err(_) => panic!(rt; "a connection waits"),
+        Poll::Pending => panic!(rt; "a connection waits"),
     }
 }
 
 // What the dialer says to the listener.
-fn speaks_there<N: Network, E: Env>(
-    rt: &impl Abort,
-    net: &mut N,
-    env: &mut E,
-    mut line: Line<N::Sink, N::Stream>,
-) {
-    let steps = [
-        (Step::Peek(9), Ending::Got(0), None),
-        (Step::Recv(5), Ending::Waits, None),
-        (Step::Send(0), Ending::Done, None),
-        (Step::Send(3), Ending::Done, None),
-        (Step::Send(4), Ending::Done, Some(2)),
-        (Step::PollRecv, Ending::Got(5), None),
-        (Step::Peek(0), Ending::Got(0), None),
-        (Step::Peek(9), Ending::Got(2), None),
-        (Step::Send(1), Ending::Done, None),
-        (Step::Send(0), Ending::Done, None),
-        (Step::Recv(0), Ending::Got(0), None),
-        (Step::Recv(2), Ending::Got(2), None),
-        (Step::Recv(1), Ending::Got(1), None),
-        (Step::Recv(0), Ending::Got(0), None),
-    ];
-    takes(rt, net, env, &mut line, &steps);
-    hangs_up(rt, net, line, (None, None));
-}
+const SPOKEN_THERE: &[Taken] = &[
+    (Step::Peek(9), Ending::Got(0), None),
+    (Step::Recv(5), Ending::Waits, None),
+    (Step::Send(0), Ending::Done, None),
+    (Step::Send(3), Ending::Done, None),
+    (Step::Send(4), Ending::Done, Some(2)),
+    (Step::PollRecv, Ending::Got(5), None),
+    (Step::Peek(0), Ending::Got(0), None),
+    (Step::Peek(9), Ending::Got(2), None),
+    (Step::Send(1), Ending::Done, None),
+    (Step::Send(0), Ending::Done, None),
+    (Step::Recv(0), Ending::Got(0), None),
+    (Step::Recv(2), Ending::Got(2), None),
+    (Step::Recv(1), Ending::Got(1), None),
+    (Step::Recv(0), Ending::Got(0), None),
+];
 
 // What the listener says to the dialer.
-fn speaks_back<N: Network, E: Env>(
-    rt: &impl Abort,
-    net: &mut N,
-    env: &mut E,
-    mut line: Line<N::Sink, N::Stream>,
-) {
-    let steps = [
-        (Step::Send(2), Ending::Done, None),
-        (Step::Peek(1), Ending::Got(0), None),
-        (Step::Recv(1), Ending::Got(1), None),
-        (Step::Recv(2), Ending::Waits, None),
-        (Step::Send(1), Ending::Done, Some(2)),
-        (Step::PollRecv, Ending::Got(2), None),
-    ];
-    takes(rt, net, env, &mut line, &steps);
-    hangs_up(rt, net, line, (None, None));
-}
+const SPOKEN_BACK: &[Taken] = &[
+    (Step::Send(2), Ending::Done, None),
+    (Step::Peek(1), Ending::Got(0), None),
+    (Step::Recv(1), Ending::Got(1), None),
+    (Step::Recv(2), Ending::Waits, None),
+    (Step::Send(1), Ending::Done, Some(2)),
+    (Step::PollRecv, Ending::Got(2), None),
+];
 
 // One listener and one dialer after the other, and what they say to each other.
 fn serves<N: Network, E: Env>(
@@ -704,8 +762,8 @@ fn serves<N: Network, E: Env>(
     socket: Addr,
 ) -> u16 {
     let (there, back, port) = connects(rt, alloc, net, env, listener, socket);
-    speaks_there(rt, net, env, there);
-    speaks_back(rt, net, env, back);
+    takes_all(rt, net, env, there, SPOKEN_THERE);
+    takes_all(rt, net, env, back, SPOKEN_BACK);
     port
 }
 
@@ -747,108 +805,133 @@ fn server_and_client<N: Network, E: Env>(
 }
 
 #[test]
-fn server_and_client_over_memory(rt: HostRuntime) -> Result<(), Fail> {
+fn server_and_client_over_memory(rt: HostRuntime) {
     let alloc = rt.alloc();
-    let mut net = Net::new(alloc)?;
+    let mut net = memory(&rt, alloc);
     server_and_client(&rt, alloc, &mut net, &mut NoEnv, here(4000), v6(4000));
     server_and_client(&rt, alloc, &mut net, &mut NoEnv, v6(5000), here(5000));
-    Ok(())
+    drop(net);
+}
+
+// Both wrappers count the bytes.
+fn wraps_twice<N: Network>(rt: &impl Abort, alloc: Global, inner: N) -> N {
+    let mut net = Noting::new(alloc, Noting::new(alloc, inner));
+    server_and_client(rt, alloc, &mut net, &mut NoEnv, here(7000), v6(7000));
+    let (inner, sent, received) = net.into_parts();
+    assert!(rt; (sent, received) == (44, 44));
+    let (inner, sent, received) = inner.into_parts();
+    assert!(rt; (sent, received) == (44, 44));
+    inner
 }
 
 #[test]
-fn server_and_client_over_two_wrappers(rt: HostRuntime) -> Result<(), Fail> {
-    let alloc = rt.alloc();
-    let mut net = Noting::new(alloc, Noting::new(alloc, Net::new(alloc)?));
-    server_and_client(&rt, alloc, &mut net, &mut NoEnv, here(7000), v6(7000));
-    let (inner, sent, received) = net.into_parts();
-    assert!(rt; (sent, received) == (44, 44));
-    let (_, sent, received) = inner.into_parts();
-    assert!(rt; (sent, received) == (44, 44));
-    Ok(())
+fn server_and_client_over_two_wrappers(rt: HostRuntime) {
+    let net = memory(&rt, rt.alloc());
+    drop(wraps_twice(&rt, rt.alloc(), net));
 }
 
-const WAITS: [(Step, Ending, Option<u64>); 4] = [
+const WAITS: &[Taken] = &[
     (Step::Send(2), Ending::Done, None),
     (Step::Recv(3), Ending::Waits, None),
     (Step::Send(1), Ending::Done, Some(2)),
     (Step::PollRecv, Ending::Got(3), None),
 ];
 
+// Takes the steps on each of two channels, which stay.
+fn takes_on_both<N: Network>(
+    rt: &impl Abort,
+    net: &mut N,
+    first: &mut Line<N::Sink, N::Stream>,
+    second: &mut Line<N::Sink, N::Stream>,
+) {
+    takes(rt, net, &mut NoEnv, first, WAITS);
+    takes(rt, net, &mut NoEnv, second, WAITS);
+}
+
 #[test]
-fn channels_side_by_side(rt: HostRuntime) -> Result<(), Fail> {
+fn channels_side_by_side(rt: HostRuntime) {
     let alloc = rt.alloc();
-    let mut net = Net::new(alloc)?;
+    let mut net = memory(&rt, alloc);
     let mut first = line_of(&rt, alloc, &mut net, 65536);
     let mut second = line_of(&rt, alloc, &mut net, 65536);
-    takes(&rt, &mut net, &mut NoEnv, &mut first, &WAITS);
-    takes(&rt, &mut net, &mut NoEnv, &mut second, &WAITS);
-    takes_on_new(&rt, alloc, &mut net, usize::MAX, &WAITS, (None, None));
+    takes_on_both(&rt, &mut net, &mut first, &mut second);
+    takes_on_new(&rt, alloc, &mut net, usize::MAX, WAITS);
     hangs_up(&rt, &mut net, first, (None, None));
     hangs_up(&rt, &mut net, second, (None, None));
-    Ok(())
+    drop(net);
 }
 
-#[test]
-fn small_buffers(rt: HostRuntime) -> Result<(), Fail> {
-    let alloc = rt.alloc();
-    let mut net = Net::new(alloc)?;
-    let drains = [
-        (Step::Send(4), Ending::Waits, None),
-        (Step::PollSend, Ending::Waits, None),
-        (Step::Recv(4), Ending::Got(4), Some(1)),
-        (Step::PollSend, Ending::Done, None),
-        (Step::Recv(2), Ending::Waits, None),
-        (Step::Send(2), Ending::Done, Some(2)),
-        (Step::PollRecv, Ending::Got(2), None),
-    ];
-    for buffer_size in [3, 0] {
-        takes_on_new(&rt, alloc, &mut net, buffer_size, &drains, (None, None));
-    }
-    Ok(())
-}
+const DRAINS: &[Taken] = &[
+    (Step::Send(4), Ending::Waits, None),
+    (Step::PollSend, Ending::Waits, None),
+    (Step::Recv(4), Ending::Got(4), Some(1)),
+    (Step::PollSend, Ending::Done, None),
+    (Step::Recv(2), Ending::Waits, None),
+    (Step::Send(2), Ending::Done, Some(2)),
+    (Step::PollRecv, Ending::Got(2), None),
+];
 
 #[test]
-fn a_mebibyte_in_one_receive(rt: HostRuntime) -> Result<(), Fail> {
-    let alloc = rt.alloc();
-    let mut net = Net::new(alloc)?;
-    let mut line = line_of(&rt, alloc, &mut net, 1048576);
-    let first = [(Step::Recv(1048576), Ending::Waits, None)];
-    let piece = [(Step::Send(65536), Ending::Done, None)];
-    let last = [
-        (Step::Send(65536), Ending::Done, Some(2)),
-        (Step::PollRecv, Ending::Got(1048576), None),
-    ];
-    takes(&rt, &mut net, &mut NoEnv, &mut line, &first);
-    for _ in 0..15 {
-        takes(&rt, &mut net, &mut NoEnv, &mut line, &piece);
-    }
-    takes(&rt, &mut net, &mut NoEnv, &mut line, &last);
-    hangs_up(&rt, &mut net, line, (None, None));
-    Ok(())
+fn small_buffers(rt: HostRuntime) {
+    let mut net = memory(&rt, rt.alloc());
+    takes_on_new(&rt, rt.alloc(), &mut net, 3, DRAINS);
+    takes_on_new(&rt, rt.alloc(), &mut net, 0, DRAINS);
+    drop(net);
 }
+
+// Takes the first steps, the next ones so many times, and the last ones on a channel that is closed then.
+fn takes_many<N: Network>(
+    rt: &impl Abort,
+    net: &mut N,
+    mut line: Line<N::Sink, N::Stream>,
+    first: &[Taken],
+    next: &[Taken],
+    count: usize,
+    last: &[Taken],
+) {
+    takes(rt, net, &mut NoEnv, &mut line, first);
+    for _ in 0..count {
+        takes(rt, net, &mut NoEnv, &mut line, next);
+    }
+    takes_all(rt, net, &mut NoEnv, line, last);
+}
+
+const WHOLE: &[Taken] = &[(Step::Recv(1048576), Ending::Waits, None)];
+
+const PIECE: &[Taken] = &[(Step::Send(65536), Ending::Done, None)];
+
+const LAST_PIECE: &[Taken] = &[
+    (Step::Send(65536), Ending::Done, Some(2)),
+    (Step::PollRecv, Ending::Got(1048576), None),
+];
+
+#[test]
+fn a_mebibyte_in_one_receive(rt: HostRuntime) {
+    let mut net = memory(&rt, rt.alloc());
+    let line = line_of(&rt, rt.alloc(), &mut net, 1048576);
+    takes_many(&rt, &mut net, line, WHOLE, PIECE, 15, LAST_PIECE);
+    drop(net);
+}
+
+const LARGE: &[Taken] = &[(Step::Send(1048576), Ending::Done, None)];
+
+const SMALL: &[Taken] = &[
+    (Step::Recv(16), Ending::Got(16), None),
+    (Step::Send(16), Ending::Done, None),
+];
+
+const HELD: &[Taken] = &[
+    (Step::Peek(1048576), Ending::Got(1048560), None),
+    (Step::Recv(1048576), Ending::Got(1048576), None),
+];
 
 // All that is held can be peeked at.
 #[test]
-fn small_sends_behind_a_mebibyte(rt: HostRuntime) -> Result<(), Fail> {
-    let alloc = rt.alloc();
-    let mut net = Net::new(alloc)?;
-    let mut line = line_of(&rt, alloc, &mut net, 2097152);
-    let first = [(Step::Send(1048576), Ending::Done, None)];
-    let small = [
-        (Step::Recv(16), Ending::Got(16), None),
-        (Step::Send(16), Ending::Done, None),
-    ];
-    let last = [
-        (Step::Peek(1048576), Ending::Got(1048560), None),
-        (Step::Recv(1048576), Ending::Got(1048576), None),
-    ];
-    takes(&rt, &mut net, &mut NoEnv, &mut line, &first);
-    for _ in 0..65536 {
-        takes(&rt, &mut net, &mut NoEnv, &mut line, &small);
-    }
-    takes(&rt, &mut net, &mut NoEnv, &mut line, &last);
-    hangs_up(&rt, &mut net, line, (None, None));
-    Ok(())
+fn small_sends_behind_a_mebibyte(rt: HostRuntime) {
+    let mut net = memory(&rt, rt.alloc());
+    let line = line_of(&rt, rt.alloc(), &mut net, 2097152);
+    takes_many(&rt, &mut net, line, LARGE, SMALL, 65536, HELD);
+    drop(net);
 }
 
 // The stream closes first, and then a `send` fails.
@@ -871,6 +954,16 @@ fn fails_to_send<N: Network, E: Env>(
     let _ = net.close_sink(sink);
 }
 
+const LOSES_BYTES: &[Taken] = &[
+    (Step::Recv(2), Ending::Waits, None),
+    (Step::Send(3), Ending::Done, Some(2)),
+    (Step::PollRecv, Ending::Got(2), None),
+    (Step::Send(65537), Ending::Waits, None),
+    (Step::Recv(2), Ending::Got(2), Some(1)),
+    (Step::PollSend, Ending::Done, None),
+    (Step::Recv(70000), Ending::Waits, None),
+];
+
 // Calls that succeed, wait and fail.
 fn ends_each_way<N: Network, E: Env>(
     rt: &impl Abort,
@@ -882,43 +975,35 @@ fn ends_each_way<N: Network, E: Env>(
     let mut listener = net.bind(env, socket).expect(rt, "the address is free");
     assert!(rt; bind(net, env, socket) == Ending::BindFailed);
     assert!(rt; dial(net, env, v6(1)) == Ending::ConnectionFailed);
-    let (mut there, back, _) = connects(rt, alloc, net, env, &mut listener, socket);
-    takes(
-        rt,
-        net,
-        env,
-        &mut there,
-        &[
-            (Step::Recv(2), Ending::Waits, None),
-            (Step::Send(3), Ending::Done, Some(2)),
-            (Step::PollRecv, Ending::Got(2), None),
-            (Step::Send(65537), Ending::Waits, None),
-            (Step::Recv(2), Ending::Got(2), Some(1)),
-            (Step::PollSend, Ending::Done, None),
-            (Step::Recv(70000), Ending::Waits, None),
-        ],
-    );
+    let (there, back, _) = connects(rt, alloc, net, env, &mut listener, socket);
     let lost = [(1, Ending::RecvFailed)];
-    outlives(rt, net, env, there, Some(2), &lost);
+    outlives(rt, net, env, there, LOSES_BYTES, Some(2), &lost);
     fails_to_send(rt, net, env, back);
     net.close_listener(listener);
 }
 
-#[test]
-fn notes_of_each_ending(rt: HostRuntime) -> Result<(), Fail> {
-    let alloc = rt.alloc();
-    let mut net = Noting::new(alloc, Net::new(alloc)?);
+// What a wrapper notes of them.
+fn notes_endings<N: Network>(rt: &impl Abort, alloc: Global, inner: N) -> N {
+    let mut net = Noting::new(alloc, inner);
     let mut env = Notebook::new(alloc);
-    ends_each_way(&rt, alloc, &mut net, &mut env, here(4000));
-    let _ = net.into_parts();
+    ends_each_way(rt, alloc, &mut net, &mut env, here(4000));
+    let text = env.text(alloc).expect(rt, "room");
+    drop(env);
     assert!(rt;
-        env.text(alloc)?.as_str()
+        text.as_str()
             == "bind_attempt bind_success bind_attempt bind_failure \
         dial_attempt dial_failure accept_attempt dial_attempt dial_success accept_success \
         recv_attempt send_attempt send_success recv_success 2 send_attempt recv_attempt recv_success 2 \
         send_success recv_attempt recv_failure send_attempt send_failure "
     );
-    Ok(())
+    drop(text);
+    net.into_parts().0
+}
+
+#[test]
+fn notes_of_each_ending(rt: HostRuntime) {
+    let net = memory(&rt, rt.alloc());
+    drop(notes_endings(&rt, rt.alloc(), net));
 }
 
 // Many pieces complete a `recv` that waits.
@@ -936,14 +1021,13 @@ fn completes<N: Network>(
 }
 
 #[test]
-fn many_pieces_in_one_receive(rt: HostRuntime) -> Result<(), Fail> {
-    let alloc = rt.alloc();
-    let mut net = Net::new(alloc)?;
-    let bufs = pieces(alloc, 3, 30000)?;
+fn many_pieces_in_one_receive(rt: HostRuntime) {
+    let bufs = pieces(rt.alloc(), 3, 30000).expect(&rt, "room");
+    let mut net = memory(&rt, rt.alloc());
     let (sink, stream) = Channel::init(&mut net).expect(&rt, "room");
-    let seen = completes(&mut net, sink, stream, bufs);
-    assert!(rt; seen == (Ending::Waits, Ending::Done, Ending::Got(90000)));
-    Ok(())
+    let completed = completes(&mut net, sink, stream, bufs);
+    drop(net);
+    assert!(rt; completed == (Ending::Waits, Ending::Done, Ending::Got(90000)));
 }
 
 // An address of another host.
@@ -966,7 +1050,7 @@ fn binds_many<N: Network>(net: &mut N, left: u8) -> Ending {
             net.close_listener(listener);
             seen
         }
-        Err(error) => seen_error(&error),
+        Err(error) => seen_error(error),
     }
 }
 
@@ -976,31 +1060,19 @@ fn opens_many(rt: &impl Abort, alloc: Global, net: &mut Net, left: u16) {
     let mut line = line_of(rt, alloc, net, 3);
     line.sent = left as usize;
     line.received = left as usize;
-    takes(
-        rt,
-        net,
-        &mut NoEnv,
-        &mut line,
-        &[(Step::Send(2), Ending::Done, None)],
-    );
+    let sends = [(Step::Send(2), Ending::Done, None)];
+    takes(rt, net, &mut NoEnv, &mut line, &sends);
     if left > 0 {
         opens_many(rt, alloc, net, left - 1);
     }
-    takes(
-        rt,
-        net,
-        &mut NoEnv,
-        &mut line,
-        &[(Step::Recv(2), Ending::Got(2), None)],
-    );
-    hangs_up(rt, net, line, (None, None));
+    let receives = [(Step::Recv(2), Ending::Got(2), None)];
+    takes_all(rt, net, &mut NoEnv, line, &receives);
 }
 
 #[test]
-fn many_live_at_once(rt: HostRuntime) -> Result<(), Fail> {
-    let alloc = rt.alloc();
-    let mut net = Net::new(alloc)?;
+fn many_live_at_once(rt: HostRuntime) {
+    let mut net = memory(&rt, rt.alloc());
     assert!(rt; binds_many(&mut net, 200) == Ending::Done);
-    opens_many(&rt, alloc, &mut net, 1000);
-    Ok(())
+    opens_many(&rt, rt.alloc(), &mut net, 1000);
+    drop(net);
 }

@@ -6,6 +6,7 @@ use rt_audit::{AuditEnv, AuditHasher, Auditor, Crc32c, Entry, EventFields, Event
 use rt_base::{Env, Event, Items, NoMemory, Text};
 use rt_bufs::{IoBuf, IoBufs};
 use std::alloc::Global;
+use std::process::Abort;
 use std::test::Fail;
 
 fn checksum(bytes: &[u8]) -> u32 {
@@ -82,88 +83,121 @@ fn lengths_keep_fields_apart(rt: HostRuntime) -> Result<(), Fail> {
     Ok(())
 }
 
-// The digest of "abcde" in three chunks.
-fn chunks_hashed(alloc: Global) -> Result<[u8; 4], NoMemory> {
+const CHUNKS: &[&str] = &["ab", "c", "de"];
+
+/// A buffer for each of these texts.
+fn chunks(rt: &impl Abort, alloc: Global, texts: &[&str]) -> IoBufs {
     let mut bufs = IoBufs::new(alloc);
-    for chunk in ["ab", "c", "de"] {
-        let bytes = Vec::from_slice(alloc, chunk.as_bytes())?;
-        bufs.append(IoBuf::from_vec(bytes)?)?;
+    for text in texts {
+        let bytes = Vec::from_slice(alloc, text.as_bytes()).expect(rt, "room");
+        let chunk = IoBuf::from_vec(bytes).expect(rt, "room");
+        bufs.append(chunk).expect(rt, "room");
     }
+    bufs
+}
+
+#[test]
+fn chunks_are_one_field(rt: HostRuntime) {
+    let bufs = chunks(&rt, rt.alloc(), CHUNKS);
     let mut hasher = AuditHasher::new();
     hasher.update_bufs(&bufs);
-    Ok(hasher.finalize())
+    drop(bufs);
+    assert!(rt; hasher.finalize() == [0x60, 0xbc, 0x59, 0x28]);
 }
 
-#[test]
-fn chunks_are_one_field(rt: HostRuntime) -> Result<(), Fail> {
-    assert!(rt; chunks_hashed(rt.alloc())? == [0x60, 0xbc, 0x59, 0x28]);
-    Ok(())
-}
-
-fn event(alloc: Global, label: &str, sizes: &[usize]) -> Result<Event, NoMemory> {
+/// Fields of zeros, of these sizes.
+fn zeros(rt: &impl Abort, alloc: Global, sizes: &[usize]) -> Items<Items<u8>> {
     let mut fields = Vec::new(alloc);
-    for size in sizes {
-        fields.push(Items::of(vec![in alloc; 0u8; *size]?))?;
+    for &size in sizes {
+        let field = Items::of(vec![in alloc; 0u8; size].expect(rt, "room"));
+        fields.push(field).expect(rt, "room");
     }
-    Ok(Event {
-        label: Text::of(label.to_owned(alloc)?),
-        fields: Items::of(fields),
-    })
+    Items::of(fields)
 }
 
-fn entry(alloc: Global, event: Event) -> Result<Entry, NoMemory> {
-    let Event { label, fields } = event;
-    Ok(Entry::Event {
-        label: EventLabel::named(alloc, label)?,
-        fields: EventFields::listed(fields),
-    })
+fn event(rt: &impl Abort, alloc: Global, label: &str, sizes: &[usize]) -> Event {
+    let label = Text::of(label.to_owned(alloc).expect(rt, "room"));
+    let fields = zeros(rt, alloc, sizes);
+    Event { label, fields }
+}
+
+fn entry(rt: &impl Abort, alloc: Global, label: &str, sizes: &[usize]) -> Entry {
+    let label = Text::of(label.to_owned(alloc).expect(rt, "room"));
+    let label = EventLabel::named(alloc, label).expect(rt, "room");
+    let fields = EventFields::listed(zeros(rt, alloc, sizes));
+    Entry::Event { label, fields }
+}
+
+/// Tells an auditor of an event.
+fn tell(auditor: &mut Auditor, event: Event) {
+    auditor.event(&event);
+}
+
+/// Whether an auditor shows this state.
+fn has_state(rt: &impl Abort, alloc: Global, auditor: &Auditor, wanted: &str) -> bool {
+    let state = auditor.state(alloc).expect(rt, "room");
+    state.as_str() == wanted
 }
 
 #[test]
-fn fresh_auditor(rt: HostRuntime) -> Result<(), Fail> {
+fn fresh_auditor(rt: HostRuntime) {
     let alloc = rt.alloc();
     let mut auditor = Auditor::new();
-    assert!(rt; auditor.state(alloc)?.as_str() == "00000000");
-    assert!(rt; Auditor::default().state(alloc)?.as_str() == "00000000");
-    auditor.event(&event(alloc, "process_task", &[16, 0])?);
-    assert!(rt; auditor.state(alloc)?.as_str() == "32ffd0c0");
-    auditor.event(&event(alloc, "ok", &[])?);
-    assert!(rt; auditor.state(alloc)?.as_str() == "07b84907");
-    Ok(())
+    assert!(rt; has_state(&rt, alloc, &auditor, "00000000"));
+    assert!(rt; has_state(&rt, alloc, &Auditor::default(), "00000000"));
+    tell(&mut auditor, event(&rt, alloc, "process_task", &[16, 0]));
+    assert!(rt; has_state(&rt, alloc, &auditor, "32ffd0c0"));
+    tell(&mut auditor, event(&rt, alloc, "ok", &[]));
+    assert!(rt; has_state(&rt, alloc, &auditor, "07b84907"));
 }
 
 #[test]
-fn digest_of_a_journal(rt: HostRuntime) -> Result<(), Fail> {
+fn digest_of_a_journal(rt: HostRuntime) {
     let alloc = rt.alloc();
+    let visit = entry(&rt, alloc, "process_task", &[16, 0]);
+    let end = entry(&rt, alloc, "ok", &[]);
     let mut journal = Journal::new(alloc);
     assert!(rt; journal.digest() == [0; 4]);
-    journal.reserve(4)?;
+    journal.reserve(4).expect(&rt, "room");
     journal.push(Entry::Wake { task: 1 });
-    journal.push(entry(alloc, event(alloc, "process_task", &[16, 0])?)?);
+    journal.push(visit);
     journal.push(Entry::Draw { value: 1 });
     assert!(rt; journal.digest() == [0x32, 0xff, 0xd0, 0xc0]);
-    journal.push(entry(alloc, event(alloc, "ok", &[])?)?);
-    assert!(rt; journal.auditor().state(alloc)?.as_str() == "07b84907");
-    Ok(())
+    journal.push(end);
+    assert!(rt; has_state(&rt, alloc, &journal.auditor(), "07b84907"));
 }
 
-/// The digest of a journal of two visits, whose fields stand in their entries or in a list.
-fn visits_digested(alloc: Global, listed: bool) -> Result<[u8; 4], NoMemory> {
+/// The fields of a visit, which stand in their entry.
+fn kept(rt: &impl Abort, alloc: Global, task: u64, label: &str) -> EventFields {
+    EventFields::of_task(task, Text::of(label.to_owned(alloc).expect(rt, "room")))
+}
+
+/// The fields of a visit, in a list.
+fn listed(rt: &impl Abort, alloc: Global, task: u64, label: &str) -> EventFields {
+    let fields = kept(rt, alloc, task, label);
+    let list = in_a_list(alloc, &fields);
+    drop(fields);
+    list.expect(rt, "room")
+}
+
+/// An entry of a visit.
+fn visit(fields: EventFields) -> Entry {
+    let label = EventLabel::process_task();
+    Entry::Event { label, fields }
+}
+
+/// Makes room for an entry in a journal, and adds it.
+fn push(rt: &impl Abort, journal: &mut Journal, entry: Entry) {
+    journal.reserve(1).expect(rt, "room");
+    journal.push(entry);
+}
+
+/// The digest of a journal of these two entries.
+fn digest_of(rt: &impl Abort, alloc: Global, first: Entry, second: Entry) -> [u8; 4] {
     let mut journal = Journal::new(alloc);
-    for (task, label) in [(258, "ab"), (70_000, "")] {
-        journal.reserve(1)?;
-        let kept = EventFields::of_task(task, Text::of(label.to_owned(alloc)?));
-        let fields = if listed {
-            in_a_list(alloc, &kept)?
-        } else {
-            kept
-        };
-        journal.push(Entry::Event {
-            label: EventLabel::process_task(),
-            fields,
-        });
-    }
-    Ok(journal.digest())
+    push(rt, &mut journal, first);
+    push(rt, &mut journal, second);
+    journal.digest()
 }
 
 /// The same fields in a list.
@@ -178,25 +212,39 @@ pub fn in_a_list(alloc: Global, fields: &EventFields) -> Result<EventFields, NoM
 }
 
 #[test]
-fn visits_are_digested_alike(rt: HostRuntime) -> Result<(), Fail> {
-    for listed in [false, true] {
-        assert!(rt; visits_digested(rt.alloc(), listed)? == [0xec, 0x89, 0x45, 0x7e]);
-    }
-    Ok(())
+fn visits_are_digested_alike(rt: HostRuntime) {
+    let alloc = rt.alloc();
+    let first = visit(kept(&rt, alloc, 258, "ab"));
+    let second = visit(kept(&rt, alloc, 70_000, ""));
+    assert!(rt; digest_of(&rt, alloc, first, second) == [0xec, 0x89, 0x45, 0x7e]);
+    let first = visit(listed(&rt, alloc, 258, "ab"));
+    let second = visit(listed(&rt, alloc, 70_000, ""));
+    assert!(rt; digest_of(&rt, alloc, first, second) == [0xec, 0x89, 0x45, 0x7e]);
+}
+
+/// What an environment that is told an event has for its auditor, and draws next.
+fn told_env(rt: &impl Abort, event: Event) -> (Auditor, u64) {
+    let mut env = AuditEnv::new(ChaCha12Rng::seed_from_u64(7));
+    env.reserve(usize::MAX).expect(rt, "room");
+    env.event(event);
+    let drawn = env.draw();
+    (env.auditor(), drawn)
+}
+
+/// The auditor of a journal that is told an event.
+fn told_journal(rt: &impl Abort, alloc: Global, entry: Entry) -> Auditor {
+    let mut journal = Journal::new(alloc);
+    push(rt, &mut journal, entry);
+    journal.auditor()
 }
 
 /// Whether an environment, an auditor and a journal that are told one event agree on it, and the environment draws from
 /// its generator.
-pub fn agree_on_an_event(alloc: Global) -> Result<bool, NoMemory> {
-    let mut env = AuditEnv::new(ChaCha12Rng::seed_from_u64(7));
-    env.reserve(usize::MAX)?;
-    env.event(event(alloc, "ok", &[3])?);
-    let drawn = env.draw();
+pub fn agree_on_an_event(rt: &impl Abort, alloc: Global) -> bool {
+    let (of_env, drawn) = told_env(rt, event(rt, alloc, "ok", &[3]));
     let mut auditor = Auditor::default();
-    auditor.event(&event(alloc, "ok", &[3])?);
-    let mut journal = Journal::new(alloc);
-    journal.reserve(1)?;
-    journal.push(entry(alloc, event(alloc, "ok", &[3])?)?);
+    tell(&mut auditor, event(rt, alloc, "ok", &[3]));
+    let of_journal = told_journal(rt, alloc, entry(rt, alloc, "ok", &[3]));
     let next = ChaCha12Rng::seed_from_u64(7).next_u64();
-    Ok(env.auditor() == auditor && journal.auditor() == auditor && drawn == next)
+    (of_env == auditor) & (of_journal == auditor) & (drawn == next)
 }

@@ -7,184 +7,185 @@ use rt_audit::{
 };
 use rt_base::{Choice, Error, Items, NoMemory, Text};
 use std::alloc::Global;
-use std::test::Fail;
+use std::process::Abort;
 
 /// Adds the line of an entry.
-fn add(alloc: Global, text: &mut String, entry: Entry) -> Result<(), NoMemory> {
-    entry.add_to(alloc, text)?;
-    text.push('\n')?;
-    Ok(())
+fn add(rt: &impl Abort, alloc: Global, text: &mut String, entry: Entry) {
+    let added = entry.add_to(alloc, text);
+    drop(entry);
+    added.expect(rt, "room");
+    text.push('\n').expect(rt, "room");
 }
 
-fn add_starts(alloc: Global, text: &mut String) -> Result<(), NoMemory> {
-    for (next, now, deadline, cycle) in [(3, 5, Some(90), 1_000_000), (0, 0, None, 1)] {
-        let start = Entry::Start {
-            next,
-            now,
-            deadline,
-            cycle,
-        };
-        add(alloc, text, start)?;
-    }
-    Ok(())
-}
-
-fn add_calls(alloc: Global, text: &mut String) -> Result<(), NoMemory> {
-    add_call(
-        alloc,
-        text,
-        Some(3),
-        Call::SleepPoll {
-            due: Moment::new(7),
-        },
-        CallReply::Ready,
-    )?;
-    add_call(
-        alloc,
-        text,
-        None,
-        Call::CloseNode { node: 0 },
-        CallReply::Done,
-    )?;
-    let error = Refusal::new(alloc, Error::UnknownToken)?;
-    add_call(
-        alloc,
-        text,
-        Some(0),
-        Call::Wake { task: 9 },
-        CallReply::Refused { error },
-    )?;
-    let reply = CallReply::PendingAt { alarm: 2 };
-    add_call(
-        alloc,
-        text,
-        Some(0),
-        Call::SleepPoll {
-            due: Moment::new(7),
-        },
-        reply,
-    )
-}
-
-fn add_spawns(alloc: Global, text: &mut String) -> Result<(), NoMemory> {
-    for (node, ended) in [(1, false), (2, true)] {
-        let label = Label::new(alloc, Text::of("p_c".to_owned(alloc)?))?;
-        let reply = CallReply::NodeAt { node, ended };
-        add_call(alloc, text, Some(4), Call::Child { node: 0, label }, reply)?;
-    }
-    for (call, reply) in [
-        (
-            Call::Spawn { node: 1 },
-            CallReply::TaskAt { task: 0, node: 3 },
-        ),
-        (Call::Spawn { node: 2 }, CallReply::Closed),
-        (Call::Join { task: 0 }, CallReply::Pending),
-        (Call::Abort { task: 0 }, CallReply::Done),
-        (Call::AbortTask { task: 5 }, CallReply::Done),
-        (Call::GiveUp { task: 0 }, CallReply::Done),
-    ] {
-        add_call(alloc, text, Some(4), call, reply)?;
-    }
-    Ok(())
-}
-
-fn add_draws(alloc: Global, text: &mut String) -> Result<(), NoMemory> {
-    let number = CallReply::Number { number: u64::MAX };
-    add_call(alloc, text, Some(4), Call::NextU64, number)?;
-    add_call(
-        alloc,
-        text,
-        None,
-        Call::NextU32,
-        CallReply::Number { number: 7 },
-    )?;
-    let bytes = Payload::of(alloc, &[0, 255, 16])?;
-    let drawn = CallReply::Bytes { bytes };
-    add_call(alloc, text, Some(4), Call::FillBytes { len: 3 }, drawn)?;
-    let bytes = Payload::of(alloc, &[])?;
-    let none = CallReply::Bytes { bytes };
-    add_call(alloc, text, Some(4), Call::FillBytes { len: 0 }, none)?;
-    let bytes = Payload::of(alloc, vec![in alloc; 171u8; 40]?.as_slice())?;
-    let digest = CallReply::Bytes { bytes };
-    add_call(alloc, text, Some(4), Call::Auditor, digest)
+/// Adds the lines of two starts, with a deadline and with none.
+fn add_starts(rt: &impl Abort, alloc: Global, text: &mut String) {
+    let bounded = Entry::Start {
+        next: 3,
+        now: 5,
+        deadline: Some(90),
+        cycle: 1_000_000,
+    };
+    add(rt, alloc, text, bounded);
+    let unbounded = Entry::Start {
+        next: 0,
+        now: 0,
+        deadline: None,
+        cycle: 1,
+    };
+    add(rt, alloc, text, unbounded);
 }
 
 fn add_call(
+    rt: &impl Abort,
     alloc: Global,
     text: &mut String,
     by: Option<u64>,
     call: Call,
     reply: CallReply,
-) -> Result<(), NoMemory> {
-    add(alloc, text, Entry::Call { by, call, reply })
+) {
+    add(rt, alloc, text, Entry::Call { by, call, reply });
+}
+
+/// Adds the line of a poll of a sleep.
+fn add_sleep(rt: &impl Abort, alloc: Global, text: &mut String, by: u64, reply: CallReply) {
+    let due = Moment::new(7);
+    add_call(rt, alloc, text, Some(by), Call::SleepPoll { due }, reply);
+}
+
+/// Adds the line of a call that is refused.
+fn add_refused(rt: &impl Abort, alloc: Global, text: &mut String, error: Error) {
+    let error = Refusal::new(alloc, error).expect(rt, "room");
+    let reply = CallReply::Refused { error };
+    add_call(rt, alloc, text, Some(0), Call::Wake { task: 9 }, reply);
+}
+
+fn add_calls(rt: &impl Abort, alloc: Global, text: &mut String) {
+    add_sleep(rt, alloc, text, 3, CallReply::Ready);
+    let close = Call::CloseNode { node: 0 };
+    add_call(rt, alloc, text, None, close, CallReply::Done);
+    add_refused(rt, alloc, text, Error::UnknownToken);
+    add_sleep(rt, alloc, text, 0, CallReply::PendingAt { alarm: 2 });
+}
+
+/// Adds the line of a new child.
+fn add_child(rt: &impl Abort, alloc: Global, text: &mut String, node: u64, ended: bool) {
+    let name = Text::of("p_c".to_owned(alloc).expect(rt, "room"));
+    let label = Label::new(alloc, name).expect(rt, "room");
+    let call = Call::Child { node: 0, label };
+    let reply = CallReply::NodeAt { node, ended };
+    add_call(rt, alloc, text, Some(4), call, reply);
+}
+
+/// Adds the line of a call of the fourth task.
+fn add_fourth(rt: &impl Abort, alloc: Global, text: &mut String, call: Call, reply: CallReply) {
+    add_call(rt, alloc, text, Some(4), call, reply);
+}
+
+fn add_spawns(rt: &impl Abort, alloc: Global, text: &mut String) {
+    add_child(rt, alloc, text, 1, false);
+    add_child(rt, alloc, text, 2, true);
+    let reply = CallReply::TaskAt { task: 0, node: 3 };
+    add_fourth(rt, alloc, text, Call::Spawn { node: 1 }, reply);
+    add_fourth(rt, alloc, text, Call::Spawn { node: 2 }, CallReply::Closed);
+    add_fourth(rt, alloc, text, Call::Join { task: 0 }, CallReply::Pending);
+    add_fourth(rt, alloc, text, Call::Abort { task: 0 }, CallReply::Done);
+    let abort = Call::AbortTask { task: 5 };
+    add_fourth(rt, alloc, text, abort, CallReply::Done);
+    add_fourth(rt, alloc, text, Call::GiveUp { task: 0 }, CallReply::Done);
+}
+
+/// Adds the line of a call that is answered with bytes.
+fn add_bytes(rt: &impl Abort, alloc: Global, text: &mut String, call: Call, bytes: &[u8]) {
+    let bytes = Payload::of(alloc, bytes).expect(rt, "room");
+    add_fourth(rt, alloc, text, call, CallReply::Bytes { bytes });
+}
+
+fn add_draws(rt: &impl Abort, alloc: Global, text: &mut String) {
+    let number = CallReply::Number { number: u64::MAX };
+    add_fourth(rt, alloc, text, Call::NextU64, number);
+    let number = CallReply::Number { number: 7 };
+    add_call(rt, alloc, text, None, Call::NextU32, number);
+    let drawn = [0, 255, 16];
+    add_bytes(rt, alloc, text, Call::FillBytes { len: 3 }, &drawn);
+    add_bytes(rt, alloc, text, Call::FillBytes { len: 0 }, &[]);
+    add_bytes(rt, alloc, text, Call::Auditor, &[171; 40]);
+}
+
+/// Fields of so many bytes, and of none.
+fn fields(alloc: Global, size: usize) -> Result<EventFields, NoMemory> {
+    let filled = Items::of(vec![in alloc; 171u8; size]?);
+    let fields = vec![in alloc; filled, Items::of(Vec::new(alloc))]?;
+    Ok(EventFields::listed(Items::of(fields)))
 }
 
 /// An event with a field of so many bytes, and an empty one.
-fn add_event(alloc: Global, text: &mut String, size: usize) -> Result<(), NoMemory> {
-    let mut fields = Vec::new(alloc);
-    fields.push(Items::of(vec![in alloc; 171u8; size]?))?;
-    fields.push(Items::of(Vec::new(alloc)))?;
-    let event = Entry::Event {
-        label: EventLabel::process_task(),
-        fields: EventFields::listed(Items::of(fields)),
-    };
-    add(alloc, text, event)
+fn add_event(rt: &impl Abort, alloc: Global, text: &mut String, size: usize) {
+    let fields = fields(alloc, size).expect(rt, "room");
+    let label = EventLabel::process_task();
+    add(rt, alloc, text, Entry::Event { label, fields });
+}
+
+/// A round that visits these numbers.
+fn add_order(rt: &impl Abort, alloc: Global, text: &mut String, numbers: &[u64]) {
+    let order = Order::of(alloc, numbers).expect(rt, "room");
+    add(rt, alloc, text, Entry::Round { order });
 }
 
 /// A round that visits a number so many times.
-fn add_round(alloc: Global, text: &mut String, task: u64, times: usize) -> Result<(), NoMemory> {
-    let numbers = vec![in alloc; task; times]?;
-    let order = Order::of(alloc, numbers.as_slice())?;
-    add(alloc, text, Entry::Round { order })
+fn add_round(rt: &impl Abort, alloc: Global, text: &mut String, task: u64, times: usize) {
+    let numbers = vec![in alloc; task; times].expect(rt, "room");
+    add_order(rt, alloc, text, numbers.as_slice());
 }
 
-/// A round that visits the least and the greatest numbers of one to four digits, and a greater one.
-fn add_digits(alloc: Global, text: &mut String) -> Result<(), NoMemory> {
-    let order = Order::of(alloc, &[9, 10, 99, 100, 999, 1000, 9999, 10_000])?;
-    add(alloc, text, Entry::Round { order })
-}
+/// The least and the greatest numbers of one to four digits, and a greater one.
+const DIGITS: &[u64] = &[9, 10, 99, 100, 999, 1000, 9999, 10_000];
 
-fn add_tasks(alloc: Global, text: &mut String) -> Result<(), NoMemory> {
-    add(alloc, text, Entry::Wake { task: 9 })?;
-    add(alloc, text, Entry::Draw { value: u64::MAX })?;
-    add(alloc, text, Entry::Root { task: 10 })?;
-    add(alloc, text, Entry::Visit { task: 3 })?;
+fn add_tasks(rt: &impl Abort, alloc: Global, text: &mut String) {
+    add(rt, alloc, text, Entry::Wake { task: 9 });
+    add(rt, alloc, text, Entry::Draw { value: u64::MAX });
+    add(rt, alloc, text, Entry::Root { task: 10 });
+    add(rt, alloc, text, Entry::Visit { task: 3 });
     let kind = AnswerKind::Pending;
-    add(alloc, text, Entry::Answer { task: 3, kind })?;
-    add(alloc, text, Entry::NodeEnd { node: 0 })
+    add(rt, alloc, text, Entry::Answer { task: 3, kind });
+    add(rt, alloc, text, Entry::NodeEnd { node: 0 });
 }
 
-fn add_times(alloc: Global, text: &mut String) -> Result<(), NoMemory> {
-    add(alloc, text, Entry::Advance { now: 1_000_005 })?;
-    add(alloc, text, Entry::Skip { now: 1 << 100 })?;
-    add(alloc, text, Entry::Fire { alarm: 0 })
+fn add_times(rt: &impl Abort, alloc: Global, text: &mut String) {
+    add(rt, alloc, text, Entry::Advance { now: 1_000_005 });
+    add(rt, alloc, text, Entry::Skip { now: 1 << 100 });
+    add(rt, alloc, text, Entry::Fire { alarm: 0 });
 }
 
-fn add_ends(alloc: Global, text: &mut String) -> Result<(), NoMemory> {
-    add(alloc, text, Entry::Cleanup)?;
-    let choices = Items::of(vec![in alloc; Choice::Kept, Choice::Dropped, Choice::Prefix(12)]?);
-    add(alloc, text, Entry::Crash { choices })?;
-    let choices = Items::of(Vec::new(alloc));
-    add(alloc, text, Entry::Crash { choices })?;
+/// Adds the line of a crash.
+fn add_crash(rt: &impl Abort, alloc: Global, text: &mut String, choices: Vec<Choice>) {
+    let choices = Items::of(choices);
+    add(rt, alloc, text, Entry::Crash { choices });
+}
+
+fn add_ends(rt: &impl Abort, alloc: Global, text: &mut String) {
+    add(rt, alloc, text, Entry::Cleanup);
+    let choices = vec![in alloc; Choice::Kept, Choice::Dropped, Choice::Prefix(12)];
+    add_crash(rt, alloc, text, choices.expect(rt, "room"));
+    add_crash(rt, alloc, text, Vec::new(alloc));
     let cause = FinishCause::Completed;
-    add(alloc, text, Entry::Finish { cause })
+    add(rt, alloc, text, Entry::Finish { cause });
 }
 
 #[test]
-fn line_of_each_entry(rt: HostRuntime) -> Result<(), Fail> {
+fn line_of_each_entry(rt: HostRuntime) {
     let alloc = rt.alloc();
     let mut text = String::new(alloc);
-    add_starts(alloc, &mut text)?;
-    add_calls(alloc, &mut text)?;
-    add_spawns(alloc, &mut text)?;
-    add_draws(alloc, &mut text)?;
-    add_event(alloc, &mut text, 2)?;
-    add_round(alloc, &mut text, 4, 3)?;
-    add_round(alloc, &mut text, 4, 0)?;
-    add_digits(alloc, &mut text)?;
-    add_tasks(alloc, &mut text)?;
-    add_times(alloc, &mut text)?;
-    add_ends(alloc, &mut text)?;
+    add_starts(&rt, alloc, &mut text);
+    add_calls(&rt, alloc, &mut text);
+    add_spawns(&rt, alloc, &mut text);
+    add_draws(&rt, alloc, &mut text);
+    add_event(&rt, alloc, &mut text, 2);
+    add_round(&rt, alloc, &mut text, 4, 3);
+    add_round(&rt, alloc, &mut text, 4, 0);
+    add_order(&rt, alloc, &mut text, DIGITS);
+    add_tasks(&rt, alloc, &mut text);
+    add_times(&rt, alloc, &mut text);
+    add_ends(&rt, alloc, &mut text);
     assert!(rt;
         text.as_str()
             == "\
@@ -226,101 +227,141 @@ crash
 finish ok
 "
     );
-    Ok(())
 }
+
+/// Adds an event and a round of this size, whose lines are long.
+fn add_long(rt: &impl Abort, alloc: Global, size: usize) {
+    let mut text = String::new(alloc);
+    add_event(rt, alloc, &mut text, size);
+    let event = "event process_task  -\n".len();
+    let long = size.wrapping_mul(2).wrapping_add(event);
+    assert!(rt; text.len() == long, "at {size}");
+    add_round(rt, alloc, &mut text, u64::MAX, size);
+    let lines = "event process_task  -\nround\n".len();
+    let long = size.wrapping_mul(23).wrapping_add(lines);
+    assert!(rt; text.len() == long, "at {size}");
+}
+
+const SIZES: &[usize] = &[32, 33, 524_288];
 
 #[test]
-fn long_lines(rt: HostRuntime) -> Result<(), Fail> {
-    let alloc = rt.alloc();
-    for size in [32, 33, 524_288] {
-        let mut text = String::new(alloc);
-        add_event(alloc, &mut text, size)?;
-        assert!(rt;
-            text.len() == "event process_task  -\n".len() + 2 * size,
-            "at {size}"
-        );
-        add_round(alloc, &mut text, u64::MAX, size)?;
-        let lines = "event process_task  -\nround\n".len();
-        assert!(rt; text.len() == lines + 23 * size, "at {size}");
+fn long_lines(rt: HostRuntime) {
+    for &size in SIZES {
+        add_long(&rt, rt.alloc(), size);
     }
-    Ok(())
 }
 
+const KINDS: &[(AnswerKind, &str)] = &[
+    (AnswerKind::Ready, "ready"),
+    (AnswerKind::Panicked, "panicked"),
+    (AnswerKind::Stopped, "stopped"),
+    (AnswerKind::NoMemory, "nomemory"),
+    (AnswerKind::Ended, "ended"),
+];
+
+const CAUSES: &[(FinishCause, &str)] = &[
+    (FinishCause::Timeout, "timeout"),
+    (FinishCause::Stalled, "stalled"),
+    (FinishCause::TaskPanicked, "panicked"),
+    (FinishCause::TimeOverflow, "overflow"),
+    (FinishCause::TooManyTasks, "tasks"),
+    (FinishCause::NoMemory, "nomemory"),
+];
+
 /// Whether the words of kinds and causes are these.
-fn has_words(alloc: Global) -> Result<bool, NoMemory> {
-    let mut text = String::new(alloc);
-    for kind in [
-        AnswerKind::Ready,
-        AnswerKind::Panicked,
-        AnswerKind::Stopped,
-        AnswerKind::NoMemory,
-        AnswerKind::Ended,
-    ] {
-        text.push_str(kind.word())?;
-        text.push(' ')?;
+fn have_words() -> bool {
+    for &(kind, word) in KINDS {
+        if kind.word() != word {
+            return false;
+        }
     }
-    for cause in [
-        FinishCause::Timeout,
-        FinishCause::Stalled,
-        FinishCause::TaskPanicked,
-        FinishCause::TimeOverflow,
-        FinishCause::TooManyTasks,
-        FinishCause::NoMemory,
-    ] {
-        text.push_str(cause.word())?;
-        text.push(' ')?;
+    for &(cause, word) in CAUSES {
+        if cause.word() != word {
+            return false;
+        }
     }
-    let wanted =
-        "ready panicked stopped nomemory ended timeout stalled panicked overflow tasks nomemory ";
-    Ok(text.as_str() == wanted)
+    true
 }
 
 /// Whether a journal with room keeps an entry and its time.
-fn keeps_entries(alloc: Global) -> Result<bool, NoMemory> {
+fn keeps_entries(rt: &impl Abort, alloc: Global) -> bool {
     let mut journal = Journal::new(alloc);
-    let was_empty = journal.is_empty() && journal.spare() == 0;
-    journal.reserve(65_536)?;
+    let was_empty = journal.is_empty() & (journal.spare() == 0);
+    journal.reserve(65_536).expect(rt, "room");
     journal.push(Entry::Advance { now: 7 });
     journal.push(Entry::Cleanup);
-    let kept = journal.len() == 2 && journal.entries().len() == 2 && journal.last_time() == 7;
-    Ok(was_empty && kept)
+    let counted = (journal.len() == 2) & (journal.entries().len() == 2);
+    let last = journal.last_time();
+    drop(journal);
+    was_empty & counted & (last == 7)
 }
 
 /// Whether these are two fields, of the visit of this task alone.
 fn are_of_task(fields: &EventFields, task: u64, label: &str) -> bool {
-    fields.len() == 2
-        && !fields.is_empty()
-        && fields.get(2).is_none()
-        && fields.are_of_task(task, label)
-        && !fields.are_of_task(7, label)
+    let counted = (fields.len() == 2) & !fields.is_empty() & fields.get(2).is_none();
+    counted & fields.are_of_task(task, label) & !fields.are_of_task(7, label)
 }
 
-/// Whether the parts of an event and of a round show what they were made of, however they are kept.
-fn parts_are_shown(alloc: Global) -> Result<bool, NoMemory> {
-    let kept = EventFields::of_task(258, Text::of("ab".to_owned(alloc)?));
-    let listed = in_a_list(alloc, &kept)?;
-    let named = EventLabel::named(alloc, Text::of("process_task".to_owned(alloc)?))?;
-    let other = EventLabel::named(alloc, Text::of("stop".to_owned(alloc)?))?;
-    let orders = (Order::of(alloc, &[7])?, Order::of(alloc, &[7, 8])?);
-    Ok(
-        are_of_task(&kept, 258, "ab")
-            && are_of_task(&listed, 258, "ab")
-            && !kept.are_of_task(258, "a")
-            && named.as_str() == EventLabel::process_task().as_str()
-            && other.as_str() == "stop"
-            && orders.0.as_slice() == [7].as_slice()
-            && orders.1.as_slice() == [7, 8].as_slice(),
-    )
+/// The fields of a visit.
+fn visit(rt: &impl Abort, alloc: Global) -> EventFields {
+    EventFields::of_task(258, Text::of("ab".to_owned(alloc).expect(rt, "room")))
+}
+
+/// Whether fields show the visit that they were made of, however they are kept.
+fn fields_are_shown(rt: &impl Abort, alloc: Global) -> bool {
+    let kept = visit(rt, alloc);
+    let listed = in_a_list(alloc, &kept).expect(rt, "room");
+    let seen = are_of_task(&kept, 258, "ab") & !kept.are_of_task(258, "a");
+    drop(kept);
+    let seen_listed = are_of_task(&listed, 258, "ab");
+    drop(listed);
+    seen & seen_listed
+}
+
+/// A label of its own text.
+fn label(rt: &impl Abort, alloc: Global, text: &str) -> EventLabel {
+    let text = Text::of(text.to_owned(alloc).expect(rt, "room"));
+    EventLabel::named(alloc, text).expect(rt, "room")
+}
+
+/// Whether labels show the texts that they were made of.
+fn labels_are_shown(rt: &impl Abort, alloc: Global) -> bool {
+    let own = EventLabel::process_task();
+    let named = label(rt, alloc, "process_task");
+    let alike = named.as_str() == own.as_str();
+    drop(own);
+    drop(named);
+    let other = label(rt, alloc, "stop");
+    let shown = other.as_str() == "stop";
+    drop(other);
+    alike & shown
+}
+
+/// Whether an order shows the numbers that it was made of.
+fn is_order_shown(rt: &impl Abort, alloc: Global, numbers: &[u64]) -> bool {
+    let order = Order::of(alloc, numbers).expect(rt, "room");
+    let shown = order.as_slice() == numbers;
+    drop(order);
+    shown
+}
+
+/// Whether a refusal has the number of its error.
+fn is_numbered(rt: &impl Abort, alloc: Global, error: Error, number: u64) -> bool {
+    let refusal = Refusal::new(alloc, error).expect(rt, "room");
+    let seen = error_code(refusal.error());
+    drop(refusal);
+    seen == number
 }
 
 #[test]
-fn surface(rt: HostRuntime) -> Result<(), Fail> {
+fn surface(rt: HostRuntime) {
     let alloc = rt.alloc();
-    let refusal = Refusal::new(alloc, Error::ClockOverflow)?;
-    assert!(rt; error_code(refusal.error()) == 11);
-    assert!(rt; has_words(alloc)?);
-    assert!(rt; keeps_entries(alloc)?);
-    assert!(rt; agree_on_an_event(alloc)?);
-    assert!(rt; parts_are_shown(alloc)?);
-    Ok(())
+    assert!(rt; is_numbered(&rt, alloc, Error::ClockOverflow, 11));
+    assert!(rt; have_words());
+    assert!(rt; keeps_entries(&rt, alloc));
+    assert!(rt; agree_on_an_event(&rt, alloc));
+    assert!(rt; fields_are_shown(&rt, alloc));
+    assert!(rt; labels_are_shown(&rt, alloc));
+    assert!(rt; is_order_shown(&rt, alloc, &[7]));
+    assert!(rt; is_order_shown(&rt, alloc, &[7, 8]));
 }

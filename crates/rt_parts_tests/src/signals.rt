@@ -1,7 +1,9 @@
 // Calls on signals and on a shutdown with what each answers, and many of each.
+use crate::base::came;
 use rt_base::{Error, NoMemory, Poll};
 use rt_super::{NOBODY, Signals, Stopped, Stopper};
-use std::test::Fail;
+use std::alloc::Global;
+use std::process::Abort;
 
 /// A call. Those on a shutdown are of the one that the signals begin with, by the number 0.
 enum Step {
@@ -42,10 +44,7 @@ fn make(signals: &mut Signals, stopper: &mut Stopper, step: &Step) -> Result<Cam
             Ok(completes(signals.poll_completion(completion, task)))
         }
         Step::Stop(value) => Ok(Came::Number(stopper.stop(signals, value)?)),
-        Step::Stopped => match stopper.stopped(signals)? {
-            Stopped::Waiting(signal) => Ok(Came::Number(signal)),
-            Stopped::Resolved(value) => Ok(Came::Value(value)),
-        },
+        Step::Stopped => Ok(met(stopper.stopped(signals)?)),
         Step::NextWoken => Ok(woken(signals.next_woken())),
         _ => {
             change(signals, step);
@@ -68,7 +67,7 @@ fn change(signals: &mut Signals, step: &Step) {
 fn cloned(answer: Result<u64, Error>) -> Came {
     match answer {
         Ok(signal) => Came::Number(signal),
-        Err(error) => refused(&error),
+        Err(error) => refused(error),
     }
 }
 
@@ -76,7 +75,7 @@ fn shown(answer: Result<Poll<i32>, Error>) -> Came {
     match answer {
         Ok(Poll::Pending) => Came::Pending,
         Ok(Poll::Ready(value)) => Came::Value(value),
-        Err(error) => refused(&error),
+        Err(error) => refused(error),
     }
 }
 
@@ -84,7 +83,14 @@ fn completes(answer: Result<Poll<()>, Error>) -> Came {
     match answer {
         Ok(Poll::Pending) => Came::Pending,
         Ok(Poll::Ready(())) => Came::Complete,
-        Err(error) => refused(&error),
+        Err(error) => refused(error),
+    }
+}
+
+fn met(stopped: Stopped) -> Came {
+    match stopped {
+        Stopped::Waiting(signal) => Came::Number(signal),
+        Stopped::Resolved(value) => Came::Value(value),
     }
 }
 
@@ -95,8 +101,8 @@ fn woken(task: Option<u64>) -> Came {
     }
 }
 
-fn refused(error: &Error) -> Came {
-    match error {
+fn refused(error: Error) -> Came {
+    match &error {
         Error::Closed => Came::Closed,
         Error::UnknownToken => Came::Unknown,
         _ => Came::Other,
@@ -218,17 +224,32 @@ const ALONE: &[(Step, Came)] = &[
     (Step::PollCompletion(1, 1), Came::Complete),
 ];
 
-#[test]
-fn calls_are_answered(rt: HostRuntime) -> Result<(), Fail> {
-    for (run, steps) in [SIGNALED, GIVEN_UP, STOPPED, ALONE].iter().enumerate() {
-        let mut signals = Signals::new(rt.alloc());
-        let mut stopper = Stopper::new(&mut signals)?;
-        for (place, (step, wanted)) in steps.iter().enumerate() {
-            let came = make(&mut signals, &mut stopper, step)?;
-            assert!(rt; came == *wanted, "step {} of run {}", place, run);
-        }
+const RUNS: &[&[(Step, Came)]] = &[SIGNALED, GIVEN_UP, STOPPED, ALONE];
+
+/// Whether a call comes to what is written.
+fn answers(signals: &mut Signals, stopper: &mut Stopper, answer: &(Step, Came)) -> bool {
+    let (step, wanted) = answer;
+    match make(signals, stopper, step).ok() {
+        Some(came) => came == *wanted,
+        None => false,
     }
-    Ok(())
+}
+
+/// Makes the calls of a run.
+fn make_each(rt: &impl Abort, alloc: Global, run: usize, steps: &[(Step, Came)]) {
+    let mut signals = Signals::new(alloc);
+    let mut stopper = Stopper::new(&mut signals).expect(rt, "room");
+    for (place, answer) in steps.iter().enumerate() {
+        let answered = answers(&mut signals, &mut stopper, answer);
+        assert!(rt; answered, "step {} of run {}", place, run);
+    }
+}
+
+#[test]
+fn calls_are_answered(rt: HostRuntime) {
+    for (run, steps) in RUNS.iter().enumerate() {
+        make_each(&rt, rt.alloc(), run, steps);
+    }
 }
 
 /// Whether the tasks of these numbers are woken next, in order, and nobody else.
@@ -276,15 +297,14 @@ fn close(signals: &mut Signals, first: u64, end: u64, value: i32) -> Result<bool
 }
 
 #[test]
-fn thousands_wait_for_the_first_of_a_thousand_stops(rt: HostRuntime) -> Result<(), Fail> {
+fn thousands_wait_for_the_first_of_a_thousand_stops(rt: HostRuntime) {
     let mut signals = Signals::new(rt.alloc());
-    let mut stopper = Stopper::new(&mut signals)?;
-    assert!(rt; wait(&mut signals, 1, 3_001)?);
-    let first = stopper.stop(&mut signals, 1)?;
-    assert!(rt; first == 3_001 && wakes(&mut signals, 1, 3_001));
-    assert!(rt; stop(&mut signals, &mut stopper, 3_002, 4_002)?);
-    assert!(rt; close(&mut signals, 1, 3_000, 1)?);
+    let mut stopper = Stopper::new(&mut signals).expect(&rt, "room");
+    assert!(rt; came(wait(&mut signals, 1, 3_001), true));
+    assert!(rt; came(stopper.stop(&mut signals, 1), 3_001));
+    assert!(rt; wakes(&mut signals, 1, 3_001));
+    assert!(rt; came(stop(&mut signals, &mut stopper, 3_002, 4_002), true));
+    assert!(rt; came(close(&mut signals, 1, 3_000, 1), true));
     signals.close_signal(3_000);
     assert!(rt; wakes(&mut signals, 3_002, 4_002));
-    Ok(())
 }

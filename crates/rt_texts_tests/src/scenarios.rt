@@ -66,79 +66,83 @@ fn expect_broken(
     Ok(())
 }
 
+const BROKEN_LINES: &[(&str, u64, &str)] = &[
+    ("", 1, "norun"),
+    ("script a\nend", 2, "cut"),
+    ("script a\nend 7\ndone\nrun a", 4, "cut"),
+    ("script a\ndone\nrun a\nrun a", 4, "cut"),
+    ("# tab\there\n", 1, "byte"),
+    ("\n pend\n", 2, "space"),
+    ("pend \n", 1, "space"),
+    ("# a  b\n", 1, "space"),
+    ("pend\n", 1, "place"),
+    ("done\n", 1, "place"),
+    ("script a\nscript b\n", 2, "place"),
+    ("script a\ndone\ntimeout 1\n", 3, "place"),
+    ("script a\nrun a\n", 2, "place"),
+    ("script a\ndone\nrun a\nscript b\n", 4, "place"),
+    ("script a\ndone\nrun a\nrun a\nscript a\n", 5, "place"),
+    ("script a\ndone\nrun a\nrun a\ndone\n", 5, "place"),
+    ("script a\ndone\nrun a\nruns a\n", 4, "unknown"),
+    ("seeds 7\n", 1, "unknown"),
+    ("script a\nSleep 1\n", 2, "unknown"),
+    ("timeout\n", 1, "count"),
+    ("script a\nyield 1\n", 2, "count"),
+    ("script a\ndraw 1\n", 2, "count"),
+    ("timeout 1 2\n", 1, "count"),
+    ("script a b\n", 1, "count"),
+    ("script 9a\n", 1, "name"),
+    ("script abcdefghijklmnopqrstuvwxyzabcdefg\n", 1, "name"),
+    ("run a-b\n", 1, "name"),
+    ("script a\ndone\nrun a\nrun 9\n", 4, "name"),
+];
+
 #[test]
 fn first_broken_lines(rt: HostRuntime) -> Result<(), Fail> {
-    for (text, line, word) in [
-        ("", 1u64, "norun"),
-        ("script a\nend", 2, "cut"),
-        ("script a\nend 7\ndone\nrun a", 4, "cut"),
-        ("script a\ndone\nrun a\nrun a", 4, "cut"),
-        ("# tab\there\n", 1, "byte"),
-        ("\n pend\n", 2, "space"),
-        ("pend \n", 1, "space"),
-        ("# a  b\n", 1, "space"),
-        ("pend\n", 1, "place"),
-        ("done\n", 1, "place"),
-        ("script a\nscript b\n", 2, "place"),
-        ("script a\ndone\ntimeout 1\n", 3, "place"),
-        ("script a\nrun a\n", 2, "place"),
-        ("script a\ndone\nrun a\nscript b\n", 4, "place"),
-        ("script a\ndone\nrun a\nrun a\nscript a\n", 5, "place"),
-        ("script a\ndone\nrun a\nrun a\ndone\n", 5, "place"),
-        ("script a\ndone\nrun a\nruns a\n", 4, "unknown"),
-        ("seeds 7\n", 1, "unknown"),
-        ("script a\nSleep 1\n", 2, "unknown"),
-        ("timeout\n", 1, "count"),
-        ("script a\nyield 1\n", 2, "count"),
-        ("script a\ndraw 1\n", 2, "count"),
-        ("timeout 1 2\n", 1, "count"),
-        ("script a b\n", 1, "count"),
-        ("script 9a\n", 1, "name"),
-        ("script abcdefghijklmnopqrstuvwxyzabcdefg\n", 1, "name"),
-        ("run a-b\n", 1, "name"),
-        ("script a\ndone\nrun a\nrun 9\n", 4, "name"),
-    ] {
+    for &(text, line, word) in BROKEN_LINES {
         expect_broken(&rt, rt.alloc(), text, line, word)?;
     }
     Ok(())
 }
 
+const NUMBERS_AND_NAMES: &[(&str, u64, &str)] = &[
+    ("timeout 01\n", 1, "number"),
+    ("timeout +1\n", 1, "number"),
+    ("timeout -1\n", 1, "number"),
+    (
+        "timeout 340282366920938463463374607431768211456\n",
+        1,
+        "number",
+    ),
+    ("script a\nsleep 1s\n", 2, "number"),
+    ("script a\nend 9223372036854775808\n", 2, "number"),
+    ("script a\nend -9223372036854775809\n", 2, "number"),
+    ("script a\nend -0\n", 2, "number"),
+    ("script a\nend -\n", 2, "number"),
+    (
+        "script a\nsleep 18446744073709551616\nend 99999999999999999999\n",
+        3,
+        "number",
+    ),
+    ("timeout 1\ntimeout 2\n", 2, "twice"),
+    ("timeout 1\ntimeout x\n", 2, "number"),
+    ("script a\ndone\nscript a\n", 3, "twice"),
+    ("run a\n", 1, "missing"),
+    ("script a\ndone\nrun b\n", 3, "missing"),
+    ("script a\ndone\nrun a\nrun b\n", 4, "missing"),
+    ("script a\ndone\nrun b\nrun a\n", 3, "missing"),
+    (
+        "timeout 9223372036854775808000000000\nscript a\ndone\nrun a\n",
+        4,
+        "config",
+    ),
+    ("script a\n", 2, "norun"),
+    ("script a\ndone\n\n", 4, "norun"),
+];
+
 #[test]
 fn refused_numbers_and_names(rt: HostRuntime) -> Result<(), Fail> {
-    for (text, line, word) in [
-        ("timeout 01\n", 1u64, "number"),
-        ("timeout +1\n", 1, "number"),
-        ("timeout -1\n", 1, "number"),
-        (
-            "timeout 340282366920938463463374607431768211456\n",
-            1,
-            "number",
-        ),
-        ("script a\nsleep 1s\n", 2, "number"),
-        ("script a\nend 9223372036854775808\n", 2, "number"),
-        ("script a\nend -9223372036854775809\n", 2, "number"),
-        ("script a\nend -0\n", 2, "number"),
-        ("script a\nend -\n", 2, "number"),
-        (
-            "script a\nsleep 18446744073709551616\nend 99999999999999999999\n",
-            3,
-            "number",
-        ),
-        ("timeout 1\ntimeout 2\n", 2, "twice"),
-        ("timeout 1\ntimeout x\n", 2, "number"),
-        ("script a\ndone\nscript a\n", 3, "twice"),
-        ("run a\n", 1, "missing"),
-        ("script a\ndone\nrun b\n", 3, "missing"),
-        ("script a\ndone\nrun a\nrun b\n", 4, "missing"),
-        ("script a\ndone\nrun b\nrun a\n", 3, "missing"),
-        (
-            "timeout 9223372036854775808000000000\nscript a\ndone\nrun a\n",
-            4,
-            "config",
-        ),
-        ("script a\n", 2, "norun"),
-        ("script a\ndone\n\n", 4, "norun"),
-    ] {
+    for &(text, line, word) in NUMBERS_AND_NAMES {
         expect_broken(&rt, rt.alloc(), text, line, word)?;
     }
     Ok(())
@@ -198,91 +202,111 @@ fn read_settings(rt: HostRuntime) -> Result<(), Fail> {
     Ok(())
 }
 
+const SETTINGS: &[(&str, u64, &str)] = &[
+    ("seed 7", 1, "cut"),
+    ("start  7\n", 1, "space"),
+    ("script a\nseed 1\n", 2, "place"),
+    ("script a\ndone\nnext 1\n", 3, "place"),
+    ("script a\ncycle x\n", 2, "place"),
+    ("script a\ndone\nrun a\nstart 1\n", 4, "place"),
+    ("script a\ndone\nrun a\nrun a\ntimeout x\n", 5, "place"),
+    ("Seed 7\n", 1, "unknown"),
+    ("seed\n", 1, "count"),
+    ("next 1 2\n", 1, "count"),
+    ("cycle\n", 1, "count"),
+    ("start x 1\n", 1, "count"),
+    ("seed x\n", 1, "number"),
+    ("next -1\n", 1, "number"),
+    ("cycle 01\n", 1, "number"),
+    ("start 1s\n", 1, "number"),
+    ("seed 18446744073709551616\n", 1, "number"),
+    ("next 18446744073709551616\n", 1, "number"),
+    (
+        "seed 340282366920938463463374607431768211456\n",
+        1,
+        "number",
+    ),
+    (
+        "cycle 340282366920938463463374607431768211456\n",
+        1,
+        "number",
+    ),
+    (
+        "start 340282366920938463463374607431768211456\n",
+        1,
+        "number",
+    ),
+    ("seed 1\nseed 1\n", 2, "twice"),
+    ("next 1\nseed 1\nnext 2\n", 3, "twice"),
+    ("cycle 0\ncycle 1\n", 2, "twice"),
+    ("start 1\nstart 1\n", 2, "twice"),
+    ("seed 1\nseed 18446744073709551616\n", 2, "number"),
+    ("start 1\nstart x\n", 2, "number"),
+];
+
 #[test]
 fn refused_settings(rt: HostRuntime) -> Result<(), Fail> {
-    for (text, line, word) in [
-        ("seed 7", 1u64, "cut"),
-        ("start  7\n", 1, "space"),
-        ("script a\nseed 1\n", 2, "place"),
-        ("script a\ndone\nnext 1\n", 3, "place"),
-        ("script a\ncycle x\n", 2, "place"),
-        ("script a\ndone\nrun a\nstart 1\n", 4, "place"),
-        ("script a\ndone\nrun a\nrun a\ntimeout x\n", 5, "place"),
-        ("Seed 7\n", 1, "unknown"),
-        ("seed\n", 1, "count"),
-        ("next 1 2\n", 1, "count"),
-        ("cycle\n", 1, "count"),
-        ("start x 1\n", 1, "count"),
-        ("seed x\n", 1, "number"),
-        ("next -1\n", 1, "number"),
-        ("cycle 01\n", 1, "number"),
-        ("start 1s\n", 1, "number"),
-        ("seed 18446744073709551616\n", 1, "number"),
-        ("next 18446744073709551616\n", 1, "number"),
-        (
-            "seed 340282366920938463463374607431768211456\n",
-            1,
-            "number",
-        ),
-        (
-            "cycle 340282366920938463463374607431768211456\n",
-            1,
-            "number",
-        ),
-        (
-            "start 340282366920938463463374607431768211456\n",
-            1,
-            "number",
-        ),
-        ("seed 1\nseed 1\n", 2, "twice"),
-        ("next 1\nseed 1\nnext 2\n", 3, "twice"),
-        ("cycle 0\ncycle 1\n", 2, "twice"),
-        ("start 1\nstart 1\n", 2, "twice"),
-        ("seed 1\nseed 18446744073709551616\n", 2, "number"),
-        ("start 1\nstart x\n", 2, "number"),
-    ] {
+    for &(text, line, word) in SETTINGS {
         expect_broken(&rt, rt.alloc(), text, line, word)?;
     }
     Ok(())
 }
 
+const SETTINGS_OF_NO_RUN: &[(&str, u64, &str)] = &[
+    ("cycle 0\nscript a\ndone\nrun a\n", 4, "config"),
+    (
+        "start 9223372036854775808000000000\nscript a\ndone\nrun a\n",
+        4,
+        "config",
+    ),
+    (
+        "start 9223372036854775807999999999\ntimeout 1\nscript a\ndone\nrun a\n",
+        5,
+        "config",
+    ),
+    (
+        "timeout 9223372036854775807999999999\nstart 1\nscript a\ndone\nrun a\n",
+        5,
+        "config",
+    ),
+    (
+        "start 340282366920938463463374607431768211455\ntimeout 1\nscript a\ndone\nrun a\n",
+        5,
+        "config",
+    ),
+    (
+        "start 1\ntimeout 340282366920938463463374607431768211455\nscript a\ndone\nrun a\n",
+        5,
+        "config",
+    ),
+    ("cycle 0\nscript a\ndone\nrun a\nrun b\n", 4, "config"),
+    ("cycle 0\nscript a\ndone\nrun b\n", 4, "missing"),
+    ("cycle 0\nscript a\n", 3, "norun"),
+];
+
 #[test]
 fn settings_that_can_not_be_run(rt: HostRuntime) -> Result<(), Fail> {
-    for (text, line, word) in [
-        ("cycle 0\nscript a\ndone\nrun a\n", 4u64, "config"),
-        (
-            "start 9223372036854775808000000000\nscript a\ndone\nrun a\n",
-            4,
-            "config",
-        ),
-        (
-            "start 9223372036854775807999999999\ntimeout 1\nscript a\ndone\nrun a\n",
-            5,
-            "config",
-        ),
-        (
-            "timeout 9223372036854775807999999999\nstart 1\nscript a\ndone\nrun a\n",
-            5,
-            "config",
-        ),
-        (
-            "start 340282366920938463463374607431768211455\ntimeout 1\nscript a\ndone\nrun a\n",
-            5,
-            "config",
-        ),
-        (
-            "start 1\ntimeout 340282366920938463463374607431768211455\nscript a\ndone\nrun a\n",
-            5,
-            "config",
-        ),
-        ("cycle 0\nscript a\ndone\nrun a\nrun b\n", 4, "config"),
-        ("cycle 0\nscript a\ndone\nrun b\n", 4, "missing"),
-        ("cycle 0\nscript a\n", 3, "norun"),
-    ] {
+    for &(text, line, word) in SETTINGS_OF_NO_RUN {
         expect_broken(&rt, rt.alloc(), text, line, word)?;
     }
     Ok(())
 }
+
+const SUPERVISED: &[Line] = &[
+    Line::Spawn(3, 0),
+    Line::Spawn(1, 1),
+    Line::Until(u128::MAX),
+    Line::Panic(0),
+    Line::Abort(1),
+    Line::AbortSelf,
+    Line::Drop(2),
+    Line::Abort(3),
+    Line::Join(3),
+    Line::Join(0),
+    Line::Within(1, 7),
+    Line::Panic(1),
+    Line::Spawn(3, 0),
+];
 
 #[test]
 fn surface_of_supervision(rt: HostRuntime) -> Result<(), Fail> {
@@ -304,25 +328,7 @@ fn surface_of_supervision(rt: HostRuntime) -> Result<(), Fail> {
     assert!(rt; scripts[1].words.as_slice().len() == 1);
     assert!(rt; scripts[1].words.as_slice()[0].as_str() == "a~");
     let main = &scripts[2];
-    assert!(rt;
-        main.lines.as_slice()
-            == [
-                Line::Spawn(3, 0),
-                Line::Spawn(1, 1),
-                Line::Until(u128::MAX),
-                Line::Panic(0),
-                Line::Abort(1),
-                Line::AbortSelf,
-                Line::Drop(2),
-                Line::Abort(3),
-                Line::Join(3),
-                Line::Join(0),
-                Line::Within(1, 7),
-                Line::Panic(1),
-                Line::Spawn(3, 0)
-            ]
-            .as_slice()
-    );
+    assert!(rt; main.lines.as_slice() == SUPERVISED);
     let handles = main.handles.as_slice();
     assert!(rt; handles.len() == 4);
     for (handle, name) in handles.iter().zip(["B", "b_1", "self", "z"]) {
@@ -377,82 +383,97 @@ fn read_lines_of_supervision(rt: HostRuntime) -> Result<(), Fail> {
     Ok(())
 }
 
+const LINES_OF_SUPERVISION: &[(&str, u64, &str)] = &[
+    ("catch on", 1, "cut"),
+    ("catch  on\n", 1, "space"),
+    ("script a\nspawn h  a\n", 2, "space"),
+    ("script a\njoin  h\n", 2, "space"),
+    ("script a\nend 1 \n", 2, "space"),
+    ("script a\ndone \n", 2, "space"),
+    ("script a\ncatch on\n", 2, "place"),
+    ("script a\ndone\ncatch on\n", 3, "place"),
+    ("script a\ndone\nrun a\ncatch on\n", 4, "place"),
+    ("until 1\n", 1, "place"),
+    ("panic x\n", 1, "place"),
+    ("spawn\n", 1, "place"),
+    ("script a\ndone\njoin h\n", 3, "place"),
+    ("script a\ndone\nrun a with a\ndrop h\n", 4, "place"),
+    ("catches on\n", 1, "unknown"),
+    ("script a\nAbort h\n", 2, "unknown"),
+    ("catch\n", 1, "count"),
+    ("catch on off\n", 1, "count"),
+    ("script a\nuntil\n", 2, "count"),
+    ("script a\nuntil x 1\n", 2, "count"),
+    ("script a\npanic\n", 2, "count"),
+    ("script a\npanic two words\n", 2, "count"),
+    ("script a\nspawn 9\n", 2, "count"),
+    ("script a\nspawn h a b\n", 2, "count"),
+    ("script a\nabort\n", 2, "count"),
+    ("script a\nabort self h\n", 2, "count"),
+    ("script a\ndrop\n", 2, "count"),
+    ("script a\njoin h i\n", 2, "count"),
+    ("script a\nwithin 1\n", 2, "count"),
+    ("script a\nwithin 1 h i\n", 2, "count"),
+    ("run\n", 1, "count"),
+    ("script a\ndone\nrun a with\n", 3, "count"),
+    ("script a\ndone\nrun a\nrun a with\n", 4, "count"),
+    ("script a\ndone\nrun a a\n", 3, "count"),
+    ("script a\ndone\nrun a and a\n", 3, "count"),
+    ("run 9 a with a\n", 1, "count"),
+    ("catch maybe\n", 1, "name"),
+    ("catch On\n", 1, "name"),
+    ("catch 1\n", 1, "name"),
+    (
+        "script a\nuntil 340282366920938463463374607431768211456\n",
+        2,
+        "number",
+    ),
+    ("script a\nuntil 01\n", 2, "number"),
+    ("catch on\ncatch on\n", 2, "twice"),
+    ("catch on\ntimeout 1\ncatch off\n", 3, "twice"),
+    ("catch on\ncatch maybe\n", 2, "name"),
+    (
+        "script a\nspawn abcdefghijklmnopqrstuvwxyzabcdefg a\n",
+        2,
+        "name",
+    ),
+    ("script a\nspawn 9 none\n", 2, "name"),
+    ("script a\nspawn h 9\n", 2, "name"),
+    ("script a\nabort 9\n", 2, "name"),
+    ("script a\ndrop a-b\n", 2, "name"),
+    ("script a\njoin _h\n", 2, "name"),
+    ("script a\nwithin x 9\n", 2, "name"),
+    ("script a\nwithin x h\n", 2, "number"),
+    ("run none with a-b\n", 1, "name"),
+    ("run 9 with none\n", 1, "name"),
+    ("script a\nspawn h a\n", 2, "missing"),
+    ("script a\nspawn h b\ndone\nscript b\ndone\n", 2, "missing"),
+    ("script a\ndone\nrun a with a b\n", 3, "missing"),
+    ("script a\ndone\nrun a\nrun a with a b\n", 4, "missing"),
+    ("script a\ndone\nrun b with a\n", 3, "missing"),
+    ("script a\nspawn h a\ndone\n", 2, "missing"),
+];
+
 #[test]
 fn refused_lines_of_supervision(rt: HostRuntime) -> Result<(), Fail> {
-    for (text, line, word) in [
-        ("catch on", 1u64, "cut"),
-        ("catch  on\n", 1, "space"),
-        ("script a\nspawn h  a\n", 2, "space"),
-        ("script a\njoin  h\n", 2, "space"),
-        ("script a\nend 1 \n", 2, "space"),
-        ("script a\ndone \n", 2, "space"),
-        ("script a\ncatch on\n", 2, "place"),
-        ("script a\ndone\ncatch on\n", 3, "place"),
-        ("script a\ndone\nrun a\ncatch on\n", 4, "place"),
-        ("until 1\n", 1, "place"),
-        ("panic x\n", 1, "place"),
-        ("spawn\n", 1, "place"),
-        ("script a\ndone\njoin h\n", 3, "place"),
-        ("script a\ndone\nrun a with a\ndrop h\n", 4, "place"),
-        ("catches on\n", 1, "unknown"),
-        ("script a\nAbort h\n", 2, "unknown"),
-        ("catch\n", 1, "count"),
-        ("catch on off\n", 1, "count"),
-        ("script a\nuntil\n", 2, "count"),
-        ("script a\nuntil x 1\n", 2, "count"),
-        ("script a\npanic\n", 2, "count"),
-        ("script a\npanic two words\n", 2, "count"),
-        ("script a\nspawn 9\n", 2, "count"),
-        ("script a\nspawn h a b\n", 2, "count"),
-        ("script a\nabort\n", 2, "count"),
-        ("script a\nabort self h\n", 2, "count"),
-        ("script a\ndrop\n", 2, "count"),
-        ("script a\njoin h i\n", 2, "count"),
-        ("script a\nwithin 1\n", 2, "count"),
-        ("script a\nwithin 1 h i\n", 2, "count"),
-        ("run\n", 1, "count"),
-        ("script a\ndone\nrun a with\n", 3, "count"),
-        ("script a\ndone\nrun a\nrun a with\n", 4, "count"),
-        ("script a\ndone\nrun a a\n", 3, "count"),
-        ("script a\ndone\nrun a and a\n", 3, "count"),
-        ("run 9 a with a\n", 1, "count"),
-        ("catch maybe\n", 1, "name"),
-        ("catch On\n", 1, "name"),
-        ("catch 1\n", 1, "name"),
-        (
-            "script a\nuntil 340282366920938463463374607431768211456\n",
-            2,
-            "number",
-        ),
-        ("script a\nuntil 01\n", 2, "number"),
-        ("catch on\ncatch on\n", 2, "twice"),
-        ("catch on\ntimeout 1\ncatch off\n", 3, "twice"),
-        ("catch on\ncatch maybe\n", 2, "name"),
-        (
-            "script a\nspawn abcdefghijklmnopqrstuvwxyzabcdefg a\n",
-            2,
-            "name",
-        ),
-        ("script a\nspawn 9 none\n", 2, "name"),
-        ("script a\nspawn h 9\n", 2, "name"),
-        ("script a\nabort 9\n", 2, "name"),
-        ("script a\ndrop a-b\n", 2, "name"),
-        ("script a\njoin _h\n", 2, "name"),
-        ("script a\nwithin x 9\n", 2, "name"),
-        ("script a\nwithin x h\n", 2, "number"),
-        ("run none with a-b\n", 1, "name"),
-        ("run 9 with none\n", 1, "name"),
-        ("script a\nspawn h a\n", 2, "missing"),
-        ("script a\nspawn h b\ndone\nscript b\ndone\n", 2, "missing"),
-        ("script a\ndone\nrun a with a b\n", 3, "missing"),
-        ("script a\ndone\nrun a\nrun a with a b\n", 4, "missing"),
-        ("script a\ndone\nrun b with a\n", 3, "missing"),
-        ("script a\nspawn h a\ndone\n", 2, "missing"),
-    ] {
+    for &(text, line, word) in LINES_OF_SUPERVISION {
         expect_broken(&rt, rt.alloc(), text, line, word)?;
     }
     Ok(())
 }
+
+const STOPPING: &[Line] = &[
+    Line::Stopped(3),
+    Line::Spawn(1, 0),
+    Line::Stopped(0),
+    Line::Wait(3),
+    Line::Wait(2),
+    Line::Stop(i32::MAX, None),
+    Line::Stop(i32::MIN, Some(u128::MAX)),
+    Line::Stop(0, Some(0)),
+    Line::Stopped(1),
+    Line::Join(3),
+];
 
 #[test]
 fn surface_of_shutdown(rt: HostRuntime) -> Result<(), Fail> {
@@ -462,22 +483,7 @@ fn surface_of_shutdown(rt: HostRuntime) -> Result<(), Fail> {
     let [_, main] = scenario.scripts.as_slice() else {
         panic!(rt; "other scripts");
     };
-    assert!(rt;
-        main.lines.as_slice()
-            == [
-                Line::Stopped(3),
-                Line::Spawn(1, 0),
-                Line::Stopped(0),
-                Line::Wait(3),
-                Line::Wait(2),
-                Line::Stop(i32::MAX, None),
-                Line::Stop(i32::MIN, Some(u128::MAX)),
-                Line::Stop(0, Some(0)),
-                Line::Stopped(1),
-                Line::Join(3)
-            ]
-            .as_slice()
-    );
+    assert!(rt; main.lines.as_slice() == STOPPING);
     let names = main.handles.as_slice();
     assert!(rt; names.len() == 4);
     for (held, name) in names.iter().zip(["B", "g", "nothing", "wait"]) {
@@ -500,59 +506,71 @@ fn read_lines_of_shutdown(rt: HostRuntime) -> Result<(), Fail> {
     Ok(())
 }
 
+const LINES_OF_SHUTDOWN: &[(&str, u64, &str)] = &[
+    ("script a\nstop 1", 2, "cut"),
+    ("script a\nwait g\t\n", 2, "byte"),
+    ("script a\nstop 1  2\n", 2, "space"),
+    ("script a\nwait g \n", 2, "space"),
+    ("stopped g\n", 1, "place"),
+    ("wait\n", 1, "place"),
+    ("script a\ndone\nstop x\n", 3, "place"),
+    ("script a\nStop 1\n", 2, "unknown"),
+    ("waits g\n", 1, "unknown"),
+    ("script a\nstopped\n", 2, "count"),
+    ("script a\nstopped g h\n", 2, "count"),
+    ("script a\nwait\n", 2, "count"),
+    ("script a\nwait 9 1\n", 2, "count"),
+    ("script a\nstop\n", 2, "count"),
+    ("script a\nstop x 1 2\n", 2, "count"),
+    ("script a\nstopped 9\n", 2, "name"),
+    (
+        "script a\nstopped abcdefghijklmnopqrstuvwxyzabcdefg\n",
+        2,
+        "name",
+    ),
+    ("script a\nwait _g\n", 2, "name"),
+    ("script a\nstop 1\n", 3, "norun"),
+];
+
 #[test]
 fn refused_lines_of_shutdown(rt: HostRuntime) -> Result<(), Fail> {
-    for (text, line, word) in [
-        ("script a\nstop 1", 2u64, "cut"),
-        ("script a\nwait g\t\n", 2, "byte"),
-        ("script a\nstop 1  2\n", 2, "space"),
-        ("script a\nwait g \n", 2, "space"),
-        ("stopped g\n", 1, "place"),
-        ("wait\n", 1, "place"),
-        ("script a\ndone\nstop x\n", 3, "place"),
-        ("script a\nStop 1\n", 2, "unknown"),
-        ("waits g\n", 1, "unknown"),
-        ("script a\nstopped\n", 2, "count"),
-        ("script a\nstopped g h\n", 2, "count"),
-        ("script a\nwait\n", 2, "count"),
-        ("script a\nwait 9 1\n", 2, "count"),
-        ("script a\nstop\n", 2, "count"),
-        ("script a\nstop x 1 2\n", 2, "count"),
-        ("script a\nstopped 9\n", 2, "name"),
-        (
-            "script a\nstopped abcdefghijklmnopqrstuvwxyzabcdefg\n",
-            2,
-            "name",
-        ),
-        ("script a\nwait _g\n", 2, "name"),
-        ("script a\nstop 1\n", 3, "norun"),
-    ] {
+    for &(text, line, word) in LINES_OF_SHUTDOWN {
         expect_broken(&rt, rt.alloc(), text, line, word)?;
     }
     Ok(())
 }
 
+const VALUES_OF_SHUTDOWN: &[&str] = &[
+    "script a\nstop last\n",
+    "script a\nstop 2147483648\n",
+    "script a\nstop -2147483649\n",
+    "script a\nstop 4294967296\n",
+    "script a\nstop 9223372036854775808\n",
+    "script a\nstop -0\n",
+    "script a\nstop -\n",
+    "script a\nstop 01\n",
+    "script a\nstop +1\n",
+    "script a\nstop 2147483648 1\n",
+    "script a\nstop 1 340282366920938463463374607431768211456\n",
+    "script a\nstop 1 -1\n",
+    "script a\nstop 1 01\n",
+];
+
 #[test]
 fn refused_values_of_shutdown(rt: HostRuntime) -> Result<(), Fail> {
-    for text in [
-        "script a\nstop last\n",
-        "script a\nstop 2147483648\n",
-        "script a\nstop -2147483649\n",
-        "script a\nstop 4294967296\n",
-        "script a\nstop 9223372036854775808\n",
-        "script a\nstop -0\n",
-        "script a\nstop -\n",
-        "script a\nstop 01\n",
-        "script a\nstop +1\n",
-        "script a\nstop 2147483648 1\n",
-        "script a\nstop 1 340282366920938463463374607431768211456\n",
-        "script a\nstop 1 -1\n",
-        "script a\nstop 1 01\n",
-    ] {
+    for &text in VALUES_OF_SHUTDOWN {
         expect_broken(&rt, rt.alloc(), text, 2, "number")?;
     }
     Ok(())
 }
+
+const SELECTING: &[Line] = &[
+    Line::Spawn(2, 0),
+    Line::Select(0, 1),
+    Line::Select(1, 4),
+    Line::Join(0),
+    Line::Select(4, 6),
+];
 
 #[test]
 fn surface_of_select(rt: HostRuntime) -> Result<(), Fail> {
@@ -563,17 +581,7 @@ fn surface_of_select(rt: HostRuntime) -> Result<(), Fail> {
         panic!(rt; "other scripts");
     };
     assert!(rt; idle.choices.as_slice().len() == 0);
-    assert!(rt;
-        main.lines.as_slice()
-            == [
-                Line::Spawn(2, 0),
-                Line::Select(0, 1),
-                Line::Select(1, 4),
-                Line::Join(0),
-                Line::Select(4, 6)
-            ]
-            .as_slice()
-    );
+    assert!(rt; main.lines.as_slice() == SELECTING);
     assert!(rt; main.choices.as_slice() == [3usize, 2, 0, 2, 1, 3].as_slice());
     let names = main.handles.as_slice();
     assert!(rt; names.len() == 4);
@@ -583,29 +591,33 @@ fn surface_of_select(rt: HostRuntime) -> Result<(), Fail> {
     Ok(())
 }
 
+const READ_LINES_OF_SELECT: &[&str] = &[
+    "script a\nselect abcdefghijklmnopqrstuvwxyzabcdef\nselect self self\ndone\nrun a\n",
+    "script select\nselect select with last\nselect g\nstopped g\ndone\nrun select\n",
+];
+
+const LINES_OF_SELECT: &[(&str, u64, &str)] = &[
+    ("script a\nselect h", 2, "cut"),
+    ("script a\nselect h  i\n", 2, "space"),
+    ("select\n", 1, "place"),
+    ("script a\nselects h\n", 2, "unknown"),
+    ("script a\nselect\n", 2, "count"),
+    ("script a\nselect 9\n", 2, "name"),
+    ("script a\nselect h i 9\n", 2, "name"),
+    (
+        "script a\nselect abcdefghijklmnopqrstuvwxyzabcdefg h\n",
+        2,
+        "name",
+    ),
+    ("script a\nselect h\n", 3, "norun"),
+];
+
 #[test]
 fn lines_of_select(rt: HostRuntime) -> Result<(), Fail> {
-    for text in [
-        "script a\nselect abcdefghijklmnopqrstuvwxyzabcdef\nselect self self\ndone\nrun a\n",
-        "script select\nselect select with last\nselect g\nstopped g\ndone\nrun select\n",
-    ] {
+    for &text in READ_LINES_OF_SELECT {
         expect_read(&rt, rt.alloc(), text);
     }
-    for (text, line, word) in [
-        ("script a\nselect h", 2u64, "cut"),
-        ("script a\nselect h  i\n", 2, "space"),
-        ("select\n", 1, "place"),
-        ("script a\nselects h\n", 2, "unknown"),
-        ("script a\nselect\n", 2, "count"),
-        ("script a\nselect 9\n", 2, "name"),
-        ("script a\nselect h i 9\n", 2, "name"),
-        (
-            "script a\nselect abcdefghijklmnopqrstuvwxyzabcdefg h\n",
-            2,
-            "name",
-        ),
-        ("script a\nselect h\n", 3, "norun"),
-    ] {
+    for &(text, line, word) in LINES_OF_SELECT {
         expect_broken(&rt, rt.alloc(), text, line, word)?;
     }
     Ok(())
