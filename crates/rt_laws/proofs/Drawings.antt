@@ -3,7 +3,7 @@ use Rattle.std.proofs.Common.{◌≡◌, ◌≢◌, ◌≤◌, ◌<◌, ◌^◌,
 use Rattle.std.proofs.lemmas.List.{append-nil}
 use Rattle.rt_base.specs.declared.error.Error.{Error}
 use Rattle.rt_audit.specs.declared.call.Call.{Call as CallOf}
-use Rattle.rt_audit.specs.declared.call.Call.TheVariants.{NextU32, NextU64, FillBytes}
+use Rattle.rt_audit.specs.declared.call.Call.TheVariants.{NextU32, NextU64, FillBytes, Auditor}
 use Rattle.rt_audit.specs.declared.reply.CallReply.{CallReply}
 use Rattle.rt_audit.specs.declared.reply.CallReply.TheVariants.{Done, Number, Bytes, Refused}
 use Rattle.rt_audit.specs.declared.answer.AnswerKind.TheVariants.{Ready}
@@ -17,8 +17,8 @@ use Rattle.rt_model.specs.Rules.{Answers, IsLawful, AreDrawn}
 use Rattle.rt_model.specs.Tied.{nothing}
 use Rattle.rt_model.specs.Run.{IsRun}
 use Rattle.rt_model.proofs.Append.{after_all-append, IsLawful-append}
-use Rattle.rt_laws.specs.Examples.{small_begin, gave, root_ends, finishing}
-use Rattle.rt_laws.specs.Drawing.{drawing_root, visited_again, draws_by, drawing_journal}
+use Rattle.rt_laws.specs.Examples.{small_begin, gave, opening, visiting_root, root_ends, finishing}
+use Rattle.rt_laws.specs.Drawing.{drawing_root, asking_root, visited_again, draws_by, drawing_journal, asking_journal}
 use Rattle.rt_laws.proofs.Decided.{lawful}
 use Rattle.rt_laws.proofs.Followed.{tied}
 use Rattle.rt_laws.proofs.Signals.{apart}
@@ -54,6 +54,30 @@ drawing_order number bytes = search rules
 pub drawing_drawn : (number : ℕ) (bytes : List ℕ) → (after_all (begun small_begin) (drawing_journal number bytes)).drawn ≡ Long 6 ∷ Long number ∷ Filled bytes ∷ []
 unfolding begun after
 drawing_drawn number bytes = refl
+
+-- and so has one that asks an auditor
+
+asking-lawful : (bytes digest : List ℕ) → length bytes ≡ 4 → length digest ≡ 4 → IsLawful (begun small_begin) (asking_journal bytes digest)
+unfolding begun after
+asking-lawful bytes digest four exact =
+    let behind = draws_by (codes "fill_bytes") (FillBytes 4) (Bytes bytes)
+    ++ (Call (Some 0) Auditor (Bytes digest) ∷ Answered 0 Ready ∷ [])
+    ++ root_ends
+    ++ finishing Completed
+    in
+    IsLawful-append (begun small_begin) (opening ++ visiting_root) behind (lawful small_begin (opening ++ visiting_root) refl)
+    ((refl, (Some 0, refl, (FillBytes 4, Done, refl))), ((refl, (refl, four, refl)), ((refl, (refl, exact, refl)), search rules)))
+
+pub asking_run : (bytes digest : List ℕ) → length bytes ≡ 4 → length digest ≡ 4 → IsRun (asking_root 4) small_begin (asking_journal bytes digest) Completed (after_all (begun small_begin) (asking_journal bytes digest)) (gave 4)
+unfolding begun after
+asking_run bytes digest four exact = record {
+  lawful = asking-lawful bytes digest four exact;
+  reaches = refl;
+  ends = refl;
+  caused = λ e. cc;
+  tied = tied (asking_root 4) (begun small_begin) nothing (gave 4) (asking_journal bytes digest) refl;
+  whole = refl;
+}
 
 -- what an entry draws stands behind what was drawn
 

@@ -45,6 +45,7 @@ pub mod Stopped
 pub mod Supervising
 pub mod Tasks
 pub mod Timely
+pub mod Trails
 pub mod Trees
 pub mod Under
 pub mod Valid

@@ -1,5 +1,5 @@
 -- Several runs in one journal are runs one after another.
-use Rattle.std.proofs.Common.{◌≡◌, ◌⊎◌, inl, inr, true, false, List, [], ◌∷◌, ◌++◌, refl, sym, ap, ◌∙◌}
+use Rattle.std.proofs.Common.{◌≡◌, ◌≤◌, ◌⊎◌, inl, inr, true, false, List, [], ◌∷◌, ◌++◌, refl, sym, ap, ◌∙◌, arith}
 use Rattle.std.proofs.lemmas.Bool.{cases_Bool, true≢false, false≢true}
 use Rattle.rt_audit.specs.declared.finish.FinishCause.{FinishCause}
 use Rattle.rt_audit.specs.declared.finish.FinishCause.TheVariants.{Completed}
@@ -10,6 +10,7 @@ use Rattle.rt_model.specs.State.{Phase, Blank, Finished, State, begun}
 use Rattle.rt_model.specs.Effects.{after, after_all}
 use Rattle.rt_model.specs.Rules.{May, IsLawful}
 use Rattle.rt_model.specs.Runs.{Runs, renews, runs_from, AreLawful}
+use Rattle.rt_laws.specs.Chained.{BeginInOrder}
 use Rattle.rt_laws.specs.Several.{GoesOn}
 use Rattle.rt_laws.proofs.Starts.{start-first}
 
@@ -57,6 +58,31 @@ alone s later (e ∷ x) l = rw (stays s e l.0) (l.0, alone (after s e) later x l
 
 pub run_alone : (b : Begin) (others : List Begin) (x : List Entry) → IsLawful (begun b) x → AreLawful (runs_from b others) x
 run_alone b others x l = alone (begun b) others x l
+
+-- and such runs begin in order, where the next begins no earlier than the one ahead of it ends
+
+order-alone : (s : State) (later : List Begin) (x : List Entry) → IsLawful s x → BeginInOrder (from s later) x
+order-alone s later [] l = tt
+order-alone s later (e ∷ x) l = rw (stays s e l.0) (omega arith, order-alone (after s e) later x l.1)
+
+pub alone_in_order : (b : Begin) (others : List Begin) (x : List Entry) → IsLawful (begun b) x → BeginInOrder (runs_from b others) x
+alone_in_order b others x l = order-alone (begun b) others x l
+
+order-begins : (c : Begin) (later : List Begin) (s : State) (y : List Entry) → s.phase ≡ Finished Completed → s.clock.time ≤ c.start → AreLawful (runs_from c later) y → BeginInOrder (runs_from c later) y → BeginInOrder (from s (c ∷ later)) y
+unfolding begun
+order-begins c later s [] ends early h o = tt
+order-begins c later s (e ∷ y) ends early h o =
+    let k : May (begun c) e × AreLawful (from (after (begun c) e) later) y = rw (blank-same e) at h in
+    let renew : renews e s.phase ≡ true = rw (start-first c e k.0, ends) refl in
+    let behind : BeginInOrder (from (after (begun c) e) later) y = (rw (blank-same e) at o).1 in
+    rw renew (early, behind)
+
+order-joined : (c : Begin) (later : List Begin) (s : State) (x y : List Entry) → IsLawful s x → (after_all s x).phase ≡ Finished Completed → (after_all s x).clock.time ≤ c.start → AreLawful (runs_from c later) y → BeginInOrder (runs_from c later) y → BeginInOrder (from s (c ∷ later)) (x ++ y)
+order-joined c later s [] y l ends early h o = order-begins c later s y ends early h o
+order-joined c later s (e ∷ x) y l ends early h o = rw (stays s e l.0) (omega arith, order-joined c later (after s e) x y l.1 ends early h o)
+
+pub join_in_order : (b c : Begin) (later : List Begin) (x y : List Entry) → IsLawful (begun b) x → (after_all (begun b) x).phase ≡ Finished Completed → (after_all (begun b) x).clock.time ≤ c.start → AreLawful (runs_from c later) y → BeginInOrder (runs_from c later) y → BeginInOrder (runs_from b (c ∷ later)) (x ++ y)
+join_in_order b c later x y l ends early h o = order-joined c later (begun b) x y l ends early h o
 
 -- at a start behind a finished run
 next-here : (s : State) (later : List Begin) (e : Entry) (es : List Entry) → s.phase ≡ Finished Completed → renews e s.phase ≡ true → AreLawful (from s later) (e ∷ es) → GoesOn s later (e ∷ es)

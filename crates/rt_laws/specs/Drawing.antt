@@ -1,5 +1,5 @@
 -- Roots that draw, and what comes near to the run of one that draws a number and then bytes.
-use Rattle.std.specs.Prelude.{ℕ, List, [], ◌∷◌, ◌++◌, Some, codes}
+use Rattle.std.specs.Prelude.{ℕ, List, [], ◌∷◌, ◌++◌, map, Some, codes}
 use Rattle.rt_audit.specs.declared.call.Call.{Call as CallOf}
 use Rattle.rt_audit.specs.declared.call.Call.TheVariants.{Wake as WakeCall, NextU64, FillBytes, Auditor}
 use Rattle.rt_audit.specs.declared.reply.CallReply.{CallReply}
@@ -10,6 +10,7 @@ use Rattle.rt_audit.specs.declared.entry.Entry.{Entry}
 use Rattle.rt_audit.specs.declared.entry.Entry.TheVariants.{Call, Event, Wake, Draw, Round, Answer as Answered, Advance}
 use Rattle.rt_model.specs.declared.answer.Answer.{Answer}
 use Rattle.rt_model.specs.declared.answer.Answer.TheVariants.{Pending, Ready}
+use Rattle.rt_model.specs.State.{Announced}
 use Rattle.rt_model.specs.Turns.{Plainly, Heard, Plain}
 use Rattle.rt_model.specs.Walk.{Step, Does, Gives}
 use Rattle.rt_model.specs.Tied.{Steps, with_first}
@@ -65,3 +66,17 @@ drawing_journal number bytes =
     ++ (Answered 0 AnswersReady ∷ [])
     ++ root_ends
     ++ finishing Completed)
+
+-- the journal of a root that draws four bytes and asks an auditor
+abbrev pub asking_journal : List ℕ → List ℕ → List Entry
+asking_journal bytes digest =
+    opening
+    ++ visiting_root
+    ++ draws_by (codes "fill_bytes") (FillBytes 4) (Bytes bytes)
+    ++ (Call (Some 0) Auditor (Bytes digest) ∷ Answered 0 AnswersReady ∷ [])
+    ++ root_ends
+    ++ finishing Completed
+
+-- the entries of these events
+abbrev pub events_of : List Announced → List Entry
+events_of announced = map (λ (a : Announced). Event a.label a.fields) announced

@@ -9,6 +9,7 @@ ghost use Rattle.rt_audit.specs.declared.reply.CallReply.TheVariants.{Number, By
 ghost use Rattle.rt_audit.specs.declared.entry.Entry.{Entry};
 ghost use Rattle.rt_audit.specs.declared.entry.Entry.TheVariants.{Call};
 ghost use Rattle.rt_audit.specs.declared.finish.FinishCause.TheVariants.{Completed};
+ghost use Rattle.rt_model.specs.declared.begin.Begin.{Begin};
 ghost use Rattle.rt_model.specs.Draws.{Drawn, Long, Filled};
 ghost use Rattle.rt_model.specs.State.{State, begun};
 ghost use Rattle.rt_model.specs.Effects.{after_all};
@@ -16,7 +17,7 @@ ghost use Rattle.rt_model.specs.Events.{announced_by};
 ghost use Rattle.rt_model.specs.Rules.{Answers, IsLawful, AreDrawn};
 ghost use Rattle.rt_model.specs.Run.{IsRun, IsValidInput};
 ghost use Rattle.rt_laws.specs.Examples.{small_begin, gave};
-ghost use Rattle.rt_laws.specs.Drawing.{drawing_root, asking_root, visited_again, draws_by, drawing_journal};
+ghost use Rattle.rt_laws.specs.Drawing.{drawing_root, asking_root, visited_again, draws_by, drawing_journal, asking_journal, events_of};
 
 /// A root draws a number and then four bytes in a round for which 6 was drawn, and gives the number, whichever that is and
 /// whichever the bytes are. These three were drawn, in this order.
@@ -33,9 +34,16 @@ pub fn inputs_that_draw_are_valid()
     ensures asking { (len : ℕ) → IsValidInput (asking_root len) small_begin }
 {}
 
-/// In every state a call comes behind the events that announce it, and no others: one that announces none, behind none.
+/// A root that draws four bytes in its first poll and then asks an auditor gives their count, whichever the bytes and the digest are.
+pub fn a_root_that_asks_has_its_run()
+    ensures { (bytes digest : List ℕ) → length bytes ≡ 4 → length digest ≡ 4 → IsRun (asking_root 4) small_begin (asking_journal bytes digest) Completed (after_all (begun small_begin) (asking_journal bytes digest)) (gave 4) }
+{}
+
+/// In every state a call comes behind the events that announce it, and no others: one that announces none, behind none (`state`). These
+/// stand directly before it, and no other event of a call before them (`behind`).
 pub fn a_call_comes_behind_its_own_event()
-    ensures { (s : State) (by : Option ℕ) (call : CallOf) (reply : CallReply) → IsLawful s (Call by call reply ∷ []) → s.announced ≡ announced_by call reply }
+    ensures state { (s : State) (by : Option ℕ) (call : CallOf) (reply : CallReply) → IsLawful s (Call by call reply ∷ []) → s.announced ≡ announced_by call reply }
+    ensures behind { (b : Begin) (x : List Entry) (by : Option ℕ) (call : CallOf) (reply : CallReply) → IsLawful (begun b) (x ++ Call by call reply ∷ []) → (front : List Entry) × (x ≡ front ++ events_of (announced_by call reply)) × ((after_all (begun b) front).announced ≡ []) }
 {}
 
 /// What was drawn stays, and what is drawn later stands behind it. It decides nothing of what may come.

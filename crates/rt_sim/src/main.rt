@@ -1,33 +1,8 @@
 //! `rt_sim`: the runs of a scenario, each of a script as its root, and their reports: journal, result, time, rounds and digest.
 #![tactic(auto)]
 
-mod choosing;
-#[cfg(test)]
-mod choosing_tests;
-mod drawing;
-mod held;
-mod maker;
-mod outcome;
-mod program;
-mod report;
-mod script;
-#[cfg(test)]
-mod seeded_tests;
-mod shutdown;
-#[cfg(test)]
-mod shutdown_tests;
-mod simulate;
-#[cfg(test)]
-mod supervised_tests;
-#[cfg(test)]
-mod tests;
-
-pub use maker::RootScript;
-pub use outcome::{Outcome, RunReport, RunResult};
-pub use program::Program;
 use rt_base::{StdSink, StdSource};
-pub use script::Script;
-pub use simulate::simulate_alone;
+use rt_scripts::simulate_alone;
 use std::process::ExitCode;
 use std::rt::HostRuntime;
 

@@ -1,4 +1,4 @@
-// Many things that wait at once, made before a root.
+// Many things that wait at once, and many draws, made before a root.
 
 ghost use Rattle.rt_model.specs.Rules.{MayCall};
 ghost use Rattle.rt_world.specs.Calls.{Kept};
@@ -20,6 +20,18 @@ use std::test::Fail;
 
 /// How many of each there are at once.
 const MANY: usize = 1_000;
+
+/// How many bytes are drawn at once.
+const MEBIBYTE: usize = 1_048_576;
+
+/// How these runs begin.
+const BEGIN: Begin = Begin {
+    start: 0,
+    cycle: 1_000_000,
+    deadline: None,
+    first: 0,
+    catch: false,
+};
 
 /// The world of a run whose maker is under way.
 type Making<G> = WorldOf<Napper, G>;
@@ -128,18 +140,62 @@ fn makes_many<R: Abort, G: Rng>(rt: &R, alloc: Global, world: &mut Making<G>) ->
     slots & groups & signals
 }
 
+/// Whether a number of each width is drawn.
+#[tactic(auto, using(rt_world::proofs::Walked::close_laws))]
+fn draws_two<G: Rng>(world: &mut Making<G>) -> bool
+    requires { MayCall world.old.told.state world.old.out }
+    ensures { Kept G.stream world.old world.new }
+{
+    let short = world.next_u32().is_ok();
+    let long = world.next_u64().is_ok();
+    short & long
+}
+
+/// Draws so many numbers of each width. Answers whether all were drawn.
+#[tactic(auto, using(rt_world::proofs::Walked::close_laws))]
+fn draws_numbers<G: Rng>(world: &mut Making<G>, left: usize) -> bool
+    requires { MayCall world.old.told.state world.old.out }
+    ensures { Kept G.stream world.old world.new }
+{
+    if left == 0 {
+        return true;
+    }
+    let drawn = draws_two(world);
+    let all = draws_numbers(world, left - 1);
+    drawn & all
+}
+
+/// Asks so often for the digest. Answers whether all were told.
+#[tactic(auto, using(rt_world::proofs::Walked::close_laws))]
+fn asks_for_digests<G: Rng>(world: &mut Making<G>, left: usize) -> bool
+    requires { MayCall world.old.told.state world.old.out }
+    ensures { Kept G.stream world.old world.new }
+{
+    if left == 0 {
+        return true;
+    }
+    let told = world.auditor().is_ok();
+    let all = asks_for_digests(world, left - 1);
+    told & all
+}
+
+/// Draws many numbers, and many bytes at once. Answers whether all were drawn, and each digest was told.
+#[tactic(auto, using(rt_world::proofs::Walked::close_laws))]
+fn draws_many<G: Rng>(world: &mut Making<G>, bytes: &mut [u8]) -> bool
+    requires { MayCall world.old.told.state world.old.out }
+    ensures { Kept G.stream world.old world.new }
+{
+    let numbers = draws_numbers(world, MANY);
+    let filled = world.fill_bytes(bytes).is_ok();
+    let told = asks_for_digests(world, MANY);
+    numbers & filled & told
+}
+
 /// Whether many of each are made, and how many entries their run has.
 #[tactic(auto, unfolding(rt_model::specs::Effects::after, rt_model::specs::State::begun))]
 fn made<R: Abort>(rt: &R, alloc: Global) -> Result<(bool, usize), NoMemory> {
-    let begin = Begin {
-        start: 0,
-        cycle: 1_000_000,
-        deadline: None,
-        first: 0,
-        catch: false,
-    };
     let rng = ChaCha12Rng::seed_from_u64(1);
-    let Ok(mut world) = Making::<ChaCha12Rng>::begin(alloc, Journal::new(alloc), begin, rng) else {
+    let Ok(mut world) = Making::<ChaCha12Rng>::begin(alloc, Journal::new(alloc), BEGIN, rng) else {
         return Err(NoMemory);
     };
     let made = makes_many(rt, alloc, &mut world);
@@ -148,9 +204,30 @@ fn made<R: Abort>(rt: &R, alloc: Global) -> Result<(bool, usize), NoMemory> {
     Ok((made && cause == FinishCause::NoMemory, journal.len()))
 }
 
+/// Whether many numbers, bytes and digests are had, and how many entries their run has.
+#[tactic(auto, unfolding(rt_model::specs::Effects::after, rt_model::specs::State::begun))]
+fn drawn(alloc: Global) -> Result<(bool, usize), NoMemory> {
+    let mut bytes = vec![in alloc; 0; MEBIBYTE]?;
+    let rng = ChaCha12Rng::seed_from_u64(1);
+    let Ok(mut world) = Making::<ChaCha12Rng>::begin(alloc, Journal::new(alloc), BEGIN, rng) else {
+        return Err(NoMemory);
+    };
+    let drawn = draws_many(&mut world, &mut bytes);
+    let cause = world.cleanup_unmade(None, FinishCause::NoMemory);
+    let (journal, _, _) = world.into_parts();
+    Ok((drawn && cause == FinishCause::NoMemory, journal.len()))
+}
+
 #[test]
 fn many_of_each(rt: HostRuntime) -> Result<(), Fail> {
-    // the start, three entries for each slot, each group and each signal, and five of the cleanup
+    // the start, three entries for each slot, each group and each signal, and four of the cleanup
     assert!(rt; made(&rt, rt.alloc())? == (true, 9_005));
+    Ok(())
+}
+
+#[test]
+fn many_draws(rt: HostRuntime) -> Result<(), Fail> {
+    // the start, two entries for each number and for the bytes, one for each digest, and four of the cleanup
+    assert!(rt; drawn(rt.alloc())? == (true, 5_007));
     Ok(())
 }

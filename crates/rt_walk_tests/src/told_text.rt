@@ -207,9 +207,19 @@ fn visit_event(alloc: Global, task: &str, label: &str) -> Result<Option<Entry>, 
 
 /// An event of a call.
 fn call_event(alloc: Global, label: &str, values: &[&str]) -> Result<Option<Entry>, NoMemory> {
+    for value in values {
+        if signed(value).is_none() && !is_name(value) {
+            return Ok(None);
+        }
+    }
     let label = EventLabel::named(alloc, Text::of(label.to_owned(alloc)?))?;
     let fields = fields_of(alloc, values)?;
     Ok(Some(Entry::Event { label, fields }))
+}
+
+/// Whether this names a draw, which there may be or not.
+fn is_name(word: &str) -> bool {
+    matches!(word, "next_u16" | "next_u32" | "next_u64" | "fill_bytes")
 }
 
 fn fields_of(alloc: Global, values: &[&str]) -> Result<EventFields, NoMemory> {

@@ -1,0 +1,11 @@
+pub mod Choices
+pub mod Chosen
+pub mod Ends
+pub mod InOrder
+pub mod Makings
+pub mod Misses
+pub mod Programs
+pub mod Runs
+pub mod Scripts
+pub mod Written
+pub mod Worked

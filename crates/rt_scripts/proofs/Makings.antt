@@ -1,0 +1,62 @@
+-- A maker goes on script by script.
+use Rattle.std.proofs.Common.{◌≡◌, ◌≢◌, ℕ, ℤ, List, [], ◌∷◌, length, Result, Ok, Err, refl, arith}
+use Rattle.rt_base.specs.declared.error.Error.{Error}
+use Rattle.rt_base.specs.declared.error.Error.TheVariants.{NoMemory as LacksMemory}
+use Rattle.rt_base.specs.declared.no_memory.NoMemory.{NoMemory}
+use Rattle.rand_core.specs.Stream.{Stream}
+use Rattle.rt_world.specs.World.{World}
+use Rattle.rt_world.specs.Calls.{Kept, lacking}
+use Rattle.rt_world.specs.Walked.{Rooted}
+use Rattle.rt_world.proofs.Walked.{rooted-gives, grows-same, stays-marked}
+use Rattle.rt_world.proofs.Drawn.{drew-same}
+use Rattle.rt_world.proofs.Lasting.{lasts-of}
+use Rattle.rt_model.specs.Walk.{Gives}
+use Rattle.rt_core.specs.Contexts.{Context, root_context}
+use Rattle.rt_scenario.specs.declared.scenario.ScriptText.{ScriptText}
+use Rattle.rt_scripts.specs.Making.{Making, Prepares, beside, besides, passed_over}
+use Rattle.rt_scripts.specs.Script.{Script}
+
+-- steps that lead to others, and these go on so
+pub prepares-after : {G : Type 0} (step other next : Making) (old mid new : World Script ℤ G) (result : Result Context NoMemory) → ((end : World Script ℤ G) (root : Result Script NoMemory) → Rooted other mid end root → Rooted step old end root) → Prepares other next mid new result → Prepares step next old new result
+prepares-after step other next old mid new (Ok context) first second = λ end root rooted. first end root (second end root rooted)
+prepares-after step other next old mid new (Err lack) first second = first new (Err lack) second
+
+-- what is kept where memory was lacking
+pub kept-lacking : {A O G : Type 0} (stream : G → Stream) (w : World A O G) → Kept stream w (lacking w)
+kept-lacking stream w = record {
+  begin = refl;
+  given = refl;
+  past = refl;
+  phase = refl;
+  clock = refl;
+  root = refl;
+  panic = refl;
+  out = refl;
+  lasts = lasts-of stream w (lacking w) (grows-same _ _ _ refl) (stays-marked _ _ _ refl) (drew-same stream w (lacking w) refl refl);
+}
+
+-- a refusal that is passed over
+pub passed-other : (context : Context) (next : Making) (error : Error) → error ≢ LacksMemory → passed_over context next error ≡ next
+passed-other context next LacksMemory other = absurd (other refl)
+passed-other context next _ other = refl
+
+-- whoever goes on from here has walked these steps
+abbrev pub Leads : {G : Type 0} → Making → Making → World Script ℤ G → World Script ℤ G → Type 0
+Leads {G = G} step next old new = (end : World Script ℤ G) (root : Result Script NoMemory) → Rooted next new end root → Rooted step old end root
+
+module _ {G : Type 0} (program : List ScriptText) (places rest : List ℕ) (at : ℕ) (last step : Making) (old mid new : World Script ℤ G) (whole : places ≡ at ∷ rest) where
+  -- a script more
+  pub leads-beside : Leads step (besides root_context program places last) old mid → Leads (beside root_context program at (besides root_context program rest last)) (besides root_context program rest last) mid new → Leads step (besides root_context program rest last) old new
+  unfolding besides
+  leads-beside first second end root rooted = first end root (rw whole (second end root rooted))
+
+  -- out of memory
+  pub lacks-beside : (lack : NoMemory) → Leads step (besides root_context program places last) old mid → Rooted (beside root_context program at (besides root_context program rest last)) mid new (Err lack) → Rooted step old new (Err lack)
+  unfolding besides
+  lacks-beside lack first second = first new (Err lack) (rw whole second)
+
+-- no script is left
+pub leads-root : {G : Type 0} (program : List ScriptText) (places : List ℕ) (made root : Script) (step : Making) (old new : World Script ℤ G) → length places ≡ 0 → made ≡ root → Leads step (besides root_context program places (Gives tt made)) old new → Rooted step old new (Ok root)
+unfolding besides
+leads-root program [] made root step old new none same first = first new (Ok root) (rooted-gives new made root same)
+leads-root program (at ∷ places) made root step old new none same first = absurd (omega (arith, none))

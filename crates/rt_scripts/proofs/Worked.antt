@@ -1,0 +1,225 @@
+-- The journals of the worked examples are runs of their scripts, and their inputs are valid.
+use Rattle.std.proofs.Common.{◌≡◌, ◌≤◌, ◌<◌, ◌+◌, inl, inr, ℕ, ℤ, true, false, leb, ltb, [], ◌∷◌, ◌++◌, Option, Some, None, refl, arith, rules}
+use Rattle.std.specs.Prelude.{pos}
+use Rattle.std.proofs.lemmas.Bool.{cases_Bool}
+use Rattle.std.proofs.lemmas.List.Sorted.{IsPermutation-refl}
+use Rattle.rt_base.specs.declared.time.TheConstants.{MAX_TIME}
+use Rattle.rt_audit.specs.declared.answer.AnswerKind.TheVariants.{Pending as AnswersPending, Ready as AnswersReady}
+use Rattle.rt_audit.specs.declared.call.Call.TheVariants.{SleepPoll}
+use Rattle.rt_audit.specs.declared.reply.CallReply.TheVariants.{PendingAt, Ready as IsOver}
+use Rattle.rt_audit.specs.declared.finish.FinishCause.TheVariants.{Completed}
+use Rattle.rt_audit.specs.declared.entry.Entry.TheVariants.{Answer as Answered, Advance, Skip, Start, Root, Round, Visit, Event, Call, Fire, Wake}
+use Rattle.rt_model.specs.declared.answer.Answer.TheVariants.{Pending, Ready}
+use Rattle.rt_model.specs.State.{State, begun as from_begin}
+use Rattle.rt_model.specs.Events.{process_task, task_fields}
+use Rattle.rt_model.specs.Effects.{after, after_all}
+use Rattle.rt_model.specs.Turns.{Held, put}
+use Rattle.rt_model.specs.Walk.{Gives, followed_by, then}
+use Rattle.rt_model.specs.Tied.{Value, nothing, taken, IsTied}
+use Rattle.rt_model.specs.Run.{IsRun, IsValidInput}
+use Rattle.rt_laws.specs.Examples.{small_begin, closes_node, opening, visiting_root, still_asleep, awake as awake_then, alarm_fires, root_ends, finishing, ready_journal, skipped_journal, short_journal}
+use Rattle.rt_laws.proofs.Runs.{ends-tied, skipped_run, short_run}
+use Rattle.rt_laws.proofs.Completing.{Completes, begins, making_gives, rounds, visiting, entered, visited, polling_gives, polling_sleeps, polling_wakes, fired, skips, woken}
+use Rattle.rt_laws.proofs.Valid.{asleep as asleep_at, only}
+use Rattle.rt_model.proofs.Append.{IsTied-append}
+use Rattle.rt_core.specs.Pollers.{sleep_for, sleep_heard, sleep_polls}
+use Rattle.rt_core.specs.Sleeper.{Sleeper}
+use Rattle.rt_scenario.specs.declared.line.Line.TheVariants.{End, Sleep}
+use Rattle.rt_scripts.specs.declared.script.Waits.TheVariants.{Sleeps}
+use Rattle.rt_scripts.specs.Making.{Maker, begun, besides, making}
+use Rattle.rt_scripts.specs.Program.{text_at}
+use Rattle.rt_scripts.specs.Ran.{root_steps}
+use Rattle.rt_scripts.specs.Script.{Script, Next, aborted_in, aborts_chosen, freed_of, goes_on, passed, polled, ended, releases_all, releases_chosen, sleeps, slept, waiting}
+
+-- a root without scripts beside it
+module _ (m : Maker) (alone : m.with ≡ []) where
+  made : making m ≡ Gives tt (begun m)
+  unfolding besides
+  made = rw alone refl
+
+  -- one that ends at its first line gives its number, at time 0
+  module _ (number : ℤ) (lines : (text_at m.program m.root).lines ≡ End number ∷ []) where
+    polls : (time task : ℕ) → polled (begun m) time task ≡ Gives (Ready number) (begun m)
+    unfolding goes_on
+    polls time task = rw lines refl
+
+    spends : ended (begun m) ≡ closes_node
+    unfolding aborts_chosen releases_chosen aborted_in freed_of releases_all followed_by then
+    spends = refl
+
+    pub ready-run : IsRun (root_steps m) small_begin ready_journal Completed (after_all (from_begin small_begin) ready_journal) (record nothing { output = Some number })
+    unfolding from_begin after
+    ready-run =
+        let held : Held Script ℤ = put 0 (begun m) nothing.held in
+        let v : Value Script ℤ = record nothing { held = held } in
+        let w : Value Script ℤ = record v { output = Some number } in
+        record {
+          lawful = search (rules, IsPermutation-refl);
+          reaches = refl;
+          ends = refl;
+          caused = λ e. cc;
+          tied = (nothing, refl, (v, (begun m, nothing.held, rw made (refl, refl, refl), refl), (v, (refl, refl), (v, (refl, refl), (v, refl, (w, (number, held, record { before = begun m; left = begun m; moved = taken 0 held; there = refl; walks = rw (polls 0 0) (refl, refl, refl); is = refl }, refl), ends-tied (root_steps m) (after_all (from_begin small_begin) (opening ++ visiting_root ++ (Answered 0 AnswersReady ∷ []))) w (begun m) Completed refl spends refl refl refl))))));
+          whole = refl;
+        }
+
+    pub ready-valid : IsValidInput (root_steps m) small_begin
+    unfolding from_begin after
+    ready-valid =
+        let p = root_steps m in
+        let s1 = after (from_begin small_begin) (Start 0 0 None 1000000) in
+        let s2 = after s1 (Root 0) in
+        let s3 = after s2 (Round (0 ∷ [])) in
+        let s4 = after s3 (Visit 0) in
+        let s5 = after s4 (Event process_task (task_fields 0 [])) in
+        let held : Held Script ℤ = nothing.held in
+        let v : Value Script ℤ = record nothing { held = put 0 (begun m) held } in
+        let answers : Completes p s5 v = polling_gives p s5 v refl 0 [] (begun m) refl refl held (Ready number) (begun m) refl (λ text e. cc) (rw (polls 0 0) (refl, refl)) (λ e. absurd (cc)) in
+        let visits : Completes p s3 v = visiting p s3 v refl 0 (0 ∷ []) [] refl refl tt (entered p s4 v refl 0 [] refl answers) in
+        begins p small_begin
+        (making_gives p s1 nothing refl (begun m) held refl (rw made (refl, refl)) tt
+        (rounds p s2 v (inl refl) tt (λ order perm. rw (only 0 order perm) visits) refl refl))
+
+  -- one that sleeps first gives its number once the sleep is over
+
+  module _ (number : ℤ) (due : ℕ) (lines : (text_at m.program m.root).lines ≡ Sleep due ∷ End number ∷ []) where
+    -- it sleeps until this moment, and was told its alarm
+    abbrev sleeper : Option ℕ → Sleeper
+    sleeper alarm = record { deadline = due; alarm = alarm }
+
+    abbrev asleep : Script
+    asleep = waiting (begun m) (Sleeps (sleeper (Some 0)))
+
+    abbrev awake : Script
+    awake = passed asleep (pos 0)
+
+    abbrev on : ℕ → ℕ → Script → Next
+    on time task next = goes_on (End number ∷ []) next time task
+
+    sleeps-first : due ≤ MAX_TIME → polled (begun m) 0 0 ≡ then (sleep_polls (sleeper None)) (slept (begun m) (on 0 0))
+    unfolding goes_on sleeps sleep_for
+    sleeps-first within =
+        let early : ltb MAX_TIME (0 + due) ≡ false = grind arith in
+        let none : 0 + due ≡ due = omega arith in
+        rw (lines, early, none) refl
+
+    goes : (time : ℕ) → polled asleep time 0 ≡ then (sleep_polls (sleeper (Some 0))) (slept asleep (on time 0))
+    unfolding goes_on sleeps
+    goes time = rw lines refl
+
+    spends-awake : ended awake ≡ closes_node
+    unfolding aborts_chosen releases_chosen aborted_in freed_of releases_all followed_by then
+    spends-awake = refl
+
+    abbrev holding : Script → Value Script ℤ
+    holding s = record nothing { held = put 0 s nothing.held }
+
+    asleep-tied : due ≤ MAX_TIME → IsTied (root_steps m) (from_begin small_begin) nothing (opening ++ visiting_root ++ still_asleep due ++ (Advance 1000000 ∷ [])) (holding asleep)
+    unfolding from_begin after then sleep_polls
+    asleep-tied within =
+        let v = holding (begun m) in
+        let w = holding asleep in
+        (nothing, refl, (v, (begun m, nothing.held, rw made (refl, refl, refl), refl), (v, (refl, refl), (v, (refl, refl), (v, refl, (v, refl, (w, (w.held, record { before = begun m; left = asleep; moved = nothing.held; there = refl; walks = rw (sleeps-first within) ((refl, refl), (refl, refl, refl)); is = refl }, refl), (w, (refl, refl), refl))))))))
+
+    wakes-tied : (time : ℕ) → IsTied (root_steps m) (asleep_at due time) (holding asleep) (alarm_fires ++ visiting_root ++ awake_then due ++ root_ends ++ finishing Completed) (record nothing { output = Some number })
+    unfolding from_begin after then sleep_polls goes_on
+    wakes-tied time =
+        let v = holding asleep in
+        let w : Value Script ℤ = record (holding awake) { output = Some number } in
+        (v, (refl, refl), (v, refl, (v, (refl, refl), (v, (refl, refl), (v, refl, (v, refl, (w, (number, w.held, record { before = asleep; left = awake; moved = nothing.held; there = refl; walks = rw (goes time) ((refl, tt), (refl, refl, refl)); is = refl }, refl), ends-tied (root_steps m) (after_all (asleep_at due time) (alarm_fires ++ visiting_root ++ awake_then due)) w awake Completed refl spends-awake refl refl refl)))))))
+
+    -- the clock skips to the end of a long sleep, and steps past that of a short one
+
+    pub skipped-run : 1000000 < due → due ≤ MAX_TIME → IsRun (root_steps m) small_begin (skipped_journal due) Completed (after_all (from_begin small_begin) (skipped_journal due)) (record nothing { output = Some number })
+    unfolding after
+    skipped-run later within =
+        let first = opening ++ visiting_root ++ still_asleep due ++ (Advance 1000000 ∷ []) in
+        let v = holding asleep in
+        let run = skipped_run due later within in
+        record {
+          lawful = run.lawful;
+          reaches = refl;
+          ends = run.ends;
+          caused = λ e. cc;
+          tied = IsTied-append (root_steps m) (from_begin small_begin) nothing v (record nothing { output = Some number }) first (Skip due ∷ alarm_fires ++ visiting_root ++ awake_then due ++ root_ends ++ finishing Completed) (asleep-tied within) (v, (refl, refl), wakes-tied due);
+          whole = refl;
+        }
+
+    pub short-run : 0 < due → due ≤ 1000000 → IsRun (root_steps m) small_begin (short_journal due) Completed (after_all (from_begin small_begin) (short_journal due)) (record nothing { output = Some number })
+    short-run later soon =
+        let first = opening ++ visiting_root ++ still_asleep due ++ (Advance 1000000 ∷ []) in
+        let v = holding asleep in
+        let run = short_run due later soon in
+        record {
+          lawful = run.lawful;
+          reaches = refl;
+          ends = run.ends;
+          caused = λ e. cc;
+          tied = IsTied-append (root_steps m) (from_begin small_begin) nothing v (record nothing { output = Some number }) first (alarm_fires ++ visiting_root ++ awake_then due ++ root_ends ++ finishing Completed) (asleep-tied (omega arith)) (wakes-tied 1000000);
+          whole = refl;
+        }
+
+    -- in its first poll
+
+    abbrev in_poll : State
+    in_poll = after_all (from_begin small_begin) (opening ++ visiting_root)
+
+    first-poll : Completes (root_steps m) in_poll (holding (begun m)) → IsValidInput (root_steps m) small_begin
+    unfolding from_begin after
+    first-poll more =
+        let p = root_steps m in
+        let s1 = after (from_begin small_begin) (Start 0 0 None 1000000) in
+        let s2 = after s1 (Root 0) in
+        let s3 = after s2 (Round (0 ∷ [])) in
+        let v = holding (begun m) in
+        let visits : Completes p s3 v = visiting p s3 v refl 0 (0 ∷ []) [] refl refl tt (entered p (after s3 (Visit 0)) v refl 0 [] refl more) in
+        begins p small_begin
+        (making_gives p s1 nothing refl (begun m) nothing.held refl (rw made (refl, refl)) tt
+        (rounds p s2 v (inl refl) tt (λ order perm. rw (only 0 order perm) visits) refl refl))
+
+    falls-asleep : 0 < due → due ≤ MAX_TIME → Completes (root_steps m) (asleep_at due 1000000) (holding asleep) → Completes (root_steps m) in_poll (holding (begun m))
+    unfolding from_begin after then sleep_polls
+    falls-asleep later within more =
+        let p = root_steps m in
+        let s = after in_poll (Call (Some 0) (SleepPoll due) (PendingAt 0)) in
+        let v = holding (begun m) in
+        let w = holding asleep in
+        let steps : Completes p (after s (Answered 0 AnswersPending)) w = visited p (after s (Answered 0 AnswersPending)) w refl [] refl refl tt more in
+        let answers : Completes p s v = polling_gives p s v refl 0 [] (begun m) refl refl nothing.held Pending asleep refl (λ text e. cc) (rw (sleeps-first within) ((refl, refl), (refl, refl))) (λ e. steps) in
+        polling_sleeps p in_poll v refl 0 [] (begun m) refl refl nothing.held due None (λ heard. then (sleep_heard (sleeper None) heard) (slept (begun m) (on 0 0))) (rw (sleeps-first within) (refl, refl)) later answers
+
+    -- where its alarm goes off
+
+    wakes-up : (time : ℕ) → due ≤ time → Completes (root_steps m) (asleep_at due time) (holding asleep)
+    unfolding from_begin after then sleep_polls goes_on
+    wakes-up time late =
+        let p = root_steps m in
+        let s1 = asleep_at due time in
+        let s2 = after s1 (Fire 0) in
+        let s3 = after s2 (Wake 0) in
+        let s4 = after s3 (Round (0 ∷ [])) in
+        let s5 = after s4 (Visit 0) in
+        let s6 = after s5 (Event process_task (task_fields 0 [])) in
+        let s7 = after s6 (Call (Some 0) (SleepPoll due) IsOver) in
+        let v = holding asleep in
+        let over : ltb time due ≡ false = grind arith in
+        let now : leb due time ≡ true = grind arith in
+        let answers : Completes p s7 v = polling_gives p s7 v refl 0 [] asleep refl refl nothing.held (Ready number) awake refl (λ text e. cc) (rw (goes time) ((refl, tt), (refl, refl))) (λ e. absurd (cc)) in
+        let polls : Completes p s6 v = polling_wakes p s6 v refl 0 [] asleep refl refl nothing.held due (Some 0) (λ heard. then (sleep_heard (sleeper (Some 0)) heard) (slept asleep (on time 0))) (rw (goes time) (refl, refl)) late answers in
+        let visits : Completes p s4 v = visiting p s4 v refl 0 (0 ∷ []) [] refl refl tt (entered p s5 v refl 0 [] refl polls) in
+        let round : Completes p s3 v = rounds p s3 v (inr (refl, refl, refl)) tt (λ order perm. rw (only 0 order perm) visits) refl refl in
+        fired p s1 v refl 0 refl (rw over refl) (rw now refl) (rw (over, now) tt) (woken p s2 v 0 [] refl (λ cause e. cc) round)
+
+    -- where the clock skips to it
+
+    skipped : 1000000 < due → Completes (root_steps m) (asleep_at due 1000000) (holding asleep)
+    unfolding from_begin after
+    skipped later =
+        let ahead : ltb 1000000 due ≡ true = grind arith in
+        let early : leb due 1000000 ≡ false = grind arith in
+        skips (root_steps m) (asleep_at due 1000000) (holding asleep) refl due refl refl (rw early refl) (rw ahead refl) (rw ahead tt) (wakes-up due (omega arith))
+
+    pub sleeping-valid : 0 < due → due ≤ MAX_TIME → IsValidInput (root_steps m) small_begin
+    sleeping-valid later within = elim (cases_Bool (leb due 1000000)) [
+      | inl soon ↦ first-poll (falls-asleep later within (wakes-up 1000000 (grind arith)))
+      | inr late ↦ first-poll (falls-asleep later within (skipped (grind arith)))
+    ]

@@ -1,0 +1,5 @@
+use Rattle.std.proofs.Common.{◌-◌}
+use Rattle.rt_scripts.proofs.script.Script.+abort_chosen.Given as goal
+
+abbrev pub decreases-abort_chosen : goal.decreases-abort_chosen
+decreases-abort_chosen g l = l.past - l.first

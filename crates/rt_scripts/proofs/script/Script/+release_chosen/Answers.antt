@@ -1,0 +1,40 @@
+use Rattle.std.proofs.Common.{rules, ◌∙◌, ◌+◌, ◌<◌, ◌≤◌, ◌∷◌, refl, sym, ap, subst}
+use Rattle.rt_scripts.specs.Program.{choices_in}
+use Rattle.rt_scripts.specs.Script.{Script, freed_of, releases_chosen}
+use Rattle.rt_scripts.proofs.Choices.{choices-more, choices-none, releases-nobody, releases-one}
+use Rattle.rt_world.specs.Walked.{Spends}
+use Rattle.rt_scripts.proofs.script.Script.+release_chosen.Goals as goal
+
+pub returns-then-first-past-clause-state : goal.returns-then-first-past-clause-state
+unfolding freed_of
+returns-then-first-past-clause-state g t c =
+    let s = c.args.self.now in
+    let over : c.args.past ≤ c.args.first = search rules in
+    let none = choices-none s.text c.args.first c.args.past over in
+    rw none refl
+
+pub returns-then-first-past-clause-steps : goal.returns-then-first-past-clause-steps
+returns-then-first-past-clause-steps g t c =
+    let s = c.args.self.now in
+    let over : c.args.past ≤ c.args.first = search rules in
+    let none = choices-none s.text c.args.first c.args.past over in
+    rw none (releases-nobody s.held c.args.world.now)
+
+pub returns-clause-state : goal.returns-clause-state
+unfolding freed_of
+returns-clause-state g t c =
+    let s = c.args.self.now in
+    let ats = choices_in s.text (c.args.first + 1) c.args.past in
+    let more : c.args.first < c.args.past = search rules in
+    let split = choices-more s.text c.args.first c.args.past more ∙ ap (λ n. n ∷ ats) (sym c.chosen_name.ensures) in
+    rw split (c.release_chosen.ensures.state ∙ ap (λ (t : Script). record t { held = freed_of (choices_in t.text (c.args.first + 1) c.args.past) t.held }) c.release.ensures.state)
+
+pub returns-clause-steps : goal.returns-clause-steps
+returns-clause-steps g t c =
+    let s = c.args.self.now in
+    let at = c.chosen_name.result in
+    let ats = choices_in s.text (c.args.first + 1) c.args.past in
+    let more : c.args.first < c.args.past = search rules in
+    let split = choices-more s.text c.args.first c.args.past more ∙ ap (λ n. n ∷ ats) (sym c.chosen_name.ensures) in
+    let rest = subst (λ (mid : Script). Spends (releases_chosen (choices_in mid.text (c.args.first + 1) c.args.past) mid.held) c.release.new.world c.release_chosen.new.world) c.release.ensures.state c.release_chosen.ensures.steps in
+    rw split (releases-one at ats s.held c.args.world.now c.release.new.world c.release_chosen.new.world c.release.ensures.steps rest)

@@ -1,0 +1,22 @@
+use Rattle.std.proofs.Common.{rules, map, string_bytes, inl, inr, refl}
+use Rattle.rt_scripts.specs.Asked.{NoCommand, TooLong}
+use Rattle.rt_scripts.proofs.Ends.{some_asked, no_command, too_long}
+use Rattle.rt_scripts.proofs.simulate.simulate_alone.Goals as goal
+
+pub returns-then-not-is_run_command-clause-report : goal.returns-then-not-is_run_command-clause-report
+returns-then-not-is_run_command-clause-report g c =
+    (NoCommand, no_command (map string_bytes c.args.words.now) (g.S.Source.left c.args.source.now) (search rules), search rules)
+
+pub returns-in-Err-Failed-clause-report : goal.returns-in-Err-Failed-clause-report
+returns-in-Err-Failed-clause-report g c =
+    let some = some_asked (map string_bytes c.args.words.now) (g.S.Source.left c.args.source.now) in
+    (some.0, some.1, inl (inr (inr (inl (search rules), search rules, search rules, refl))))
+
+pub returns-in-Err-NoMemory-clause-report : goal.returns-in-Err-NoMemory-clause-report
+returns-in-Err-NoMemory-clause-report g c =
+    let some = some_asked (map string_bytes c.args.words.now) (g.S.Source.left c.args.source.now) in
+    (some.0, some.1, inl (inr (inr (inr (search rules), search rules, search rules, refl))))
+
+pub returns-in-Err-TooLong-clause-report : goal.returns-in-Err-TooLong-clause-report
+returns-in-Err-TooLong-clause-report g c =
+    (TooLong, too_long (map string_bytes c.args.words.now) (g.S.Source.left c.args.source.now) (search rules) (search rules), search rules)

@@ -1,0 +1,20 @@
+//! The scripts of a scenario as a task type, the runs of a scenario one after another, and their reports: journal, result, time,
+//! rounds and digest.
+#![tactic(auto)]
+
+mod choosing;
+mod drawing;
+mod held;
+mod maker;
+mod outcome;
+mod program;
+mod report;
+mod script;
+mod shutdown;
+mod simulate;
+
+pub use maker::RootScript;
+pub use outcome::{Outcome, RunReport, RunResult};
+pub use program::Program;
+pub use script::Script;
+pub use simulate::simulate_alone;

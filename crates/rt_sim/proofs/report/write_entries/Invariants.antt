@@ -1,7 +1,0 @@
-use Rattle.std.proofs.Common.{◌≡◌, ◌≤◌, ◌++◌, ℕ, List, drop, string_bytes}
-use Rattle.rt_sim.specs.Report.{entries_text, IsWritten}
-use Rattle.rt_sim.proofs.report.write_entries.Given as goal
-
-abbrev pub invariant-loop-entry : goal.invariant-loop-entry
-invariant-loop-entry g l =
-    (text : List ℕ) × IsWritten (g.K.Sink8.held l.fn.sink) text (g.K.Sink8.held l.sink) (string_bytes l.buffer) × (text ++ entries_text (drop l.entry-index l.entries) ≡ string_bytes l.fn.buffer ++ entries_text l.entries) × (g.K.Sink8.faults l.fn.sink ≤ g.K.Sink8.faults l.sink)

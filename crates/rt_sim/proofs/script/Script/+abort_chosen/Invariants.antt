@@ -1,5 +1,0 @@
-use Rattle.std.proofs.Common.{◌-◌}
-use Rattle.rt_sim.proofs.script.Script.+abort_chosen.Given as goal
-
-abbrev pub decreases-abort_chosen : goal.decreases-abort_chosen
-decreases-abort_chosen g l = l.past - l.first

@@ -1,5 +1,0 @@
-use Rattle.std.proofs.Common.{◌-◌}
-use Rattle.rt_sim.proofs.script.Script.+hold_handles.Given as goal
-
-abbrev pub decreases-hold_handles : goal.decreases-hold_handles
-decreases-hold_handles l = l.past - l.first

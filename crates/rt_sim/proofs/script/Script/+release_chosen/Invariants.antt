@@ -1,5 +1,0 @@
-use Rattle.std.proofs.Common.{◌-◌}
-use Rattle.rt_sim.proofs.script.Script.+release_chosen.Given as goal
-
-abbrev pub decreases-release_chosen : goal.decreases-release_chosen
-decreases-release_chosen g l = l.past - l.first
