@@ -6,3 +6,4 @@ pub mod Digest
 pub mod Journal
 pub mod TaskEvent
 pub mod EntryParts
+pub mod LabelText

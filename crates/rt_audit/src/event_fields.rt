@@ -53,7 +53,7 @@ impl EventFields {
         ensures fields { IfOk result (λ fields. fields ≡ to_be_bytes w128 task ∷ label.now ∷ []) }
         ensures short { length label.now ≤ 23 → IsOk result }
     {
-        let Some(label) = ShortLabel::of(label.as_bytes()) else {
+        let Some(label) = ShortLabel::of(label) else {
             return Ok(EventFields::of_task(task, Text::of(label.to_owned(alloc)?)));
         };
         Ok(EventFields {

@@ -104,6 +104,7 @@ impl Journal {
     }
 
     /// Adds an entry at the end. It takes no memory: [`spare`](Self::spare) must be above zero.
+    #[inline(always)]
     pub fn push(&mut self, entry: Entry)
         requires { 0 < self.old.spare }
         ensures entries { self.new.entries ≡ self.old.entries ++ entry ∷ [] }

@@ -2,6 +2,7 @@
 
 ghost use Rattle.std.specs.Prelude.{◌≡◌, IfOk, string_bytes};
 
+use crate::short_label::ShortLabel;
 use rt_base::{NoMemory, Text};
 use std::alloc::Global;
 use std::marker::Model;
@@ -9,15 +10,23 @@ use std::marker::Model;
 /// A text behind a pointer, since few entries have one. Contracts see its bytes.
 #[derive(Debug, Drop)]
 pub struct Label {
-    inner: Box<Text>,
+    inner: Box<LabelText>,
+}
+
+/// How the text is kept.
+#[derive(Debug, Drop)]
+pub enum LabelText {
+    Short(ShortLabel),
+    Long(Text),
 }
 
 impl Model for Label {
     ghost use Rattle.std.specs.Prelude.{ℕ, List};
+    ghost use Rattle.rt_audit.specs.LabelText.{text_of};
 
     ghost Value = { List ℕ };
 
-    ghost view = { λ l. l.inner.value };
+    ghost view = { λ l. text_of l.inner.value };
 }
 
 impl Label {
@@ -25,7 +34,19 @@ impl Label {
     pub fn new(alloc: Global, text: Text) -> Result<Label, NoMemory>
         ensures { IfOk result (λ label. label ≡ text) }
     {
-        let inner = Box::new(alloc, text)?;
+        let inner = Box::new(alloc, LabelText::Long(text))?;
+        Ok(Label { inner })
+    }
+
+    /// Keeps a copy of a text.
+    pub fn of(alloc: Global, text: &str) -> Result<Label, NoMemory>
+        ensures { IfOk result (λ label. label ≡ text.now) }
+    {
+        let kept = match ShortLabel::of(text) {
+            Some(short) => LabelText::Short(short),
+            None => LabelText::Long(Text::of(text.to_owned(alloc)?)),
+        };
+        let inner = Box::new(alloc, kept)?;
         Ok(Label { inner })
     }
 
@@ -33,6 +54,9 @@ impl Label {
     pub fn as_str(&self) -> &str
         ensures { result.now ≡ self.now }
     {
-        self.inner.as_str()
+        match self.inner.as_ref() {
+            LabelText::Short(short) => short.as_str(),
+            LabelText::Long(text) => text.as_str(),
+        }
     }
 }

@@ -54,7 +54,10 @@ impl CallReply {
             CallReply::Done => add_word(text, "ok"),
             CallReply::NodeAt { node, ended } => {
                 add_numbered(text, "node ", *node as u128)?;
-                add_word(text, if *ended { " ended" } else { "" })
+                if *ended {
+                    add_word(text, " ended")?;
+                }
+                Ok(())
             }
             CallReply::TaskAt { task, node } => {
                 add_numbered(text, "task ", *task as u128)?;

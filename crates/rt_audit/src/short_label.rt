@@ -3,11 +3,12 @@
 ghost use Rattle.std.specs.Prelude.{◌≡◌, ◌≤◌, ◌<◌, length, IfSome, IfNone};
 
 use std::marker::Model;
+use std::str;
 
 /// The greatest number of its bytes.
 const MOST: usize = 23;
 
-/// A label of few bytes, which needs no memory. Contracts see its bytes.
+/// A text of few bytes, which needs no memory. Contracts see its bytes.
 #[derive(Debug, Drop)]
 pub struct ShortLabel {
     length: u8,
@@ -15,22 +16,23 @@ pub struct ShortLabel {
 }
 
 impl Model for ShortLabel {
-    ghost use Rattle.std.specs.Prelude.{◌≤◌, ℕ, List, take};
+    ghost use Rattle.std.specs.Prelude.{◌≤◌, ℕ, List, take, IsUtf8};
 
     ghost Value = { List ℕ };
 
     ghost view = { λ l. take l.length l.bytes };
 
-    ghost invariant = { λ l. l.length ≤ 23 };
+    ghost invariant = { λ l. (l.length ≤ 23) × IsUtf8 (take l.length l.bytes) };
 }
 
 impl ShortLabel {
-    /// These bytes, where they are few.
+    /// This text, where it is short.
     #[inline(always)]
-    pub fn of(label: &[u8]) -> Option<ShortLabel>
+    pub fn of(label: &str) -> Option<ShortLabel>
         ensures label { IfSome result (λ short. short ≡ label.now) }
         ensures long { IfNone result (23 < length label.now) }
     {
+        let label = label.as_bytes();
         if label.len() > MOST {
             return None;
         }
@@ -47,6 +49,14 @@ impl ShortLabel {
     pub fn as_bytes(&self) -> &[u8]
         ensures { result.now ≡ self.now }
     {
-        &self.bytes[..self.length as usize]
+        self.as_str().as_bytes()
+    }
+
+    /// The text.
+    #[inline(always)]
+    pub fn as_str(&self) -> &str
+        ensures { result.now ≡ self.now }
+    {
+        unsafe { str::from_utf8_unchecked(&self.bytes[..self.length as usize]) }
     }
 }

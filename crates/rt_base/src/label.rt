@@ -41,12 +41,13 @@ fn are_word_bytes(text: &[u8]) -> bool
 pub fn prefixed_name(alloc: Global, prefix: &str, name: &str) -> Result<String, NoMemory>
     ensures { IfOk result (λ full. string_bytes full ≡ prefixed prefix.now name.now) }
 {
+    if prefix.is_empty() {
+        return Ok(name.to_owned(alloc)?);
+    }
     let most = prefix.len().saturating_add(1).saturating_add(name.len());
     let mut full = String::with_capacity(alloc, most)?;
     full.push_str(prefix)?;
-    if !prefix.is_empty() {
-        full.push_str("_")?;
-    }
+    full.push_str("_")?;
     full.push_str(name)?;
     Ok(full)
 }

@@ -54,7 +54,7 @@ pub record Fails {A O G : Type 0} (p : Steps A O) (s : Starting G) (journal : Li
   pub failed : FailedFor p s.begin entries error
 
 -- each round of the entries behind the given ones visits the ready list as the draws before it shuffle it, and these, and what the
--- tasks drew, are the next that the generator gives
+-- maker and the tasks drew, are the next that the generator gives
 pub record AreShuffled {G : Type 0} (stream : G → Stream) (s : Starting G) (journal : List Entry) : Type 0 where
   pub entries : List Entry
   pub extends : journal ≡ s.given ++ entries

@@ -157,6 +157,10 @@ order-tail : (r : Runs) (x y : List Entry) → BeginInOrder r (x ++ y) → Begin
 order-tail r [] y o = o
 order-tail r (e ∷ x) y o = order-tail (run_after r e) x y o.1
 
+order-front : (r : Runs) (x y : List Entry) → BeginInOrder r (x ++ y) → BeginInOrder r x
+order-front r [] y o = tt
+order-front r (e ∷ x) y o = (o.0, order-front (run_after r e) x y o.1)
+
 last-append : (time : ℕ) (x y : List Entry) → last_time_from time (x ++ y) ≡ last_time_from (last_time_from time x) y
 last-append time [] y = refl
 last-append time (e ∷ x) y = last-append (time_after time e) x y
@@ -167,6 +171,12 @@ rises b later (e ∷ x) y l o =
     let r = runs_from b later in
     let t : Tells (last_time (e ∷ x)) (runs_after r (e ∷ x)).state = tells b later e x (runs-front r (e ∷ x) y l) in
     rw (last-append 0 (e ∷ x) y) (rises-all (last_time (e ∷ x)) (runs_after r (e ∷ x)) y (runs-tail r (e ∷ x) y l) (order-tail r (e ∷ x) y o) t)
+
+-- also in front of others
+pub rises-before : (b : Begin) (later : List Begin) (x y z : List Entry) → AreLawful (runs_from b later) ((x ++ y) ++ z) → BeginInOrder (runs_from b later) ((x ++ y) ++ z) → last_time x ≤ last_time (x ++ y)
+rises-before b later x y z l o =
+    let r = runs_from b later in
+    rises b later x y (runs-front r (x ++ y) z l) (order-front r (x ++ y) z o)
 
 -- two small runs
 

@@ -6,19 +6,19 @@ use Rattle.rt_audit.specs.declared.call.Call.{Call as CallOf}
 use Rattle.rt_audit.specs.declared.call.Call.TheVariants.{NextU32, NextU64, FillBytes, Auditor}
 use Rattle.rt_audit.specs.declared.reply.CallReply.{CallReply}
 use Rattle.rt_audit.specs.declared.reply.CallReply.TheVariants.{Done, Number, Bytes, Refused}
-use Rattle.rt_audit.specs.declared.answer.AnswerKind.TheVariants.{Ready}
-use Rattle.rt_audit.specs.declared.finish.FinishCause.TheVariants.{Completed}
+use Rattle.rt_audit.specs.declared.answer.AnswerKind.TheVariants.{Ready, Pending}
+use Rattle.rt_audit.specs.declared.finish.FinishCause.TheVariants.{Completed, Stalled}
 use Rattle.rt_audit.specs.declared.entry.Entry.{Entry}
-use Rattle.rt_audit.specs.declared.entry.Entry.TheVariants.{Call, Event, Draw, Answer as Answered}
+use Rattle.rt_audit.specs.declared.entry.Entry.TheVariants.{Call, Event, Draw, Answer as Answered, Advance}
 use Rattle.rt_model.specs.Draws.{Drawn, Short, Long, Filled}
 use Rattle.rt_model.specs.State.{Announced, State, begun}
 use Rattle.rt_model.specs.Effects.{drawn_called, drawn_after, after, after_all}
 use Rattle.rt_model.specs.Rules.{Answers, IsLawful, AreDrawn}
 use Rattle.rt_model.specs.Tied.{nothing}
-use Rattle.rt_model.specs.Run.{IsRun}
+use Rattle.rt_model.specs.Run.{IsRun, IsValidInput}
 use Rattle.rt_model.proofs.Append.{after_all-append, IsLawful-append}
 use Rattle.rt_laws.specs.Examples.{small_begin, gave, opening, visiting_root, root_ends, finishing}
-use Rattle.rt_laws.specs.Drawing.{drawing_root, asking_root, visited_again, draws_by, drawing_journal, asking_journal}
+use Rattle.rt_laws.specs.Drawing.{drawing_root, asking_root, moody_root, visited_again, draws_by, drawing_journal, asking_journal, moody_journal}
 use Rattle.rt_laws.proofs.Decided.{lawful}
 use Rattle.rt_laws.proofs.Followed.{tied}
 use Rattle.rt_laws.proofs.Signals.{apart}
@@ -79,6 +79,34 @@ asking_run bytes digest four exact = record {
   whole = refl;
 }
 
+-- and one that pends by what is drawn
+
+moody-lawful : IsLawful (begun small_begin) moody_journal
+unfolding begun after
+moody-lawful =
+    let behind = draws_by (codes "next_u64") NextU64 (Number 1)
+    ++ (Answered 0 Pending ∷ Advance 1000000 ∷ [])
+    ++ root_ends
+    ++ finishing Stalled
+    in
+    IsLawful-append (begun small_begin) (opening ++ visiting_root) behind (lawful small_begin (opening ++ visiting_root) refl)
+    ((refl, (Some 0, refl, (NextU64, Done, refl))), ((refl, (refl, omega arith, refl)), search rules))
+
+pub moody_run : IsRun moody_root small_begin moody_journal Stalled (after_all (begun small_begin) moody_journal) nothing
+unfolding begun after
+moody_run = record {
+  lawful = moody-lawful;
+  reaches = refl;
+  ends = refl;
+  caused = λ e. cc;
+  tied = tied moody_root (begun small_begin) nothing nothing moody_journal refl;
+  whole = refl;
+}
+
+pub moody_not_valid : IsValidInput moody_root small_begin → ⊥
+unfolding begun after
+moody_not_valid valid = let e = valid moody_journal Stalled (after_all (begun small_begin) moody_journal) nothing moody_run in cc
+
 -- what an entry draws stands behind what was drawn
 
 more-called : (drawn : List Drawn) (call : CallOf) (reply : CallReply) → (more : List Drawn) × (drawn_called drawn call reply ≡ drawn ++ more)
@@ -127,6 +155,10 @@ no_draw_announced_so number l =
 -- a call behind the event of one that draws is answered so
 drew : (name : List ℕ) (call : CallOf) (reply : CallReply) → IsLawful (begun small_begin) (visited_again (draws_by name call reply)) → IsLawful (after_all (begun small_begin) (visited_again (Event (codes "rand") (name ∷ []) ∷ []))) (Call (Some 0) call reply ∷ [])
 drew name call reply l = tail (visited_again (Event (codes "rand") (name ∷ []) ∷ [])) (Call (Some 0) call reply ∷ []) l
+
+pub no_auditor_announced : (digest : List ℕ) → IsLawful (begun small_begin) (visited_again (draws_by (codes "fill_bytes") Auditor (Bytes digest))) → ⊥
+unfolding begun after
+no_auditor_announced digest l = let h = (drew (codes "fill_bytes") Auditor (Bytes digest) l).0.1.2 in cc
 
 pub no_great_short : (number : ℕ) → 2 ^ 32 ≤ number → IsLawful (begun small_begin) (visited_again (draws_by (codes "next_u32") NextU32 (Number number))) → ⊥
 unfolding begun after

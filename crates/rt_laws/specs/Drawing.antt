@@ -1,11 +1,11 @@
 -- Roots that draw, and what comes near to the run of one that draws a number and then bytes.
-use Rattle.std.specs.Prelude.{ℕ, List, [], ◌∷◌, ◌++◌, map, Some, codes}
+use Rattle.std.specs.Prelude.{ℕ, List, [], ◌∷◌, ◌++◌, ◌==◌, if◌then◌else◌, map, Some, codes}
 use Rattle.rt_audit.specs.declared.call.Call.{Call as CallOf}
 use Rattle.rt_audit.specs.declared.call.Call.TheVariants.{Wake as WakeCall, NextU64, FillBytes, Auditor}
 use Rattle.rt_audit.specs.declared.reply.CallReply.{CallReply}
 use Rattle.rt_audit.specs.declared.reply.CallReply.TheVariants.{Done, Number, Bytes}
 use Rattle.rt_audit.specs.declared.answer.AnswerKind.TheVariants.{Pending as AnswersPending, Ready as AnswersReady}
-use Rattle.rt_audit.specs.declared.finish.FinishCause.TheVariants.{Completed}
+use Rattle.rt_audit.specs.declared.finish.FinishCause.TheVariants.{Completed, Stalled}
 use Rattle.rt_audit.specs.declared.entry.Entry.{Entry}
 use Rattle.rt_audit.specs.declared.entry.Entry.TheVariants.{Call, Event, Wake, Draw, Round, Answer as Answered, Advance}
 use Rattle.rt_model.specs.declared.answer.Answer.{Answer}
@@ -44,6 +44,16 @@ asking_root len =
     })
     (λ now. Gives tt tt)
 
+-- a root that draws a number in its first poll, and is ready unless that is 1
+abbrev pub moody_root : Steps (Unit {0}) ℕ
+moody_root =
+    with_first
+    (record {
+      next = λ state now own. Does (Plainly NextU64) (λ drawn. Gives (if number_of drawn == 1 then Pending else Ready 0) state);
+      last = λ state now own. closes_node;
+    })
+    (λ now. Gives tt tt)
+
 -- 6 was drawn for the round of its second visit, in which these entries come
 abbrev pub visited_again : List Entry → List Entry
 visited_again entries =
@@ -76,6 +86,16 @@ asking_journal bytes digest =
     ++ (Call (Some 0) Auditor (Bytes digest) ∷ Answered 0 AnswersReady ∷ [])
     ++ root_ends
     ++ finishing Completed
+
+-- the journal of a root that draws 1, and pends
+abbrev pub moody_journal : List Entry
+moody_journal =
+    opening
+    ++ visiting_root
+    ++ draws_by (codes "next_u64") NextU64 (Number 1)
+    ++ (Answered 0 AnswersPending ∷ Advance 1000000 ∷ [])
+    ++ root_ends
+    ++ finishing Stalled
 
 -- the entries of these events
 abbrev pub events_of : List Announced → List Entry

@@ -3,12 +3,12 @@
 ghost use Rattle.std.specs.Prelude.{◌≡◌, ◌≢◌, ◌≤◌, ◌<◌, ◌^◌, ◌++◌, [], ◌∷◌, ℕ, List, Option, Some, length, codes};
 ghost use Rattle.rt_base.specs.declared.error.Error.{Error};
 ghost use Rattle.rt_audit.specs.declared.call.Call.{Call as CallOf};
-ghost use Rattle.rt_audit.specs.declared.call.Call.TheVariants.{NextU32, NextU64, FillBytes};
+ghost use Rattle.rt_audit.specs.declared.call.Call.TheVariants.{NextU32, NextU64, FillBytes, Auditor};
 ghost use Rattle.rt_audit.specs.declared.reply.CallReply.{CallReply};
 ghost use Rattle.rt_audit.specs.declared.reply.CallReply.TheVariants.{Number, Bytes, Refused};
 ghost use Rattle.rt_audit.specs.declared.entry.Entry.{Entry};
 ghost use Rattle.rt_audit.specs.declared.entry.Entry.TheVariants.{Call};
-ghost use Rattle.rt_audit.specs.declared.finish.FinishCause.TheVariants.{Completed};
+ghost use Rattle.rt_audit.specs.declared.finish.FinishCause.TheVariants.{Completed, Stalled};
 ghost use Rattle.rt_model.specs.declared.begin.Begin.{Begin};
 ghost use Rattle.rt_model.specs.Draws.{Drawn, Long, Filled};
 ghost use Rattle.rt_model.specs.State.{State, begun};
@@ -16,8 +16,9 @@ ghost use Rattle.rt_model.specs.Effects.{after_all};
 ghost use Rattle.rt_model.specs.Events.{announced_by};
 ghost use Rattle.rt_model.specs.Rules.{Answers, IsLawful, AreDrawn};
 ghost use Rattle.rt_model.specs.Run.{IsRun, IsValidInput};
+ghost use Rattle.rt_model.specs.Tied.{nothing};
 ghost use Rattle.rt_laws.specs.Examples.{small_begin, gave};
-ghost use Rattle.rt_laws.specs.Drawing.{drawing_root, asking_root, visited_again, draws_by, drawing_journal, asking_journal, events_of};
+ghost use Rattle.rt_laws.specs.Drawing.{drawing_root, asking_root, moody_root, visited_again, draws_by, drawing_journal, asking_journal, moody_journal, events_of};
 
 /// A root draws a number and then four bytes in a round for which 6 was drawn, and gives the number, whichever that is and
 /// whichever the bytes are. These three were drawn, in this order.
@@ -34,13 +35,19 @@ pub fn inputs_that_draw_are_valid()
     ensures asking { (len : ℕ) → IsValidInput (asking_root len) small_begin }
 {}
 
+/// A root that draws a number, and is ready unless that is 1, stalls where it is 1, so its input isn't valid.
+pub fn a_root_that_pends_by_what_is_drawn_is_not_valid()
+    ensures run { IsRun moody_root small_begin moody_journal Stalled (after_all (begun small_begin) moody_journal) nothing }
+    ensures invalid { IsValidInput moody_root small_begin → ⊥ }
+{}
+
 /// A root that draws four bytes in its first poll and then asks an auditor gives their count, whichever the bytes and the digest are.
 pub fn a_root_that_asks_has_its_run()
     ensures { (bytes digest : List ℕ) → length bytes ≡ 4 → length digest ≡ 4 → IsRun (asking_root 4) small_begin (asking_journal bytes digest) Completed (after_all (begun small_begin) (asking_journal bytes digest)) (gave 4) }
 {}
 
-/// In every state a call comes behind the events that announce it, and no others: one that announces none, behind none (`state`). These
-/// stand directly before it, and no other event of a call before them (`behind`).
+/// The events of calls that a state keeps are those that announce the call which comes next, and no others (`state`). In the entries
+/// of a run these stand directly before the call, and directly before these no other event of a call (`behind`).
 pub fn a_call_comes_behind_its_own_event()
     ensures state { (s : State) (by : Option ℕ) (call : CallOf) (reply : CallReply) → IsLawful s (Call by call reply ∷ []) → s.announced ≡ announced_by call reply }
     ensures behind { (b : Begin) (x : List Entry) (by : Option ℕ) (call : CallOf) (reply : CallReply) → IsLawful (begun b) (x ++ Call by call reply ∷ []) → (front : List Entry) × (x ≡ front ++ events_of (announced_by call reply)) × ((after_all (begun b) front).announced ≡ []) }
@@ -52,11 +59,13 @@ pub fn what_was_drawn_stays()
     ensures decides_nothing { (s : State) (drawn : List Drawn) (x : List Entry) → IsLawful (record s { drawn = drawn }) x → IsLawful s x }
 {}
 
-/// No call draws without its event (`unannounced`) or behind that of another (`announced`). No number is too great for its bits
-/// (`short`, `long`), and no fewer or more bytes are drawn than were asked for (`bytes`).
+/// No call draws without its event (`unannounced`) or behind that of another (`announced`), and one that asks an auditor doesn't come
+/// behind the event of `fill_bytes` (`silent`). No number is too great for its bits (`short`, `long`), and no fewer or more bytes are
+/// drawn than were asked for (`bytes`).
 pub fn near_misses_of_drawing_are_not_lawful()
     ensures unannounced { (number : ℕ) → IsLawful (begun small_begin) (visited_again (Call (Some 0) NextU64 (Number number) ∷ [])) → ⊥ }
     ensures announced { (number : ℕ) → IsLawful (begun small_begin) (visited_again (draws_by (codes "next_u32") NextU64 (Number number))) → ⊥ }
+    ensures silent { (digest : List ℕ) → IsLawful (begun small_begin) (visited_again (draws_by (codes "fill_bytes") Auditor (Bytes digest))) → ⊥ }
     ensures short { (number : ℕ) → 2 ^ 32 ≤ number → IsLawful (begun small_begin) (visited_again (draws_by (codes "next_u32") NextU32 (Number number))) → ⊥ }
     ensures long { (number : ℕ) → 2 ^ 64 ≤ number → IsLawful (begun small_begin) (visited_again (draws_by (codes "next_u64") NextU64 (Number number))) → ⊥ }
     ensures bytes { (bytes : List ℕ) → length bytes ≢ 4 → IsLawful (begun small_begin) (visited_again (draws_by (codes "fill_bytes") (FillBytes 4) (Bytes bytes))) → ⊥ }

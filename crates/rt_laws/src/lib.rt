@@ -55,7 +55,8 @@ pub use auditing::{
 pub use chained::{a_run_that_begins_too_early_goes_back, time_never_goes_back_over_a_chain};
 pub use drawing::{
     a_call_comes_behind_its_own_event, a_draw_is_answered_by_what_it_asks_for,
-    a_root_that_asks_has_its_run, a_root_that_draws_has_its_run, inputs_that_draw_are_valid,
+    a_root_that_asks_has_its_run, a_root_that_draws_has_its_run,
+    a_root_that_pends_by_what_is_drawn_is_not_valid, inputs_that_draw_are_valid,
     near_misses_of_drawing_are_lawful_but_for_one_place, near_misses_of_drawing_are_not_lawful,
     other_answers_of_draws_are_refused, what_was_drawn_stays,
 };

@@ -141,8 +141,7 @@ impl Machine {
         ensures { IfOk result (λ call. call ≡ Call.Child node label.now) }
     {
         let alloc = *self.ready.allocator();
-        let text = Text::of(label.to_owned(alloc)?);
-        let label = Label::new(alloc, text)?;
+        let label = Label::of(alloc, label)?;
         Ok(Call::Child { node, label })
     }
 

@@ -72,6 +72,7 @@ impl RunJournal {
     }
 
     /// Adds an entry that ends the calls under way.
+    #[inline(always)]
     pub fn push(&mut self, entry: Entry)
         requires room { 0 < self.old.spare }
         requires may { May self.old.told.state entry }
@@ -86,6 +87,7 @@ impl RunJournal {
     }
 
     /// Adds a call, an event of one, or a wake.
+    #[inline(always)]
     pub fn note(&mut self, entry: Entry)
         requires room { 0 < self.old.spare }
         requires may { May self.old.told.state entry }

@@ -1,5 +1,7 @@
 -- Lines that are told by their bytes at once.
 use Rattle.std.proofs.Common.{◌≡◌, ℕ, ◌==◌, ◌≤◌, ◌++◌, true, false, List, [], ◌∷◌, length, drop, codes, refl, arith, nat_lt, Some, is_some, Bool, if◌then◌else◌, None, ◌^◌, Option, ℤ, sym, nat_le, suc, ap, ◌∙◌}
+use Rattle.std.specs.Borrow.{Bor}
+use Rattle.std.specs.Option.{IfSome, MatchOption}
 use Rattle.std.proofs.lemmas.Bool.{and_parts}
 use Rattle.std.proofs.lemmas.Bool.Decides.{nat_tests}
 use Rattle.std.proofs.lemmas.Slice.Eq.{HasBytesAt}
@@ -10,7 +12,7 @@ use Rattle.std.specs.Cmp.Lexicographic.{same_text}
 use Rattle.rt_base.specs.Label.{is_label, is_word_byte}
 use Rattle.rt_scenario.specs.Lines.{onto_first, words_of}
 use Rattle.rt_scenario.specs.Numbers.{below, is_decimal, minus, number_of, plus, value_of}
-use Rattle.rt_scenario.specs.Scenario.{Draft, after_text, is_name, is_printable, script_at, spawned_row, step_row}
+use Rattle.rt_scenario.specs.Scenario.{Draft, after_text, is_between, is_name, is_printable, script_at, script_row, spawned_row, step_row}
 use Rattle.rt_scenario.specs.Words.{is_text}
 use Rattle.rt_scenario.specs.declared.line.Line.TheVariants as step
 use Rattle.rt_scenario.specs.declared.named_line.NamedLine.TheVariants.{Plain, Join}
@@ -183,3 +185,21 @@ pub spawns_so : (text rest handle script : List ℕ) (d : Draft) → length text
 spawns_so text rest handle script d short long reads cut words named known open_ =
     let is : text ≡ codes "spawn " ++ rest = rw cut (begins (codes "spawn ") text long reads) in
     rw is (spawns rest handle script d (rw is at short) words named known open_)
+
+opens : (name : List ℕ) (d : Draft) → is_name name ≡ true → is_between d ≡ true → after_text d (codes "script " ++ name) ≡ script_row d name
+opens name d named between =
+    let parts = and_parts _ _ named in
+    let word = label_is name parts.0 in
+    let short : nat_le (length name) 32 ≡ true = parts.1 in
+    let fits : nat_lt 4096 (length (codes "script " ++ name)) ≡ false = grind (arith, nat_tests) in
+    let some : (length (codes "script " ++ name) == 0) ≡ false = grind (arith, nat_tests) in
+    rw (fits, some, word.0, word.1, word.2, between) refl
+
+pub opens_so : (text name : List ℕ) (d : Draft) → 7 ≤ length text → HasBytesAt text 0 (codes "script ") → name ≡ drop 7 text → is_name name ≡ true → is_between d ≡ true → after_text d text ≡ script_row d name
+opens_so text name d long reads rest named between =
+    let is : text ≡ codes "script " ++ name = rw rest (begins (codes "script ") text long reads) in
+    rw is (opens name d named between)
+
+pub where_some : (o : Option (Bor (List ℕ))) (none : Type 0) (P Q : Bor (List ℕ) → Type 0) → ((name : Bor (List ℕ)) → P name → Q name) → MatchOption o none P → IfSome o Q
+where_some None none P Q more h = tt
+where_some (Some name) none P Q more h = more name h

@@ -51,7 +51,8 @@ named_same names more h (step.End v) inside = refl
 named_same names more h step.EndLast inside = refl
 named_same names more h step.AbortSelf inside = refl
 named_same names more h (step.Select start past) inside = refl
-named_same names more h (step.Stop v limit) inside = refl
+named_same names more h (step.Stop v) inside = refl
+named_same names more h (step.StopWithin v limit) inside = refl
 
 -- the lines so far stay where a name more is taken in
 named_kept : (names : List (List ℕ)) (o : Option (List ℕ)) (lines : List Line) → All (HasIndex (length names)) lines → map (named_by (with_name names o)) lines ≡ map (named_by names) lines
@@ -79,7 +80,8 @@ index_more n m (step.End v) h inside = tt
 index_more n m step.EndLast h inside = tt
 index_more n m step.AbortSelf h inside = tt
 index_more n m (step.Select start past) h inside = tt
-index_more n m (step.Stop v limit) h inside = tt
+index_more n m (step.Stop v) h inside = tt
+index_more n m (step.StopWithin v limit) h inside = tt
 
 indices_more : (n m : ℕ) (lines : List Line) → n ≤ m → All (HasIndex n) lines → All (HasIndex m) lines
 indices_more n m lines h inside = λ k d low. index_more n m (get_or lines k d) h (inside k d low)
@@ -196,7 +198,8 @@ placed_one names order (step.End v) inside = refl
 placed_one names order step.EndLast inside = refl
 placed_one names order step.AbortSelf inside = refl
 placed_one names order (step.Select start past) inside = refl
-placed_one names order (step.Stop v limit) inside = refl
+placed_one names order (step.Stop v) inside = refl
+placed_one names order (step.StopWithin v limit) inside = refl
 
 -- the places of the names give the lines their places
 pub placed_named : (names order : List (List ℕ)) (lines : List Line) → All (HasIndex (length names)) lines → map (placed_at (map (place_of order) names)) lines ≡ map (placed order) (map (named_by names) lines)
@@ -212,3 +215,31 @@ placed_choices names order [] inside = refl
 placed_choices names order (i ∷ is) inside =
     ap (λ p. p ∷ map (slice_index (map (place_of order) names)) is) (get_or-map (place_of order) names i [] 0 (inside 0 i (omega arith)))
     ∙ ap (λ ps. place_of order (name_at names i) ∷ ps) (placed_choices names order is (All-tail (λ index. index < length names) i is inside))
+
+-- without names no line has an index
+unplaced_line : (places : List ℕ) (line : Line) → length places ≡ 0 → HasIndex (length places) line → placed_at places line ≡ line
+unplaced_line places (step.Spawn index script) none inside = absurd (omega (arith, none, inside))
+unplaced_line places (step.Abort index) none inside = absurd (omega (arith, none, inside))
+unplaced_line places (step.Drop index) none inside = absurd (omega (arith, none, inside))
+unplaced_line places (step.Join index) none inside = absurd (omega (arith, none, inside))
+unplaced_line places (step.Within index limit) none inside = absurd (omega (arith, none, inside))
+unplaced_line places (step.Stopped index) none inside = absurd (omega (arith, none, inside))
+unplaced_line places (step.Wait index) none inside = absurd (omega (arith, none, inside))
+unplaced_line places (step.Panic word) none inside = refl
+unplaced_line places (step.Sleep time) none inside = refl
+unplaced_line places (step.Until time) none inside = refl
+unplaced_line places step.Yield none inside = refl
+unplaced_line places step.Draw none inside = refl
+unplaced_line places step.Pend none inside = refl
+unplaced_line places (step.End v) none inside = refl
+unplaced_line places step.EndLast none inside = refl
+unplaced_line places step.AbortSelf none inside = refl
+unplaced_line places (step.Select start past) none inside = refl
+unplaced_line places (step.Stop v) none inside = refl
+unplaced_line places (step.StopWithin v limit) none inside = refl
+
+pub unplaced : (places : List ℕ) (lines : List Line) → length places ≡ 0 → All (HasIndex (length places)) lines → map (placed_at places) lines ≡ lines
+unplaced places [] none inside = refl
+unplaced places (line ∷ lines) none inside =
+    let one : placed_at places line ≡ line = unplaced_line places line none (inside 0 line (omega arith)) in
+    rw (one, unplaced places lines none (All-tail (HasIndex (length places)) line lines inside)) refl

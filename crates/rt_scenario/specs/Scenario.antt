@@ -154,13 +154,13 @@ select_row d names = if not (list_all is_name names) then Err kind.Name else Ok 
 -- a shutdown that is waited for to its end
 abbrev pub stop_row : Draft → Option ℤ → Result Draft Kind
 stop_row d None = Err kind.Number
-stop_row d (Some v) = step_row d (Plain (step.Stop v None))
+stop_row d (Some v) = step_row d (Plain (step.Stop v))
 
 -- a shutdown that is waited for at most so long
 abbrev pub limited_stop_row : Draft → Option ℤ → Option ℕ → Result Draft Kind
 limited_stop_row d None limit = Err kind.Number
 limited_stop_row d (Some v) None = Err kind.Number
-limited_stop_row d (Some v) (Some limit) = step_row d (Plain (step.Stop v (Some limit)))
+limited_stop_row d (Some v) (Some limit) = step_row d (Plain (step.StopWithin v limit))
 
 abbrev pub with_closed : Draft → Option Begun → Draft
 with_closed d None = d

@@ -1,6 +1,6 @@
-// The lines that stand most often in scripts, each told by its bytes at once.
+// The lines that stand most often, each told by its bytes at once.
 ghost use Rattle.std.specs.Prelude.{◌≡◌, ◌≤◌, true, ℕ, IfSome, is_some, length};
-ghost use Rattle.rt_scenario.specs.Scenario.{Draft, after_text, script_at, spawned_row, step_row};
+ghost use Rattle.rt_scenario.specs.Scenario.{Draft, after_text, is_between, is_name, script_at, script_row, spawned_row, step_row};
 ghost use Rattle.rt_scenario.specs.Within.{IsFree};
 ghost use Rattle.rt_scenario.specs.declared.named_line.NamedLine.TheVariants.{Join, Plain};
 
@@ -50,7 +50,8 @@ pub fn joined(text: &[u8]) -> Option<&str>
 
 /// The names of the handle and of the script, where a text of a script is `spawn` with two names: it needs no other test.
 pub fn spawned(text: &[u8]) -> Option<(&str, &str)>
-    ensures { IfSome result (λ names. (d : Draft) → is_some d.current ≡ true → after_text d text.now ≡ spawned_row d names.0.now (script_at d.scripts names.1.now)) }
+    ensures line { IfSome result (λ names. (d : Draft) → is_some d.current ≡ true → after_text d text.now ≡ spawned_row d names.0.now (script_at d.scripts names.1.now)) }
+    ensures short { IfSome result (λ names. length names.1.now ≤ 32) }
 {
     if text.len() > SHORT {
         return None;
@@ -60,6 +61,18 @@ pub fn spawned(text: &[u8]) -> Option<(&str, &str)>
             let (handle, script) = two_words(Some(rest))?;
             Some((name_of(handle)?, name_of(script)?))
         }
+        _ => None,
+    }
+}
+
+/// The name of the script that a text opens, where it is `script` with a name: outside of scripts and runs it needs no other test.
+pub fn opened(text: &[u8]) -> Option<&str>
+    ensures name { IfSome result (λ name. is_name name.now ≡ true) }
+    ensures short { IfSome result (λ name. length name.now ≤ 32) }
+    ensures line { IfSome result (λ name. (d : Draft) → is_between d ≡ true → after_text d text.now ≡ script_row d name.now) }
+{
+    match text {
+        [b's', b'c', b'r', b'i', b'p', b't', b' ', name @ ..] => name_of(name),
         _ => None,
     }
 }

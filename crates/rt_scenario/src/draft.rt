@@ -1,5 +1,5 @@
 // What the lines so far say.
-ghost use Rattle.std.specs.Prelude.{◌≡◌, true, false, ◌<◌, ◌==◌, not, length, Some, None, Ok, Err, IfSome, IfOk, MatchOption, MatchResult, List, ℕ, [], ◌∷◌, ◌++◌, ◌≢◌, is_some, nat_lt};
+ghost use Rattle.std.specs.Prelude.{◌≡◌, true, false, ◌<◌, ◌≤◌, ◌==◌, not, length, Some, None, Ok, Err, IfSome, IfOk, MatchOption, MatchResult, List, ℕ, [], ◌∷◌, ◌++◌, ◌≢◌, is_some, nat_lt};
 ghost use Rattle.std.specs.Option.{option_map};
 ghost use Rattle.std.specs.List.{All, list_all};
 ghost use Rattle.rt_scenario.specs.Lines.{words_of, words_in};
@@ -12,7 +12,7 @@ ghost use Rattle.rt_scenario.specs.Within.{HasPlaces, HavePlaces, IsFree};
 ghost use Rattle.rt_scenario.specs.declared.named_line.NamedLine.TheVariants as named_line;
 ghost use Rattle.rt_scenario.specs.declared.word.Word.TheVariants as word;
 
-use crate::common::{common_line, joined, spawned};
+use crate::common::{common_line, joined, opened, spawned};
 use crate::kind::Kind;
 use crate::line::Line;
 use crate::named_line::NamedLine;
@@ -20,11 +20,12 @@ use crate::names::{are_names, name_of, named, text_of};
 use crate::numbers;
 use crate::open_script::OpenScript;
 use crate::scenario::{RunLine, Scenario, ScriptText, Settings};
+use crate::script_name::ScriptName;
 use crate::split::{is_passed_over, only_word, run_words, split_word, test_text, two_words};
 use crate::stop::Stop;
 use crate::tasks::{MAX_TASKS, tasks_at, tasks_of};
 use crate::word::{Word, switch_of};
-use rt_base::{Items, MAX_TIME, Text};
+use rt_base::{Items, MAX_TIME};
 use std::alloc::Global;
 use std::collections::HashMap;
 use std::marker::Model;
@@ -39,7 +40,7 @@ pub struct Draft {
     settings: Settings,
     closed: Vec<ScriptText>,
     tasks: Vec<u64>,
-    places: HashMap<String, usize>,
+    places: HashMap<ScriptName, usize>,
     current: Option<OpenScript>,
     /// Room for the lines of the next script.
     spare: Vec<Line>,
@@ -48,17 +49,18 @@ pub struct Draft {
 
 impl Model for Draft {
     ghost use Rattle.std.specs.Prelude.{◌≡◌, ℕ, List, None, IfSome, length};
-    ghost use Rattle.std.specs.HashMap.{get_by_text};
+    ghost use Rattle.std.specs.HashMap.{get};
     ghost use Rattle.std.specs.List.{All};
     ghost use Rattle.rt_scenario.specs.Capped.{capped_tasks};
     ghost use Rattle.rt_scenario.specs.Scenario.{Draft, script_at, CanRunLine};
     ghost use Rattle.rt_scenario.specs.Within.{HavePlaces, IsBegun};
+    ghost use Rattle.rt_scenario.specs.Words.{is_text};
 
     ghost Value = { Draft };
 
     ghost view = { λ d. record { settings = d.settings; scripts = d.closed.items; current = d.current; runs = d.runs.items } };
 
-    ghost invariant = { λ d. ((name : List ℕ) → get_by_text d.places name ≡ script_at d.closed.items name) × (d.tasks.items ≡ capped_tasks d.closed.items) × All (CanRunLine d.closed.items d.settings) d.runs.items × IfSome d.current (λ s. script_at d.closed.items s.name ≡ None) × HavePlaces d.closed.items × IfSome d.current (IsBegun (length d.closed.items)) };
+    ghost invariant = { λ d. ((name : List ℕ) → get is_text d.places name ≡ script_at d.closed.items name) × (d.tasks.items ≡ capped_tasks d.closed.items) × All (CanRunLine d.closed.items d.settings) d.runs.items × IfSome d.current (λ s. script_at d.closed.items s.name ≡ None) × HavePlaces d.closed.items × IfSome d.current (IsBegun (length d.closed.items)) };
 }
 
 impl Draft {
@@ -137,6 +139,10 @@ impl Draft {
             }
             if text == b"done".as_slice() {
                 return self.close_script();
+            }
+        } else if self.is_between() {
+            if let Some(name) = opened(text) {
+                return self.open_named(name);
             }
         }
         if text.len() > LINE_LEN {
@@ -271,14 +277,23 @@ impl Draft {
     fn open_script(&mut self, word: &[u8]) -> Result<(), Stop>
         ensures { Answers (script_row self.old word.now) result self.new }
     {
-        let Some(name) = name_of(word) else {
-            return Err(Stop::Breaks(Kind::Name));
-        };
-        if self.places.get(name).is_some() {
+        match name_of(word) {
+            Some(name) => self.open_named(name),
+            None => Err(Stop::Breaks(Kind::Name)),
+        }
+    }
+
+    /// Opens the script of this name.
+    fn open_named(&mut self, name: &str) -> Result<(), Stop>
+        requires name { is_name name.now ≡ true }
+        requires short { length name.now ≤ 32 }
+        ensures { Answers (script_row self.old name.now) result self.new }
+    {
+        let name = ScriptName::of(name);
+        if self.places.get(&name).is_some() {
             return Err(Stop::Breaks(Kind::Twice));
         }
         let alloc = *self.closed.allocator();
-        let name = Text::of(String::from_str(alloc, name)?);
         let spare = mem::replace(&mut self.spare, Vec::new(alloc));
         self.current = Some(OpenScript::new(alloc, name, spare));
         Ok(())
@@ -362,7 +377,8 @@ impl Draft {
 
     /// Takes a spawn in, by the names of its handle and its script.
     fn spawn_named(&mut self, handle: &str, script: &str) -> Result<(), Stop>
-        requires { is_some self.old.current ≡ true }
+        requires open { is_some self.old.current ≡ true }
+        requires short { length script.now ≤ 32 }
         ensures { Answers (spawned_row self.old handle.now (script_at self.old.scripts script.now)) result self.new }
     {
         let place = self.find_named(script)?;
@@ -459,7 +475,7 @@ impl Draft {
         ensures { Answers (stop_row self.old (small_value_of value.now)) result self.new }
     {
         match numbers::small_value_of(value) {
-            Some(value) => self.push_plain(Line::Stop(value, None)),
+            Some(value) => self.push_plain(Line::Stop(value)),
             None => Err(Stop::Breaks(Kind::Number)),
         }
     }
@@ -470,7 +486,7 @@ impl Draft {
         ensures { Answers (limited_stop_row self.old (small_value_of value.now) (number_of limit.now)) result self.new }
     {
         match (numbers::small_value_of(value), numbers::number_of(limit)) {
-            (Some(value), Some(limit)) => self.push_plain(Line::Stop(value, Some(limit))),
+            (Some(value), Some(limit)) => self.push_plain(Line::StopWithin(value, limit)),
             _ => Err(Stop::Breaks(Kind::Number)),
         }
     }
@@ -495,11 +511,11 @@ impl Draft {
         requires between { self.old.current ≡ None }
         ensures { Answers (Ok (record self.old { scripts = self.old.scripts ++ script ∷ [] })) result self.new }
     {
-        let key = script.name.clone_value()?.into_inner();
+        let name = script.name.copy();
         let tasks = tasks_of(self.tasks.as_slice(), script.lines.as_slice());
         self.closed.reserve(1)?;
         self.tasks.reserve(1)?;
-        self.places.insert(key, self.closed.len())?;
+        self.places.insert(name, self.closed.len())?;
         self.closed.push_reserved(script);
         self.tasks.push_reserved(tasks);
         Ok(())
@@ -574,10 +590,11 @@ impl Draft {
 
     /// The place of the script of this name.
     fn find_named(&self, name: &str) -> Result<usize, Kind>
+        requires { length name.now ≤ 32 }
         ensures found { result ≡ or_missing (script_at self.now.scripts name.now) }
         ensures there { IfOk result (λ place. place < length self.now.scripts) }
     {
-        match self.places.get(name) {
+        match self.places.get(&ScriptName::of(name)) {
             Some(place) => Ok(*place),
             None => Err(Kind::Missing),
         }

@@ -43,6 +43,8 @@ pub enum Line {
     Stopped(usize),
     /// Waits for this signal.
     Wait(usize),
-    /// Begins the run's shutdown with this value, and waits for its end; for at most so long where there is a limit.
-    Stop(i32, Option<Nanos>),
+    /// Begins the run's shutdown with this value, and waits for its end.
+    Stop(i32),
+    /// The same, for at most so long. A variant of its own, since many lines are kept.
+    StopWithin(i32, Nanos),
 }

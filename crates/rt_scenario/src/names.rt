@@ -1,5 +1,5 @@
 // Names of scripts and of what they hold, and words of panics.
-ghost use Rattle.std.specs.Prelude.{◌≡◌, true, false, MatchOption, IfOk};
+ghost use Rattle.std.specs.Prelude.{◌≡◌, ◌≤◌, true, false, length, MatchOption, IfOk, IfSome};
 ghost use Rattle.std.specs.List.{list_all};
 ghost use Rattle.rt_scenario.specs.Answers.{Named};
 ghost use Rattle.rt_scenario.specs.Lines.{words_in};
@@ -17,7 +17,8 @@ const NAME_LEN: usize = 32;
 
 /// The name that the word is: a letter and then letters, digits and underscores, at most 32 bytes.
 pub fn name_of(word: &[u8]) -> Option<&str>
-    ensures { MatchOption result (is_name word.now ≡ false) (λ name. (is_name word.now ≡ true) × (name.now ≡ word.now)) }
+    ensures name { MatchOption result (is_name word.now ≡ false) (λ name. (is_name word.now ≡ true) × (name.now ≡ word.now)) }
+    ensures short { IfSome result (λ name. length name.now ≤ 32) }
 {
     if word.len() > NAME_LEN || !is_label(word) {
         return None;
@@ -43,7 +44,8 @@ pub fn are_names(words: Option<&[u8]>) -> bool
 
 /// The name that the word is.
 pub fn named(word: &[u8]) -> Result<&str, Stop>
-    ensures { Named word.now result }
+    ensures named { Named word.now result }
+    ensures short { IfOk result (λ name. length name.now ≤ 32) }
 {
     match name_of(word) {
         Some(name) => Ok(name),

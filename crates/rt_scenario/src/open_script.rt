@@ -1,7 +1,7 @@
 // A script whose `done` hasn't come.
 ghost use Rattle.std.specs.Prelude.{◌≡◌, true, [], ◌∷◌, IfOk, OnOk, OnErr, length, map, slice_index};
-ghost use Rattle.std.specs.List.{list_all};
-ghost use Rattle.rt_scenario.specs.Indexed.{placed_at, read};
+ghost use Rattle.std.specs.List.{All, list_all};
+ghost use Rattle.rt_scenario.specs.Indexed.{HasIndex, placed_at, read};
 ghost use Rattle.rt_scenario.specs.Scripts.{closed_script};
 ghost use Rattle.rt_scenario.specs.Lines.{words_in};
 ghost use Rattle.rt_scenario.specs.Within.{IsClear};
@@ -12,6 +12,7 @@ use crate::line::Line;
 use crate::named_line::{NamedLine, indexed, place_at, placed};
 use crate::names::name_of;
 use crate::scenario::ScriptText;
+use crate::script_name::ScriptName;
 use crate::split::split_word;
 use rt_base::{Items, NoMemory, Text};
 use std::alloc::Global;
@@ -24,7 +25,7 @@ const LONG: usize = 1024;
 /// the indices of the names that its choices take.
 #[derive(Drop)]
 pub struct OpenScript {
-    name: Text,
+    name: ScriptName,
     lines: Vec<Line>,
     handles: Handles,
     words: Vec<Text>,
@@ -46,7 +47,7 @@ impl Model for OpenScript {
 
 impl OpenScript {
     /// A script without lines, which keeps them in the room of `spare`.
-    pub fn new(alloc: Global, name: Text, spare: Vec<Line>) -> OpenScript
+    pub fn new(alloc: Global, name: ScriptName, spare: Vec<Line>) -> OpenScript
         ensures { result ≡ record { name = name; lines = []; words = []; choices = [] } }
     {
         let mut lines = spare;
@@ -160,8 +161,12 @@ fn lines_and_room(lines: Vec<Line>) -> Result<(Vec<Line>, Vec<Line>), NoMemory>
 
 /// Puts the places of the names in for their indices.
 fn place_lines(lines: &mut [Line], places: &[usize])
+    requires { All (HasIndex (length places.now)) lines.old }
     ensures { lines.new ≡ map (placed_at places.now) lines.old }
 {
+    if places.is_empty() {
+        return;
+    }
     for line in lines.iter_mut() {
         *line = placed(*line, places);
     }

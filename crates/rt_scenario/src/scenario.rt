@@ -1,6 +1,7 @@
 // What a scenario says.
 
 use crate::line::Line;
+use crate::script_name::ScriptName;
 use rt_base::{Items, Nanos, Text};
 
 /// A scenario that breaks no rule.
@@ -42,7 +43,7 @@ pub struct Settings {
 /// The lines of a script.
 #[derive(Debug, Drop)]
 pub struct ScriptText {
-    pub name: Text,
+    pub name: ScriptName,
     pub lines: Items<Line>,
     /// The names of the handles and signals that its lines hold, each once, in byte order.
     pub handles: Items<Text>,

@@ -1,4 +1,4 @@
--- The runs of a scenario are runs one after another, of which each begins where the one ahead of it ended.
+-- The runs of a scenario are runs one after another, of which none begins before the end of the one ahead of it.
 use Rattle.std.proofs.Common.{◌≡◌, ◌≤◌, ◌++◌, ◌∙◌, inl, inr, List, [], ◌∷◌, ℕ, ℤ, Bool, true, false, Option, Some, None, sym, ap, arith}
 use Rattle.std.proofs.lemmas.List.{append-nil, append_cancel_left}
 use Rattle.rand_chacha.specs.ChaCha.{ChaCha}
@@ -13,7 +13,7 @@ use Rattle.rt_model.specs.Rules.{IsLawful}
 use Rattle.rt_model.specs.Run.{FailedBy}
 use Rattle.rt_model.specs.Runs.{runs_from, AreLawful}
 use Rattle.rt_laws.specs.Chained.{BeginInOrder}
-use Rattle.rt_laws.proofs.Chains.{rises}
+use Rattle.rt_laws.proofs.Chains.{rises-before}
 use Rattle.rt_laws.proofs.Several.{join_runs, run_alone, join_in_order, alone_in_order}
 use Rattle.rt_core.specs.declared.run_error.RunError.{RunError}
 use Rattle.rt_core.specs.declared.run_error.RunError.TheVariants.{TaskPanicked, NoMemory}
@@ -32,12 +32,12 @@ use Rattle.rt_scripts.specs.Making.{Maker}
 use Rattle.rt_scripts.specs.Ran.{Chain, Comes, root_steps, starting}
 
 -- the entries are those of a run from this beginning and of others behind it, which begin in order
-pub record AreInOrder (begin : Begin) (entries : List Entry) : Type 0 where
+pub record StandInOrder (begin : Begin) (entries : List Entry) : Type 0 where
   pub later : List Begin
   pub lawful : AreLawful (runs_from begin later) entries
   pub order : BeginInOrder (runs_from begin later) entries
 
-alone : (begin : Begin) (entries : List Entry) → IsLawful (begun begin) entries → AreInOrder begin entries
+alone : (begin : Begin) (entries : List Entry) → IsLawful (begun begin) entries → StandInOrder begin entries
 alone begin entries l = record { later = []; lawful = run_alone begin [] entries l; order = alone_in_order begin [] entries l }
 
 module _ (maker : Maker) (from : Starting ChaCha) (own : List Entry) where
@@ -71,7 +71,7 @@ module _ (maker : Maker) (from : Starting ChaCha) (own : List Entry) where
       }
 
 -- a run that gave an output, and those behind it
-goes-on : (maker : Maker) (from : Starting ChaCha) (own rest : List Entry) (kept : Kept ChaCha) → Gave maker from own kept → AreInOrder (resumed kept).begin rest → AreInOrder from.begin (own ++ rest)
+goes-on : (maker : Maker) (from : Starting ChaCha) (own rest : List Entry) (kept : Kept ChaCha) → Gave maker from own kept → StandInOrder (resumed kept).begin rest → StandInOrder from.begin (own ++ rest)
 goes-on maker from own rest kept gave behind =
     let next : Begin = (resumed kept).begin in
     let time = gave.time in
@@ -83,7 +83,7 @@ goes-on maker from own rest kept gave behind =
     }
 
 -- by what a run came to
-came-failed : (maker : Maker) (from : Starting ChaCha) (own : List Entry) (time : ℕ) (result : RunResult) → Comes maker from own time result None → AreInOrder from.begin own
+came-failed : (maker : Maker) (from : Starting ChaCha) (own : List Entry) (time : ℕ) (result : RunResult) → Comes maker from own time result None → StandInOrder from.begin own
 came-failed maker from own time (Ok output) comes = absurd comes
 came-failed maker from own time (Failed error) comes = alone from.begin own (failed-lawful maker from own error comes.2)
 
@@ -91,7 +91,7 @@ came-kept : (maker : Maker) (from : Starting ChaCha) (own : List Entry) (time : 
 came-kept maker from own time (Ok output) kept comes = completed maker from own output kept comes.0 comes.2
 came-kept maker from own time (Failed error) kept comes = absurd comes
 
-pub chain-in-order : (whole : Bool) (scripts : List ScriptText) (from : Starting ChaCha) (lines : List RunLine) (runs : List RunReport) (entries : List Entry) → Chain whole scripts from lines runs entries → AreInOrder from.begin entries
+pub chain-in-order : (whole : Bool) (scripts : List ScriptText) (from : Starting ChaCha) (lines : List RunLine) (runs : List RunReport) (entries : List Entry) → Chain whole scripts from lines runs entries → StandInOrder from.begin entries
 chain-in-order true scripts from lines [] entries h = rw (h.1) (alone from.begin [] tt)
 chain-in-order false scripts from [] [] entries h = absurd h
 chain-in-order false scripts from (line ∷ lines) [] entries h = alone from.begin entries (failed-lawful h.maker from entries NoMemory h.lacks)
@@ -104,16 +104,16 @@ chain-in-order whole scripts from (line ∷ lines) (run ∷ runs) entries (own, 
 -- so time never goes back in the journal of an outcome, however the call ended
 
 abbrev Rises : List Entry → Type 0
-Rises entries = (x y : List Entry) → entries ≡ x ++ y → last_time x ≤ last_time entries
+Rises entries = (x y z : List Entry) → entries ≡ (x ++ y) ++ z → last_time x ≤ last_time (x ++ y)
 
 rises-none : (entries : List Entry) → entries ≡ [] → Rises entries
-rises-none entries none [] y is = omega arith
-rises-none entries none (e ∷ x) y is = let k = sym none ∙ is in absurd (cc)
+rises-none entries none [] y z is = omega arith
+rises-none entries none (e ∷ x) y z is = let k = sym none ∙ is in absurd (cc)
 
 rises-chain : (whole : Bool) (scripts : List ScriptText) (from : Starting ChaCha) (lines : List RunLine) (runs : List RunReport) (entries : List Entry) → Chain whole scripts from lines runs entries → Rises entries
-rises-chain whole scripts from lines runs entries h x y is =
-    let o : AreInOrder from.begin (x ++ y) = rw is at (chain-in-order whole scripts from lines runs entries h) in
-    rw is (rises from.begin o.later x y o.lawful o.order)
+rises-chain whole scripts from lines runs entries h x y z is =
+    let o : StandInOrder from.begin ((x ++ y) ++ z) = rw is at (chain-in-order whole scripts from lines runs entries h) in
+    rises-before from.begin o.later x y z o.lawful o.order
 
 answered-rises : (asked : Asked) (o : Outcome) → Answers asked o → Rises o.journal.entries
 answered-rises NoCommand o a = rises-none o.journal.entries a.2
@@ -125,7 +125,7 @@ halted-rises : (asked : Asked) (runs : List RunReport) (entries : List Entry) �
 halted-rises (Reads (Whole s)) runs entries h = rises-chain false s.scripts (starting s.settings) s.runs runs entries h
 halted-rises asked runs entries h = absurd h
 
-pub journal-rises : (asked : Asked) (o : Outcome) (before after : Option (List ℕ)) → Ends asked o before after → (x y : List Entry) → o.journal.entries ≡ x ++ y → last_time x ≤ last_time o.journal.entries
+pub journal-rises : (asked : Asked) (o : Outcome) (before after : Option (List ℕ)) → Ends asked o before after → (x y z : List Entry) → o.journal.entries ≡ (x ++ y) ++ z → last_time x ≤ last_time (x ++ y)
 journal-rises asked o before after (inl (inl done)) = answered-rises asked o done.0
 journal-rises asked o before after (inl (inr (inl cut))) = answered-rises asked (record o { status = cut.1.0 }) cut.1.1
 journal-rises asked o before after (inl (inr (inr bare))) = rises-none o.journal.entries bare.2

@@ -3,13 +3,9 @@ use Rattle.std.proofs.Common.{◌≡◌, ◌≢◌, ℕ, ℤ, List, [], ◌∷�
 use Rattle.rt_base.specs.declared.error.Error.{Error}
 use Rattle.rt_base.specs.declared.error.Error.TheVariants.{NoMemory as LacksMemory}
 use Rattle.rt_base.specs.declared.no_memory.NoMemory.{NoMemory}
-use Rattle.rand_core.specs.Stream.{Stream}
 use Rattle.rt_world.specs.World.{World}
-use Rattle.rt_world.specs.Calls.{Kept, lacking}
 use Rattle.rt_world.specs.Walked.{Rooted}
-use Rattle.rt_world.proofs.Walked.{rooted-gives, grows-same, stays-marked}
-use Rattle.rt_world.proofs.Drawn.{drew-same}
-use Rattle.rt_world.proofs.Lasting.{lasts-of}
+use Rattle.rt_world.proofs.Walked.{rooted-gives}
 use Rattle.rt_model.specs.Walk.{Gives}
 use Rattle.rt_core.specs.Contexts.{Context, root_context}
 use Rattle.rt_scenario.specs.declared.scenario.ScriptText.{ScriptText}
@@ -20,20 +16,6 @@ use Rattle.rt_scripts.specs.Script.{Script}
 pub prepares-after : {G : Type 0} (step other next : Making) (old mid new : World Script ℤ G) (result : Result Context NoMemory) → ((end : World Script ℤ G) (root : Result Script NoMemory) → Rooted other mid end root → Rooted step old end root) → Prepares other next mid new result → Prepares step next old new result
 prepares-after step other next old mid new (Ok context) first second = λ end root rooted. first end root (second end root rooted)
 prepares-after step other next old mid new (Err lack) first second = first new (Err lack) second
-
--- what is kept where memory was lacking
-pub kept-lacking : {A O G : Type 0} (stream : G → Stream) (w : World A O G) → Kept stream w (lacking w)
-kept-lacking stream w = record {
-  begin = refl;
-  given = refl;
-  past = refl;
-  phase = refl;
-  clock = refl;
-  root = refl;
-  panic = refl;
-  out = refl;
-  lasts = lasts-of stream w (lacking w) (grows-same _ _ _ refl) (stays-marked _ _ _ refl) (drew-same stream w (lacking w) refl refl);
-}
 
 -- a refusal that is passed over
 pub passed-other : (context : Context) (next : Making) (error : Error) → error ≢ LacksMemory → passed_over context next error ≡ next

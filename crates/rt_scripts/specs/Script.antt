@@ -24,7 +24,7 @@ use Rattle.rt_core.specs.declared.stop.Stop.{Stop}
 use Rattle.rt_core.specs.declared.stop.Stopping.TheVariants.{Begins}
 use Rattle.rt_core.specs.declared.yields.Reschedule.{Reschedule}
 use Rattle.rt_scenario.specs.declared.line.Line.{Line}
-use Rattle.rt_scenario.specs.declared.line.Line.TheVariants.{Sleep, Until, Yield, Draw, Pend, End, EndLast, Panic, Spawn, Abort, AbortSelf, Drop, Join, Within, Select, Stopped, Wait, Stop as Shutdown}
+use Rattle.rt_scenario.specs.declared.line.Line.TheVariants.{Sleep, Until, Yield, Draw, Pend, End, EndLast, Panic, Spawn, Abort, AbortSelf, Drop, Join, Within, Select, Stopped, Wait, Stop as Shutdown, StopWithin as ShutdownWithin}
 use Rattle.rt_scenario.specs.declared.scenario.ScriptText.{ScriptText}
 use Rattle.rt_scripts.specs.Program.{text_at, name_at, word_at, choices_in}
 use Rattle.rt_scripts.specs.declared.held.Held.{Held}
@@ -425,7 +425,8 @@ goes_on (Drop at ∷ lines) s time task = drops s (λ next. goes_on lines next t
 goes_on (Select first past ∷ lines) s time task = chooses s (λ next. goes_on lines next time task) first past
 goes_on (Stopped at ∷ lines) s time task = asks s (λ next. goes_on lines next time task) at
 goes_on (Wait at ∷ lines) s time task = awaits s (λ next. goes_on lines next time task) at
-goes_on (Shutdown value limit ∷ lines) s time task = stops s (λ next. goes_on lines next time task) value limit time task
+goes_on (Shutdown value ∷ lines) s time task = stops s (λ next. goes_on lines next time task) value None time task
+goes_on (ShutdownWithin value limit ∷ lines) s time task = stops s (λ next. goes_on lines next time task) value (Some limit) time task
 
 abbrev pub lines_from : Script → List Line
 lines_from s = drop s.place s.text.lines

@@ -657,7 +657,8 @@ impl Script {
             Line::Select(first, past) => self.select(world, cx, first, past),
             Line::Stopped(at) => self.ask_stopped(world, at),
             Line::Wait(at) => self.wait(world, cx, at),
-            Line::Stop(value, limit) => self.stop(world, cx, value, limit),
+            Line::Stop(value) => self.stop(world, cx, value, None),
+            Line::StopWithin(value, limit) => self.stop(world, cx, value, Some(limit)),
         }
     }
 }

@@ -1,8 +1,10 @@
 //! The call of the program.
 
-ghost use Rattle.std.specs.Prelude.{◌≡◌, ◌≢◌, ◌<◌, ◌≤◌, ◌⊎◌, [], true, false, not, Some, IfSome, IfOk, length, take, drop, map, vec_capacity, string_bytes};
+ghost use Rattle.std.specs.Prelude.{◌≡◌, ◌≢◌, ◌<◌, ◌≤◌, ◌⊎◌, ◌++◌, List, [], true, false, not, Some, IfSome, IfOk, length, take, drop, map, vec_capacity, string_bytes};
 ghost use Rattle.rt_base.specs.Outside.{HasRisen};
 ghost use Rattle.std.specs.List.{All};
+ghost use Rattle.rt_audit.specs.Journal.{last_time};
+ghost use Rattle.rt_audit.specs.declared.entry.Entry.{Entry};
 ghost use Rattle.rt_scenario.specs.Scenario.{scenario_of, is_runnable, CanRunLine, Whole, BrokenAt};
 ghost use Rattle.rt_scenario.specs.Within.{HavePlaces};
 ghost use Rattle.rt_scripts.specs.Asked.{Asked, Reads, IsAsked, Refuses, Reports, EndsAs, Ends, says_run};
@@ -30,6 +32,7 @@ const USAGE: &str = "usage: rt_sim run | gen N | load N | workers N\n";
 ///
 /// The status is 0 where each run gave an output, 2 where the words are no command, 3 where the input is no scenario,
 /// 4 where a read failed, 5 where a write failed, 6 where a run failed, which is then the last, and 7 where it was out of memory.
+/// Time never goes back in the journal, also from one run to the next (`rises`).
 /// After a failed write the outcome is as without it but for the status, and the first bytes of the text were written.
 /// Each call keeps the memory of its scenario's scripts until the process ends.
 pub fn simulate_alone<S: Source, K: Sink8>(
@@ -39,6 +42,7 @@ pub fn simulate_alone<S: Source, K: Sink8>(
     sink: &mut K,
 ) -> Outcome
     ensures report { (asked : Asked) × IsAsked (map string_bytes words.now) (S.left source.old) asked × Ends asked result (K.held sink.old) (K.held sink.new) }
+    ensures rises { (x y z : List Entry) → result.journal.entries ≡ (x ++ y) ++ z → last_time x ≤ last_time (x ++ y) }
     ensures to_the_end { (result.status ≡ 0) ⊎ ((result.status ≡ 3) ⊎ (result.status ≡ 6)) → IfSome (S.left source.old) (λ left. length left ≤ LONGEST → S.left source.new ≡ Some []) }
     ensures words { says_run (map string_bytes words.now) ≡ false → (result.status ≡ 2) ⊎ (result.status ≡ 5) }
     ensures untouched { says_run (map string_bytes words.now) ≡ false → source.new ≡ source.old }

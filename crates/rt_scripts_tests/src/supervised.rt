@@ -520,6 +520,60 @@ digest 32ffd0c0
 }
 
 #[test]
+fn names_of_32_bytes(rt: HostRuntime) -> Result<(), Fail> {
+    let input = "\
+script ABCDEFGHIJKLMNOPQRSTUVWXYZABCDEF
+end 7
+done
+script main
+spawn abcdefghijklmnopqrstuvwxyzabcdef ABCDEFGHIJKLMNOPQRSTUVWXYZABCDEF
+join abcdefghijklmnopqrstuvwxyzabcdef
+end last
+done
+run main
+";
+    let report = "\
+run main
+start 0 - 1000000 0
+root 0
+round 0
+visit 0
+event process_task 00000000000000000000000000000000 -
+call 0 child 0 abcdefghijklmnopqrstuvwxyzabcdef -> node 1
+call 0 spawn 1 -> task 1 node 2
+call 0 join 1 -> pending
+answer 0 pending
+advance 1000000
+round 1
+visit 1
+event process_task 00000000000000000000000000000001 6162636465666768696a6b6c6d6e6f707172737475767778797a616263646566
+answer 1 ready
+call 1 close-node 2 -> ok
+answer 1 ended
+wake 0
+nodeend 1
+advance 2000000
+round 0
+visit 0
+event process_task 00000000000000000000000000000000 -
+call 0 join 1 -> ready
+call 0 give-up 1 -> ok
+answer 0 ready
+cleanup
+nodeend 0
+call 0 close-node 0 -> ok
+answer 0 ended
+crash
+finish ok
+result ok 7
+time 2000000
+rounds 3
+digest b599ac44
+";
+    expect_report(&rt, rt.alloc(), input, 0, report)
+}
+
+#[test]
 fn handles_in_order_of_their_names(rt: HostRuntime) -> Result<(), Fail> {
     let input =
         "script t\npend\ndone\nscript main\nspawn b t\nspawn a t\nspawn B t\nabort z\nend last\ndone\nrun main\n";

@@ -49,7 +49,7 @@ impl Children {
         }
     }
 
-    /// Adds the youngest one. The first takes no memory.
+    /// Adds the youngest one.
     pub fn push(&mut self, alloc: Global, child: usize) -> Result<(), NoMemory>
         ensures pushed { OnOk result (self.new ≡ self.old ++ child ∷ []) }
         ensures refused { OnErr result (self.new ≡ self.old) }

@@ -468,9 +468,9 @@ const STOPPING: &[Line] = &[
     Line::Stopped(0),
     Line::Wait(3),
     Line::Wait(2),
-    Line::Stop(i32::MAX, None),
-    Line::Stop(i32::MIN, Some(u128::MAX)),
-    Line::Stop(0, Some(0)),
+    Line::Stop(i32::MAX),
+    Line::StopWithin(i32::MIN, u128::MAX),
+    Line::StopWithin(0, 0),
     Line::Stopped(1),
     Line::Join(3),
 ];

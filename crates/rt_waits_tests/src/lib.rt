@@ -1,4 +1,4 @@
-//! Tests of what waits and what draws: a poller and tasks of one's own, and many slots, signals and guards at once.
+//! Tests of what waits and what draws: a poller and tasks of one's own, and many slots, signals, guards and draws at once.
 #![tactic(auto)]
 
 mod dealer;

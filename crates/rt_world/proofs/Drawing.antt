@@ -110,6 +110,12 @@ module _ {A O G V : Type 0} (old new : World A O G) (read : Heard O → V) (valu
   auditor-tells (Ok digest) made lack e = tells-made old new read value (Plainly Auditor) (Bytes digest) (Plain (Bytes digest)) made (refl, tt) refl e
   auditor-tells (Err error) made lack e = tells-lacking old new read value (Plainly Auditor) lack
 
+-- what is kept where memory was lacking
+pub kept-lacking : {A O G : Type 0} (stream : G → Stream) (old new : World A O G) → new ≡ world_lacking old → Kept stream old new
+kept-lacking stream old new is = rw is (record { begin = refl; given = refl; past = refl; phase = refl; clock = refl; root = refl; panic = refl; out = refl; lasts = lasts-of stream old (world_lacking old) (grows-same _ _ _ refl) (stays-marked _ _ _ refl) (drew-same stream old (world_lacking old) refl refl) })
+
+pub ruleset lack_laws = (kept-lacking)
+
 pub ruleset drawing_tell_laws = (short-tells, long-tells, filled-tells, auditor-tells, lasts-of, stays-same, stays-marked, grows-same, drew-same, lasts-kept, calling-kept)
 
 pub ruleset drawing_laws = (short-stands, long-stands, filled-stands, auditor-stands, short-called, long-called, filled-called, auditor-called)

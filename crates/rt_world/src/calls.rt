@@ -16,8 +16,10 @@ use rt_base::{Error, MAX_TIME, Nanos, NoMemory};
 #[tactic(auto, using(crate::proofs::Walked::call_laws, crate::proofs::Walked::stay_laws, crate::proofs::Calling::seated_laws, crate::proofs::Slotted::slotted_laws), unfolding(rt_model::specs::Effects::after))]
 impl<T, O, G: Rng> World<T, O, G> {
     /// Marks that a call lacked memory, for one that takes memory of its own before it calls the world.
+    #[tactic(auto, using(crate::proofs::Drawing::lack_laws))]
     pub fn lack(&mut self)
-        ensures { self.new ≡ lacking self.old }
+        ensures state { self.new ≡ lacking self.old }
+        ensures kept { Kept G.stream self.old self.new }
     {
         self.machine.lack();
     }

@@ -1,15 +1,9 @@
-use Rattle.std.proofs.Common.{◌≡◌, ◌≤◌, ◌-◌, ◌∙◌, ℕ, List, Option, Some, None, codes, drop, length, length-drop, subst, sym, arith, rules, true}
-use Rattle.std.specs.Borrow.{Bor}
-use Rattle.std.specs.Option.{IfSome, MatchOption}
+use Rattle.std.proofs.Common.{◌≡◌, ◌≤◌, ◌-◌, ◌∙◌, codes, drop, length, length-drop, subst, sym, arith, rules, true}
 use Rattle.std.proofs.lemmas.List.{take_all}
 use Rattle.std.proofs.lemmas.Slice.Eq.{HasBytesAt}
 use Rattle.rt_scenario.specs.Scenario.{is_name}
-use Rattle.rt_scenario.proofs.CommonLines.{joins_so}
+use Rattle.rt_scenario.proofs.CommonLines.{joins_so, where_some}
 use Rattle.rt_scenario.proofs.common.joined.Goals as goal
-
-where_some : (o : Option (Bor (List ℕ))) (none : Type 0) (P Q : Bor (List ℕ) → Type 0) → ((name : Bor (List ℕ)) → P name → Q name) → MatchOption o none P → IfSome o Q
-where_some None none P Q more h = tt
-where_some (Some name) none P Q more h = more name h
 
 pub returns-in-106 : goal.returns-in-106
 returns-in-106 c =
@@ -18,4 +12,4 @@ returns-in-106 c =
     let begins : HasBytesAt text 0 (codes "join ") = search rules in
     where_some c.name_of.result _ _ _
     (λ name is d script. joins_so text name.now d long begins (is.1 ∙ take_all (length text - 5) (drop 5 text) (omega (arith, length-drop 5 text))) (subst (λ word. is_name word ≡ true) (sym is.1) is.0) script)
-    c.name_of.ensures
+    c.name_of.ensures.name

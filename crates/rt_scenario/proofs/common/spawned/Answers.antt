@@ -6,8 +6,8 @@ use Rattle.rt_scenario.specs.Scenario.{is_name}
 use Rattle.rt_scenario.proofs.CommonLines.{spawns_so}
 use Rattle.rt_scenario.proofs.common.spawned.Goals as goal
 
-pub returns-in_ok-name_of-in-115-2 : goal.returns-in_ok-name_of-in-115-2
-returns-in_ok-name_of-in-115-2 c d script =
+pub returns-in_ok-name_of-in-115-2-clause-line : goal.returns-in_ok-name_of-in-115-2-clause-line
+returns-in_ok-name_of-in-115-2-clause-line c d script =
     let text = c.args.text.now in
     let short : length text ≤ 64 = omega (arith, c.if-text-gt-SHORT.false) in
     let long : 6 ≤ length text = omega (arith, c.in-115.len_at_least) in

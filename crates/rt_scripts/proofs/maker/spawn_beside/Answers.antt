@@ -6,11 +6,11 @@ use Rattle.rt_core.specs.Contexts.{childs, child_heard}
 use Rattle.rt_world.proofs.Walked.{kept-kept, tells-lacking, rooted-lacks}
 use Rattle.rt_scripts.specs.Making.{beside, passed_over, placed_beside}
 use Rattle.rt_scripts.specs.Program.{text_at}
-use Rattle.rt_scripts.proofs.Makings.{kept-lacking, prepares-after}
+use Rattle.rt_scripts.proofs.Makings.{prepares-after}
 use Rattle.rt_scripts.proofs.maker.spawn_beside.Goals as goal
 
 pub returns-in_default-clause-kept : goal.returns-in_default-clause-kept
-returns-in_default-clause-kept g c = kept-kept c.args.world.now c.lack.new.self c.close.new.world (rw c.lack.ensures (kept-lacking _ c.args.world.now)) c.close.ensures.kept
+returns-in_default-clause-kept g c = kept-kept c.args.world.now c.lack.new.self c.close.new.world c.lack.ensures.kept c.close.ensures.kept
 
 pub returns-in_default-clause-steps : goal.returns-in_default-clause-steps
 unfolding beside childs
@@ -18,7 +18,7 @@ returns-in_default-clause-steps g c next =
     let context = c.args.context in
     let program = c.args.program.now in
     let label = (text_at program c.args.script).name in
-    (tells-lacking c.args.world.now c.lack.new.self (child_heard context label) (Err LacksMemory) (Plainly (Child context.node label)) c.lack.ensures).makes (λ made u. placed_beside context program c.args.script next made) c.close.new.world (Err (record {})) (c.close.ensures.closed.makes next c.close.new.world (Err (record {})) (rooted-lacks _ next _))
+    (tells-lacking c.args.world.now c.lack.new.self (child_heard context label) (Err LacksMemory) (Plainly (Child context.node label)) c.lack.ensures.state).makes (λ made u. placed_beside context program c.args.script next made) c.close.new.world (Err (record {})) (c.close.ensures.closed.makes next c.close.new.world (Err (record {})) (rooted-lacks _ next _))
 
 pub returns-in-Ok-child-clause-steps : goal.returns-in-Ok-child-clause-steps
 unfolding beside

@@ -5,7 +5,7 @@ use Rattle.rt_core.proofs.context.Context.child.Goals as goal
 
 pub returns-in_default-clause-steps : goal.returns-in_default-clause-steps
 unfolding childs
-returns-in_default-clause-steps g c = tells-lacking _ _ (child_heard c.args.self.now c.args.label.now) _ _ c.lack.ensures
+returns-in_default-clause-steps g c = tells-lacking _ _ (child_heard c.args.self.now c.args.label.now) _ _ c.lack.ensures.state
 
 pub returns-in-Ok-child-clause-steps : goal.returns-in-Ok-child-clause-steps
 unfolding childs

@@ -1,11 +1,11 @@
-use Rattle.std.proofs.Common.{◌≡◌, ◌+◌, None, Some, ◌++◌, ◌∷◌, [], length, sym, ap, subst, ◌∙◌, rules, string_bytes}
-use Rattle.std.specs.HashMap.{get_by_text}
+use Rattle.std.proofs.Common.{◌≡◌, ◌+◌, None, Some, ◌++◌, ◌∷◌, [], length, refl, sym, ap, subst, ◌∙◌, rules}
+use Rattle.std.specs.HashMap.{get}
 use Rattle.std.specs.List.{All}
 use Rattle.std.specs.Option.{IfSome}
-use Rattle.std.proofs.lemmas.Map.Text.{hash_map_updates_text}
 use Rattle.rt_scenario.specs.Capped.{capped, capped_tasks}
 use Rattle.rt_scenario.specs.Scenario.{CanRunLine, script_at}
 use Rattle.rt_scenario.specs.Scripts.{Begun, tasks_at, spawned_in}
+use Rattle.rt_scenario.specs.Words.{is_text}
 use Rattle.rt_scenario.specs.Within.{HasPlaces, HavePlaces, IsBegun}
 use Rattle.rt_scenario.proofs.Placed.{have_push}
 use Rattle.rt_scenario.proofs.Scripts.{opened, can_run_lines}
@@ -18,12 +18,11 @@ invariant_of-self-2 c =
     let script = c.args.script in
     let lines = script.lines in
     let places = c.self.inside.places in
-    let key = string_bytes c.into_inner-key.result in
     let pushed : c.push_reserved.new.self.items ≡ closed ++ script ∷ [] =
     c.push_reserved.ensures.items ∙ ap (λ l. l ++ script ∷ []) c.in_ok-reserve.ensures.items in
-    let named : script.name ≡ key = sym (c.into_inner-key.ensures ∙ c.in_ok-clone_value.ensures) in
-    let absent : get_by_text places key ≡ None =
-    c.self.invariant.0 key ∙ ap (script_at closed) (sym named) ∙ ap (λ d. script_at d.scripts script.name) c.self.view_is ∙ c.requires.absent in
+    let key = c.copy-name.result in
+    let named : script.name ≡ key = sym c.copy-name.ensures in
+    let absent : get is_text places key ≡ None = ap (get is_text places) (sym named) ∙ c.self.invariant.0 script.name ∙ ap (λ d. script_at d.scripts script.name) c.self.view_is ∙ c.requires.absent in
     let last : c.len.result ≡ length closed = search rules in
     let own : c.tasks_of-tasks.result ≡ capped (1 + tasks_at (capped_tasks closed) (spawned_in lines)) =
     c.tasks_of-tasks.ensures
@@ -31,8 +30,8 @@ invariant_of-self-2 c =
     ∙ ap (λ ts. capped (1 + tasks_at ts (spawned_in lines))) (c.as_slice.ensures.value ∙ c.self.invariant.1) in
     let none : c.self.inside.current ≡ None = ap (λ d. d.current) c.self.view_is ∙ c.requires.between in (
       (λ name.
-          opened closed script key _ (λ q. get_by_text places q) named last absent c.self.invariant.0 name _
-          (hash_map_updates_text key places c.insert.new.self (Some c.len.result) c.in_ok-insert.ensures.updates name)
+          opened closed script key _ (λ q. get is_text places q) named last absent c.self.invariant.0 name _
+          (c.in_ok-insert.ensures.updates.0 name)
           ∙ ap (λ l. script_at l name) (sym pushed)),
       (c.push_reserved-2.ensures.items
           ∙ ap (λ l. l ++ c.tasks_of-tasks.result ∷ []) (c.in_ok-reserve-2.ensures.items ∙ c.self.invariant.1)

@@ -1,4 +1,4 @@
-use Rattle.std.proofs.Common.{◌≡◌, Some, None, rules, SFits, w32}
+use Rattle.std.proofs.Common.{◌≡◌, Some, rules, SFits, w32}
 use Rattle.std.proofs.lemmas.Int.{to_z-of_z}
 use Rattle.rt_scenario.specs.Numbers.{small_value_of}
 use Rattle.rt_scenario.specs.Scenario.{step_row}
@@ -11,6 +11,6 @@ pub returns-in-Some : goal.returns-in-Some
 returns-in-Some c =
     let read : small_value_of c.args.value.now ≡ Some c.in-Some.value = search rules in
     let fits : SFits w32 c.in-Some.value = search rules in
-    let pushed : Answers (step_row c.args.self.now (Plain (Stop c.in-Some.value None))) c.push_plain.result c.push_plain.new.self =
+    let pushed : Answers (step_row c.args.self.now (Plain (Stop c.in-Some.value))) c.push_plain.result c.push_plain.new.self =
     simp to_z-of_z at c.push_plain.ensures in
     rw read pushed

@@ -1,5 +1,6 @@
 use Rattle.std.proofs.Common.{◌≡◌, ℕ, ◌++◌, List, length, take, map, slice_index, refl, ap, ◌∙◌, rules}
 use Rattle.std.proofs.Math.Seq.{take-append_seam}
+use Rattle.std.proofs.lemmas.List.{length-map}
 use Rattle.rt_scenario.specs.Indexed.{in_order, name_at, named_by, placed_at}
 use Rattle.rt_scenario.specs.Scripts.{all_names, place_of, placed}
 use Rattle.rt_scenario.proofs.Indexed.{placed_choices, placed_named}
@@ -8,6 +9,13 @@ use Rattle.rt_scenario.proofs.open_script.OpenScript.close.Goals as goal
 -- a list that was written over as a whole
 written_over : {X : Type 0} (new rest : List X) (n : ℕ) → length new ≡ n → take n (new ++ rest) ≡ new
 written_over new rest n long = rw (← long) (take-append_seam new rest)
+
+pub place_lines-requires : goal.place_lines-requires
+place_lines-requires c =
+    let names = c.self.inside.handles in
+    let places = map (place_of (in_order names)) names in
+    let for_lines : c.as_slice.result.now ≡ places = c.as_slice.ensures.value ∙ c.in_ok-handles.ensures.places in
+    rw (for_lines, length-map names (place_of (in_order names)), c.as_mut_slice.ensures.value) c.self.invariant.0
 
 pub returns : goal.returns
 returns c =

@@ -15,7 +15,7 @@ unfolding asks asks_stopped tells then
 returns-in_default-clause-steps g c on =
     let at = c.args.at in
     let next = then asks_stopped (λ made u. signaled (roomed (loosed c.args.self.now at) at) on at made) in
-    c.release.ensures.steps.onward next c.lack.new.self NoMemory c.make_room.new.self (polled-lacking c.release.new.world c.lack.new.self next NoMemory c.make_room.new.self c.lack.ensures tt)
+    c.release.ensures.steps.onward next c.lack.new.self NoMemory c.make_room.new.self (polled-lacking c.release.new.world c.lack.new.self next NoMemory c.make_room.new.self c.lack.ensures.state tt)
 
 pub returns-in-Ok-stopped-clause-steps : goal.returns-in-Ok-stopped-clause-steps
 unfolding asks

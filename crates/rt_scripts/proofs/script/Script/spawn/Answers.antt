@@ -16,7 +16,7 @@ returns-in_default-clause-steps g c on =
     let s = c.args.self.now in
     let at = c.args.at in
     let next = then (childs s.context (name_at s.text at)) (λ made u. placed (roomed (loosed s at) at) on at c.args.script made) in
-    c.release.ensures.steps.onward next c.lack.new.self NoMemory c.make_ready.new.self (polled-lacking c.release.new.world c.lack.new.self next NoMemory c.make_ready.new.self c.lack.ensures tt)
+    c.release.ensures.steps.onward next c.lack.new.self NoMemory c.make_ready.new.self (polled-lacking c.release.new.world c.lack.new.self next NoMemory c.make_ready.new.self c.lack.ensures.state tt)
 
 pub returns-in-Ok-child-clause-steps : goal.returns-in-Ok-child-clause-steps
 unfolding spawns

@@ -19,7 +19,7 @@ returns-then-is_err-clause-steps g c on =
     let s : Script = record c.args.self.now { stop = None } in
     let none : c.args.self.now.stop ≡ None = sym (c.only_one.ensures.stop ∙ c.take_stop-room.ensures.stop) ∙ c.in_default.is in
     rw none
-    (polled-lacking c.args.world.now c.lack.new.self (stops_by s on c.args.value c.args.limit c.args.world.now.told.state.clock.time c.args.cx.now.task None) NoMemory c.take_stop-room.new.self c.lack.ensures tt)
+    (polled-lacking c.args.world.now c.lack.new.self (stops_by s on c.args.value c.args.limit c.args.world.now.told.state.clock.time c.args.cx.now.task None) NoMemory c.take_stop-room.new.self c.lack.ensures.state tt)
 
 pub returns-in-Ok-clause-steps : goal.returns-in-Ok-clause-steps
 unfolding stops

@@ -79,3 +79,9 @@ unfolding goes_on
 returns-in-Stop-clause-steps g c lines =
     let fits : SFits w32 c.in-Stop.value = (search rules) in
     rw (c.in-Stop.is) (rw (to_z-of_z w32 c.in-Stop.value fits) at (c.stop.ensures.steps (λ next. goes_on lines next c.args.world.now.told.state.clock.time c.args.cx.now.task)))
+
+pub returns-in-StopWithin-clause-steps : goal.returns-in-StopWithin-clause-steps
+unfolding goes_on
+returns-in-StopWithin-clause-steps g c lines =
+    let fits : SFits w32 c.in-StopWithin.value = (search rules) in
+    rw (c.in-StopWithin.is) (rw (to_z-of_z w32 c.in-StopWithin.value fits) at (c.stop-in-StopWithin.ensures.steps (λ next. goes_on lines next c.args.world.now.told.state.clock.time c.args.cx.now.task)))
