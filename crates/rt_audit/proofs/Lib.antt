@@ -1,4 +1,4 @@
-mod Times
+pub mod Times
 mod Linear
 mod Tabled
 mod Framed

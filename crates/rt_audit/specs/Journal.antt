@@ -1,7 +1,7 @@
--- A journal: the list of its entries, and what of them moves the time and the digest.
-use Rattle.std.specs.Prelude.{ℕ, List, [], ◌∷◌}
+-- A journal: the list of its entries, and what of them moves the time, the rounds and the digest.
+use Rattle.std.specs.Prelude.{ℕ, ◌+◌, List, [], ◌∷◌}
 use Rattle.rt_audit.specs.declared.entry.Entry.{Entry}
-use Rattle.rt_audit.specs.declared.entry.Entry.TheVariants.{Start, Event, Advance, Skip}
+use Rattle.rt_audit.specs.declared.entry.Entry.TheVariants.{Start, Event, Round, Advance, Skip}
 use Rattle.rt_audit.specs.Digest.{first_digest, event_digest}
 
 -- the entries, and how many more have room
@@ -23,6 +23,12 @@ last_time_from time (entry ∷ entries) = last_time_from (time_after time entry)
 -- the time of the last start, advance or skip, and 0 before any
 abbrev pub last_time : List Entry → ℕ
 last_time entries = last_time_from 0 entries
+
+-- how many rounds there are
+abbrev pub rounds_in : List Entry → ℕ
+rounds_in [] = 0
+rounds_in (Round order ∷ entries) = rounds_in entries + 1
+rounds_in (entry ∷ entries) = rounds_in entries
 
 -- the digest after an entry: events alone move it
 abbrev pub digest_after : List ℕ → Entry → List ℕ

@@ -6,7 +6,7 @@ ghost use Rattle.rt_audit.specs.Lines.{line_of, start_text, called_text};
 use crate::line::{
     add_choices, add_fields, add_numbered, add_numbers, add_optional, add_space, add_word,
 };
-use crate::{AnswerKind, Call, CallReply, EventFields, EventLabel, FinishCause, Order};
+use crate::{AnswerKind, Call, CallReply, EventFields, EventLabel, FinishCause, Moment, Order};
 use rt_base::{Choice, Items, Nanos, NoMemory};
 use std::alloc::Global;
 
@@ -16,9 +16,9 @@ pub enum Entry {
     /// A run begins at `now`. The first task of this run gets the number `next`.
     Start {
         next: u64,
-        now: Nanos,
-        deadline: Option<Nanos>,
-        cycle: Nanos,
+        now: Moment,
+        deadline: Option<Moment>,
+        cycle: Moment,
     },
     /// A call by a task, or by the maker of the root, was answered.
     Call {
@@ -62,11 +62,11 @@ pub enum Entry {
     },
     /// Time moved on by a cycle.
     Advance {
-        now: Nanos,
+        now: Moment,
     },
     /// Time moved on to the earliest alarm.
     Skip {
-        now: Nanos,
+        now: Moment,
     },
     /// An alarm went off.
     Fire {
@@ -95,7 +95,13 @@ impl Entry {
                 now,
                 deadline,
                 cycle,
-            } => add_start(text, *now, *deadline, *cycle, *next),
+            } => add_start(
+                text,
+                now.nanos(),
+                deadline.as_ref().map(|due| due.nanos()),
+                cycle.nanos(),
+                *next,
+            ),
             Entry::Call { by, call, reply } => add_call(alloc, text, *by, call, reply),
             Entry::Event { label, fields } => {
                 label.add_to(text)?;
@@ -114,8 +120,8 @@ impl Entry {
                 kind.add_to(text)
             }
             Entry::NodeEnd { node } => add_numbered(text, "nodeend ", *node as u128),
-            Entry::Advance { now } => add_numbered(text, "advance ", *now),
-            Entry::Skip { now } => add_numbered(text, "skip ", *now),
+            Entry::Advance { now } => add_numbered(text, "advance ", now.nanos()),
+            Entry::Skip { now } => add_numbered(text, "skip ", now.nanos()),
             Entry::Fire { alarm } => add_numbered(text, "fire ", *alarm as u128),
             Entry::Cleanup => add_word(text, "cleanup"),
             Entry::Crash { choices } => {

@@ -1,7 +1,7 @@
 //! The journal: a list of entries, with room that is taken before it is used.
 
 ghost use Rattle.std.specs.Prelude.{◌≡◌, ◌≤◌, ◌<◌, ◌+◌, ◌∷◌, ◌++◌, [], length, OnOk, OnErr, IsTrue, ◌↔◌};
-ghost use Rattle.rt_audit.specs.Journal.{last_time, time_after, digest_of, digest_after};
+ghost use Rattle.rt_audit.specs.Journal.{last_time, time_after, rounds_in, digest_of, digest_after};
 
 use crate::{Auditor, Entry};
 use rt_base::{Nanos, NoMemory};
@@ -15,18 +15,19 @@ use std::marker::Model;
 pub struct Journal {
     entries: Vec<Entry>,
     last: Nanos,
+    rounds: u64,
     auditor: Auditor,
 }
 
 impl Model for Journal {
     ghost use Rattle.std.specs.Prelude.{◌≡◌, ◌-◌, vec_len, vec_capacity};
-    ghost use Rattle.rt_audit.specs.Journal.{Kept, last_time, digest_of};
+    ghost use Rattle.rt_audit.specs.Journal.{Kept, last_time, rounds_in, digest_of};
 
     ghost Value = { Kept };
 
     ghost view = { λ j. record { entries = j.entries.items; spare = vec_capacity j.entries - vec_len j.entries } };
 
-    ghost invariant = { λ j. (j.last ≡ last_time j.entries.items) × (j.auditor ≡ digest_of j.entries.items) };
+    ghost invariant = { λ j. (j.last ≡ last_time j.entries.items) × (j.rounds ≡ rounds_in j.entries.items) × (j.auditor ≡ digest_of j.entries.items) };
 }
 
 impl Journal {
@@ -38,6 +39,7 @@ impl Journal {
         Journal {
             entries: Vec::new(alloc),
             last: 0,
+            rounds: 0,
             auditor: Auditor::new(),
         }
     }
@@ -68,6 +70,13 @@ impl Journal {
         ensures { result ≡ last_time self.now.entries }
     {
         self.last
+    }
+
+    /// How many rounds the runs have had.
+    pub fn rounds(&self) -> u64
+        ensures { result ≡ rounds_in self.now.entries }
+    {
+        self.rounds
     }
 
     /// The digest of the events, four bytes. No other entry moves it.
@@ -111,6 +120,7 @@ impl Journal {
         ensures spare { self.new.spare + 1 ≡ self.old.spare }
     {
         self.last = time_after(self.last, &entry);
+        self.rounds = rounds_after(self.rounds, self.entries.capacity(), &entry);
         digest_after(&mut self.auditor, &entry);
         self.entries.push_reserved(entry);
     }
@@ -122,10 +132,22 @@ fn time_after(time: Nanos, entry: &Entry) -> Nanos
     ensures { result ≡ time_after time entry.now }
 {
     match entry {
-        Entry::Start { now, .. } => *now,
-        Entry::Advance { now } => *now,
-        Entry::Skip { now } => *now,
+        Entry::Start { now, .. } => now.nanos(),
+        Entry::Advance { now } => now.nanos(),
+        Entry::Skip { now } => now.nanos(),
         _ => time,
+    }
+}
+
+/// How many rounds there are after an entry. Those before it are fewer than the entries that have room.
+#[inline(always)]
+fn rounds_after(rounds: u64, room: usize, entry: &Entry) -> u64
+    requires { rounds < room }
+    ensures { result ≡ rounds + rounds_in (entry.now ∷ []) }
+{
+    match entry {
+        Entry::Round { .. } => rounds + 1,
+        _ => rounds,
     }
 }
 

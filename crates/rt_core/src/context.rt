@@ -32,8 +32,7 @@ use rt_base::{
     Error, Execution, Items, MAX_TIME, MetricError, Name, Nanos, NoMemory, Refused, Text,
     add_attribute, clone_attributes, prefixed_name, validate_label,
 };
-use rt_super::Stopped;
-use rt_world::World;
+use rt_world::{Stopped, World};
 use std::alloc::Global;
 use std::marker::Model;
 

@@ -1,7 +1,10 @@
-//! Whole journals of small runs, a line for each entry, and how each run begins.
+//! Whole journals of small runs, a line for each entry, how each run begins, and how lines are taken apart.
 #![tactic(auto)]
 
+mod words;
+
 use rt_model::Begin;
+pub use words::{number, signed, words_of};
 
 /// From time 0 and number 0 on, with a cycle of a millisecond.
 pub const BEGIN: Begin = Begin {

@@ -1,10 +1,10 @@
 -- What is no run that was cut off.
-use Rattle.std.proofs.Common.{◌≡◌, ℕ, inl, inr, true, false, List, [], ◌∷◌, ◌++◌, Some, refl, rules, arith, take, drop, Ok}
+use Rattle.std.proofs.Common.{◌≡◌, ℕ, inl, inr, true, false, List, [], ◌∷◌, ◌++◌, Some, None, refl, rules, arith, take, drop, Ok}
 use Rattle.std.proofs.lemmas.List.Sorted.{IsPermutation-refl}
 use Rattle.rt_base.specs.declared.execution.Execution.TheVariants.{Dedicated}
 use Rattle.rt_audit.specs.declared.answer.AnswerKind.TheVariants.{Ready as AnswersReady, NoMemory as LacksMemory, Ended}
 use Rattle.rt_audit.specs.declared.finish.FinishCause.TheVariants.{NoMemory}
-use Rattle.rt_audit.specs.declared.entry.Entry.TheVariants.{Call, Answer as Answered, NodeEnd, Cleanup}
+use Rattle.rt_audit.specs.declared.entry.Entry.TheVariants.{Start, Call, Answer as Answered, NodeEnd, Cleanup}
 use Rattle.rt_audit.specs.declared.call.Call.{Call as CallOf}
 use Rattle.rt_audit.specs.declared.call.Call.TheVariants.{CloseNode, Spawn, SleepPoll, SlotSend, Wake as WakeCall}
 use Rattle.rt_audit.specs.declared.reply.CallReply.{CallReply}
@@ -17,7 +17,7 @@ use Rattle.rt_model.specs.Rules.{IsLawful}
 use Rattle.rt_model.specs.Walk.{Gives, Stops, stood_before}
 use Rattle.rt_model.specs.Tied.{Value, nothing, taken}
 use Rattle.rt_model.specs.Run.{IsCutOff}
-use Rattle.rt_laws.specs.Examples.{small_begin, ready_root, busy_root, closes_node, opening, visiting_root, root_ends, finishing, silent_end, lacking_journal, invented_in_poll, invented_in_end}
+use Rattle.rt_laws.specs.Examples.{small_begin, ready_root, busy_root, closes_node, opening, visiting_root, root_ends, finishing, silent_end, lacking_journal, invented_in_poll, invented_in_end, invented_by_maker, asking_maker, maker_lacks}
 use Rattle.rt_laws.proofs.Misses.{tied-tail}
 
 -- an end that only spends lacks no memory before it has made its call
@@ -134,3 +134,39 @@ lacks_within call reply lawful =
 pub lacks_lawfully : IsLawful (begun small_begin) (lacking_journal (CloseNode 0) Done)
 unfolding begun after
 lacks_lawfully = search (rules, IsPermutation-refl)
+
+-- a maker that makes no call
+pub none_by_the_maker : (number : ℕ) (call : CallOf) (reply : CallReply) → IsCutOff (ready_root number) small_begin (invented_by_maker call reply) → ⊥
+unfolding begun after
+none_by_the_maker number call reply r =
+    let p = ready_root number in
+    let front = Start 0 0 None 1000000 ∷ Call None call reply ∷ [] in
+    let rest = Cleanup ∷ NodeEnd 0 ∷ finishing NoMemory in
+    let t = tied-tail p (begun small_begin) nothing r.value front rest r.tied in
+    elim t.1.1 [
+      | inl k ↦ k.1
+      | inr k ↦ elim k [
+        | inl j ↦ no-gives _ _ _ j.0.front _ j.0.mid j.0.walks
+        | inr j ↦ j.0
+      ]
+    ]
+
+-- and one that lacks memory before its first
+pub lacks_in_maker : IsCutOff asking_maker small_begin maker_lacks
+unfolding begun after
+lacks_in_maker =
+    let w : Value (Unit {0}) ℕ = record nothing { whole = false } in
+    record {
+      value = w;
+      lawful = search rules;
+      ends = refl;
+      tied = (
+        nothing,
+        refl,
+        (
+          w,
+          inr (inl (record { front = []; rest = []; mid = nothing.held; are = refl; walks = (tt, refl); frees = refl }, refl)),
+          (w, refl, (w, (refl, refl), (w, refl, refl))),
+        ),
+      );
+    }

@@ -69,6 +69,13 @@ busy_root =
     })
     (λ now. Gives tt tt)
 
+-- a root whose maker polls a sleep first
+abbrev pub asking_maker : Steps (Unit {0}) ℕ
+asking_maker =
+    with_first
+    (record { next = λ state now task. Gives (Ready 0) state; last = λ state now task. closes_node })
+    (λ now. Does (Sleeping 5 None) (λ heard. Gives tt tt))
+
 -- the values behind a run that gave this output
 abbrev pub gave : {A : Type 0} → ℕ → Value A ℕ
 gave number = record nothing { output = Some number }
@@ -124,6 +131,10 @@ cut_journal = opening ++ visiting_root ++ (Answered 0 LacksMemory ∷ []) ++ roo
 abbrev pub lacking_journal : CallOf → CallReply → List Entry
 lacking_journal call reply =
     opening ++ visiting_root ++ (Call (Some 0) (SleepPoll 5) (PendingAt 0) ∷ Call (Some 0) call reply ∷ Answered 0 LacksMemory ∷ []) ++ (Cleanup ∷ NodeEnd 0 ∷ Answered 0 Ended ∷ []) ++ finishing NoMemory
+
+-- a maker that lacked memory at once, and made no root
+abbrev pub maker_lacks : List Entry
+maker_lacks = Start 0 0 None 1000000 ∷ Cleanup ∷ NodeEnd 0 ∷ finishing NoMemory
 
 -- what the run of a root writes that is never ready, by the cause for which it ends
 
@@ -208,3 +219,7 @@ invented_in_poll call reply = opening ++ visiting_root ++ (Call (Some 0) call re
 abbrev pub invented_in_end : List Entry
 invented_in_end =
     opening ++ visiting_root ++ (Answered 0 AnswersReady ∷ []) ++ (Cleanup ∷ NodeEnd 0 ∷ Call (Some 0) (WakeCall 0) Done ∷ Answered 0 Ended ∷ []) ++ finishing NoMemory
+
+-- and by a maker that makes none
+abbrev pub invented_by_maker : CallOf → CallReply → List Entry
+invented_by_maker call reply = Start 0 0 None 1000000 ∷ Call None call reply ∷ Cleanup ∷ NodeEnd 0 ∷ finishing NoMemory

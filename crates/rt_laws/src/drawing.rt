@@ -83,7 +83,7 @@ pub fn a_draw_is_answered_by_what_it_asks_for()
     ensures bytes { (s : State) (len : ℕ) (reply : CallReply) → Answers s (FillBytes len) reply → (bytes : List ℕ) × (reply ≡ Bytes bytes) × (length bytes ≡ len) }
 {}
 
-/// So no draw is refused, for want of memory or for any other cause, and none that asks for bytes is answered by more or fewer of
+/// So no draw is refused, out of memory or for any other cause, and none that asks for bytes is answered by more or fewer of
 /// them (`count`).
 pub fn other_answers_of_draws_are_refused()
     ensures short { (s : State) (error : Error) → Answers s NextU32 (Refused error) → ⊥ }

@@ -11,7 +11,7 @@ ghost use Rattle.rt_machine.specs.Steps.{Turns, TurnStands, StepStands};
 
 use crate::Machine;
 use crate::room::take_places;
-use rt_audit::{Entry, FinishCause};
+use rt_audit::{Entry, FinishCause, Moment};
 use rt_base::{MAX_TIME, Nanos, NoMemory};
 use rt_super::NOBODY;
 
@@ -45,7 +45,9 @@ impl Machine {
     {
         take_places(&mut self.journal, &mut self.ready, self.promised, 1)?;
         let now = self.time + self.journal.begin().cycle;
-        self.journal.push(Entry::Advance { now });
+        self.journal.push(Entry::Advance {
+            now: Moment::new(now),
+        });
         self.time = now;
         Ok(())
     }
@@ -58,7 +60,9 @@ impl Machine {
         ensures err { OnErr result (self.new ≡ self.old) }
     {
         take_places(&mut self.journal, &mut self.ready, self.promised, 1)?;
-        self.journal.push(Entry::Skip { now: to });
+        self.journal.push(Entry::Skip {
+            now: Moment::new(to),
+        });
         self.time = to;
         Ok(())
     }

@@ -23,7 +23,7 @@ use crate::marks::{is_flagged, leave};
 use crate::room::{take_entries, take_places};
 use crate::shuffle::shuffle;
 use rand_core::Rng;
-use rt_audit::{AnswerKind, Entry, FinishCause, Journal, Order};
+use rt_audit::{AnswerKind, Entry, FinishCause, Journal, Moment, Order};
 use rt_base::{Items, Nanos, NoMemory, Text};
 use rt_model::{Begin, Mark, Table, TaskResult};
 use rt_super::{Alarms, Tree};
@@ -102,9 +102,9 @@ impl Machine {
         };
         journal.push(Entry::Start {
             next: begin.first,
-            now: begin.start,
-            deadline: begin.deadline,
-            cycle: begin.cycle,
+            now: Moment::new(begin.start),
+            deadline: begin.deadline.map(|due| Moment::new(due)),
+            cycle: Moment::new(begin.cycle),
         });
         Ok(Machine {
             journal,

@@ -21,16 +21,16 @@ fn add(rt: &impl Abort, alloc: Global, text: &mut String, entry: Entry) {
 fn add_starts(rt: &impl Abort, alloc: Global, text: &mut String) {
     let bounded = Entry::Start {
         next: 3,
-        now: 5,
-        deadline: Some(90),
-        cycle: 1_000_000,
+        now: Moment::new(5),
+        deadline: Some(Moment::new(90)),
+        cycle: Moment::new(1_000_000),
     };
     add(rt, alloc, text, bounded);
     let unbounded = Entry::Start {
         next: 0,
-        now: 0,
+        now: Moment::new(0),
         deadline: None,
-        cycle: 1,
+        cycle: Moment::new(1),
     };
     add(rt, alloc, text, unbounded);
 }
@@ -151,8 +151,10 @@ fn add_tasks(rt: &impl Abort, alloc: Global, text: &mut String) {
 }
 
 fn add_times(rt: &impl Abort, alloc: Global, text: &mut String) {
-    add(rt, alloc, text, Entry::Advance { now: 1_000_005 });
-    add(rt, alloc, text, Entry::Skip { now: 1 << 100 });
+    let now = Moment::new(1_000_005);
+    add(rt, alloc, text, Entry::Advance { now });
+    let now = Moment::new(1 << 100);
+    add(rt, alloc, text, Entry::Skip { now });
     add(rt, alloc, text, Entry::Fire { alarm: 0 });
 }
 
@@ -288,7 +290,8 @@ fn keeps_entries(rt: &impl Abort, alloc: Global) -> bool {
     let mut journal = Journal::new(alloc);
     let was_empty = journal.is_empty() & (journal.spare() == 0);
     journal.reserve(65_536).expect(rt, "room");
-    journal.push(Entry::Advance { now: 7 });
+    let now = Moment::new(7);
+    journal.push(Entry::Advance { now });
     journal.push(Entry::Cleanup);
     let counted = (journal.len() == 2) & (journal.entries().len() == 2);
     let last = journal.last_time();

@@ -3,6 +3,7 @@
 use crate::replay::Said;
 use rt_audit::{AnswerKind, Entry, EventFields};
 use rt_base::{Nanos, NoMemory};
+use rt_journals::{number, signed, words_of};
 use std::alloc::Global;
 
 /// What the lines of a journal say.
@@ -31,19 +32,6 @@ fn said_in_line<'a>(
 ) -> Result<Option<Said<'a>>, NoMemory> {
     let words = words_of(alloc, line)?;
     Ok(said_by(words.as_slice(), made))
-}
-
-fn words_of<'a>(alloc: Global, line: &'a str) -> Result<Vec<&'a str>, NoMemory> {
-    let mut words = Vec::new(alloc);
-    add_words(&mut words, line)?;
-    Ok(words)
-}
-
-fn add_words<'a>(words: &mut Vec<&'a str>, line: &'a str) -> Result<(), NoMemory> {
-    for word in line.split(' ') {
-        words.push(word)?;
-    }
-    Ok(())
 }
 
 /// What the words of a line say, if they say something. `made` says whether the root was taken in.
@@ -162,14 +150,6 @@ fn call_on_signal<'a>(word: &str, signal: u64) -> Option<Said<'a>> {
         "completion-close" => Said::CompletionClose(signal),
         _ => return None,
     })
-}
-
-fn signed(word: &str) -> Option<i32> {
-    word.parse::<i32>().ok()
-}
-
-fn number(word: &str) -> Option<u64> {
-    word.parse::<u64>().ok()
 }
 
 fn kind_of(word: &str) -> AnswerKind {

@@ -2,6 +2,7 @@ pub mod Choices
 pub mod Chosen
 pub mod Ends
 pub mod InOrder
+pub mod Kept
 pub mod Makings
 pub mod Misses
 pub mod Programs

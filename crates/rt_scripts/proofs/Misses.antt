@@ -1,5 +1,5 @@
 -- Reports that no runs have.
-use Rattle.std.proofs.Common.{◌≡◌, ◌+◌, ◌∙◌, List, [], ◌∷◌, ℕ, Bool, true, Option, Some, None, length, sym, ap, arith, length-append}
+use Rattle.std.proofs.Common.{◌≡◌, ◌∙◌, List, [], ◌∷◌, ℕ, Bool, true, Some, None, length, sym, ap, arith, length-append}
 use Rattle.rand_chacha.specs.ChaCha.{ChaCha}
 use Rattle.rt_audit.specs.declared.entry.Entry.{Entry}
 use Rattle.rt_core.specs.Starting.{Starting, Kept}
@@ -8,7 +8,7 @@ use Rattle.rt_scenario.specs.declared.scenario.RunLine.{RunLine}
 use Rattle.rt_scenario.specs.declared.scenario.ScriptText.{ScriptText}
 use Rattle.rt_scripts.specs.declared.outcome.RunReport.{RunReport}
 use Rattle.rt_scripts.specs.declared.outcome.RunResult.{RunResult}
-use Rattle.rt_scripts.specs.declared.outcome.RunResult.TheVariants.{Ok, Failed}
+use Rattle.rt_scripts.specs.declared.outcome.RunResult.TheVariants.{Failed}
 use Rattle.rt_scripts.specs.Making.{Maker}
 use Rattle.rt_scripts.specs.Ran.{Chain, Comes}
 use Rattle.rt_scripts.proofs.Runs.{kept-journal}

@@ -1,12 +1,13 @@
 -- Runs as a simulation reports them.
-use Rattle.std.proofs.Common.{subst, inl, ◌≡◌, ◌∙◌, ◌++◌, ◌∷◌, ◌≢◌, ℕ, List, [], refl, sym, ap, ℤ, Bool, true, false, Option, Some, None, Ok as IsOk, ◌<◌, length, take, drop, All, arith, append_assoc, length-append, ltb, eqb}
-use Rattle.std.proofs.lemmas.List.{append-nil}
+use Rattle.std.proofs.Common.{subst, inl, ◌≡◌, ◌∙◌, ◌++◌, ◌∷◌, ◌≢◌, ℕ, ◌+◌, ◌≤◌, List, [], refl, sym, ap, ℤ, Bool, true, false, Option, Some, None, Ok as IsOk, ◌<◌, length, take, drop, All, arith, append_assoc, length-append, ltb, eqb}
+use Rattle.std.proofs.lemmas.List.{append-nil, take-append-drop, length-take-le}
 use Rattle.std.proofs.lemmas.List.Elements.{All-nil, All-cons, All-weaker}
 use Rattle.std.proofs.lemmas.Option.{slice_get-get_or}
 use Rattle.std.proofs.Math.Seq.{take-append_seam, drop-append_seam}
 use Rattle.rt_base.specs.declared.time.TheConstants.{MAX_TIME}
 use Rattle.rand_chacha.specs.ChaCha.{ChaCha}
-use Rattle.rt_audit.specs.Journal.{last_time}
+use Rattle.rt_audit.specs.Journal.{digest_of, last_time, rounds_in}
+use Rattle.rt_audit.proofs.Times.{rounds-append}
 use Rattle.rt_audit.specs.declared.journal.Journal.{Journal}
 use Rattle.rt_audit.specs.declared.entry.Entry.{Entry}
 use Rattle.rt_model.specs.State.{begun}
@@ -102,6 +103,23 @@ makes-at scripts line h = record { there = slice_get-get_or scripts line.root no
 pub reported-at : (root : List ℕ) (result : RunResult) (time place : ℕ) (given own all : List Entry) → all ≡ given ++ own → place ≡ length given → report_of root result time (take place all) (drop place all) ≡ report_of root result time given own
 reported-at root result time place given own all is at =
     rw (is, at, take-append_seam given own, drop-append_seam given own) refl
+
+-- the rounds behind a place are those that aren't ahead of it
+pub rounds_behind : (place : ℕ) (entries : List Entry) → rounds_in entries ≡ rounds_in (take place entries) + rounds_in (drop place entries)
+rounds_behind place entries =
+    ap rounds_in (sym (take-append-drop place entries)) ∙ rounds-append (take place entries) (drop place entries)
+
+-- what is told of the entries behind a place is their report
+pub reported-from : (root : List ℕ) (result : RunResult) (time place : ℕ) (all : List Entry) → place ≤ length all → report_of root result time (take place all) (drop place all) ≡ record { root = root; result = result; from = place; to = length all; digest = digest_of all; time = time; rounds = rounds_in (drop place all) }
+reported-from root result time place all within =
+    let cut = take-append-drop place all in
+    let to : length (take place all) + length (drop place all) ≡ length all =
+    sym (length-append (take place all) (drop place all)) ∙ ap length cut in
+    rw (to, length-take-le place all within, cut) refl
+
+-- those ahead of the place where the given entries end
+pub rounds_ahead : (place : ℕ) (given own all : List Entry) → all ≡ given ++ own → place ≡ length given → rounds_in given ≡ rounds_in (take place all)
+rounds_ahead place given own all is at = rw (is, at, take-append_seam given own) refl
 
 -- what the run of a line came to
 module _ (scripts : List ScriptText) (line : RunLine) (from : Starting ChaCha) (there : line.root < length scripts) where

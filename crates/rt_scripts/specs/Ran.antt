@@ -3,8 +3,7 @@ use Rattle.std.specs.Prelude.{◌≡◌, ◌≢◌, ◌<◌, ◌+◌, ◌++◌, 
 use Rattle.std.specs.List.{All}
 use Rattle.rand_chacha.specs.ChaCha.{ChaCha}
 use Rattle.rt_audit.specs.declared.entry.Entry.{Entry}
-use Rattle.rt_audit.specs.declared.entry.Entry.TheVariants.{Round}
-use Rattle.rt_audit.specs.Journal.{digest_of, last_time}
+use Rattle.rt_audit.specs.Journal.{digest_of, last_time, rounds_in}
 use Rattle.rt_model.specs.Tied.{Steps, with_first}
 use Rattle.rt_core.specs.declared.run_error.RunError.TheVariants.{NoMemory}
 use Rattle.rt_core.specs.Starting.{Starting, Kept, first_begin, resumed, seeded, default_seed, chacha_stream}
@@ -64,11 +63,6 @@ pub record Halts (scripts : List ScriptText) (line : RunLine) (from : Starting C
   pub lacks : Fails (root_steps maker) from (from.given ++ entries) NoMemory
   pub drawn : AreShuffled chacha_stream from (from.given ++ entries)
   pub audited : AreAudited from (from.given ++ entries)
-
-abbrev pub rounds_in : List Entry → ℕ
-rounds_in [] = 0
-rounds_in (Round order ∷ entries) = rounds_in entries + 1
-rounds_in (entry ∷ entries) = rounds_in entries
 
 -- the report of a run of these entries, which stand in the journal behind those that were given
 abbrev pub report_of : List ℕ → RunResult → ℕ → List Entry → List Entry → RunReport

@@ -3,19 +3,19 @@
 ghost use Rattle.std.specs.Prelude.{◌≡◌, ◌≢◌, ◌<◌, ◌≤◌, ◌⊎◌, ◌++◌, List, [], true, false, not, Some, IfSome, IfOk, length, take, drop, map, vec_capacity, string_bytes};
 ghost use Rattle.rt_base.specs.Outside.{HasRisen};
 ghost use Rattle.std.specs.List.{All};
-ghost use Rattle.rt_audit.specs.Journal.{last_time};
+ghost use Rattle.rt_audit.specs.Journal.{last_time, rounds_in};
 ghost use Rattle.rt_audit.specs.declared.entry.Entry.{Entry};
 ghost use Rattle.rt_scenario.specs.Scenario.{scenario_of, is_runnable, CanRunLine, Whole, BrokenAt};
 ghost use Rattle.rt_scenario.specs.Within.{HavePlaces};
 ghost use Rattle.rt_scripts.specs.Asked.{Asked, Reads, IsAsked, Refuses, Reports, EndsAs, Ends, says_run};
 ghost use Rattle.rt_scripts.specs.Program.{text_at};
-ghost use Rattle.rt_scripts.specs.Ran.{CameOf, Chain, HasScripts, last_status, maker_of, report_of, rounds_in, starting, status_of};
+ghost use Rattle.rt_scripts.specs.Ran.{CameOf, Chain, HasScripts, last_status, maker_of, report_of, starting, status_of};
 ghost use Rattle.rt_scripts.specs.Report.{StandsIn, reports_text};
 
 use crate::report::{Unwritten, write_reports};
 use crate::{Outcome, Program, RootScript, RunReport, RunResult, Script};
 use rand_chacha::ChaCha12Rng;
-use rt_audit::{Entry, Journal};
+use rt_audit::Journal;
 use rt_base::{Items, Nanos, NoMemory, Sink8, Source, Text, Unread, read_whole, write_whole};
 use rt_core::{Checkpoint, Config, Failure, Finished, RunError, Runner};
 use rt_scenario::{Broken, Refusal, RunLine, Scenario, Settings, read_scenario};
@@ -202,11 +202,13 @@ fn run_lines(
     let mut runs = room;
     let mut runner = first;
     let mut place = 0;
+    let mut rounds = 0;
     let mut rest = lines;
     while let Some((line, tail)) = rest.split_first() {
-        match run_line(alloc, program, runner, line, place) {
+        match run_line(alloc, program, runner, line, place, rounds) {
             Came::Completed { run, checkpoint } => {
                 place = run.to;
+                rounds = checkpoint.journal().rounds();
                 runs.push_reserved(run);
                 runner = Runner::from(checkpoint);
             }
@@ -264,16 +266,18 @@ fn prepared(
     Ok((name, RootScript::new(program.share()?, line.root, with)))
 }
 
-/// Runs a line. The entries of the runs before it end at this place.
+/// Runs a line. The entries of the runs before it end at this place, and have so many rounds.
 fn run_line(
     alloc: Global,
     program: &Program,
     runner: Runner<ChaCha12Rng>,
     line: &RunLine,
     place: usize,
+    rounds: u64,
 ) -> Came
     requires line { HasScripts program.now line.now }
     requires place { place ≡ length runner.given }
+    requires rounds { rounds ≡ rounds_in runner.given }
     ensures { CameOf program.now line.now runner result }
 {
     let Ok((name, maker)) = prepared(alloc, program, line) else {
@@ -288,6 +292,7 @@ fn run_line(
                 RunResult::Ok(output),
                 time,
                 place,
+                rounds,
                 checkpoint.journal(),
             );
             Came::Completed { run, checkpoint }
@@ -298,21 +303,31 @@ fn run_line(
                 return Came::Lacked(journal);
             }
             let time = journal.last_time();
-            let run = report_of(name, RunResult::Failed(cause), time, place, &journal);
+            let run = report_of(
+                name,
+                RunResult::Failed(cause),
+                time,
+                place,
+                rounds,
+                &journal,
+            );
             Came::Failed { run, journal }
         }
     }
 }
 
-/// The report of a run whose entries stand from a place of the journal on.
+/// The report of a run whose entries stand from a place of the journal on, behind so many rounds.
+#[tactic(auto, using(crate::proofs::Runs::rounds_behind))]
 fn report_of(
     root: Text,
     ended: RunResult,
     time: Nanos,
     place: usize,
+    rounds: u64,
     journal: &Journal,
 ) -> RunReport
-    requires { place ≤ length journal.now.entries }
+    requires place { place ≤ length journal.now.entries }
+    requires rounds { rounds ≡ rounds_in (take place journal.now.entries) }
     ensures { result ≡ report_of root ended time (take place journal.now.entries) (drop place journal.now.entries) }
 {
     RunReport {
@@ -322,7 +337,7 @@ fn report_of(
         to: journal.len(),
         digest: journal.digest(),
         time,
-        rounds: count_rounds(&journal.entries()[place..]),
+        rounds: journal.rounds() - rounds,
     }
 }
 
@@ -374,17 +389,4 @@ fn status_of(ended: &RunResult) -> u8
         RunResult::Ok(_) => 0,
         RunResult::Failed(_) => 6,
     }
-}
-
-/// How many rounds there are among the entries.
-fn count_rounds(entries: &[Entry]) -> u64
-    ensures { result ≡ rounds_in entries.now }
-{
-    let mut rounds = 0u64;
-    for entry in entries {
-        if matches!(entry, Entry::Round { .. }) {
-            rounds += 1;
-        }
-    }
-    rounds
 }

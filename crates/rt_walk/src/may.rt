@@ -42,7 +42,12 @@ impl Walker {
                 now,
                 deadline,
                 cycle,
-            } => self.may_start(*next, *now, *deadline, *cycle),
+            } => self.may_start(
+                *next,
+                now.nanos(),
+                deadline.as_ref().map(|due| due.nanos()),
+                cycle.nanos(),
+            ),
             Entry::Call { by, call, reply } => {
                 self.may_call(*by)
                     && self.answers(call, reply)?
@@ -61,8 +66,8 @@ impl Walker {
                 self.may_answer(*task, *kind) && self.announced.is_empty()
             }
             Entry::NodeEnd { node } => self.may_end_node(*node),
-            Entry::Advance { now } => self.may_advance(*now),
-            Entry::Skip { now } => self.may_skip(*now),
+            Entry::Advance { now } => self.may_advance(now.nanos()),
+            Entry::Skip { now } => self.may_skip(now.nanos()),
             Entry::Fire { alarm } => self.may_fire(*alarm),
             Entry::Cleanup => self.stage.may_close() && self.announced.is_empty(),
             Entry::Crash { choices } => self.may_crash(choices),

@@ -5,6 +5,7 @@ use rt_audit::{
     Payload, Refusal,
 };
 use rt_base::{Choice, Error, Items, MetricError, Nanos, NoMemory, Text};
+use rt_journals::{number, signed, words_of};
 use std::alloc::Global;
 
 /// Why lines aren't read.
@@ -49,19 +50,6 @@ fn entry(alloc: Global, line: &str) -> Result<Option<Entry>, NoMemory> {
         Some((word, rest)) => entry_by(alloc, word, rest),
         None => Ok(None),
     }
-}
-
-fn words_of<'a>(alloc: Global, line: &'a str) -> Result<Vec<&'a str>, NoMemory> {
-    let mut words = Vec::new(alloc);
-    add_words(&mut words, line)?;
-    Ok(words)
-}
-
-fn add_words<'a>(words: &mut Vec<&'a str>, line: &'a str) -> Result<(), NoMemory> {
-    for word in line.split(' ') {
-        words.push(word)?;
-    }
-    Ok(())
 }
 
 /// The entry of a line that begins with this word.
@@ -130,19 +118,11 @@ fn numbered(word: &str, of: u64) -> Option<Entry> {
     })
 }
 
-fn number(word: &str) -> Option<u64> {
-    word.parse::<u64>().ok()
+fn moment(word: &str) -> Option<Moment> {
+    Some(Moment::new(word.parse::<Nanos>().ok()?))
 }
 
-fn signed(word: &str) -> Option<i32> {
-    word.parse::<i32>().ok()
-}
-
-fn moment(word: &str) -> Option<Nanos> {
-    word.parse::<Nanos>().ok()
-}
-
-fn deadline_of(word: &str) -> Option<Option<Nanos>> {
+fn deadline_of(word: &str) -> Option<Option<Moment>> {
     if word == "-" {
         return Some(None);
     }
@@ -341,9 +321,7 @@ fn call(word: &str, of: &str) -> Option<Call> {
         return stop(of);
     }
     if word == "sleep-poll" {
-        return Some(Call::SleepPoll {
-            due: Moment::new(moment(of)?),
-        });
+        return Some(Call::SleepPoll { due: moment(of)? });
     }
     call_on_task(word, number(of)?)
 }

@@ -23,6 +23,7 @@ pub use outcome::Outcome;
 pub use poller::Poller;
 pub use receiving::{ResultReceiver, ResultSender, polled};
 pub use rt_model::{Answer, Begin};
+pub use rt_super::Stopped;
 pub use task::Task;
 pub use tasks::Tasks;
 pub use world::{World, WorldOf};

@@ -20,6 +20,7 @@ loop-line-preserved c =
     let goes = subst (λ rest. GoesFrom scripts c.args.first c.args.lines.now from rest c.loop-line.runs.items from.given) is i.goes in
     record {
       place = next-place scripts next from line own run kept c.from-runner.ensures c.in-Completed.ensures.1 c.in-Completed.ensures.2;
+      rounds = search rules;
       goes = goes-on scripts c.args.first c.args.lines.now next from line tail c.loop-line.runs.items c.push_reserved.new.self.items own run kept c.from-runner.ensures c.push_reserved.ensures.items c.in-Completed.ensures.1 c.in-Completed.ensures.2 goes;
       places = (search rules);
       lines = All-rest (HasScripts scripts) line tail c.loop-line.rest.now is i.lines;
