@@ -6,7 +6,10 @@ ghost use Rattle.rt_audit.specs.Lines.{line_of, start_text, called_text};
 use crate::line::{
     add_choices, add_fields, add_numbered, add_numbers, add_optional, add_space, add_word,
 };
-use crate::{AnswerKind, Call, CallReply, EventFields, EventLabel, FinishCause, Moment, Order};
+use crate::{
+    AnswerKind, Call, CallReply, Caller, EventFields, EventLabel, FinishCause, Moment, Order,
+    Packed,
+};
 use rt_base::{Choice, Items, Nanos, NoMemory};
 use std::alloc::Global;
 
@@ -15,14 +18,14 @@ use std::alloc::Global;
 pub enum Entry {
     /// A run begins at `now`. The first task of this run gets the number `next`.
     Start {
-        next: u64,
+        next: Packed,
         now: Moment,
         deadline: Option<Moment>,
         cycle: Moment,
     },
     /// A call by a task, or by the maker of the root, was answered.
     Call {
-        by: Option<u64>,
+        by: Caller,
         call: Call,
         reply: CallReply,
     },
@@ -100,9 +103,9 @@ impl Entry {
                 now.nanos(),
                 deadline.as_ref().map(|due| due.nanos()),
                 cycle.nanos(),
-                *next,
+                next.get(),
             ),
-            Entry::Call { by, call, reply } => add_call(alloc, text, *by, call, reply),
+            Entry::Call { by, call, reply } => add_call(alloc, text, by.task(), call, reply),
             Entry::Event { label, fields } => {
                 label.add_to(text)?;
                 add_fields(alloc, text, fields)

@@ -1,19 +1,18 @@
 //! The fields of an event.
 
-ghost use Rattle.std.specs.Prelude.{◌≡◌, ◌≤◌, ◌∷◌, ◌↔◌, [], length, slice_get, Some, None, IfOk, IfSome, IfNone, IsOk, IsTrue};
+ghost use Rattle.std.specs.Prelude.{◌≡◌, ◌∷◌, ◌↔◌, [], length, slice_get, Some, None, IfSome, IfNone, IsTrue};
 ghost use Rattle.std.specs.Int.{to_be_bytes, w128};
 ghost use Rattle.rt_audit.specs.EntryParts.{fields_of};
 
-use crate::short_label::ShortLabel;
-use rt_base::{Items, NoMemory, Text};
-use std::alloc::Global;
+use crate::{Label, ShortLabel};
+use rt_base::Items;
 use std::marker::Model;
 
 /// How fields are kept. Those of a visit's event stand in place, since most events are of visits.
 #[derive(Debug, Drop)]
 pub enum FieldsKind {
     /// The task's number in sixteen bytes, and its label.
-    OfTask { number: [u8; 16], label: Text },
+    OfTask { number: [u8; 16], label: Label },
     /// The same with a label that stands in place too.
     OfTaskInPlace { number: [u8; 16], label: ShortLabel },
     Listed(Items<Items<u8>>),
@@ -37,7 +36,7 @@ impl Model for EventFields {
 impl EventFields {
     /// Those of a task's visit: its number as sixteen bytes, the highest first, and its label.
     #[inline(always)]
-    pub fn of_task(task: u64, label: Text) -> EventFields
+    pub fn of_task(task: u64, label: Label) -> EventFields
         ensures { result ≡ to_be_bytes w128 task ∷ label ∷ [] }
     {
         EventFields {
@@ -48,20 +47,17 @@ impl EventFields {
         }
     }
 
-    /// The same of this label. A short one takes no memory.
-    pub fn of_labelled_task(alloc: Global, task: u64, label: &str) -> Result<EventFields, NoMemory>
-        ensures fields { IfOk result (λ fields. fields ≡ to_be_bytes w128 task ∷ label.now ∷ []) }
-        ensures short { length label.now ≤ 23 → IsOk result }
+    /// The same of a short label. It takes no memory.
+    #[inline(always)]
+    pub fn of_short_task(task: u64, label: ShortLabel) -> EventFields
+        ensures { result ≡ to_be_bytes w128 task ∷ label ∷ [] }
     {
-        let Some(label) = ShortLabel::of(label) else {
-            return Ok(EventFields::of_task(task, Text::of(label.to_owned(alloc)?)));
-        };
-        Ok(EventFields {
+        EventFields {
             kind: FieldsKind::OfTaskInPlace {
                 number: (task as u128).to_be_bytes(),
                 label,
             },
-        })
+        }
     }
 
     /// Any fields.

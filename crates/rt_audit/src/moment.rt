@@ -2,18 +2,19 @@
 
 ghost use Rattle.std.specs.Prelude.{◌≡◌};
 
+use crate::packed::Packed;
 use rt_base::Nanos;
 use std::marker::Model;
 
 /// The numbers of a half.
 const HALF: u128 = 0x1_0000_0000_0000_0000;
 
-/// A time in nanoseconds since the epoch, in two halves: an entry that holds one has no padding before it. Contracts
-/// see the time.
+/// A time in nanoseconds since the epoch, in two halves that may stand at any place: an entry that holds one has no
+/// padding before it. Contracts see the time.
 #[derive(Debug, Drop)]
 pub struct Moment {
-    high: u64,
-    low: u64,
+    high: Packed,
+    low: Packed,
 }
 
 impl Model for Moment {
@@ -31,8 +32,8 @@ impl Moment {
         ensures { result ≡ time }
     {
         Moment {
-            high: (time / HALF) as u64,
-            low: (time % HALF) as u64,
+            high: Packed::new((time / HALF) as u64),
+            low: Packed::new((time % HALF) as u64),
         }
     }
 
@@ -41,6 +42,6 @@ impl Moment {
     pub fn nanos(&self) -> Nanos
         ensures { result ≡ self.now }
     {
-        u128::from(self.high) * HALF + u128::from(self.low)
+        u128::from(self.high.get()) * HALF + u128::from(self.low.get())
     }
 }

@@ -1,14 +1,14 @@
 //! A short label in place.
 
-ghost use Rattle.std.specs.Prelude.{◌≡◌, ◌≤◌, ◌<◌, length, IfSome, IfNone};
+ghost use Rattle.std.specs.Prelude.{◌≡◌, ◌<◌, [], length, IfSome, IfNone};
 
 use std::marker::Model;
 use std::str;
 
 /// The greatest number of its bytes.
-const MOST: usize = 23;
+const MOST: usize = 22;
 
-/// A text of few bytes, which needs no memory. Contracts see its bytes.
+/// A text of at most 22 bytes, which needs no memory. Contracts see its bytes.
 #[derive(Debug, Drop)]
 pub struct ShortLabel {
     length: u8,
@@ -22,15 +22,26 @@ impl Model for ShortLabel {
 
     ghost view = { λ l. take l.length l.bytes };
 
-    ghost invariant = { λ l. (l.length ≤ 23) × IsUtf8 (take l.length l.bytes) };
+    ghost invariant = { λ l. (l.length ≤ 22) × IsUtf8 (take l.length l.bytes) };
 }
 
 impl ShortLabel {
+    /// No text.
+    #[inline(always)]
+    pub fn empty() -> ShortLabel
+        ensures { result ≡ [] }
+    {
+        ShortLabel {
+            length: 0,
+            bytes: [0; MOST],
+        }
+    }
+
     /// This text, where it is short.
     #[inline(always)]
     pub fn of(label: &str) -> Option<ShortLabel>
         ensures label { IfSome result (λ short. short ≡ label.now) }
-        ensures long { IfNone result (23 < length label.now) }
+        ensures long { IfNone result (22 < length label.now) }
     {
         let label = label.as_bytes();
         if label.len() > MOST {
@@ -42,6 +53,17 @@ impl ShortLabel {
             length: label.len() as u8,
             bytes,
         })
+    }
+
+    /// The same once more.
+    #[inline(always)]
+    pub fn copy(&self) -> ShortLabel
+        ensures { result ≡ self.now }
+    {
+        ShortLabel {
+            length: self.length,
+            bytes: self.bytes,
+        }
     }
 
     /// Its bytes.

@@ -34,8 +34,10 @@ pub use handle::{Handle, HandleOf, NoPoller};
 pub use join_all::{Convert, JoinAll, JoinAllOf};
 pub use maker::RootMaker;
 pub use rand_core::Rng;
+pub use rt_audit::Journal;
 pub use rt_base::{
-    Cell, Error, Execution, Items, MAX_TIME, Name, Nanos, NoMemory, Poll, Refused, Text, spawn_cell,
+    Cell, Error, Execution, Items, MAX_TIME, MetricError, Name, Nanos, NoMemory, Poll, Refused,
+    Text, spawn_cell,
 };
 pub use rt_world::{Answer, Cx, Outcome, Poller, ResultReceiver, ResultSender, Task, World};
 pub use run_error::RunError;

@@ -1,10 +1,10 @@
 // Whole journals, as text.
 
 use rand_chacha::ChaCha12Rng;
-use rt_audit::Journal;
 use rt_core::utils::reschedule;
 use rt_core::{
-    Config, ConfigError, Error, Failure, Finished, MAX_TIME, Nanos, NoMemory, RunError, Runner,
+    Config, ConfigError, Error, Failure, Finished, Journal, MAX_TIME, Nanos, NoMemory, RunError,
+    Runner,
 };
 use rt_errand::{
     Crew, Errand, Heir, Retry, RootCrew, RootErrand, RootHeir, RootPair, RootRetry, Stage,

@@ -17,7 +17,7 @@ fn add_words<'a>(words: &mut Vec<&'a str>, line: &'a str) -> Result<(), NoMemory
     Ok(())
 }
 
-/// The number that a word writes.
+/// The number that a word writes, or `None` where it writes none.
 pub fn number(word: &str) -> Option<u64> {
     word.parse::<u64>().ok()
 }

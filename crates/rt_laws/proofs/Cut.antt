@@ -17,7 +17,7 @@ use Rattle.rt_model.specs.Rules.{IsLawful}
 use Rattle.rt_model.specs.Walk.{Gives, Stops, stood_before}
 use Rattle.rt_model.specs.Tied.{Value, nothing, taken}
 use Rattle.rt_model.specs.Run.{IsCutOff}
-use Rattle.rt_laws.specs.Examples.{small_begin, ready_root, busy_root, closes_node, opening, visiting_root, root_ends, finishing, silent_end, lacking_journal, invented_in_poll, invented_in_end, invented_by_maker, asking_maker, maker_lacks}
+use Rattle.rt_laws.specs.Examples.{small_begin, ready_root, busy_root, closes_node, opening, visiting_root, root_ends, finishing, silent_end, lacking_journal, invented_in_poll, invented_in_end, called_by_maker, asking_maker, maker_lacks}
 use Rattle.rt_laws.proofs.Misses.{tied-tail}
 
 -- an end that only spends lacks no memory before it has made its call
@@ -136,7 +136,7 @@ unfolding begun after
 lacks_lawfully = search (rules, IsPermutation-refl)
 
 -- a maker that makes no call
-pub none_by_the_maker : (number : ℕ) (call : CallOf) (reply : CallReply) → IsCutOff (ready_root number) small_begin (invented_by_maker call reply) → ⊥
+pub none_by_the_maker : (number : ℕ) (call : CallOf) (reply : CallReply) → IsCutOff (ready_root number) small_begin (called_by_maker call reply) → ⊥
 unfolding begun after
 none_by_the_maker number call reply r =
     let p = ready_root number in
@@ -151,10 +151,41 @@ none_by_the_maker number call reply r =
       ]
     ]
 
--- and one that lacks memory before its first
-pub lacks_in_maker : IsCutOff asking_maker small_begin maker_lacks
+-- and one that lacks memory at its first
+pub lacks_in_maker : (call : CallOf) (reply : CallReply) → IsLawful (begun small_begin) (called_by_maker call reply) → IsCutOff asking_maker small_begin (called_by_maker call reply)
 unfolding begun after
-lacks_in_maker =
+lacks_in_maker call reply lawful =
+    let before = after_all (begun small_begin) (Start 0 0 None 1000000 ∷ []) in
+    let m = moves-some (stood_in before) nothing.held call reply in
+    let w : Value (Unit {0}) ℕ = record nothing { held = m.0; whole = false } in
+    let asked = after_all (begun small_begin) (Start 0 0 None 1000000 ∷ Call None call reply ∷ []) in
+    record {
+      value = w;
+      lawful = lawful;
+      ends = refl;
+      tied = (
+        nothing,
+        refl,
+        (
+          nothing,
+          refl,
+          (
+            w,
+            inr (inl (record { front = []; rest = asked.turns; mid = nothing.held; are = refl; walks = (tt, refl); frees = (m.0, m.1, refl) }, refl)),
+            (w, refl, (w, (refl, refl), (w, refl, refl))),
+          ),
+        ),
+      );
+    }
+
+pub called_lawfully : IsLawful (begun small_begin) (called_by_maker (CloseNode 0) Done)
+unfolding begun after
+called_lawfully = search rules
+
+-- and one that makes none
+pub lacks_without_call : IsCutOff asking_maker small_begin maker_lacks
+unfolding begun after
+lacks_without_call =
     let w : Value (Unit {0}) ℕ = record nothing { whole = false } in
     record {
       value = w;

@@ -136,6 +136,10 @@ lacking_journal call reply =
 abbrev pub maker_lacks : List Entry
 maker_lacks = Start 0 0 None 1000000 ∷ Cleanup ∷ NodeEnd 0 ∷ finishing NoMemory
 
+-- a maker that makes this call, lacks memory and makes no root
+abbrev pub called_by_maker : CallOf → CallReply → List Entry
+called_by_maker call reply = Start 0 0 None 1000000 ∷ Call None call reply ∷ Cleanup ∷ NodeEnd 0 ∷ finishing NoMemory
+
 -- what the run of a root writes that is never ready, by the cause for which it ends
 
 -- no alarm is set
@@ -219,7 +223,3 @@ invented_in_poll call reply = opening ++ visiting_root ++ (Call (Some 0) call re
 abbrev pub invented_in_end : List Entry
 invented_in_end =
     opening ++ visiting_root ++ (Answered 0 AnswersReady ∷ []) ++ (Cleanup ∷ NodeEnd 0 ∷ Call (Some 0) (WakeCall 0) Done ∷ Answered 0 Ended ∷ []) ++ finishing NoMemory
-
--- and by a maker that makes none
-abbrev pub invented_by_maker : CallOf → CallReply → List Entry
-invented_by_maker call reply = Start 0 0 None 1000000 ∷ Call None call reply ∷ Cleanup ∷ NodeEnd 0 ∷ finishing NoMemory

@@ -22,7 +22,7 @@ ghost use Rattle.rt_model.specs.Tied.{Value, nothing, IsTied};
 ghost use Rattle.rt_model.specs.Run.{IsRun, IsCutOff, IsValidInput};
 ghost use Rattle.rt_laws.specs.Supervised.{Aborting, Parent, Aborter, aborting_root, aborting_next, aborter_spawned, beside_journal, lacking_join};
 ghost use Rattle.rt_laws.specs.Slotting.{sending_root, send_lacks, sending_journal};
-ghost use Rattle.rt_laws.specs.Examples.{small_begin, opening, visiting_root, begin_by, ready_root, pending_root, sleeping_root, gave, ready_journal, skipped_journal, short_journal, cut_journal, stalled_journal, late_journal, at_once_late_journal, overflow_journal, no_number_journal, drawn, stray_call, open_node, unanswered_poll, second_task, ordered, finished_for, called, fires_with, early_fire, early_sleep, silent_end, busy_root, lacking_journal, invented_in_poll, invented_in_end, invented_by_maker, asking_maker, maker_lacks};
+ghost use Rattle.rt_laws.specs.Examples.{small_begin, opening, visiting_root, begin_by, ready_root, pending_root, sleeping_root, gave, ready_journal, skipped_journal, short_journal, cut_journal, stalled_journal, late_journal, at_once_late_journal, overflow_journal, no_number_journal, drawn, stray_call, open_node, unanswered_poll, second_task, ordered, finished_for, called, fires_with, early_fire, early_sleep, silent_end, busy_root, lacking_journal, invented_in_poll, invented_in_end, called_by_maker, asking_maker, maker_lacks};
 
 /// A root that is ready with a number at its first poll gives it, at time 0.
 #[tactic(auto, using(crate::proofs::Runs::ready_time))]
@@ -45,7 +45,7 @@ pub fn a_sleeping_root_has_its_run()
 /// behind the lack is free while it may come where it stands, and an end may lack memory as well. Where a spawned task lacked
 /// it, the end of the root makes the calls of its own steps. A task that was spawned before the lack ends as it was made. No entry
 /// tells where memory lacked: where its spawn may have come behind the lack, it ends as any task may. A maker may lack it
-/// before its first call, and make no root.
+/// at its first call, make another that may come there, and make no root.
 pub fn a_run_that_lacked_memory_is_cut_off()
     ensures at_once { (due : ℕ) → IsCutOff (sleeping_root due) small_begin cut_journal }
     ensures within { (call : Call) (reply : CallReply) → IsLawful (begun small_begin) (lacking_journal call reply) → IsCutOff busy_root small_begin (lacking_journal call reply) }
@@ -54,7 +54,9 @@ pub fn a_run_that_lacked_memory_is_cut_off()
     ensures spawned { IsCutOff (aborting_root Pending) small_begin (lacking_join 2) }
     ensures free { IsCutOff (aborting_root Pending) small_begin (lacking_join 1) }
     ensures sent { (sent : Result ℕ Error) → IsCutOff (sending_root sent) small_begin sending_journal }
-    ensures maker { IsCutOff asking_maker small_begin maker_lacks }
+    ensures maker { (call : Call) (reply : CallReply) → IsLawful (begun small_begin) (called_by_maker call reply) → IsCutOff asking_maker small_begin (called_by_maker call reply) }
+    ensures lawful_maker { IsLawful (begun small_begin) (called_by_maker (CloseNode 0) Done) }
+    ensures maker_at_once { IsCutOff asking_maker small_begin maker_lacks }
 {}
 
 /// A root that is never ready stalls. With a deadline its run is late behind the first cycle, or at once. Where a cycle
@@ -119,7 +121,7 @@ pub fn near_misses_are_not_cut_off()
     ensures silent_end { (number : ℕ) → IsCutOff (ready_root number) small_begin silent_end → ⊥ }
     ensures in_a_poll { (number : ℕ) (call : Call) (reply : CallReply) → IsCutOff (ready_root number) small_begin (invented_in_poll call reply) → ⊥ }
     ensures in_an_end { (number : ℕ) → IsCutOff (ready_root number) small_begin invented_in_end → ⊥ }
-    ensures by_the_maker { (number : ℕ) (call : Call) (reply : CallReply) → IsCutOff (ready_root number) small_begin (invented_by_maker call reply) → ⊥ }
+    ensures by_the_maker { (number : ℕ) (call : Call) (reply : CallReply) → IsCutOff (ready_root number) small_begin (called_by_maker call reply) → ⊥ }
 {}
 
 /// What a part made before it lacked memory is held. A task that it spawned is in the state that its spawn made, and in no other,

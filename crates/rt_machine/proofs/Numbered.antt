@@ -1,14 +1,16 @@
 -- The labels of nodes.
-use Rattle.std.proofs.Common.{◌≡◌, ◌<◌, ◌≤◌, ◌+◌, ℕ, zero, suc, List, [], ◌∷◌, ◌++◌, refl, ap, false, arith, get_or, length, eqb, Some, None, sym, ◌∙◌}
+use Rattle.std.proofs.Common.{◌≡◌, ◌<◌, ◌≤◌, ◌+◌, ℕ, zero, suc, List, [], ◌∷◌, ◌++◌, refl, ap, false, arith, get_or, length, eqb, Some, sym, subst, ◌∙◌}
 use Rattle.std.specs.List.{slice_get, All}
 use Rattle.std.specs.Option.{unwrap_or}
 use Rattle.rt_model.specs.Lists.{find}
 use Rattle.std.proofs.lemmas.Option.{slice_get-map, slice_get_past, slice_get-get_or}
 use Rattle.rt_model.specs.Effects.{label_at}
-use Rattle.rt_machine.specs.Labels.{numbered, placed}
+use Rattle.rt_machine.specs.Labels.{IsThere, label_in, labelled, numbered}
+use Rattle.rt_machine.specs.declared.labels.NodeLabel.{NodeLabel}
+use Rattle.rt_machine.specs.declared.labels.NodeLabel.TheVariants.{Short, Long}
 use Rattle.std.proofs.lemmas.List.{get_or_append_left, map-append, length-map}
 use Rattle.std.proofs.Math.Seq.{get_or-append_seam}
-use Rattle.std.proofs.lemmas.List.Elements.{All-head, All-tail, All-get_or}
+use Rattle.std.proofs.lemmas.List.Elements.{All-head, All-tail}
 
 find-at : {V : Type 0} (k n t : ℕ) (xs : List V) → t ≡ k + n → find t (numbered k xs) ≡ slice_get xs n
 find-at k n t [] e = refl
@@ -18,46 +20,48 @@ find-at k (suc n) t (x ∷ xs) e =
     rw f (find-at (k + 1) n t xs (omega arith))
 
 -- the label of a number is that in its place
-pub label-get : {V : Type 0} (n : ℕ) (xs : List V) → find n (numbered 0 xs) ≡ slice_get xs n
+label-get : {V : Type 0} (n : ℕ) (xs : List V) → find n (numbered 0 xs) ≡ slice_get xs n
 label-get n xs = find-at 0 n n xs (omega arith)
 
-pub label-push : {V : Type 0} (k : ℕ) (xs : List V) (v : V) → numbered k (xs ++ v ∷ []) ≡ numbered k xs ++ (k + length xs, v) ∷ []
+label-push : {V : Type 0} (k : ℕ) (xs : List V) (v : V) → numbered k (xs ++ v ∷ []) ≡ numbered k xs ++ (k + length xs, v) ∷ []
 label-push k [] v = let e : k + 0 ≡ k = omega arith in rw e refl
 label-push k (x ∷ xs) v =
     let e : k + suc (length xs) ≡ (k + 1) + length xs = omega arith in
     rw e (ap (λ ys. (k, x) ∷ ys) (label-push (k + 1) xs v))
 
--- one text more leaves the labels that are there
-placed-more : (places : List ℕ) (texts : List (List ℕ)) (text : List ℕ) → All (λ place. place < length texts) places → placed (texts ++ text ∷ []) places ≡ placed texts places
-placed-more [] texts text all = refl
-placed-more (place ∷ places) texts text all =
-    rw (get_or_append_left texts (text ∷ []) [] place (All-head (λ p. p < length texts) place places all), placed-more places texts text (All-tail (λ p. p < length texts) place places all)) refl
+-- one long label more leaves the labels that are there
+pub labelled-more : (labels : List NodeLabel) (longs : List (List ℕ)) (text : List ℕ) → All (IsThere (length longs)) labels → labelled (longs ++ text ∷ []) labels ≡ labelled longs labels
+labelled-more [] longs text all = refl
+labelled-more (Short label ∷ labels) longs text all = ap (λ ls. label ∷ ls) (labelled-more labels longs text (All-tail (IsThere (length longs)) (Short label) labels all))
+labelled-more (Long place ∷ labels) longs text all =
+    rw (get_or_append_left longs (text ∷ []) [] place (All-head (IsThere (length longs)) (Long place) labels all), labelled-more labels longs text (All-tail (IsThere (length longs)) (Long place) labels all)) refl
 
--- a label whose text comes with it
-pub labels-push : (places : List ℕ) (texts : List (List ℕ)) (text : List ℕ) → All (λ place. place < length texts) places → numbered 0 (placed (texts ++ text ∷ []) (places ++ length texts ∷ [])) ≡ numbered 0 (placed texts places) ++ (length places, text) ∷ []
-labels-push places texts text all =
-    let first : 0 + length places ≡ length places = omega arith in
-    rw (map-append (λ place. get_or (texts ++ text ∷ []) place []) places (length texts ∷ []), placed-more places texts text all, get_or-append_seam texts text [] [], label-push 0 (placed texts places) text, length-map places (λ place. get_or texts place []), first) refl
+-- a label more
+pub labels-push : (labels : List NodeLabel) (longs : List (List ℕ)) (label : NodeLabel) → numbered 0 (labelled longs (labels ++ label ∷ [])) ≡ numbered 0 (labelled longs labels) ++ (length labels, label_in longs label) ∷ []
+labels-push labels longs label =
+    let first : 0 + length labels ≡ length labels = omega arith in
+    rw (map-append (label_in longs) labels (label ∷ []), label-push 0 (labelled longs labels) (label_in longs label), length-map labels (label_in longs), first) refl
 
-there : (places : List ℕ) (n place : ℕ) → n < length places → place ≡ get_or places n place → slice_get places n ≡ Some place
-there places n place below is = slice_get-get_or places n place below ∙ ap (λ p. Some p) (sym is)
+-- a long label whose text comes with it
+pub labels-long : (labels : List NodeLabel) (longs : List (List ℕ)) (text : List ℕ) → All (IsThere (length longs)) labels → numbered 0 (labelled (longs ++ text ∷ []) (labels ++ Long (length longs) ∷ [])) ≡ numbered 0 (labelled longs labels) ++ (length labels, text) ∷ []
+labels-long labels longs text all =
+    rw (labels-push labels (longs ++ text ∷ []) (Long (length longs)), labelled-more labels longs text all, get_or-append_seam longs text [] []) refl
 
 -- the label of a node that was made, and of one that wasn't
-label-is : (places : List ℕ) (texts : List (List ℕ)) (n place : ℕ) → n < length places → place ≡ get_or places n place → label_at (numbered 0 (placed texts places)) n ≡ get_or texts place []
-label-is places texts n place below is = rw (label-get n (placed texts places), slice_get-map (λ p. get_or texts p []) places n, there places n place below is) refl
+label-there : (labels : List NodeLabel) (longs : List (List ℕ)) (n : ℕ) (label : NodeLabel) → n < length labels → label ≡ get_or labels n label → label_at (numbered 0 (labelled longs labels)) n ≡ label_in longs label
+label-there labels longs n label below is =
+    let there : slice_get labels n ≡ Some label = slice_get-get_or labels n label below ∙ ap (λ l. Some l) (sym is) in
+    rw (label-get n (labelled longs labels), slice_get-map (label_in longs) labels n, there) refl
 
-pub label-there : (places : List ℕ) (texts : List (List ℕ)) (n place : ℕ) (d : List ℕ) → All (λ p. p < length texts) places → n < length places → place ≡ get_or places n place → label_at (numbered 0 (placed texts places)) n ≡ get_or texts place d
-label-there places texts n place d all below is =
-    let fits : place < length texts = omega (arith, is, All-get_or (λ p. p < length texts) places n place below all) in
-    label-is places texts n place below is ∙ ap (λ o. unwrap_or o []) (sym (slice_get-get_or texts place [] fits) ∙ slice_get-get_or texts place d fits)
+pub short-there : (labels : List NodeLabel) (longs : List (List ℕ)) (n : ℕ) (label : NodeLabel) (text : List ℕ) → n < length labels → label ≡ get_or labels n label → label ≡ Short text → label_at (numbered 0 (labelled longs labels)) n ≡ text
+short-there labels longs n label text below is short = label-there labels longs n label below is ∙ ap (label_in longs) short
 
-pub label-past : (places : List ℕ) (texts : List (List ℕ)) (n : ℕ) → length places ≤ n → label_at (numbered 0 (placed texts places)) n ≡ []
-label-past places texts n past = rw (label-get n (placed texts places), slice_get-map (λ p. get_or texts p []) places n, slice_get_past places n past) refl
+pub long-there : (labels : List NodeLabel) (longs : List (List ℕ)) (n : ℕ) (label : NodeLabel) (place : ℕ) (text : List ℕ) → All (IsThere (length longs)) labels → n < length labels → label ≡ get_or labels n label → label ≡ Long place → text ≡ get_or longs place text → label_at (numbered 0 (labelled longs labels)) n ≡ text
+long-there labels longs n label place text all below is long told =
+    let fits : place < length longs = subst (IsThere (length longs)) long (subst (IsThere (length longs)) (sym is) (all n label below)) in
+    label-there labels longs n label below is ∙ ap (label_in longs) long ∙ ap (λ o. unwrap_or o []) (sym (slice_get-get_or longs place [] fits) ∙ slice_get-get_or longs place text fits) ∙ sym told
 
--- the label of a node once more
-pub labels-repeat : (places : List ℕ) (texts : List (List ℕ)) (n place : ℕ) → n < length places → place ≡ get_or places n place → numbered 0 (placed texts (places ++ place ∷ [])) ≡ numbered 0 (placed texts places) ++ (length places, label_at (numbered 0 (placed texts places)) n) ∷ []
-labels-repeat places texts n place below is =
-    let first : 0 + length places ≡ length places = omega arith in
-    rw (label-is places texts n place below is, map-append (λ p. get_or texts p []) places (place ∷ []), label-push 0 (placed texts places) (get_or texts place []), length-map places (λ p. get_or texts p []), first) refl
+pub label-past : (labels : List NodeLabel) (longs : List (List ℕ)) (n : ℕ) → length labels ≤ n → label_at (numbered 0 (labelled longs labels)) n ≡ []
+label-past labels longs n past = rw (label-get n (labelled longs labels), slice_get-map (label_in longs) labels n, slice_get_past labels n past) refl
 
-pub ruleset label_laws = (labels-push, label-there, label-past, labels-repeat)
+pub ruleset label_laws = (labels-push, labels-long, labelled-more, short-there, long-there, label-past)

@@ -1,5 +1,5 @@
 -- The groups of signals that a machine keeps.
-use Rattle.std.specs.Prelude.{ℕ, List, []}
+use Rattle.std.specs.Prelude.{ℕ, List}
 use Rattle.rt_super.specs.Signals.{SignalRecord, StopRecord}
 
 -- the groups, the shutdown, and those whom the last call met and nobody woke yet

@@ -16,7 +16,7 @@ ghost use Rattle.rt_machine.specs.Causes.{error_of};
 use crate::Machine;
 use crate::cause::Cause;
 use crate::room::take_places;
-use rt_audit::{Call, CallReply, Entry, Label, Moment, Refusal};
+use rt_audit::{Call, CallReply, Caller, Entry, Label, Moment, Refusal};
 use rt_base::{Error, MetricError, Nanos, NoMemory, Text, child_label};
 use rt_super::{Alarms, NOBODY};
 
@@ -42,7 +42,11 @@ impl Machine {
             return Error::NoMemory;
         };
         let reply = CallReply::Refused { error };
-        self.journal.note(Entry::Call { by, call, reply });
+        self.journal.note(Entry::Call {
+            by: Caller::of(by),
+            call,
+            reply,
+        });
         cause.error()
     }
 
@@ -55,7 +59,7 @@ impl Machine {
             return;
         }
         self.journal.note(Entry::Call {
-            by,
+            by: Caller::of(by),
             call: Call::CloseNode { node },
             reply: CallReply::Done,
         });
@@ -132,7 +136,11 @@ impl Machine {
             node: number,
             ended,
         };
-        self.journal.note(Entry::Call { by, call, reply });
+        self.journal.note(Entry::Call {
+            by: Caller::of(by),
+            call,
+            reply,
+        });
         Ok((number, ended))
     }
 
@@ -162,7 +170,11 @@ impl Machine {
             return Err(Error::NoMemory);
         }
         let reply = CallReply::Done;
-        self.journal.note(Entry::Call { by, call, reply });
+        self.journal.note(Entry::Call {
+            by: Caller::of(by),
+            call,
+            reply,
+        });
         if !self.closing {
             self.journal.note(Entry::Wake { task });
             self.ready.push_reserved(task);
@@ -192,7 +204,7 @@ impl Machine {
         }
         if due <= self.time {
             self.journal.note(Entry::Call {
-                by,
+                by: Caller::of(by),
                 call: Call::SleepPoll {
                     due: Moment::new(due),
                 },
@@ -207,7 +219,7 @@ impl Machine {
         };
         self.promised += 2 * (self.alarms.len() - before);
         self.journal.note(Entry::Call {
-            by,
+            by: Caller::of(by),
             call: Call::SleepPoll {
                 due: Moment::new(due),
             },

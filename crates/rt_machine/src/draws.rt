@@ -11,7 +11,7 @@ use crate::event::draw_event;
 use crate::room::take_places;
 use crate::{Machine, RunJournal};
 use rand_core::Rng;
-use rt_audit::{Auditor, Call, CallReply, Entry, Payload};
+use rt_audit::{Auditor, Call, CallReply, Caller, Entry, Payload};
 use rt_base::NoMemory;
 
 /// The event of a call that draws, and room for both.
@@ -57,7 +57,7 @@ impl Machine {
         let number = rng.next_u32();
         self.journal.note(event);
         self.journal.note(Entry::Call {
-            by,
+            by: Caller::of(by),
             call: Call::NextU32,
             reply: CallReply::Number {
                 number: number as u64,
@@ -86,7 +86,7 @@ impl Machine {
         let number = rng.next_u64();
         self.journal.note(event);
         self.journal.note(Entry::Call {
-            by,
+            by: Caller::of(by),
             call: Call::NextU64,
             reply: CallReply::Number { number },
         });
@@ -124,7 +124,7 @@ impl Machine {
         bytes.set(dest);
         self.journal.note(event);
         self.journal.note(Entry::Call {
-            by,
+            by: Caller::of(by),
             call: Call::FillBytes {
                 len: dest.len() as u64,
             },
@@ -150,7 +150,7 @@ impl Machine {
             return Err(NoMemory);
         };
         self.journal.note(Entry::Call {
-            by,
+            by: Caller::of(by),
             call: Call::Auditor,
             reply: CallReply::Bytes { bytes },
         });

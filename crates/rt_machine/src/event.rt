@@ -2,21 +2,21 @@
 
 ghost use Rattle.std.specs.Prelude.{◌≡◌, ◌∷◌, [], IfOk, codes};
 ghost use Rattle.std.specs.Int.{w32, cast_unsigned, to_be_bytes};
-ghost use Rattle.rt_model.specs.Events.{process_task, task_fields};
+ghost use Rattle.rt_model.specs.Events.{process_task};
 
 use rt_audit::{Entry, EventFields, EventLabel};
 use rt_base::{Items, NoMemory, Text};
 use std::alloc::Global;
 
-/// The event of a visit.
-pub fn task_event(alloc: Global, task: u64, label: &str) -> Result<Entry, NoMemory>
-    ensures { IfOk result (λ entry. entry ≡ Entry.Event process_task (task_fields task label.now)) }
+/// The event of a visit, of these fields.
+#[inline(always)]
+pub fn task_event(fields: EventFields) -> Entry
+    ensures { result ≡ Entry.Event process_task fields }
 {
-    let fields = EventFields::of_labelled_task(alloc, task, label)?;
-    Ok(Entry::Event {
+    Entry::Event {
         label: EventLabel::process_task(),
         fields,
-    })
+    }
 }
 
 /// The event of a `stop`: its value in four bytes, the highest first.

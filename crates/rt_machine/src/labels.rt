@@ -1,30 +1,39 @@
 //! The labels of nodes.
 
-ghost use Rattle.std.specs.Prelude.{◌≡◌, ◌≤◌, ◌<◌, ◌+◌, ◌∷◌, ◌++◌, [], OnOk};
+ghost use Rattle.std.specs.Prelude.{◌≡◌, ◌≤◌, ◌<◌, ◌+◌, ◌∷◌, ◌++◌, [], length, IfOk, IsOk, OnOk};
 ghost use Rattle.rt_model.specs.Effects.{label_at};
+ghost use Rattle.rt_model.specs.Events.{task_fields};
 
+use rt_audit::{EventFields, Label, ShortLabel};
 use rt_base::{NoMemory, Text};
 use std::alloc::Global;
 use std::marker::Model;
 
-/// The labels of nodes, by their numbers. A label that a node shares with an earlier one is kept once.
+/// The label of a node, in place where it is short, since each visit reads one.
+#[derive(Drop)]
+pub enum NodeLabel {
+    Short(ShortLabel),
+    /// The place of a long one.
+    Long(usize),
+}
+
+/// The labels of nodes, by their numbers, and the texts of the long ones.
 #[derive(Drop)]
 pub struct Labels {
-    texts: Vec<Text>,
-    /// The place of each node's label among the texts.
-    places: Vec<usize>,
+    labels: Vec<NodeLabel>,
+    longs: Vec<Text>,
 }
 
 impl Model for Labels {
-    ghost use Rattle.std.specs.Prelude.{◌-◌, ◌<◌, length, min, vec_len, vec_capacity};
+    ghost use Rattle.std.specs.Prelude.{◌-◌, ◌<◌, List, ℕ, length, min, vec_len, vec_capacity};
     ghost use Rattle.std.specs.List.{All};
-    ghost use Rattle.rt_machine.specs.Labels.{Labelled, numbered, placed};
+    ghost use Rattle.rt_machine.specs.Labels.{Labelled, IsLong, IsThere, numbered, labelled};
 
     ghost Value = { Labelled };
 
-    ghost view = { λ l. record { items = numbered 0 (placed l.texts.items l.places.items); count = vec_len l.places; spare = min (vec_capacity l.texts - vec_len l.texts) (vec_capacity l.places - vec_len l.places) } };
+    ghost view = { λ l. record { items = numbered 0 (labelled l.longs.items l.labels.items); count = vec_len l.labels; spare = min (vec_capacity l.longs - vec_len l.longs) (vec_capacity l.labels - vec_len l.labels) } };
 
-    ghost invariant = { λ l. All (λ place. place < length l.texts.items) l.places.items };
+    ghost invariant = { λ l. All (IsThere (length l.longs.items)) l.labels.items × All IsLong l.longs.items };
 }
 
 #[tactic(auto, using(crate::proofs::Numbered::label_laws))]
@@ -35,8 +44,8 @@ impl Labels {
         ensures count { result.count ≡ 0 }
     {
         Labels {
-            texts: Vec::new(alloc),
-            places: Vec::new(alloc),
+            labels: Vec::new(alloc),
+            longs: Vec::new(alloc),
         }
     }
 
@@ -46,8 +55,8 @@ impl Labels {
         ensures count { self.new.count ≡ self.old.count }
         ensures room { OnOk result (places ≤ self.new.spare) }
     {
-        self.texts.reserve(places)?;
-        self.places.reserve(places)?;
+        self.labels.reserve(places)?;
+        self.longs.reserve(places)?;
         Ok(())
     }
 
@@ -55,9 +64,27 @@ impl Labels {
     pub fn get(&self, node: u64) -> &str
         ensures { result.now ≡ label_at self.now.items node }
     {
-        match self.places.get(node as usize) {
-            Some(place) => self.texts[*place].as_str(),
+        match self.labels.get(node as usize) {
+            Some(NodeLabel::Short(label)) => label.as_str(),
+            Some(NodeLabel::Long(place)) => self.longs[*place].as_str(),
             None => "",
+        }
+    }
+
+    /// The fields of the event of a task's visit, where the task has this node's label. One of at most 22 bytes takes no
+    /// memory.
+    #[inline(always)]
+    pub fn visit_fields(&self, task: u64, node: u64) -> Result<EventFields, NoMemory>
+        ensures fields { IfOk result (λ fields. fields ≡ task_fields task (label_at self.now.items node)) }
+        ensures short { length (label_at self.now.items node) ≤ 22 → IsOk result }
+    {
+        match self.labels.get(node as usize) {
+            Some(NodeLabel::Short(label)) => Ok(EventFields::of_short_task(task, label.copy())),
+            Some(NodeLabel::Long(place)) => {
+                let label = Label::of(*self.labels.allocator(), self.longs[*place].as_str())?;
+                Ok(EventFields::of_task(task, label))
+            }
+            None => Ok(EventFields::of_short_task(task, ShortLabel::empty())),
         }
     }
 
@@ -67,8 +94,29 @@ impl Labels {
         ensures items { self.new.items ≡ self.old.items ++ (self.old.count, label) ∷ [] }
         ensures count { self.new.count ≡ self.old.count + 1 }
     {
-        self.places.push_reserved(self.texts.len());
-        self.texts.push_reserved(label);
+        match ShortLabel::of(label.as_str()) {
+            Some(short) => self.push_short(short),
+            None => self.push_long(label),
+        }
+    }
+
+    fn push_short(&mut self, label: ShortLabel)
+        requires { 0 < self.old.spare }
+        ensures items { self.new.items ≡ self.old.items ++ (self.old.count, label) ∷ [] }
+        ensures count { self.new.count ≡ self.old.count + 1 }
+    {
+        self.labels.push_reserved(NodeLabel::Short(label));
+    }
+
+    fn push_long(&mut self, label: Text)
+        requires spare { 0 < self.old.spare }
+        requires long { 22 < length label }
+        ensures items { self.new.items ≡ self.old.items ++ (self.old.count, label) ∷ [] }
+        ensures count { self.new.count ≡ self.old.count + 1 }
+    {
+        let place = self.longs.len();
+        self.longs.push_reserved(label);
+        self.labels.push_reserved(NodeLabel::Long(place));
     }
 
     /// Gives the next node the label of this one.
@@ -77,12 +125,16 @@ impl Labels {
         ensures items { self.new.items ≡ self.old.items ++ (self.old.count, label_at self.old.items node) ∷ [] }
         ensures count { self.new.count ≡ self.old.count + 1 }
     {
-        match self.places.get(node as usize).copied() {
-            Some(place) => self.places.push_reserved(place),
-            None => {
-                let none = String::new(*self.texts.allocator());
-                self.push(Text::of(none));
+        match self.labels.get(node as usize) {
+            Some(NodeLabel::Short(label)) => {
+                let label = label.copy();
+                self.push_short(label);
             }
+            Some(NodeLabel::Long(place)) => {
+                let place = *place;
+                self.labels.push_reserved(NodeLabel::Long(place));
+            }
+            None => self.push_short(ShortLabel::empty()),
         }
     }
 }

@@ -23,7 +23,9 @@ use crate::marks::{is_flagged, leave};
 use crate::room::{take_entries, take_places};
 use crate::shuffle::shuffle;
 use rand_core::Rng;
-use rt_audit::{AnswerKind, Entry, FinishCause, Journal, Moment, Order};
+use rt_audit::{
+    AnswerKind, Entry, EventFields, FinishCause, Journal, Moment, Order, Packed, ShortLabel,
+};
 use rt_base::{Items, Nanos, NoMemory, Text};
 use rt_model::{Begin, Mark, Table, TaskResult};
 use rt_super::{Alarms, Tree};
@@ -101,7 +103,7 @@ impl Machine {
             return Err(journal.into_inner());
         };
         journal.push(Entry::Start {
-            next: begin.first,
+            next: Packed::new(begin.first),
             now: Moment::new(begin.start),
             deadline: begin.deadline.map(|due| Moment::new(due)),
             cycle: Moment::new(begin.cycle),
@@ -274,14 +276,15 @@ impl Machine {
         Ok(())
     }
 
-    /// The label of a task: that of its node. The root's is empty.
-    fn label(&self, task: u64) -> &str
-        ensures { result.now ≡ task_label self.now.told.state task }
+    /// The event of a task's visit. It has the label of the task's node; the root's is empty.
+    fn visit_event(&self, task: u64) -> Result<Entry, NoMemory>
+        ensures { IfOk result (λ entry. entry ≡ Entry.Event process_task (task_fields task (task_label self.now.told.state task))) }
     {
-        match self.marks.get(task) {
-            Some(mark) => self.labels.get(mark.node),
-            None => "",
-        }
+        let fields = match self.marks.get(task) {
+            Some(mark) => self.labels.visit_fields(task, mark.node)?,
+            None => EventFields::of_short_task(task, ShortLabel::empty()),
+        };
+        Ok(task_event(fields))
     }
 
     /// Begins a visit of a number of the round.
@@ -292,7 +295,7 @@ impl Machine {
         ensures err { OnErr result (self.new ≡ self.old) }
     {
         take_places(&mut self.journal, &mut self.ready, self.promised, 3)?;
-        let event = task_event(*self.ready.allocator(), task, self.label(task))?;
+        let event = self.visit_event(task)?;
         self.journal.push(Entry::Visit { task });
         self.journal.push(event);
         self.promised += 1;

@@ -12,7 +12,7 @@ use crate::cause::Cause;
 use crate::event::{stop_event, stopped_event};
 use crate::room::take_places;
 use crate::wakes::wake_met;
-use rt_audit::{Call, CallReply, Entry};
+use rt_audit::{Call, CallReply, Caller, Entry};
 use rt_base::{Error, NoMemory, Poll};
 use rt_super::Stopped;
 
@@ -34,7 +34,7 @@ impl Machine {
             return Err(NoMemory);
         };
         self.journal.note(Entry::Call {
-            by,
+            by: Caller::of(by),
             call: Call::Signaler,
             reply: CallReply::SignalAt { signal },
         });
@@ -61,7 +61,11 @@ impl Machine {
             return Err(Error::NoMemory);
         };
         let reply = CallReply::SignalAt { signal: further };
-        self.journal.note(Entry::Call { by, call, reply });
+        self.journal.note(Entry::Call {
+            by: Caller::of(by),
+            call,
+            reply,
+        });
         self.promised += 1;
         Ok(further)
     }
@@ -76,7 +80,7 @@ impl Machine {
             return;
         }
         self.journal.note(Entry::Call {
-            by,
+            by: Caller::of(by),
             call: Call::Signal { signaler, value },
             reply: CallReply::Done,
         });
@@ -123,7 +127,7 @@ impl Machine {
             return Err(Error::NoMemory);
         };
         self.journal.note(Entry::Call {
-            by,
+            by: Caller::of(by),
             call: Call::SignalPoll { signal },
             reply: CallReply::Value { value },
         });
@@ -143,7 +147,7 @@ impl Machine {
             return Err(Error::NoMemory);
         };
         self.journal.note(Entry::Call {
-            by,
+            by: Caller::of(by),
             call: Call::SignalPoll { signal },
             reply: CallReply::Pending,
         });
@@ -163,7 +167,7 @@ impl Machine {
             return;
         }
         self.journal.note(Entry::Call {
-            by,
+            by: Caller::of(by),
             call: Call::SignalClose { signal },
             reply: CallReply::Done,
         });
@@ -186,7 +190,7 @@ impl Machine {
             return;
         }
         self.journal.note(Entry::Call {
-            by,
+            by: Caller::of(by),
             call: Call::SignalerClose { signaler },
             reply: CallReply::Done,
         });
@@ -229,7 +233,7 @@ impl Machine {
             return Err(Error::NoMemory);
         };
         self.journal.note(Entry::Call {
-            by,
+            by: Caller::of(by),
             call: Call::CompletionPoll { completion },
             reply: CallReply::Done,
         });
@@ -249,7 +253,7 @@ impl Machine {
             return Err(Error::NoMemory);
         };
         self.journal.note(Entry::Call {
-            by,
+            by: Caller::of(by),
             call: Call::CompletionPoll { completion },
             reply: CallReply::Pending,
         });
@@ -268,7 +272,7 @@ impl Machine {
             return;
         }
         self.journal.note(Entry::Call {
-            by,
+            by: Caller::of(by),
             call: Call::CompletionClose { completion },
             reply: CallReply::Done,
         });
@@ -296,7 +300,7 @@ impl Machine {
         };
         self.journal.note(event);
         self.journal.note(Entry::Call {
-            by,
+            by: Caller::of(by),
             call: Call::Stop { value },
             reply: CallReply::CompletionAt { completion },
         });
@@ -334,7 +338,7 @@ impl Machine {
             Stopped::Resolved(value) => CallReply::ClosedWith { value },
         };
         self.journal.note(Entry::Call {
-            by,
+            by: Caller::of(by),
             call: Call::Stopped,
             reply,
         });

@@ -14,7 +14,7 @@ use crate::cause::Cause;
 use crate::results::{may_abort, places_of, settle, waiter_of};
 use crate::room::take_places;
 use crate::wakes::wake_waiter;
-use rt_audit::{Call, CallReply, Entry, Refusal};
+use rt_audit::{Call, CallReply, Caller, Entry, Refusal};
 use rt_base::{Error, NoMemory};
 use rt_model::{Outcome, Table, TaskResult};
 use std::alloc::Global;
@@ -35,7 +35,7 @@ impl Machine {
             return Err(NoMemory);
         };
         self.journal.note(Entry::Call {
-            by,
+            by: Caller::of(by),
             call: Call::Slot,
             reply: CallReply::SlotAt { slot },
         });
@@ -58,7 +58,7 @@ impl Machine {
             return;
         }
         self.journal.note(Entry::Call {
-            by,
+            by: Caller::of(by),
             call: Call::SlotSend { slot },
             reply: CallReply::Done,
         });
@@ -78,7 +78,7 @@ impl Machine {
             return;
         }
         self.journal.note(Entry::Call {
-            by,
+            by: Caller::of(by),
             call: Call::SlotClose { slot },
             reply: CallReply::Done,
         });
@@ -98,7 +98,7 @@ impl Machine {
             return;
         }
         self.journal.note(Entry::Call {
-            by,
+            by: Caller::of(by),
             call: Call::AbortWait { slot },
             reply: CallReply::Done,
         });
@@ -161,7 +161,7 @@ impl Machine {
             return;
         };
         self.journal.note(Entry::Call {
-            by,
+            by: Caller::of(by),
             call: Call::SlotGiveUp { slot },
             reply: CallReply::Done,
         });
@@ -203,7 +203,7 @@ impl Machine {
             return Err(Error::NoMemory);
         };
         self.journal.note(Entry::Call {
-            by,
+            by: Caller::of(by),
             call: Call::SlotPoll { slot },
             reply: CallReply::Pending,
         });
@@ -223,7 +223,7 @@ impl Machine {
             return Err(NoMemory);
         };
         self.journal.note(Entry::Call {
-            by,
+            by: Caller::of(by),
             call: Call::SlotPoll { slot },
             reply: CallReply::Ready,
         });
@@ -247,7 +247,7 @@ impl Machine {
             return Error::NoMemory;
         };
         self.journal.note(Entry::Call {
-            by,
+            by: Caller::of(by),
             call: Call::SlotPoll { slot },
             reply: CallReply::Refused { error },
         });

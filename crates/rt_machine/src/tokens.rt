@@ -14,7 +14,7 @@ use crate::labels::Labels;
 use crate::results::{may_abort, note_abort, places_of, settle};
 use crate::room::take_places;
 use crate::wakes::wake_flagged;
-use rt_audit::{Call, CallReply, Entry};
+use rt_audit::{Call, CallReply, Caller, Entry};
 use rt_base::{Error, NoMemory};
 use rt_model::{Mark, Outcome, Table, TaskResult};
 use rt_super::Tree;
@@ -64,7 +64,7 @@ impl Machine {
             return Err(Error::NoMemory);
         };
         self.journal.note(Entry::Call {
-            by,
+            by: Caller::of(by),
             call: Call::Spawn { node },
             reply: CallReply::Closed,
         });
@@ -98,7 +98,7 @@ impl Machine {
             return Err(Error::NoMemory);
         };
         self.journal.note(Entry::Call {
-            by,
+            by: Caller::of(by),
             call: Call::Spawn { node },
             reply: CallReply::TaskAt { task, node: number },
         });
@@ -128,7 +128,7 @@ impl Machine {
             return;
         }
         self.journal.note(Entry::Call {
-            by,
+            by: Caller::of(by),
             call: Call::Abort { task },
             reply: CallReply::Done,
         });
@@ -161,7 +161,11 @@ impl Machine {
             return Err(Error::NoMemory);
         };
         let reply = CallReply::Done;
-        self.journal.note(Entry::Call { by, call, reply });
+        self.journal.note(Entry::Call {
+            by: Caller::of(by),
+            call,
+            reply,
+        });
         let left = wake_flagged(
             &mut self.journal,
             &mut self.ready,
@@ -205,7 +209,7 @@ impl Machine {
             return Err(Error::NoMemory);
         };
         self.journal.note(Entry::Call {
-            by,
+            by: Caller::of(by),
             call: Call::Join { task },
             reply: CallReply::Pending,
         });
@@ -225,7 +229,7 @@ impl Machine {
             return Err(Error::NoMemory);
         };
         self.journal.note(Entry::Call {
-            by,
+            by: Caller::of(by),
             call: Call::Join { task },
             reply: CallReply::Ready,
         });
@@ -251,7 +255,7 @@ impl Machine {
             return;
         };
         self.journal.note(Entry::Call {
-            by,
+            by: Caller::of(by),
             call: Call::GiveUp { task },
             reply: CallReply::Done,
         });

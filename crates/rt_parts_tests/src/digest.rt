@@ -2,7 +2,10 @@
 
 use rand_chacha::ChaCha12Rng;
 use rand_core::{Rng, SeedableRng};
-use rt_audit::{AuditEnv, AuditHasher, Auditor, Crc32c, Entry, EventFields, EventLabel, Journal};
+use rt_audit::{
+    AuditEnv, AuditHasher, Auditor, Crc32c, Entry, EventFields, EventLabel, Journal, Label, Order,
+    ShortLabel,
+};
 use rt_base::{Env, Event, Items, NoMemory, Text};
 use rt_bufs::{IoBuf, IoBufs};
 use std::alloc::Global;
@@ -167,9 +170,33 @@ fn digest_of_a_journal(rt: HostRuntime) {
     assert!(rt; has_state(&rt, alloc, &journal.auditor(), "07b84907"));
 }
 
-/// The fields of a visit, which stand in their entry.
+#[test]
+fn rounds_of_a_journal(rt: HostRuntime) {
+    let alloc = rt.alloc();
+    let first = round(&rt, alloc, &[0]);
+    let second = round(&rt, alloc, &[1, 0]);
+    let mut journal = Journal::new(alloc);
+    assert!(rt; journal.rounds() == 0);
+    push(&rt, &mut journal, first);
+    push(&rt, &mut journal, Entry::Cleanup);
+    push(&rt, &mut journal, second);
+    assert!(rt; journal.rounds() == 2);
+}
+
+/// A round in this order.
+fn round(rt: &impl Abort, alloc: Global, numbers: &[u64]) -> Entry {
+    let order = Order::of(alloc, numbers).expect(rt, "room");
+    Entry::Round { order }
+}
+
+/// The fields of a visit, with the label behind a pointer.
 fn kept(rt: &impl Abort, alloc: Global, task: u64, label: &str) -> EventFields {
-    EventFields::of_task(task, Text::of(label.to_owned(alloc).expect(rt, "room")))
+    EventFields::of_task(task, Label::of(alloc, label).expect(rt, "room"))
+}
+
+/// The same with a short label.
+fn in_place(rt: &impl Abort, task: u64, label: &str) -> EventFields {
+    EventFields::of_short_task(task, ShortLabel::of(label).expect(rt, "at most 22 bytes"))
 }
 
 /// The fields of a visit, in a list.
@@ -216,6 +243,9 @@ fn visits_are_digested_alike(rt: HostRuntime) {
     let alloc = rt.alloc();
     let first = visit(kept(&rt, alloc, 258, "ab"));
     let second = visit(kept(&rt, alloc, 70_000, ""));
+    assert!(rt; digest_of(&rt, alloc, first, second) == [0xec, 0x89, 0x45, 0x7e]);
+    let first = visit(in_place(&rt, 258, "ab"));
+    let second = visit(in_place(&rt, 70_000, ""));
     assert!(rt; digest_of(&rt, alloc, first, second) == [0xec, 0x89, 0x45, 0x7e]);
     let first = visit(listed(&rt, alloc, 258, "ab"));
     let second = visit(listed(&rt, alloc, 70_000, ""));

@@ -2,12 +2,16 @@
 
 use crate::digest::{agree_on_an_event, in_a_list};
 use rt_audit::{
-    AnswerKind, Call, CallReply, Entry, EventFields, EventLabel, FinishCause, Journal, Label,
-    Moment, Order, Payload, Refusal, error_code,
+    AnswerKind, Call, CallReply, Caller, Entry, EventFields, EventLabel, FinishCause, Journal,
+    Label, Moment, Order, Packed, Payload, Refusal, ShortLabel, error_code,
 };
 use rt_base::{Choice, Error, Items, NoMemory, Text};
 use std::alloc::Global;
+use std::mem::size_of;
 use std::process::Abort;
+
+// a run keeps all its entries, so what one takes is most of what the run takes
+const _: () = prove!(size_of::<Entry>() == 64);
 
 /// Adds the line of an entry.
 fn add(rt: &impl Abort, alloc: Global, text: &mut String, entry: Entry) {
@@ -20,14 +24,14 @@ fn add(rt: &impl Abort, alloc: Global, text: &mut String, entry: Entry) {
 /// Adds the lines of two starts, with a deadline and with none.
 fn add_starts(rt: &impl Abort, alloc: Global, text: &mut String) {
     let bounded = Entry::Start {
-        next: 3,
+        next: Packed::new(3),
         now: Moment::new(5),
         deadline: Some(Moment::new(90)),
         cycle: Moment::new(1_000_000),
     };
     add(rt, alloc, text, bounded);
     let unbounded = Entry::Start {
-        next: 0,
+        next: Packed::new(0),
         now: Moment::new(0),
         deadline: None,
         cycle: Moment::new(1),
@@ -43,7 +47,16 @@ fn add_call(
     call: Call,
     reply: CallReply,
 ) {
-    add(rt, alloc, text, Entry::Call { by, call, reply });
+    add(
+        rt,
+        alloc,
+        text,
+        Entry::Call {
+            by: Caller::of(by),
+            call,
+            reply,
+        },
+    );
 }
 
 /// Adds the line of a poll of a sleep.
@@ -305,20 +318,52 @@ fn are_of_task(fields: &EventFields, task: u64, label: &str) -> bool {
     counted & fields.are_of_task(task, label) & !fields.are_of_task(7, label)
 }
 
-/// The fields of a visit.
-fn visit(rt: &impl Abort, alloc: Global) -> EventFields {
-    EventFields::of_task(258, Text::of("ab".to_owned(alloc).expect(rt, "room")))
+/// Labels, and whether each stands in place.
+const LABELS: &[(&str, bool)] = &[
+    ("", true),
+    ("ab", true),
+    ("abcdefghijklmnopqrstuv", true),
+    ("abcdefghijklmnopqrstuvw", false),
+];
+
+/// Whether these are the fields of the visit of task 258 with this label.
+fn are_shown(fields: EventFields, label: &str) -> bool {
+    let seen = are_of_task(&fields, 258, label) & !fields.are_of_task(258, "a");
+    drop(fields);
+    seen
 }
 
-/// Whether fields show the visit that they were made of, however they are kept.
-fn fields_are_shown(rt: &impl Abort, alloc: Global) -> bool {
-    let kept = visit(rt, alloc);
-    let listed = in_a_list(alloc, &kept).expect(rt, "room");
-    let seen = are_of_task(&kept, 258, "ab") & !kept.are_of_task(258, "a");
+/// The fields of a visit with this label.
+fn visit(rt: &impl Abort, alloc: Global, label: &str) -> EventFields {
+    EventFields::of_task(258, Label::of(alloc, label).expect(rt, "room"))
+}
+
+/// The same in a list.
+fn listed(rt: &impl Abort, alloc: Global, label: &str) -> EventFields {
+    let kept = visit(rt, alloc, label);
+    let list = in_a_list(alloc, &kept);
     drop(kept);
-    let seen_listed = are_of_task(&listed, 258, "ab");
-    drop(listed);
-    seen & seen_listed
+    list.expect(rt, "room")
+}
+
+/// Whether a label stands in place, and fields that take it show it.
+fn is_in_place(label: &str) -> bool {
+    let Some(short) = ShortLabel::of(label) else {
+        return false;
+    };
+    let told = short.as_str() == label;
+    told & are_shown(EventFields::of_short_task(258, short), label)
+}
+
+/// Whether fields show the visits that they were made of, however they are kept.
+fn fields_are_shown(rt: &impl Abort, alloc: Global) -> bool {
+    let mut all = true;
+    for &(label, in_place) in LABELS {
+        all &= are_shown(visit(rt, alloc, label), label);
+        all &= are_shown(listed(rt, alloc, label), label);
+        all &= is_in_place(label) == in_place;
+    }
+    all
 }
 
 /// A label of its own text.

@@ -117,10 +117,6 @@ reported-from root result time place all within =
     sym (length-append (take place all) (drop place all)) ∙ ap length cut in
     rw (to, length-take-le place all within, cut) refl
 
--- those ahead of the place where the given entries end
-pub rounds_ahead : (place : ℕ) (given own all : List Entry) → all ≡ given ++ own → place ≡ length given → rounds_in given ≡ rounds_in (take place all)
-rounds_ahead place given own all is at = rw (is, at, take-append_seam given own) refl
-
 -- what the run of a line came to
 module _ (scripts : List ScriptText) (line : RunLine) (from : Starting ChaCha) (there : line.root < length scripts) where
   -- it lacked memory before its first entry

@@ -1,41 +1,53 @@
 //! The scripts of a scenario, shared by all its tasks.
 
-ghost use Rattle.std.specs.Prelude.{◌≡◌, ◌<◌, IfOk, IfSome, length};
+ghost use Rattle.std.specs.Prelude.{◌≡◌, ◌<◌, IfOk, IfSome, OnOk, length, map};
 ghost use Rattle.rt_scenario.specs.Within.{HavePlaces, IsWithin};
-ghost use Rattle.rt_scripts.specs.Program.{text_at, name_at, word_at, choice_at, line_at};
+ghost use Rattle.rt_scripts.specs.Program.{text_at, name_at, word_at, choice_at, line_at, without_lines};
 
-use rt_base::{NoMemory, Text};
+use rt_base::{Items, NoMemory, Text};
 use rt_scenario::{Line, ScriptText};
 use std::alloc::Global;
 use std::marker::Model;
+use std::mem;
 use std::rc::Rc;
+
+/// The scripts without their lines, and the lines of each: many scripts are read in turn, and mostly nothing but a line of each.
+#[derive(Drop)]
+pub struct Scripts {
+    texts: Vec<ScriptText>,
+    lines: Vec<Items<Line>>,
+}
 
 /// The scripts of a scenario, in order. The places that their lines hold lie within their lists.
 #[derive(Drop)]
 pub struct Program {
-    scripts: Rc<Vec<ScriptText>>,
+    scripts: Rc<Scripts>,
     alloc: Global,
 }
 
 impl Model for Program {
-    ghost use Rattle.std.specs.Prelude.{List};
+    ghost use Rattle.std.specs.Prelude.{◌≡◌, List, length};
     ghost use Rattle.rt_scenario.specs.Within.{HavePlaces};
     ghost use Rattle.rt_scenario.specs.declared.scenario.ScriptText.{ScriptText};
+    ghost use Rattle.rt_scripts.specs.Program.{joined};
 
     ghost Value = { List ScriptText };
 
-    ghost view = { λ p. p.scripts.value.items };
+    ghost view = { λ p. joined p.scripts.value.texts.items p.scripts.value.lines.items };
 
-    ghost invariant = { λ p. HavePlaces p.scripts.value.items };
+    ghost invariant = { λ p. HavePlaces (joined p.scripts.value.texts.items p.scripts.value.lines.items) × (length p.scripts.value.lines.items ≡ length p.scripts.value.texts.items) };
 }
 
+#[tactic(auto, using(crate::proofs::Programs::program_laws))]
 impl Program {
     /// A program of these scripts.
-    pub fn new(alloc: Global, scripts: Vec<ScriptText>) -> Result<Program, NoMemory>
-        requires { HavePlaces scripts.items }
-        ensures { IfOk result (λ program. program ≡ scripts.items) }
+    pub fn new(alloc: Global, texts: Vec<ScriptText>) -> Result<Program, NoMemory>
+        requires { HavePlaces texts.items }
+        ensures { IfOk result (λ program. program ≡ texts.items) }
     {
-        match Rc::new(alloc, scripts) {
+        let mut texts = texts;
+        let lines = lines_apart(alloc, texts.as_mut_slice())?;
+        match Rc::new(alloc, Scripts { texts, lines }) {
             Ok(scripts) => Ok(Program { scripts, alloc }),
             Err(_) => Err(NoMemory),
         }
@@ -56,13 +68,24 @@ impl Program {
         self.alloc
     }
 
-    /// The script at a place.
+    /// The script at a place, without its lines.
     fn text(&self, script: usize) -> &ScriptText
         requires { script < length self.now }
-        ensures text { result.now ≡ text_at self.now script }
+        ensures name { result.now.name ≡ (text_at self.now script).name }
+        ensures handles { result.now.handles ≡ (text_at self.now script).handles }
+        ensures words { result.now.words ≡ (text_at self.now script).words }
+        ensures choices { result.now.choices ≡ (text_at self.now script).choices }
+    {
+        &self.scripts.as_ref().texts[script]
+    }
+
+    /// The lines of a script.
+    fn lines_of(&self, script: usize) -> &[Line]
+        requires { script < length self.now }
+        ensures lines { result.now ≡ (text_at self.now script).lines }
         ensures places { HavePlaces self.now }
     {
-        &self.scripts.as_ref()[script]
+        self.scripts.as_ref().lines[script].as_slice()
     }
 
     /// The name of a script.
@@ -74,11 +97,11 @@ impl Program {
     }
 
     /// How many lines a script has.
-    pub fn lines(&self, script: usize) -> usize
+    pub fn line_count(&self, script: usize) -> usize
         requires { script < length self.now }
         ensures { result ≡ length (text_at self.now script).lines }
     {
-        self.text(script).lines.as_slice().len()
+        self.lines_of(script).len()
     }
 
     /// The line at a place of a script.
@@ -87,7 +110,7 @@ impl Program {
         ensures line { result ≡ line_at (text_at self.now script) place }
         ensures within { IfSome result (λ line. IsWithin (length self.now) (text_at self.now script) line) }
     {
-        self.text(script).lines.as_slice().get(place).copied()
+        self.lines_of(script).get(place).copied()
     }
 
     /// The name of a handle of a script.
@@ -120,4 +143,17 @@ impl Program {
     {
         self.text(script).words.as_slice()[at].clone_value()
     }
+}
+
+/// Takes the lines of each script out.
+fn lines_apart(alloc: Global, texts: &mut [ScriptText]) -> Result<Vec<Items<Line>>, NoMemory>
+    ensures lines { IfOk result (λ lines. lines.items ≡ map (λ text. text.lines) texts.old) }
+    ensures texts { OnOk result (texts.new ≡ map without_lines texts.old) }
+{
+    let mut lines = Vec::with_capacity(alloc, texts.len())?;
+    for text in texts.iter_mut() {
+        let none = Items::of(Vec::new(alloc));
+        lines.push(mem::replace(&mut text.lines, none))?;
+    }
+    Ok(lines)
 }

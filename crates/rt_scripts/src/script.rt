@@ -106,7 +106,7 @@ impl Script {
         ensures { self.new ≡ passed self.old value }
     {
         // the lines of a script are counted by a `usize`
-        let _ = self.program.lines(self.script);
+        let _ = self.program.line_count(self.script);
         self.place += 1;
         self.last = value;
         self.waits = Waits::Nothing;

@@ -43,13 +43,13 @@ impl Walker {
                 deadline,
                 cycle,
             } => self.may_start(
-                *next,
+                next.get(),
                 now.nanos(),
                 deadline.as_ref().map(|due| due.nanos()),
                 cycle.nanos(),
             ),
             Entry::Call { by, call, reply } => {
-                self.may_call(*by)
+                self.may_call(by.task())
                     && self.answers(call, reply)?
                     && are_of(self.announced.as_slice(), call, reply)
             }

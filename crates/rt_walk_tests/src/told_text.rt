@@ -1,8 +1,8 @@
 // Journals as texts: a line for each entry, as a journal prints it.
 
 use rt_audit::{
-    AnswerKind, Call, CallReply, Entry, EventFields, EventLabel, FinishCause, Label, Moment, Order,
-    Payload, Refusal,
+    AnswerKind, Call, CallReply, Caller, Entry, EventFields, EventLabel, FinishCause, Label,
+    Moment, Order, Packed, Payload, Refusal,
 };
 use rt_base::{Choice, Error, Items, MetricError, Nanos, NoMemory, Text};
 use rt_journals::{number, signed, words_of};
@@ -76,7 +76,7 @@ fn plain_entry(word: &str, words: &[&str]) -> Option<Entry> {
 
 fn start(now: &str, deadline: &str, cycle: &str, next: &str) -> Option<Entry> {
     Some(Entry::Start {
-        next: number(next)?,
+        next: Packed::new(number(next)?),
         now: moment(now)?,
         deadline: deadline_of(deadline)?,
         cycle: moment(cycle)?,
@@ -178,7 +178,7 @@ fn visit_event(alloc: Global, task: &str, label: &str) -> Result<Option<Entry>, 
         return Ok(None);
     };
     let label = if label == "-" { "" } else { label };
-    let label = Text::of(label.to_owned(alloc)?);
+    let label = Label::of(alloc, label)?;
     Ok(Some(Entry::Event {
         label: EventLabel::process_task(),
         fields: EventFields::of_task(task, label),
@@ -261,7 +261,11 @@ fn with_reply(
     told: &[&str],
 ) -> Result<Option<Entry>, NoMemory> {
     match reply(alloc, told) {
-        Ok(Some(reply)) => Ok(Some(Entry::Call { by, call, reply })),
+        Ok(Some(reply)) => Ok(Some(Entry::Call {
+            by: Caller::of(by),
+            call,
+            reply,
+        })),
         Ok(None) => {
             drop(call);
             Ok(None)

@@ -1,4 +1,4 @@
-use Rattle.std.proofs.Common.{◌≡◌, ◌≤◌, ◌+◌, ◌-◌, vec_len, vec_capacity, ◌∙◌, ◌++◌, ◌∷◌, refl, ap, arith, length, length-append, List, ℕ, [], if◌then◌else◌}
+use Rattle.std.proofs.Common.{rules, ◌≡◌, ◌≤◌, ◌+◌, ◌-◌, vec_len, vec_capacity, ◌∙◌, ◌++◌, ◌∷◌, refl, ap, arith, length, length-append, List, ℕ, [], if◌then◌else◌}
 use Rattle.std.proofs.Math.Facts.{to_z-of_z}
 use Rattle.rt_super.specs.Signals.{stop_after, with_stop, woken_by_stop}
 use Rattle.rt_audit.specs.declared.call.Call.TheVariants.{Stop}
@@ -36,7 +36,7 @@ invariant_of-self-2 c =
     let due = due_called (is_closing s.phase) s.marks (stood_in s) (Stop value) (CompletionAt number) in
     let told = placed.told in
     let state : c.note-2.new.self.told.state ≡ record s { signals = stop_after s.signals s.stop value; stop = with_stop s.stop value; announced = []; owed = due; turns = s.turns ++ turn_in s (Stop value) (CompletionAt number) ∷ [] } =
-    ap (λ (t : Told). t.state) c.note-2.ensures.told ∙ rw (c.note.ensures.told, told, c.in-Ok-stop_event.ensures, same) (after-stop s c.args.by value number _ _ may) in
+    ap (λ (t : Told). t.state) c.note-2.ensures.told ∙ rw (c.note.ensures.told, told, c.in-Ok-stop_event.ensures, same, c.of.ensures) (after-stop s c.args.by value number _ _ may) in
     let begin : c.note-2.new.self.told.begin ≡ c.self.inside.journal.told.begin = rw (c.note-2.ensures.told, c.note.ensures.told, told) refl in
     let woken : c.stop.new.self.woken ≡ met = ap (λ (g : Grouped). g.woken) given in
     let owed : due ≡ (if closing then [] else met) = due-stop (is_closing s.phase) s.marks (stood_in s) value number ∙ rw (i.closing_is, i.signals_are, i.stop_is) refl in
@@ -86,3 +86,16 @@ invariant_of-self-2 c =
       fit = i.fit;
       within = i.within;
     }
+
+pub returns-clause-ok : goal.returns-clause-ok
+returns-clause-ok c =
+    let s = c.self.inside.journal.told.state in
+    let may : MayCall s c.args.by = rw (← c.self.view_is) at c.requires in
+    let value = c.args.value in
+    let same = to_z-of_z c.ranges.value in
+    let number = c.in-Ok-stop.completion in
+    let told = c.in-Ok.ensures.told in
+    let due = due_called (is_closing s.phase) s.marks (stood_in s) (Stop value) (CompletionAt number) in
+    let state : c.note-2.new.self.told.state ≡ record s { signals = stop_after s.signals s.stop value; stop = with_stop s.stop value; announced = []; owed = due; turns = s.turns ++ turn_in s (Stop value) (CompletionAt number) ∷ [] } =
+    ap (λ (t : Told). t.state) c.note-2.ensures.told ∙ rw (c.note.ensures.told, told, c.in-Ok-stop_event.ensures, same, c.of.ensures) (after-stop s c.args.by value number _ _ may) in
+    rw (c.wake_met.ensures.state, state) (search rules)
