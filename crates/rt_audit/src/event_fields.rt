@@ -8,7 +8,7 @@ use crate::{Label, ShortLabel};
 use rt_base::Items;
 use std::marker::Model;
 
-/// How fields are kept. Those of a visit's event stand in place, since most events are of visits.
+/// How fields are kept. Those of a visit's event stand in place, but for a long label, since most events are of visits.
 #[derive(Debug, Drop)]
 pub enum FieldsKind {
     /// The task's number in sixteen bytes, and its label.

@@ -1,4 +1,4 @@
-//! The label of a call.
+//! A text behind a pointer.
 
 ghost use Rattle.std.specs.Prelude.{◌≡◌, IfOk, string_bytes};
 
@@ -7,7 +7,7 @@ use rt_base::{NoMemory, Text};
 use std::alloc::Global;
 use std::marker::Model;
 
-/// A text behind a pointer, since few entries have one. Contracts see its bytes.
+/// A text that few entries have, and so behind a pointer. Contracts see its bytes.
 #[derive(Debug, Drop)]
 pub struct Label {
     inner: Box<LabelText>,

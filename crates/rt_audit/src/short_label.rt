@@ -1,6 +1,6 @@
 //! A short label in place.
 
-ghost use Rattle.std.specs.Prelude.{◌≡◌, ◌<◌, [], length, IfSome, IfNone};
+ghost use Rattle.std.specs.Prelude.{◌≡◌, ◌≤◌, ◌<◌, [], length, IfSome, IfNone};
 
 use std::marker::Model;
 use std::str;
@@ -41,6 +41,7 @@ impl ShortLabel {
     #[inline(always)]
     pub fn of(label: &str) -> Option<ShortLabel>
         ensures label { IfSome result (λ short. short ≡ label.now) }
+        ensures short { IfSome result (λ short. length short ≤ 22) }
         ensures long { IfNone result (22 < length label.now) }
     {
         let label = label.as_bytes();
@@ -55,7 +56,7 @@ impl ShortLabel {
         })
     }
 
-    /// The same once more.
+    /// The same text.
     #[inline(always)]
     pub fn copy(&self) -> ShortLabel
         ensures { result ≡ self.now }

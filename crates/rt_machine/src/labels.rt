@@ -25,7 +25,7 @@ pub struct Labels {
 }
 
 impl Model for Labels {
-    ghost use Rattle.std.specs.Prelude.{◌-◌, ◌<◌, List, ℕ, length, min, vec_len, vec_capacity};
+    ghost use Rattle.std.specs.Prelude.{◌-◌, length, min, vec_len, vec_capacity};
     ghost use Rattle.std.specs.List.{All};
     ghost use Rattle.rt_machine.specs.Labels.{Labelled, IsLong, IsThere, numbered, labelled};
 

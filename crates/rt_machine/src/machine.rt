@@ -1,6 +1,6 @@
 //! The state that a run's journal tells, kept beside it.
 
-ghost use Rattle.std.specs.Prelude.{ℕ, ◌≡◌, ◌≢◌, ◌≤◌, ◌<◌, ◌+◌, ◌∷◌, ◌++◌, ◌^◌, ◌-◌, ◌&&◌, not, [], length, IfOk, IfErr, OnErr, OnOk, IsTrue, drop, is_some, None, ◌↔◌};
+ghost use Rattle.std.specs.Prelude.{ℕ, ◌≡◌, ◌≢◌, ◌≤◌, ◌<◌, ◌+◌, ◌∷◌, ◌++◌, ◌^◌, ◌-◌, ◌&&◌, not, [], length, IfOk, IsOk, IfErr, OnErr, OnOk, IsTrue, drop, is_some, None, ◌↔◌};
 ghost use Rattle.rt_base.specs.declared.time.TheConstants.{MAX_TIME};
 ghost use Rattle.rt_super.specs.Ancestry.{first_record};
 ghost use Rattle.rt_model.specs.Lists.{find, is_some_number};
@@ -20,6 +20,7 @@ use crate::event::task_event;
 use crate::groups::Groups;
 use crate::labels::Labels;
 use crate::marks::{is_flagged, leave};
+use crate::results::may_abort;
 use crate::room::{take_entries, take_places};
 use crate::shuffle::shuffle;
 use rand_core::Rng;
@@ -276,9 +277,21 @@ impl Machine {
         Ok(())
     }
 
-    /// The event of a task's visit. It has the label of the task's node; the root's is empty.
+    /// Reads what a visit of a task reads first, which is near then. What it answers is of no account.
+    pub fn touch(&self, task: u64) -> usize {
+        let Some(mark) = self.marks.get(task) else {
+            return 0;
+        };
+        let label = self.labels.get(mark.node).len();
+        let lives = usize::from(self.tree.lives(mark.node));
+        label ^ lives ^ usize::from(may_abort(&self.results, task))
+    }
+
+    /// The event of a task's visit. It has the label of the task's node; the root's is empty. With one of at most 22 bytes it
+    /// takes no memory.
     fn visit_event(&self, task: u64) -> Result<Entry, NoMemory>
-        ensures { IfOk result (λ entry. entry ≡ Entry.Event process_task (task_fields task (task_label self.now.told.state task))) }
+        ensures short { length (task_label self.now.told.state task) ≤ 22 → IsOk result }
+        ensures event { IfOk result (λ entry. entry ≡ Entry.Event process_task (task_fields task (task_label self.now.told.state task))) }
     {
         let fields = match self.marks.get(task) {
             Some(mark) => self.labels.visit_fields(task, mark.node)?,

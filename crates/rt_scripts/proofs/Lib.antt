@@ -8,5 +8,6 @@ pub mod Misses
 pub mod Programs
 pub mod Runs
 pub mod Scripts
+pub mod Spans
 pub mod Written
 pub mod Worked

@@ -5,6 +5,7 @@
 mod choosing;
 mod drawing;
 mod held;
+mod lists;
 mod maker;
 mod outcome;
 mod program;

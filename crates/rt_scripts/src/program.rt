@@ -4,6 +4,7 @@ ghost use Rattle.std.specs.Prelude.{◌≡◌, ◌<◌, IfOk, IfSome, OnOk, leng
 ghost use Rattle.rt_scenario.specs.Within.{HavePlaces, IsWithin};
 ghost use Rattle.rt_scripts.specs.Program.{text_at, name_at, word_at, choice_at, line_at, without_lines};
 
+use crate::lists::Lists;
 use rt_base::{Items, NoMemory, Text};
 use rt_scenario::{Line, ScriptText};
 use std::alloc::Global;
@@ -11,11 +12,14 @@ use std::marker::Model;
 use std::mem;
 use std::rc::Rc;
 
+/// A block of at most so many lines is too small for malloc to map it.
+const MANY: usize = 1024;
+
 /// The scripts without their lines, and the lines of each: many scripts are read in turn, and mostly nothing but a line of each.
 #[derive(Drop)]
 pub struct Scripts {
     texts: Vec<ScriptText>,
-    lines: Vec<Items<Line>>,
+    lines: Lists<Line>,
 }
 
 /// The scripts of a scenario, in order. The places that their lines hold lie within their lists.
@@ -33,14 +37,15 @@ impl Model for Program {
 
     ghost Value = { List ScriptText };
 
-    ghost view = { λ p. joined p.scripts.value.texts.items p.scripts.value.lines.items };
+    ghost view = { λ p. joined p.scripts.value.texts.items p.scripts.value.lines };
 
-    ghost invariant = { λ p. HavePlaces (joined p.scripts.value.texts.items p.scripts.value.lines.items) × (length p.scripts.value.lines.items ≡ length p.scripts.value.texts.items) };
+    ghost invariant = { λ p. HavePlaces (joined p.scripts.value.texts.items p.scripts.value.lines) × (length p.scripts.value.lines ≡ length p.scripts.value.texts.items) };
 }
 
 #[tactic(auto, using(crate::proofs::Programs::program_laws))]
 impl Program {
-    /// A program of these scripts.
+    /// A program of these scripts. Of a script of more than 1,024 lines the lines that were given keep their memory until the
+    /// process ends.
     pub fn new(alloc: Global, texts: Vec<ScriptText>) -> Result<Program, NoMemory>
         requires { HavePlaces texts.items }
         ensures { IfOk result (λ program. program ≡ texts.items) }
@@ -85,7 +90,7 @@ impl Program {
         ensures lines { result.now ≡ (text_at self.now script).lines }
         ensures places { HavePlaces self.now }
     {
-        self.scripts.as_ref().lines[script].as_slice()
+        self.scripts.as_ref().lines.list(script)
     }
 
     /// The name of a script.
@@ -145,15 +150,33 @@ impl Program {
     }
 }
 
-/// Takes the lines of each script out.
-fn lines_apart(alloc: Global, texts: &mut [ScriptText]) -> Result<Vec<Items<Line>>, NoMemory>
-    ensures lines { IfOk result (λ lines. lines.items ≡ map (λ text. text.lines) texts.old) }
+/// Takes the lines of each script out, into one block.
+fn lines_apart(alloc: Global, texts: &mut [ScriptText]) -> Result<Lists<Line>, NoMemory>
+    ensures lines { IfOk result (λ lines. lines ≡ map (λ text. text.lines) texts.old) }
     ensures texts { OnOk result (texts.new ≡ map without_lines texts.old) }
 {
-    let mut lines = Vec::with_capacity(alloc, texts.len())?;
+    let mut lines = Lists::with_capacity(alloc, texts.len(), count_lines(texts))?;
     for text in texts.iter_mut() {
+        lines.push(text.lines.as_slice())?;
         let none = Items::of(Vec::new(alloc));
-        lines.push(mem::replace(&mut text.lines, none))?;
+        let_go(mem::replace(&mut text.lines, none));
     }
     Ok(lines)
+}
+
+/// How many lines the scripts have, for room alone: no clause speaks of it.
+fn count_lines(texts: &[ScriptText]) -> usize {
+    let mut count = 0usize;
+    for text in texts {
+        count = count.saturating_add(text.lines.as_slice().len());
+    }
+    count
+}
+
+/// Frees lines, unless they are many: these keep their memory until the process ends. Once a mapped block is freed, malloc maps
+/// only larger ones, and what grows later is copied where a mapped block would be moved.
+fn let_go(lines: Items<Line>) {
+    if lines.as_slice().len() > MANY {
+        mem::forget(lines);
+    }
 }

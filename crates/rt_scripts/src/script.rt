@@ -698,6 +698,15 @@ impl Task for Script {
         release_all(world, held);
         context.close(world);
     }
+
+    /// The line that comes next. The duration of a sleep may stand in another line of the cache than its kind.
+    fn touch(&self) -> usize {
+        let goes_on = usize::from(matches!(self.waits, Waits::Nothing));
+        match self.program.line(self.script, self.place) {
+            Some(Line::Sleep(duration)) => goes_on ^ usize::from(duration == 0),
+            _ => goes_on,
+        }
+    }
 }
 
 /// The sleep under way, or this one.

@@ -6,6 +6,7 @@ ghost use Rattle.rt_model.specs.Lists.{find, without};
 ghost use Rattle.rt_model.specs.Turns.{with_task};
 ghost use Rattle.rt_world.specs.Seats.{numbers_of, with_top};
 
+use crate::Task;
 use crate::tasks::Tasks;
 use rt_base::NoMemory;
 use std::alloc::Global;
@@ -125,5 +126,15 @@ impl<T> States<T> {
     {
         let States { blocks } = self;
         blocks.destroy_empty();
+    }
+}
+
+impl<T: Task> States<T> {
+    /// [`Task::touch`] of the state of a task, if it is in.
+    pub fn touch(&self, task: u64) -> usize {
+        match self.blocks.get(task).and_then(|block| block.first()) {
+            Some(state) => state.touch(),
+            None => 0,
+        }
     }
 }

@@ -40,4 +40,10 @@ pub trait Task: Outcome + Sized {
         requires unmarked { world.old.lacked ≡ None }
         ensures kept { Kept G.stream world.old world.new }
         ensures steps { Spent (steps.last self world.old.told.state.clock.time (number_of world.old.out)) world.old world.new };
+
+    /// Reads what the next poll reads, so that it stands in a cache then. A round calls it for some tasks before it visits
+    /// them. What it answers is of no account, but it must come of what was read, since a load for nothing is left out.
+    fn touch(&self) -> usize {
+        0
+    }
 }

@@ -21,6 +21,9 @@ use rt_audit::{AnswerKind, Entry, FinishCause};
 use rt_base::Text;
 use rt_model::{Answer, Outcome};
 
+/// How many numbers of a round are read ahead at a time.
+const AHEAD: usize = 16;
+
 /// What comes of a poll.
 #[derive(Drop)]
 pub enum Turnout<O> {
@@ -240,6 +243,31 @@ impl<T: Task, G: Rng> World<T, T::Output, G> {
         Ok(())
     }
 
+    /// Reads what the visits of these numbers read. In short loops, since a processor has more loads under way then.
+    fn touch(&self, numbers: &[u64]) -> usize {
+        let mut touched = 0;
+        for task in numbers {
+            touched ^= self.machine.touch(*task);
+        }
+        for task in numbers {
+            touched ^= self.tasks.touch(*task);
+        }
+        touched
+    }
+
+    /// At every `AHEAD`th place of a round, reads what the visits from there on read: loads from memory beside one another cost
+    /// little more than one. A task alone has nobody's loads beside its own.
+    fn touch_ahead(&mut self, order: &[u64], place: usize)
+        ensures { self.new ≡ self.old }
+    {
+        if order.len() < 2 || place % AHEAD != 0 {
+            return;
+        }
+        let rest = order.get(place..).unwrap_or(&[]);
+        let (numbers, _) = rest.split_at(rest.len().min(AHEAD));
+        self.touched ^= self.touch(numbers);
+    }
+
     /// Visits the numbers of a round that run, until the run ends. Answers the root's output, if it has one.
     #[tactic(auto, using(crate::proofs::Running::pass_laws))]
     pub(crate) fn visit_all(&mut self, order: &[u64]) -> Result<Option<T::Output>, FinishCause>
@@ -251,7 +279,8 @@ impl<T: Task, G: Rng> World<T, T::Output, G> {
         ensures unmarked { OnOk result (self.new.lacked ≡ None) }
         ensures agrees { (first : First T T.Output) → Agrees (with_first T.steps first) true self.old None → AgreesAfter (with_first T.steps first) self.new result }
     {
-        for task in order {
+        for (place, task) in order.iter().enumerate() {
+            self.touch_ahead(order, place);
             if self.runs(*task) {
                 match self.visit(*task) {
                     Ok(None) => {}

@@ -44,6 +44,8 @@ pub struct World<T, O, G> {
     pub(crate) panic: Option<Text>,
     pub(crate) out: Option<u64>,
     pub(crate) rng: G,
+    /// The exclusive or of what was read ahead, which nobody reads: kept so that a compiler doesn't leave the loads out.
+    pub(crate) touched: usize,
 }
 
 impl<T, O, G> Model for World<T, O, G> {
@@ -90,6 +92,7 @@ impl<T, O, G> World<T, O, G> {
                 panic: None,
                 out: None,
                 rng,
+                touched: 0,
             }),
         }
     }
@@ -308,6 +311,7 @@ impl<T, O: Drop, G> World<T, O, G> {
             panic,
             out: _,
             rng,
+            touched: _,
         } = self;
         tasks.destroy_empty();
         (machine.into_journal(), rng, panic)

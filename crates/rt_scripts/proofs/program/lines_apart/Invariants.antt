@@ -5,5 +5,5 @@ use Rattle.rt_scripts.proofs.program.lines_apart.Given as goal
 
 abbrev pub invariant-loop-text : goal.invariant-loop-text
 invariant-loop-text l =
-    (l.lines.items ≡ map (λ (text : ScriptText). text.lines) (take l.text-index l.fn.texts))
+    (l.lines ≡ map (λ (text : ScriptText). text.lines) (take l.text-index l.fn.texts))
     × (l.texts ≡ map without_lines (take l.text-index l.fn.texts) ++ drop l.text-index l.fn.texts)

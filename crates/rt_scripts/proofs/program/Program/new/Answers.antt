@@ -20,14 +20,14 @@ texts_are c =
     ∙ c.in_ok-lines.ensures.texts
     ∙ ap (map without_lines) c.as_mut_slice.ensures.value
 
-lines_are : (c : In-Ok) → c.in-Ok.scripts.value.lines.items ≡ map (λ (text : ScriptText). text.lines) c.args.texts.items
+lines_are : (c : In-Ok) → c.in-Ok.scripts.value.lines ≡ map (λ (text : ScriptText). text.lines) c.args.texts.items
 lines_are c =
-    ap (λ (s : Scripts). s.lines.items) c.in-Ok.ensures.ok
+    ap (λ (s : Scripts). s.lines) c.in-Ok.ensures.ok
     ∙ c.in_ok-lines.ensures.lines
     ∙ ap (map (λ (text : ScriptText). text.lines)) c.as_mut_slice.ensures.value
 
 -- the texts and their lines are those that were given
-same : (c : In-Ok) → joined c.in-Ok.scripts.value.texts.items c.in-Ok.scripts.value.lines.items ≡ c.args.texts.items
+same : (c : In-Ok) → joined c.in-Ok.scripts.value.texts.items c.in-Ok.scripts.value.lines ≡ c.args.texts.items
 same c = rw (texts_are c, lines_are c) (joined-apart c.args.texts.items)
 
 pub invariant_of-result : goal.invariant_of-result
