@@ -277,7 +277,8 @@ impl Machine {
         Ok(())
     }
 
-    /// Reads what a visit of a task reads first, which is near then. What it answers is of no account.
+    /// Reads what a visit of a task reads, its mark and its label, and what its end needs, its node and its result: so they stand in
+    /// a cache then. What it answers is of no account.
     pub fn touch(&self, task: u64) -> usize {
         let Some(mark) = self.marks.get(task) else {
             return 0;

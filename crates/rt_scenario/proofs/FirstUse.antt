@@ -1,20 +1,20 @@
 -- Names in the order of their first use, and in byte order.
-use Rattle.std.proofs.Common.{◌≡◌, ℕ, zero, suc, ◌+◌, ◌≤◌, ◌<◌, ◌==◌, nat_lt, Bool, true, false, cond, not, ◌||◌, if◌then◌else◌, List, [], ◌∷◌, ◌++◌, length, map, get_or, fold, position, Some, None, refl, sym, ap, subst, ◌∙◌, true≢false, arith, slice_set, ◌≢◌, one-add}
+use Rattle.std.proofs.Common.{◌≡◌, ℕ, zero, suc, ◌+◌, ◌≤◌, ◌<◌, ◌==◌, Bool, true, false, ◌||◌, if◌then◌else◌, List, [], ◌∷◌, ◌++◌, length, map, drop, get_or, fold, refl, sym, ap, subst, ◌∙◌, true≢false, arith, slice_set, ◌≢◌}
 use Rattle.std.specs.declared.cmp.Ordering.{Ordering}
 use Rattle.std.specs.declared.cmp.Ordering.TheVariants.{Less, Equal, Greater}
 use Rattle.std.specs.BTreeSet.{BTreeSet, insert_key}
-use Rattle.std.specs.List.{All, AllByRecursion, IsDistinct, list_any, position_or_len}
+use Rattle.std.specs.List.{All, AllByRecursion, IsDistinct, list_any}
 use Rattle.std.specs.List.Sorted.{IsPermutation, IsSorted, IsStrictlySortedBy}
 use Rattle.std.specs.Ordering.{is_eq, is_lt, nat_cmp, eq_by_cmp, ordering_then, match_ordering}
 use Rattle.std.specs.Str.{bytes_eq}
 use Rattle.std.specs.Cmp.Lexicographic.{nat_list_cmp_total, nat_list_eq_equiv, same_text}
 use Rattle.std.proofs.lemmas.Bool.Decides.{nat_tests}
 use Rattle.std.proofs.Math.Seq.{get_or-append_seam}
-use Rattle.std.proofs.lemmas.List.{ext_get_or, get_or-map, get_or-set_same, get_or-set_other, length-append, length-map}
+use Rattle.std.proofs.lemmas.List.{append-nil, drop_all, ext_get_or, get_or-map, get_or-set_same, get_or-set_other, length-append, length-map}
 use Rattle.std.proofs.lemmas.List.Elements.{All-cons, All-tail}
 use Rattle.std.proofs.lemmas.List.Sorted.{All-permutation, IsPermutation-map, length_permutation, list_any-IsPermutation}
 use Rattle.std.proofs.lemmas.List.Sums.{fold_push}
-use Rattle.std.proofs.lemmas.Map.Keys.{IsDistinct-push, IsDistinct-IsPermutation, apart_from_distinct, sorted_from_all_adjacent}
+use Rattle.std.proofs.lemmas.Map.Keys.{IsDistinct-IsPermutation, apart_from_distinct, sorted_from_all_adjacent}
 use Rattle.std.proofs.lemmas.Map.Lookups.{btree_set_from_contains, exact_bytes}
 use Rattle.std.proofs.lemmas.Map.Text.{is_eq-slice_cmp}
 use Rattle.indexmap.specs.IndexSet.{insert_key as insert_last}
@@ -47,56 +47,6 @@ in_order_more names name = by (list_any (bytes_eq name) names) refl
     by : (b : Bool) → list_any (bytes_eq name) names ≡ b → in_order (if b then names else names ++ name ∷ []) ≡ insert_key text_cmp (in_order names) name
     by true e = sym (in_all names [] name e)
     by false e = fold_push (insert_key text_cmp) [] names name
-
-pub distinct_more : (names : List (List ℕ)) (name : List ℕ) → IsDistinct bytes_eq names → IsDistinct bytes_eq (insert_last bytes_eq names name)
-distinct_more names name d = by (list_any (bytes_eq name) names) refl
-  where
-    by : (b : Bool) → list_any (bytes_eq name) names ≡ b → IsDistinct bytes_eq (if b then names else names ++ name ∷ [])
-    by true e = d
-    by false e = IsDistinct-push nat_list_eq_equiv names name d e
-
--- names that a set keeps as strings
-
-pub any_mapped : {K : Type 0} (f : K → List ℕ) (name : List ℕ) (ks : List K) → list_any (bytes_eq name) (map f ks) ≡ list_any (λ k. bytes_eq name (f k)) ks
-any_mapped f name [] = refl
-any_mapped f name (k ∷ ks) = ap (λ b. bytes_eq name (f k) || b) (any_mapped f name ks)
-
--- the names after a string more
-pub insert_mapped : {K : Type 0} (f : K → List ℕ) (ks : List K) (k : K) → map f (insert_last (λ x y. bytes_eq (f x) (f y)) ks k) ≡ insert_last bytes_eq (map f ks) (f k)
-insert_mapped f ks k = by (list_any (λ y. bytes_eq (f k) (f y)) ks) (any_mapped f (f k) ks)
-  where
-    pushed : (xs : _) → map f (xs ++ k ∷ []) ≡ map f xs ++ f k ∷ []
-    pushed [] = refl
-    pushed (x ∷ xs) = ap (λ l. f x ∷ l) (pushed xs)
-
-    by : (b : Bool) → list_any (bytes_eq (f k)) (map f ks) ≡ b → map f (if b then ks else ks ++ k ∷ []) ≡ insert_last bytes_eq (map f ks) (f k)
-    by true e = ap (λ c. if c then map f ks else map f ks ++ f k ∷ []) (sym e)
-    by false e = pushed ks ∙ ap (λ c. if c then map f ks else map f ks ++ f k ∷ []) (sym e)
-
-place_has : {K : Type 0} (f : K → List ℕ) (name : List ℕ) (ks : List K) → position_or_len (λ k. bytes_eq name (f k)) ks < length ks → get_or (map f ks) (position_or_len (λ k. bytes_eq name (f k)) ks) [] ≡ name
-place_has f name [] h = absurd (omega (arith, h))
-place_has f name (k ∷ ks) h = by (bytes_eq name (f k)) refl h (place_has f name ks)
-  where
-    place : ℕ
-    place = position_or_len (λ x. bytes_eq name (f x)) ks
-
-    by : (b : Bool) → bytes_eq name (f k) ≡ b → cond (not b) (1 + place) 0 < suc (length ks) → (place < length ks → get_or (map f ks) place [] ≡ name) → get_or (f k ∷ map f ks) (cond (not b) (1 + place) 0) [] ≡ name
-    by true e below more = sym (same_text name (f k) (sym e))
-    by false e below more = ap (λ i. get_or (f k ∷ map f ks) i []) (one-add place) ∙ more (omega (arith, below))
-
--- a name is at the place where it is found
-pub found_at : {K : Type 0} (f : K → List ℕ) (name : List ℕ) (ks : List K) (i : ℕ) → position (λ k. bytes_eq name (f k)) ks ≡ Some i → get_or (map f ks) i [] ≡ name
-found_at f name ks i e = by (nat_lt place (length ks)) refl e
-  where
-    place : ℕ
-    place = position_or_len (λ x. bytes_eq name (f x)) ks
-
-    by : (b : Bool) → nat_lt place (length ks) ≡ b → cond b (Some place) None ≡ Some i → get_or (map f ks) i [] ≡ name
-    by true below at =
-        let is : place ≡ i = cc in
-        let inside : place < length ks = grind (arith, nat_tests, below) in
-        subst (λ j. get_or (map f ks) j [] ≡ name) is (place_has f name ks inside)
-    by false below at = absurd (cc)
 
 -- names in order
 
@@ -188,7 +138,7 @@ or_none true = refl
 or_none false = refl
 
 -- names in order are those that are taken in one by one
-pub ordered_is : (names ks : List (List ℕ)) → IsStrictlySortedBy text_cmp ks → IsPermutation names ks → in_order names ≡ ks
+ordered_is : (names ks : List (List ℕ)) → IsStrictlySortedBy text_cmp ks → IsPermutation names ks → in_order names ≡ ks
 ordered_is names ks sorted perm =
     let one : BTreeSet (List ℕ) = record { keys = in_order names } in
     let other : BTreeSet (List ℕ) = record { keys = ks } in
@@ -233,6 +183,10 @@ pub length_numbered : (n : ℕ) (names : List (List ℕ)) → length (numbered_f
 length_numbered n [] = refl
 length_numbered n (name ∷ names) = ap suc (length_numbered (n + 1) names)
 
+-- the names are all numbered
+pub all_numbered : (so_far : List (List ℕ × ℕ)) (names : List (List ℕ)) (i : ℕ) (all : List (List ℕ × ℕ)) → length names ≤ i → so_far ++ numbered_from i (drop i names) ≡ all → so_far ≡ all
+all_numbered so_far names i all past e = sym (append-nil so_far) ∙ ap (λ r. so_far ++ numbered_from i r) (sym (drop_all i names past)) ∙ e
+
 within_from : (n m : ℕ) (names : List (List ℕ)) → n + length names ≤ m → All (λ (p : List ℕ × ℕ). p.1 < m) (numbered_from n names)
 within_from n m [] h = λ k d inside. absurd (omega (arith, inside))
 within_from n m (name ∷ names) h = All-cons (λ (p : List ℕ × ℕ). p.1 < m) (name, n) (numbered_from (n + 1) names) (omega (arith, h)) (within_from (n + 1) m names (omega (arith, h)))
@@ -266,7 +220,7 @@ within_sorted names ps perm =
     let same_length : length names ≡ length ps = sym (length_permutation (numbered_from 0 names) ps perm ∙ length_numbered 0 names) in
     All-permutation (λ (p : List ℕ × ℕ). p.1 < length ps) (numbered_from 0 names) ps perm (within_from 0 (length ps) names (omega (arith, same_length)))
 
-pub first_sorted : (names : List (List ℕ)) (ps : List (List ℕ × ℕ)) → IsPermutation (numbered_from 0 names) ps → IsPermutation names (map first ps)
+first_sorted : (names : List (List ℕ)) (ps : List (List ℕ × ℕ)) → IsPermutation (numbered_from 0 names) ps → IsPermutation names (map first ps)
 first_sorted names ps perm = subst (λ l. IsPermutation l (map first ps)) (first_numbered 0 names) (IsPermutation-map first (numbered_from 0 names) ps perm)
 
 flips : (x y : List ℕ) → bytes_eq x y ≡ bytes_eq y x
@@ -274,6 +228,10 @@ flips = nat_list_eq_equiv.symm
 
 pub distinct_sorted : (names : List (List ℕ)) (ps : List (List ℕ × ℕ)) → IsPermutation (numbered_from 0 names) ps → IsDistinct bytes_eq names → IsDistinct bytes_eq (map first ps)
 distinct_sorted names ps perm d = IsDistinct-IsPermutation bytes_eq flips names (map first ps) (first_sorted names ps perm) d
+
+-- the names of all, once they are sorted, are the names in order
+pub ordered : (names : List (List ℕ)) (ps : List (List ℕ × ℕ)) → IsPermutation (numbered_from 0 names) ps → IsSorted pair_cmp ps → IsDistinct bytes_eq names → in_order names ≡ map first ps
+ordered names ps perm up apart = ordered_is names (map first ps) (strictly ps up (distinct_sorted names ps perm apart)) (first_sorted names ps perm)
 
 -- the names to come have their indices, and each place that none of them fills is right
 abbrev pub Filled : List (List ℕ) → List (List ℕ) → List ℕ → List (List ℕ × ℕ) → Type 0
@@ -315,7 +273,3 @@ inside names p rest ps all = omega (arith, ap length all, length-append names (m
 
 pub here : (names : List (List ℕ)) (p : List ℕ × ℕ) (rest ps : List (List ℕ × ℕ)) → names ++ map first (p ∷ rest) ≡ map first ps → get_or (map first ps) (length names) [] ≡ p.0
 here names p rest ps all = ap (λ l. get_or l (length names) []) (sym all) ∙ get_or-append_seam names p.0 (map first rest) []
-
-pub none_distinct : IsDistinct bytes_eq []
-unfolding IsDistinct
-none_distinct = tt

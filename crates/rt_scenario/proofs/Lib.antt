@@ -9,4 +9,6 @@ pub mod Placed
 pub mod Scripts
 pub mod Seen
 pub mod Spaces
+pub mod Spans
+pub mod Texts
 pub mod Totals

@@ -1,13 +1,13 @@
-use Rattle.std.proofs.Common.{◌≡◌, ℕ, suc, ◌+◌, ◌<◌, Bool, true, false, cond, if◌then◌else◌, List, [], ◌∷◌, ◌++◌, length, Option, Some, None, is_some, is_none, ◌&&◌, ◌==◌, Err, refl, sym, ap, subst, ◌∙◌, arith, add-one}
-use Rattle.std.specs.List.{All}
+use Rattle.std.proofs.Common.{◌≡◌, ℕ, suc, ◌+◌, ◌<◌, Bool, true, false, not, ◌||◌, nat_lt, cond, if◌then◌else◌, List, [], ◌∷◌, ◌++◌, length, map, position, Option, Some, None, is_some, is_none, ◌&&◌, ◌==◌, Err, refl, sym, ap, subst, ◌∙◌, arith, add-one, one-add}
+use Rattle.std.specs.List.{All, list_any, position_or_len}
 use Rattle.std.proofs.lemmas.Bool.Decides.{nat_tests}
-use Rattle.std.proofs.lemmas.List.{length_push}
+use Rattle.std.proofs.lemmas.List.{length_push, map-append}
 use Rattle.std.proofs.lemmas.List.Elements.{All-cons, All-head}
-use Rattle.std.specs.Option.{option_map, option_copied}
-use Rattle.std.specs.Borrow.{Bor}
+use Rattle.std.specs.Option.{option_map}
 use Rattle.rt_scenario.specs.Words.{is_text}
 use Rattle.rt_scenario.specs.Scenario.{Draft, CanRun, CanRunLine, is_placed, is_runnable, script_at, scripts_at, onto_places, row, select_row}
-use Rattle.std.specs.Cmp.Lexicographic.{same_text}
+use Rattle.std.specs.Cmp.Lexicographic.{nat_list_eq_equiv}
+use Rattle.indexmap.specs.IndexSet.{insert_key as insert_last}
 use Rattle.rt_scenario.specs.Answers.{IsBare, IsSetting}
 use Rattle.rt_scenario.specs.declared.kind.Kind.TheVariants as kind
 use Rattle.rt_scenario.specs.declared.scenario.RunLine.{RunLine}
@@ -15,29 +15,6 @@ use Rattle.rt_scenario.specs.declared.scenario.ScriptText.{ScriptText}
 use Rattle.rt_scenario.specs.declared.scenario.Settings.{Settings}
 use Rattle.rt_scenario.specs.declared.word.Word.{Word}
 use Rattle.rt_scenario.specs.declared.word.Word.TheVariants.{Seed, Next, Cycle, Start, Timeout, Catch, Script, Sleep, Until, Yield, Draw, Pend, End, Panic, Spawn, Abort, Drop, Join, Within, Select, Stopped, Wait, Stop, Done, Run}
-
--- the first place, or else the second
-abbrev pub place_or : Option ℕ → Option ℕ → Option ℕ
-place_or None p = p
-place_or (Some i) p = Some i
-
--- where a script more would be found
-abbrev pub place_last : List ScriptText → List ℕ → List ℕ → Option ℕ
-place_last ss last name = if is_text last name then Some (length ss) else None
-
-place_next : (o : Option ℕ) (b : Bool) (n : ℕ) → option_map (λ k. k + 1) (place_or o (if b then Some n else None)) ≡ place_or (option_map (λ k. k + 1) o) (if b then Some (suc n) else None)
-place_next None true n = ap Some (add-one n)
-place_next None false n = refl
-place_next (Some i) b n = refl
-
-found_push : (b : Bool) (rest more : Option ℕ) (p q : Option ℕ) → more ≡ place_or rest p → option_map (λ k. k + 1) (place_or rest p) ≡ place_or (option_map (λ k. k + 1) rest) q → (if b then Some 0 else option_map (λ k. k + 1) more) ≡ place_or (if b then Some 0 else option_map (λ k. k + 1) rest) q
-found_push true rest more p q e f = refl
-found_push false rest more p q e f = ap (option_map (λ k. k + 1)) e ∙ f
-
-pub script_at_push : (ss : List ScriptText) (t : ScriptText) (name : List ℕ) → script_at (ss ++ t ∷ []) name ≡ place_or (script_at ss name) (place_last ss t.name name)
-script_at_push [] t name = refl
-script_at_push (s ∷ ss) t name =
-    found_push (is_text s.name name) (script_at ss name) (script_at (ss ++ t ∷ []) name) (place_last ss t.name name) (place_last (s ∷ ss) t.name name) (script_at_push ss t name) (place_next (script_at ss name) (is_text t.name name) (length ss))
 
 -- a word more than there may be
 pub bare_count : (d : Draft) (word : Word) (ws : List (List ℕ)) → IsBare word → 0 < length ws → row d word ws ≡ Err kind.Count
@@ -73,28 +50,70 @@ pub select_some : (d : Draft) (ws : List (List ℕ)) → 0 < length ws → row d
 select_some d [] some = absurd (omega (arith, some))
 select_some d (w ∷ ws) some = refl
 
-place_or_none : (o : Option ℕ) → place_or o None ≡ o
-place_or_none None = refl
-place_or_none (Some i) = refl
+-- a name's index among the names is the place of its script
+place_named : (name : List ℕ) (ss : List ScriptText) → position (is_text name) (map (λ (s : ScriptText). s.name) ss) ≡ script_at ss name
+place_named name [] = refl
+place_named name (s ∷ ss) = by (is_text name s.name) refl (place_named name ss)
+  where
+    names : List (List ℕ)
+    names = map (λ (t : ScriptText). t.name) ss
 
-pub none_copied : (o : Option (Bor ℕ)) → is_some o ≡ false → option_copied o ≡ None
-none_copied None h = refl
-none_copied (Some s) h = absurd (cc)
+    place : ℕ
+    place = position_or_len (is_text name) names
 
-module _ (closed : List ScriptText) (t : ScriptText) (name : List ℕ) (n : ℕ) (old : List ℕ → Option ℕ) (named : t.name ≡ name) (last : n ≡ length closed) (absent : old name ≡ None) (same : (q : List ℕ) → old q ≡ script_at closed q) where
-  opened_at : (q : List ℕ) (b : Bool) → is_text name q ≡ b → cond b (Some n) (old q) ≡ place_or (script_at closed q) (if b then Some (length closed) else None)
-  opened_at q true e =
-      let here : name ≡ q = same_text name q (sym e) in
-      let none : script_at closed q ≡ None = sym (same q) ∙ sym (ap old here) ∙ absent in
-      rw (none, last) refl
-  opened_at q false e = same q ∙ sym (place_or_none (script_at closed q))
+    some : nat_lt 0 (suc (length names)) ≡ true
+    some = grind (arith, nat_tests)
 
-  -- a script more is found at its name, after those that there are
-  pub opened : (q : List ℕ) (new : Option ℕ) → new ≡ cond (is_text name q) (Some n) (old q) → new ≡ script_at (closed ++ t ∷ []) q
-  opened q new e =
-      e ∙ opened_at q (is_text name q) refl
-      ∙ ap (λ m. place_or (script_at closed q) (place_last closed m q)) (sym named)
-      ∙ sym (script_at_push closed t q)
+    further : nat_lt (1 + place) (suc (length names)) ≡ nat_lt place (length names)
+    further = grind (arith, nat_tests)
+
+    next : (b : Bool) → cond b (Some (1 + place)) None ≡ option_map (λ n. n + 1) (cond b (Some place) None)
+    next true = ap Some (one-add place ∙ sym (add-one place))
+    next false = refl
+
+    by : (b : Bool) → is_text name s.name ≡ b → position (is_text name) names ≡ script_at ss name → cond (nat_lt (cond (not b) (1 + place) 0) (suc (length names))) (Some (cond (not b) (1 + place) 0)) None ≡ (if is_text s.name name then Some 0 else option_map (λ n. n + 1) (script_at ss name))
+    by true e more =
+        ap (λ b. cond b (Some 0) None) some
+        ∙ sym (ap (λ b. if b then Some 0 else option_map (λ n. n + 1) (script_at ss name)) (nat_list_eq_equiv.symm s.name name ∙ e))
+    by false e more =
+        ap (λ b. cond b (Some (1 + place)) None) further
+        ∙ next (nat_lt place (length names))
+        ∙ ap (option_map (λ n. n + 1)) more
+        ∙ sym (ap (λ b. if b then Some 0 else option_map (λ n. n + 1) (script_at ss name)) (nat_list_eq_equiv.symm s.name name ∙ e))
+
+-- where the index of a name was looked up
+pub place_found : (names : List (List ℕ)) (name key : List ℕ) (ss : List ScriptText) (found : Option ℕ) → found ≡ position (is_text key) names → key ≡ name → names ≡ map (λ (s : ScriptText). s.name) ss → found ≡ script_at ss name
+place_found names name key ss found at same all = at ∙ ap (λ k. position (is_text k) names) same ∙ ap (position (is_text name)) all ∙ place_named name ss
+
+mapped_some : (o : Option ℕ) → is_some (option_map (λ n. n + 1) o) ≡ is_some o
+mapped_some None = refl
+mapped_some (Some n) = refl
+
+-- a name is among the names where a script has it
+is_named : (name : List ℕ) (ss : List ScriptText) → list_any (is_text name) (map (λ (s : ScriptText). s.name) ss) ≡ is_some (script_at ss name)
+is_named name [] = refl
+is_named name (s ∷ ss) = by (is_text name s.name) refl (is_named name ss)
+  where
+    rest : Bool
+    rest = list_any (is_text name) (map (λ (t : ScriptText). t.name) ss)
+
+    by : (b : Bool) → is_text name s.name ≡ b → rest ≡ is_some (script_at ss name) → (b || rest) ≡ is_some (if is_text s.name name then Some 0 else option_map (λ n. n + 1) (script_at ss name))
+    by true e more = rw (nat_list_eq_equiv.symm s.name name, e) refl
+    by false e more = rw (nat_list_eq_equiv.symm s.name name, e) (more ∙ sym (mapped_some (script_at ss name)))
+
+pub none_some : (o : Option ℕ) → is_some o ≡ false → o ≡ None
+none_some None h = refl
+none_some (Some n) h = absurd (cc)
+
+-- whether a name was found among the names
+pub known : (names : List (List ℕ)) (name key : List ℕ) (ss : List ScriptText) (found : Bool) → found ≡ list_any (is_text key) names → key ≡ name → names ≡ map (λ (s : ScriptText). s.name) ss → found ≡ is_some (script_at ss name)
+known names name key ss found is same all = is ∙ ap (λ k. list_any (is_text k) names) same ∙ ap (list_any (is_text name)) all ∙ is_named name ss
+
+-- a script more has its name behind the others
+pub name_more : (names : List (List ℕ)) (ss : List ScriptText) (t : ScriptText) → names ≡ map (λ (s : ScriptText). s.name) ss → script_at ss t.name ≡ None → insert_last is_text names t.name ≡ map (λ (s : ScriptText). s.name) (ss ++ t ∷ [])
+name_more names ss t same absent =
+    let none : list_any (is_text t.name) names ≡ false = rw (same) (is_named t.name ss ∙ ap is_some absent) in
+    rw (none, same) (sym (map-append (λ (s : ScriptText). s.name) ss (t ∷ [])))
 
 some_same : (i j : ℕ) → Some i ≡ Some j → i ≡ j
 some_same i j e = cc

@@ -1,11 +1,13 @@
 -- Lines as they are kept while a script is open: the place of a handle or a signal is the index of its name among the
 -- names, each of which stands there once.
-use Rattle.std.specs.Prelude.{ℕ, ◌+◌, ◌<◌, List, [], ◌∷◌, fold, slice_index, slice_index_or, Option, Some, None}
+use Rattle.std.specs.Prelude.{ℕ, ◌+◌, ◌<◌, ◌≤◌, List, [], ◌∷◌, fold, slice_index, slice_index_or, Option, Some, None, length}
+use Rattle.std.specs.Option.{IfSome}
 use Rattle.std.specs.Borrow.{Bor}
 use Rattle.std.specs.BTreeSet.{insert_key}
 use Rattle.std.specs.Str.{bytes_eq}
 use Rattle.indexmap.specs.IndexSet.{insert_key as insert_last}
 use Rattle.rt_base.specs.Attributes.{text_cmp}
+use Rattle.rt_scenario.specs.Scripts.{handle_of}
 use Rattle.rt_scenario.specs.declared.line.Line.{Line}
 use Rattle.rt_scenario.specs.declared.line.Line.TheVariants as step
 use Rattle.rt_scenario.specs.declared.named_line.NamedLine.{NamedLine}
@@ -21,6 +23,10 @@ read (Join handle) = Join handle.now
 read (Within handle limit) = Within handle.now limit
 read (Stopped signal) = Stopped signal.now
 read (Wait signal) = Wait signal.now
+
+-- the name of the handle or signal, if the line has one, has at most 32 bytes
+abbrev pub HasShortName : NamedLine (List ℕ) → Type 0
+HasShortName line = IfSome (handle_of line) (λ name. length name ≤ 32)
 
 -- the name of this index
 abbrev pub name_at : List (List ℕ) → ℕ → List ℕ

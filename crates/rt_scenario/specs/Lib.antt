@@ -3,8 +3,10 @@ pub mod Capped
 pub mod Indexed
 pub mod KindWords
 pub mod Lines
+pub mod Lists
 pub mod Numbers
 pub mod Scenario
 pub mod Scripts
+pub mod Texts
 pub mod Within
 pub mod Words

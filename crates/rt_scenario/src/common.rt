@@ -40,7 +40,8 @@ fn end_line(text: &[u8]) -> Option<Line>
 
 /// The name of the handle that a text of a script joins, where it is `join` with a name: it needs no other test.
 pub fn joined(text: &[u8]) -> Option<&str>
-    ensures { IfSome result (λ name. (d : Draft) → is_some d.current ≡ true → after_text d text.now ≡ step_row d (Join name.now)) }
+    ensures short { IfSome result (λ name. length name.now ≤ 32) }
+    ensures line { IfSome result (λ name. (d : Draft) → is_some d.current ≡ true → after_text d text.now ≡ step_row d (Join name.now)) }
 {
     match text {
         [b'j', b'o', b'i', b'n', b' ', name @ ..] => name_of(name),
@@ -51,7 +52,7 @@ pub fn joined(text: &[u8]) -> Option<&str>
 /// The names of the handle and of the script, where a text of a script is `spawn` with two names: it needs no other test.
 pub fn spawned(text: &[u8]) -> Option<(&str, &str)>
     ensures line { IfSome result (λ names. (d : Draft) → is_some d.current ≡ true → after_text d text.now ≡ spawned_row d names.0.now (script_at d.scripts names.1.now)) }
-    ensures short { IfSome result (λ names. length names.1.now ≤ 32) }
+    ensures short { IfSome result (λ names. (length names.0.now ≤ 32) × (length names.1.now ≤ 32)) }
 {
     if text.len() > SHORT {
         return None;

@@ -6,7 +6,7 @@ ghost use Rattle.rt_scenario.specs.Lines.{words_of, words_in};
 ghost use Rattle.rt_scenario.specs.Numbers.{number_of, small_value_of, value_of};
 ghost use Rattle.rt_scenario.specs.Scenario.{Draft, blank, CanRun, CanRunLine, is_between, is_name, is_placed, is_printable, is_runnable, names_run, once, row, after_line, after_text, after_words, script_row, step_row, sleep_row, until_row, end_row, panic_row, spawn_row, spawned_row, abort_row, handle_row, within_row, stop_row, limited_stop_row, select_row, with_select, done_row, found_row, run_row, script_at, scripts_at};
 ghost use Rattle.rt_scenario.specs.Answers.{Answers, Finishes, IsBare, IsSetting, Lacks, found_at, or_missing};
-ghost use Rattle.rt_scenario.specs.Indexed.{read};
+ghost use Rattle.rt_scenario.specs.Indexed.{HasShortName, read};
 ghost use Rattle.rt_scenario.specs.Scripts.{tasks_of, tasks_at as total_at};
 ghost use Rattle.rt_scenario.specs.Within.{HasPlaces, HavePlaces, IsFree};
 ghost use Rattle.rt_scenario.specs.declared.named_line.NamedLine.TheVariants as named_line;
@@ -14,33 +14,45 @@ ghost use Rattle.rt_scenario.specs.declared.word.Word.TheVariants as word;
 
 use crate::common::{common_line, joined, opened, spawned};
 use crate::kind::Kind;
+use crate::let_go::let_go;
 use crate::line::Line;
 use crate::named_line::NamedLine;
 use crate::names::{are_names, name_of, named, text_of};
 use crate::numbers;
 use crate::open_script::OpenScript;
 use crate::scenario::{RunLine, Scenario, ScriptText, Settings};
-use crate::script_name::ScriptName;
+use crate::script_texts::ScriptTexts;
+use crate::short_name::ShortName;
 use crate::split::{is_passed_over, only_word, run_words, split_word, test_text, two_words};
 use crate::stop::Stop;
 use crate::tasks::{MAX_TASKS, tasks_at, tasks_of};
 use crate::word::{Word, switch_of};
-use rt_base::{Items, MAX_TIME};
+use indexmap::IndexSet;
+use rt_base::{Items, MAX_TIME, NoMemory};
 use std::alloc::Global;
-use std::collections::HashMap;
 use std::marker::Model;
-use std::mem;
+use std::mem::{self, size_of};
 
 /// The greatest number of bytes of a line, without its LF.
 const LINE_LEN: usize = 4096;
 
-/// The settings and scripts so far, with the places of the scripts by their names and the tasks of each.
+/// About so many bytes a line of a script has. Where there are more lines, their room grows.
+const LINE_BYTES: usize = 8;
+
+/// About so many bytes a script has with its spawn and its join. Where there are more scripts, their room grows.
+const SCRIPT_BYTES: usize = 64;
+
+/// No room is taken in advance for more than so many bytes.
+const MOST_BYTES: usize = 1_048_576;
+
+/// The settings and scripts so far, with the names of the scripts, each at its place, and the tasks of each.
 #[derive(Drop)]
 pub struct Draft {
+    alloc: Global,
     settings: Settings,
-    closed: Vec<ScriptText>,
+    closed: ScriptTexts,
     tasks: Vec<u64>,
-    places: HashMap<ScriptName, usize>,
+    names: IndexSet<ShortName>,
     current: Option<OpenScript>,
     /// Room for the lines of the next script.
     spare: Vec<Line>,
@@ -48,26 +60,28 @@ pub struct Draft {
 }
 
 impl Model for Draft {
-    ghost use Rattle.std.specs.Prelude.{◌≡◌, ℕ, List, None, IfSome, length};
-    ghost use Rattle.std.specs.HashMap.{get};
+    ghost use Rattle.std.specs.Prelude.{◌≡◌, None, IfSome, length, map};
     ghost use Rattle.std.specs.List.{All};
     ghost use Rattle.rt_scenario.specs.Capped.{capped_tasks};
     ghost use Rattle.rt_scenario.specs.Scenario.{Draft, script_at, CanRunLine};
     ghost use Rattle.rt_scenario.specs.Within.{HavePlaces, IsBegun};
-    ghost use Rattle.rt_scenario.specs.Words.{is_text};
 
     ghost Value = { Draft };
 
-    ghost view = { λ d. record { settings = d.settings; scripts = d.closed.items; current = d.current; runs = d.runs.items } };
+    ghost view = { λ d. record { settings = d.settings; scripts = d.closed; current = d.current; runs = d.runs.items } };
 
-    ghost invariant = { λ d. ((name : List ℕ) → get is_text d.places name ≡ script_at d.closed.items name) × (d.tasks.items ≡ capped_tasks d.closed.items) × All (CanRunLine d.closed.items d.settings) d.runs.items × IfSome d.current (λ s. script_at d.closed.items s.name ≡ None) × HavePlaces d.closed.items × IfSome d.current (IsBegun (length d.closed.items)) };
+    ghost invariant = { λ d. (d.names.keys ≡ map (λ s. s.name) d.closed) × (d.tasks.items ≡ capped_tasks d.closed) × All (CanRunLine d.closed d.settings) d.runs.items × IfSome d.current (λ s. script_at d.closed s.name ≡ None) × HavePlaces d.closed × IfSome d.current (IsBegun (length d.closed)) };
 }
 
 impl Draft {
-    pub fn new(alloc: Global) -> Draft
-        ensures { result ≡ blank }
+    /// Nothing yet, with about the room for what a text of so many bytes holds.
+    pub fn for_text(alloc: Global, bytes: usize) -> Result<Draft, NoMemory>
+        ensures { IfOk result (λ draft. draft ≡ blank) }
     {
-        Draft {
+        let bytes = bytes.min(MOST_BYTES);
+        let scripts = bytes / SCRIPT_BYTES;
+        Ok(Draft {
+            alloc,
             settings: Settings {
                 seed: None,
                 next: None,
@@ -76,13 +90,13 @@ impl Draft {
                 timeout: None,
                 catch: None,
             },
-            closed: Vec::new(alloc),
-            tasks: Vec::new(alloc),
-            places: HashMap::new(alloc),
+            closed: ScriptTexts::with_capacity(alloc, scripts, bytes / LINE_BYTES)?,
+            tasks: Vec::with_capacity(alloc, scripts)?,
+            names: IndexSet::with_capacity(alloc, scripts)?,
             current: None,
             spare: Vec::new(alloc),
             runs: Vec::new(alloc),
-        }
+        })
     }
 
     /// The scenario, or `None` where a script isn't closed or nothing is run.
@@ -93,20 +107,27 @@ impl Draft {
         ensures places { IfSome result (λ s. HavePlaces s.scripts) }
     {
         let Draft {
+            alloc: _,
             settings,
             closed,
-            tasks: _,
-            places: _,
+            tasks,
+            names,
             current,
-            spare: _,
+            spare,
             runs,
         } = self;
         if current.is_some() || runs.is_empty() {
             return None;
         }
+        let room = tasks.capacity();
+        let_go(tasks, room, size_of::<u64>());
+        let room = names.capacity();
+        let_go(names, room, size_of::<ShortName>());
+        let room = spare.capacity();
+        let_go(spare, room, size_of::<Line>());
         Some(Scenario {
             settings,
-            scripts: Items::of(closed),
+            scripts: closed,
             runs: Items::of(runs),
         })
     }
@@ -289,11 +310,11 @@ impl Draft {
         requires short { length name.now ≤ 32 }
         ensures { Answers (script_row self.old name.now) result self.new }
     {
-        let name = ScriptName::of(name);
-        if self.places.get(&name).is_some() {
+        let name = ShortName::of(name);
+        if self.names.contains(&name) {
             return Err(Stop::Breaks(Kind::Twice));
         }
-        let alloc = *self.closed.allocator();
+        let alloc = self.alloc;
         let spare = mem::replace(&mut self.spare, Vec::new(alloc));
         self.current = Some(OpenScript::new(alloc, name, spare));
         Ok(())
@@ -302,6 +323,7 @@ impl Draft {
     fn push(&mut self, line: NamedLine<&str>) -> Result<(), Stop>
         requires open { is_some self.old.current ≡ true }
         requires free { IsFree (length self.old.scripts) (read line) }
+        requires short { HasShortName (read line) }
         ensures { Answers (step_row self.old (read line.entry)) result self.new }
     {
         match &mut self.current {
@@ -358,7 +380,7 @@ impl Draft {
         requires printable { list_all is_printable word.now ≡ true }
         ensures { Answers (panic_row self.old word.now) result self.new }
     {
-        let word = text_of(*self.closed.allocator(), word)?;
+        let word = text_of(self.alloc, word)?;
         match &mut self.current {
             Some(script) => script.push_panic(word)?,
             None => unreachable!(),
@@ -378,7 +400,8 @@ impl Draft {
     /// Takes a spawn in, by the names of its handle and its script.
     fn spawn_named(&mut self, handle: &str, script: &str) -> Result<(), Stop>
         requires open { is_some self.old.current ≡ true }
-        requires short { length script.now ≤ 32 }
+        requires handle { length handle.now ≤ 32 }
+        requires script { length script.now ≤ 32 }
         ensures { Answers (spawned_row self.old handle.now (script_at self.old.scripts script.now)) result self.new }
     {
         let place = self.find_named(script)?;
@@ -496,8 +519,7 @@ impl Draft {
     {
         match self.current.take() {
             Some(current) => {
-                let (script, spare) = current.close()?;
-                self.spare = spare;
+                let script = current.close()?;
                 self.declare(script)
             }
             None => Ok(()),
@@ -513,10 +535,14 @@ impl Draft {
     {
         let name = script.name.copy();
         let tasks = tasks_of(self.tasks.as_slice(), script.lines.as_slice());
-        self.closed.reserve(1)?;
         self.tasks.reserve(1)?;
-        self.places.insert(name, self.closed.len())?;
-        self.closed.push_reserved(script);
+        self.names.reserve(1)?;
+        self.spare = self.closed.push(script)?;
+        match self.names.insert(name) {
+            Ok(_) => {}
+            // There is room for it.
+            Err(_) => unreachable!(),
+        }
         self.tasks.push_reserved(tasks);
         Ok(())
     }
@@ -571,7 +597,7 @@ impl Draft {
         ensures there { IfOk result (λ places. All (λ place. place < length self.now.scripts) places.items) }
         ensures some { IfOk result (λ places. 0 < length places.items) }
     {
-        let mut places = Vec::new(*self.closed.allocator());
+        let mut places = Vec::new(self.alloc);
         places.push(self.find(root)?)?;
         self.find_all(with, &mut places)?;
         Ok(places)
@@ -594,8 +620,8 @@ impl Draft {
         ensures found { result ≡ or_missing (script_at self.now.scripts name.now) }
         ensures there { IfOk result (λ place. place < length self.now.scripts) }
     {
-        match self.places.get(&ScriptName::of(name)) {
-            Some(place) => Ok(*place),
+        match self.names.get_index_of(&ShortName::of(name)) {
+            Some(place) => Ok(place),
             None => Err(Kind::Missing),
         }
     }

@@ -1,6 +1,6 @@
 // A line whose name has no place yet.
 ghost use Rattle.std.specs.Prelude.{◌≡◌, length, slice_index, IfOk, OnOk, OnErr};
-ghost use Rattle.rt_scenario.specs.Indexed.{HasIndex, named_by, placed_at, read, with_name};
+ghost use Rattle.rt_scenario.specs.Indexed.{HasIndex, HasShortName, named_by, placed_at, read, with_name};
 ghost use Rattle.rt_scenario.specs.Scripts.{handle_of};
 ghost use Rattle.rt_scenario.specs.Within.{IsClear};
 
@@ -26,7 +26,8 @@ pub enum NamedLine<N> {
 
 /// The line with the index of its name, which goes behind the others if it is new.
 pub fn indexed(line: NamedLine<&str>, handles: &mut Handles) -> Result<Line, NoMemory>
-    requires { IsClear (read line) }
+    requires clear { IsClear (read line) }
+    requires short { HasShortName (read line) }
     ensures line { IfOk result (λ indexed. named_by handles.new indexed ≡ read line.entry) }
     ensures index { IfOk result (HasIndex (length handles.new)) }
     ensures names { OnOk result (handles.new ≡ with_name handles.old (handle_of (read line.entry))) }

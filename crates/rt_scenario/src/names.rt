@@ -6,14 +6,12 @@ ghost use Rattle.rt_scenario.specs.Lines.{words_in};
 ghost use Rattle.rt_scenario.specs.Scenario.{is_name, is_printable};
 
 use crate::kind::Kind;
+use crate::short_name::NAME_LEN;
 use crate::split::split_word;
 use crate::stop::Stop;
 use rt_base::{NoMemory, Text, is_label};
 use std::alloc::Global;
 use std::str;
-
-/// The greatest number of bytes of a name.
-const NAME_LEN: usize = 32;
 
 /// The name that the word is: a letter and then letters, digits and underscores, at most 32 bytes.
 pub fn name_of(word: &[u8]) -> Option<&str>

@@ -1,31 +1,30 @@
 // A script whose `done` hasn't come.
-ghost use Rattle.std.specs.Prelude.{◌≡◌, true, [], ◌∷◌, IfOk, OnOk, OnErr, length, map, slice_index};
+ghost use Rattle.std.specs.Prelude.{◌≡◌, ◌≤◌, true, [], ◌∷◌, IfOk, OnOk, OnErr, length, map, slice_index};
 ghost use Rattle.std.specs.List.{All, list_all};
-ghost use Rattle.rt_scenario.specs.Indexed.{HasIndex, placed_at, read};
+ghost use Rattle.rt_scenario.specs.Indexed.{HasIndex, HasShortName, placed_at, read};
 ghost use Rattle.rt_scenario.specs.Scripts.{closed_script};
 ghost use Rattle.rt_scenario.specs.Lines.{words_in};
 ghost use Rattle.rt_scenario.specs.Within.{IsClear};
 ghost use Rattle.rt_scenario.specs.Scenario.{is_name, with_choices, with_line, with_panic, with_select};
 
 use crate::handles::Handles;
+use crate::let_go::let_go;
 use crate::line::Line;
 use crate::named_line::{NamedLine, indexed, place_at, placed};
 use crate::names::name_of;
 use crate::scenario::ScriptText;
-use crate::script_name::ScriptName;
+use crate::short_name::ShortName;
 use crate::split::split_word;
 use rt_base::{Items, NoMemory, Text};
 use std::alloc::Global;
 use std::marker::Model;
-
-/// A script with more lines than these is long.
-const LONG: usize = 1024;
+use std::mem::size_of;
 
 /// The lines of a script so far, with the indices of the names of what they hold, these names, the words of its panics, and
 /// the indices of the names that its choices take.
 #[derive(Drop)]
 pub struct OpenScript {
-    name: ScriptName,
+    name: ShortName,
     lines: Vec<Line>,
     handles: Handles,
     words: Vec<Text>,
@@ -47,7 +46,7 @@ impl Model for OpenScript {
 
 impl OpenScript {
     /// A script without lines, which keeps them in the room of `spare`.
-    pub fn new(alloc: Global, name: ScriptName, spare: Vec<Line>) -> OpenScript
+    pub fn new(alloc: Global, name: ShortName, spare: Vec<Line>) -> OpenScript
         ensures { result ≡ record { name = name; lines = []; words = []; choices = [] } }
     {
         let mut lines = spare;
@@ -62,7 +61,8 @@ impl OpenScript {
     }
 
     pub fn push(&mut self, line: NamedLine<&str>) -> Result<(), NoMemory>
-        requires { IsClear (read line) }
+        requires clear { IsClear (read line) }
+        requires short { HasShortName (read line) }
         ensures line { OnOk result (self.new ≡ with_line (read line.entry) self.old) }
         ensures refused { OnErr result (self.new ≡ self.old) }
     {
@@ -111,6 +111,7 @@ impl OpenScript {
     }
 
     fn push_choice(&mut self, name: &str) -> Result<(), NoMemory>
+        requires { length name.now ≤ 32 }
         ensures { OnOk result (self.new ≡ with_choices (name.now ∷ []) self.old) }
     {
         self.choices.reserve(1)?;
@@ -119,9 +120,9 @@ impl OpenScript {
         Ok(())
     }
 
-    /// The script as it stands, with the places of its names; and room for the lines of the next.
-    pub fn close(self) -> Result<(ScriptText, Vec<Line>), NoMemory>
-        ensures { IfOk result (λ closed. closed.0 ≡ closed_script self) }
+    /// The script as it stands, with the places of its names.
+    pub fn close(self) -> Result<ScriptText, NoMemory>
+        ensures { IfOk result (λ closed. closed ≡ closed_script self) }
     {
         let OpenScript {
             name,
@@ -133,30 +134,18 @@ impl OpenScript {
         let (handles, places) = handles.in_order()?;
         let mut lines = lines;
         place_lines(lines.as_mut_slice(), places.as_slice());
-        let (lines, spare) = lines_and_room(lines)?;
         let mut choices = choices;
         place_choices(choices.as_mut_slice(), places.as_slice());
-        let script = ScriptText {
+        let room = places.capacity();
+        let_go(places, room, size_of::<usize>());
+        Ok(ScriptText {
             name,
             lines: Items::of(lines),
             handles: Items::of(handles),
             words: Items::of(words),
             choices: Items::of(choices),
-        };
-        Ok((script, spare))
+        })
     }
-}
-
-/// The lines for the script, and room for those of the next. A long script takes the room itself: a large block that is
-/// given back makes the C library's allocator copy the large blocks that grow after it.
-fn lines_and_room(lines: Vec<Line>) -> Result<(Vec<Line>, Vec<Line>), NoMemory>
-    ensures { IfOk result (λ both. both.0.items ≡ lines.items) }
-{
-    let alloc = *lines.allocator();
-    if lines.len() > LONG {
-        return Ok((lines, Vec::new(alloc)));
-    }
-    Ok((Vec::from_slice(alloc, lines.as_slice())?, lines))
 }
 
 /// Puts the places of the names in for their indices.

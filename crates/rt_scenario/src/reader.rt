@@ -29,14 +29,17 @@ pub enum Refusal {
 
 /// Reads a scenario in one pass.
 ///
-/// Where a script isn't closed at the end, or nothing is run, the line after the last is broken.
+/// Where a script isn't closed at the end, or nothing is run, the line after the last is broken. Beside a scenario, large tables
+/// that only the reader needs keep their memory until the process ends.
 pub fn read_scenario(alloc: Global, bytes: &[u8]) -> Result<Scenario, Refusal>
     ensures says { Reads (scenario_of bytes.now) result }
     ensures runs { IfOk result (λ s. All (CanRunLine s.scripts s.settings) s.runs) }
     ensures settings { IfOk result (λ s. is_runnable s.settings ≡ true) }
     ensures places { IfOk result (λ s. HavePlaces s.scripts) }
 {
-    let mut draft = Draft::new(alloc);
+    let Ok(mut draft) = Draft::for_text(alloc, bytes.len()) else {
+        return Err(Refusal::NoMemory);
+    };
     let mut line = 1u64;
     let mut rest = bytes;
     while !rest.is_empty() {

@@ -1,7 +1,8 @@
 // What a scenario says.
 
 use crate::line::Line;
-use crate::script_name::ScriptName;
+use crate::script_texts::ScriptTexts;
+use crate::short_name::ShortName;
 use rt_base::{Items, Nanos, Text};
 
 /// A scenario that breaks no rule.
@@ -9,7 +10,7 @@ use rt_base::{Items, Nanos, Text};
 pub struct Scenario {
     pub settings: Settings,
     /// The scripts in order; each has a name of its own.
-    pub scripts: Items<ScriptText>,
+    pub scripts: ScriptTexts,
     /// The runs in order, each behind the one before it.
     pub runs: Items<RunLine>,
 }
@@ -40,13 +41,13 @@ pub struct Settings {
     pub catch: Option<bool>,
 }
 
-/// The lines of a script.
+/// A script, as its lines say it: what contracts see of each of [`ScriptTexts`].
 #[derive(Debug, Drop)]
 pub struct ScriptText {
-    pub name: ScriptName,
+    pub name: ShortName,
     pub lines: Items<Line>,
     /// The names of the handles and signals that its lines hold, each once, in byte order.
-    pub handles: Items<Text>,
+    pub handles: Items<ShortName>,
     /// The words of its panics, in order of the lines.
     pub words: Items<Text>,
     /// The places among `handles` of the names that its choices take, in order of the lines.

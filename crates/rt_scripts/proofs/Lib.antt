@@ -5,9 +5,7 @@ pub mod InOrder
 pub mod Kept
 pub mod Makings
 pub mod Misses
-pub mod Programs
 pub mod Runs
 pub mod Scripts
-pub mod Spans
 pub mod Written
 pub mod Worked

@@ -23,7 +23,7 @@ use Rattle.rt_scripts.specs.declared.outcome.RunReport.{RunReport}
 use Rattle.rt_scripts.specs.declared.outcome.RunResult.{RunResult}
 use Rattle.rt_scripts.specs.declared.outcome.RunResult.TheVariants.{Ok as Gave, Failed}
 use Rattle.rt_scripts.specs.Making.{Maker}
-use Rattle.rt_scripts.specs.Program.{no_text, text_at}
+use Rattle.rt_scenario.specs.Texts.{no_text, text_at}
 use Rattle.rt_scripts.specs.declared.simulate.Came.TheVariants.{Completed, Failed as HasFailed, Lacked}
 use Rattle.rt_scripts.specs.Ran.{CameOf, HasScripts, root_steps, Comes, Makes, IsReported, Halts, Chain, report_of, maker_of, status_of, last_status}
 use Rattle.rt_scripts.specs.Report.{StandsIn}

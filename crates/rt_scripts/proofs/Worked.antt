@@ -27,7 +27,7 @@ use Rattle.rt_core.specs.Sleeper.{Sleeper}
 use Rattle.rt_scenario.specs.declared.line.Line.TheVariants.{End, Sleep}
 use Rattle.rt_scripts.specs.declared.script.Waits.TheVariants.{Sleeps}
 use Rattle.rt_scripts.specs.Making.{Maker, begun, besides, making}
-use Rattle.rt_scripts.specs.Program.{text_at}
+use Rattle.rt_scenario.specs.Texts.{text_at}
 use Rattle.rt_scripts.specs.Ran.{root_steps}
 use Rattle.rt_scripts.specs.Script.{Script, Next, aborted_in, aborts_chosen, freed_of, goes_on, passed, polled, ended, releases_all, releases_chosen, sleeps, slept, waiting}
 

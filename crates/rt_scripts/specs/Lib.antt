@@ -1,5 +1,4 @@
 pub mod Asked
-pub mod Lists
 pub mod Making
 pub mod Program
 pub mod Ran

@@ -11,7 +11,7 @@ use Rattle.rt_world.specs.Walked.{Rooted}
 use Rattle.rt_core.specs.Contexts.{Context, childs, spawns, root_context}
 use Rattle.rt_core.specs.Handles.{TaskHandle, task_spends}
 use Rattle.rt_scenario.specs.declared.scenario.ScriptText.{ScriptText}
-use Rattle.rt_scripts.specs.Program.{text_at}
+use Rattle.rt_scenario.specs.Texts.{text_at}
 use Rattle.rt_scripts.specs.Script.{Script, started}
 
 -- the scripts of a scenario, the place of the root's, and those of the scripts that are spawned beside it

@@ -26,7 +26,8 @@ use Rattle.rt_core.specs.declared.yields.Reschedule.{Reschedule}
 use Rattle.rt_scenario.specs.declared.line.Line.{Line}
 use Rattle.rt_scenario.specs.declared.line.Line.TheVariants.{Sleep, Until, Yield, Draw, Pend, End, EndLast, Panic, Spawn, Abort, AbortSelf, Drop, Join, Within, Select, Stopped, Wait, Stop as Shutdown, StopWithin as ShutdownWithin}
 use Rattle.rt_scenario.specs.declared.scenario.ScriptText.{ScriptText}
-use Rattle.rt_scripts.specs.Program.{text_at, name_at, word_at, choices_in}
+use Rattle.rt_scenario.specs.Texts.{text_at}
+use Rattle.rt_scripts.specs.Program.{name_at, word_at, choices_in}
 use Rattle.rt_scripts.specs.declared.held.Held.{Held}
 use Rattle.rt_scripts.specs.declared.held.Held.TheVariants.{Handle, Signal}
 use Rattle.rt_scripts.specs.declared.script.Waits.{Waits}

@@ -5,7 +5,6 @@
 mod choosing;
 mod drawing;
 mod held;
-mod lists;
 mod maker;
 mod outcome;
 mod program;

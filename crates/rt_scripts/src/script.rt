@@ -63,7 +63,7 @@ pub struct Script {
 
 impl Model for Script {
     ghost use Rattle.std.specs.Prelude.{◌≡◌, ◌<◌, ◌≤◌, length, slice_get, vec_len};
-    ghost use Rattle.rt_scripts.specs.Program.{text_at};
+    ghost use Rattle.rt_scenario.specs.Texts.{text_at};
     ghost use Rattle.rt_scripts.specs.Script.{Script};
 
     ghost Value = { Script };
@@ -605,6 +605,11 @@ impl Script {
         }
     }
 
+    /// Whether the line at a place is a yield: of a line no more than its kind is read.
+    fn is_yield(&self, place: usize) -> bool {
+        matches!(self.program.line(self.script, place), Some(Line::Yield))
+    }
+
     /// Does the line that the script is at. Answers none where the script goes on.
     #[tactic(auto, using(rt_world::proofs::Walked::task_laws), unfolding(crate::specs::Script::goes_on))]
     fn take_line<G: Rng>(
@@ -671,8 +676,11 @@ impl Task for Script {
 
     fn poll<G: Rng>(&mut self, world: &mut World<Script, i64, G>, cx: &Cx) -> Answer<i64> {
         while let Some(line) = self.program.line(self.script, self.place) {
-            if let Some(answer) = self.take_line(world, cx, line) {
-                return answer;
+            // Most answers are pending: of these there is nothing more to copy.
+            match self.take_line(world, cx, line) {
+                None => {}
+                Some(Answer::Pending) => return Answer::Pending,
+                Some(answer) => return answer,
             }
         }
         Answer::Ready(0)
@@ -699,12 +707,19 @@ impl Task for Script {
         context.close(world);
     }
 
-    /// The line that comes next. The duration of a sleep may stand in another line of the cache than its kind.
-    fn touch(&self) -> usize {
-        let goes_on = usize::from(matches!(self.waits, Waits::Nothing));
-        match self.program.line(self.script, self.place) {
-            Some(Line::Sleep(duration)) => goes_on ^ usize::from(duration == 0),
-            _ => goes_on,
+    /// Its place, its wait and its stop, which stand in several lines of the cache; where its lines stand; and the line that comes
+    /// next with the one behind it, since a poll may do both, and the next line's duration may stand beside the one behind it.
+    fn touch(&self, depth: usize) -> usize {
+        match depth {
+            0 => {
+                let goes_on = matches!(self.waits, Waits::Nothing);
+                self.place ^ usize::from(goes_on) ^ self.stop.len()
+            }
+            1 => self.program.line_count(self.script),
+            _ => {
+                let next = self.place.wrapping_add(1);
+                usize::from(self.is_yield(self.place)) ^ usize::from(self.is_yield(next))
+            }
         }
     }
 }

@@ -6,9 +6,9 @@ ghost use Rattle.std.specs.List.{All};
 ghost use Rattle.rt_audit.specs.Journal.{last_time, rounds_in};
 ghost use Rattle.rt_audit.specs.declared.entry.Entry.{Entry};
 ghost use Rattle.rt_scenario.specs.Scenario.{scenario_of, is_runnable, CanRunLine, Whole, BrokenAt};
+ghost use Rattle.rt_scenario.specs.Texts.{text_at};
 ghost use Rattle.rt_scenario.specs.Within.{HavePlaces};
 ghost use Rattle.rt_scripts.specs.Asked.{Asked, Reads, IsAsked, Refuses, Reports, EndsAs, Ends, says_run};
-ghost use Rattle.rt_scripts.specs.Program.{text_at};
 ghost use Rattle.rt_scripts.specs.Ran.{CameOf, Chain, HasScripts, last_status, maker_of, report_of, starting, status_of};
 ghost use Rattle.rt_scripts.specs.Report.{StandsIn, reports_text};
 
@@ -34,7 +34,7 @@ const USAGE: &str = "usage: rt_sim run | gen N | load N | workers N\n";
 /// 4 where a read failed, 5 where a write failed, 6 where a run failed, which is then the last, and 7 where it was out of memory.
 /// Time never goes back in the journal, also from one run to the next (`rises`).
 /// After a failed write the outcome is as without it but for the status, and the first bytes of the text were written.
-/// Each call keeps the memory of its scenario's scripts until the process ends.
+/// Each call keeps the memory of its scenario's scripts, and of the reader's large tables, until the process ends.
 pub fn simulate_alone<S: Source, K: Sink8>(
     alloc: Global,
     words: &[String],
@@ -136,7 +136,7 @@ fn run_scenario<K: Sink8>(alloc: Global, scenario: Scenario, sink: &mut K) -> Ou
     let Ok(room) = Vec::with_capacity(alloc, lines.as_slice().len()) else {
         return nothing(alloc, 7);
     };
-    let Ok(program) = Program::new(alloc, scripts.into_inner()) else {
+    let Ok(program) = Program::new(alloc, scripts) else {
         return nothing(alloc, 7);
     };
     let first = first_runner(settings);

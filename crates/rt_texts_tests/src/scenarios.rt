@@ -17,11 +17,11 @@ fn surface(rt: HostRuntime) -> Result<(), Fail> {
             [(1usize, [].as_slice())].as_slice()
         )
     );
-    let scripts = scenario.scripts.as_slice();
+    let scripts = &scenario.scripts;
     assert!(rt; scripts.len() == 3);
-    assert!(rt; scripts[0].name.as_str() == "a");
+    assert!(rt; scripts.name(0) == "a");
     assert!(rt;
-        scripts[0].lines.as_slice()
+        scripts.lines(0)
             == [
                 Line::Sleep(0),
                 Line::Yield,
@@ -31,12 +31,11 @@ fn surface(rt: HostRuntime) -> Result<(), Fail> {
             ]
             .as_slice()
     );
-    assert!(rt; scripts[1].name.as_str() == "b_2");
+    assert!(rt; scripts.name(1) == "b_2");
     assert!(rt;
-        scripts[1].lines.as_slice()
-            == [Line::Sleep(u128::MAX), Line::End(i64::MIN), Line::EndLast].as_slice()
+        scripts.lines(1) == [Line::Sleep(u128::MAX), Line::End(i64::MIN), Line::EndLast].as_slice()
     );
-    assert!(rt; scripts[2].lines.as_slice().len() == 0);
+    assert!(rt; scripts.lines(2).len() == 0);
     Ok(())
 }
 
@@ -321,20 +320,19 @@ fn surface_of_supervision(rt: HostRuntime) -> Result<(), Fail> {
             [(2usize, [1usize, 0, 1].as_slice())].as_slice()
         )
     );
-    let scripts = scenario.scripts.as_slice();
+    let scripts = &scenario.scripts;
     assert!(rt; scripts.len() == 3);
-    assert!(rt; scripts[1].lines.as_slice() == [Line::Panic(0)].as_slice());
-    assert!(rt; scripts[1].handles.as_slice().len() == 0);
-    assert!(rt; scripts[1].words.as_slice().len() == 1);
-    assert!(rt; scripts[1].words.as_slice()[0].as_str() == "a~");
-    let main = &scripts[2];
-    assert!(rt; main.lines.as_slice() == SUPERVISED);
-    let handles = main.handles.as_slice();
+    assert!(rt; scripts.lines(1) == [Line::Panic(0)].as_slice());
+    assert!(rt; scripts.handles(1).len() == 0);
+    assert!(rt; scripts.words(1).len() == 1);
+    assert!(rt; scripts.words(1)[0].as_str() == "a~");
+    assert!(rt; scripts.lines(2) == SUPERVISED);
+    let handles = scripts.handles(2);
     assert!(rt; handles.len() == 4);
     for (handle, name) in handles.iter().zip(["B", "b_1", "self", "z"]) {
         assert!(rt; handle.as_str() == name);
     }
-    let words = main.words.as_slice();
+    let words = scripts.words(2);
     assert!(rt; words.len() == 2);
     assert!(rt; words[0].as_str() == "boom");
     assert!(rt; words[1].as_str() == "boom");
@@ -480,11 +478,10 @@ fn surface_of_shutdown(rt: HostRuntime) -> Result<(), Fail> {
     let text =
         b"script idle\ndone\nscript main\nstopped wait\nspawn g idle\nstopped B\nwait wait\nwait nothing\nstop 2147483647\nstop -2147483648 340282366920938463463374607431768211455\nstop 0 0\nstopped g\njoin wait\ndone\nrun main\n";
     let scenario = read_scenario(rt.alloc(), text)?;
-    let [_, main] = scenario.scripts.as_slice() else {
-        panic!(rt; "other scripts");
-    };
-    assert!(rt; main.lines.as_slice() == STOPPING);
-    let names = main.handles.as_slice();
+    let scripts = &scenario.scripts;
+    assert!(rt; scripts.len() == 2);
+    assert!(rt; scripts.lines(1) == STOPPING);
+    let names = scripts.handles(1);
     assert!(rt; names.len() == 4);
     for (held, name) in names.iter().zip(["B", "g", "nothing", "wait"]) {
         assert!(rt; held.as_str() == name);
@@ -577,13 +574,12 @@ fn surface_of_select(rt: HostRuntime) -> Result<(), Fail> {
     let text =
         b"script idle\ndone\nscript main\nspawn k idle\nselect z\nselect k B k\njoin B\nselect a z\ndone\nrun main\n";
     let scenario = read_scenario(rt.alloc(), text)?;
-    let [idle, main] = scenario.scripts.as_slice() else {
-        panic!(rt; "other scripts");
-    };
-    assert!(rt; idle.choices.as_slice().len() == 0);
-    assert!(rt; main.lines.as_slice() == SELECTING);
-    assert!(rt; main.choices.as_slice() == [3usize, 2, 0, 2, 1, 3].as_slice());
-    let names = main.handles.as_slice();
+    let scripts = &scenario.scripts;
+    assert!(rt; scripts.len() == 2);
+    assert!(rt; scripts.choices(0).len() == 0);
+    assert!(rt; scripts.lines(1) == SELECTING);
+    assert!(rt; scripts.choices(1) == [3usize, 2, 0, 2, 1, 3].as_slice());
+    let names = scripts.handles(1);
     assert!(rt; names.len() == 4);
     for (held, name) in names.iter().zip(["B", "a", "k", "z"]) {
         assert!(rt; held.as_str() == name);
@@ -653,10 +649,10 @@ fn sleeps(alloc: Global, steps: usize) -> Result<Vec<u8>, AllocError> {
 /// How many lines the first script has.
 fn lines_read(alloc: Global, text: &[u8]) -> Result<usize, Refusal> {
     let scenario = read_scenario(alloc, text)?;
-    match scenario.scripts.as_slice() {
-        [script, ..] => Ok(script.lines.as_slice().len()),
-        [] => Ok(0),
+    if scenario.scripts.is_empty() {
+        return Ok(0);
     }
+    Ok(scenario.scripts.lines(0).len())
 }
 
 #[test]
@@ -745,13 +741,12 @@ fn many_handles(alloc: Global, handles: u32) -> Result<String, AllocError> {
 fn ten_thousand_handles(rt: HostRuntime) -> Result<(), Fail> {
     let text = many_handles(rt.alloc(), 10_007)?;
     let scenario = read_scenario(rt.alloc(), text.as_bytes())?;
-    let [_, main] = scenario.scripts.as_slice() else {
-        panic!(rt; "other scripts");
-    };
-    let handles = main.handles.as_slice();
+    let scripts = &scenario.scripts;
+    assert!(rt; scripts.len() == 2);
+    let handles = scripts.handles(1);
     assert!(rt; handles.len() == 10_007);
     assert!(rt; handles.is_sorted());
-    let lines = main.lines.as_slice();
+    let lines = scripts.lines(1);
     assert!(rt; lines.len() == 20_014);
     assert!(rt; lines[0] == Line::Spawn(0, 0));
     for number in 0..10_007usize {
@@ -771,7 +766,7 @@ fn ten_thousand_handles(rt: HostRuntime) -> Result<(), Fail> {
 fn ten_thousand_scripts(rt: HostRuntime) -> Result<(), Fail> {
     let text = spawns(rt.alloc(), 10_000, 1, 0)?;
     let scenario = read_scenario(rt.alloc(), text.as_bytes())?;
-    assert!(rt; scenario.scripts.as_slice().len() == 10_000);
+    assert!(rt; scenario.scripts.len() == 10_000);
     assert!(rt;
         are_runs(
             scenario.runs.as_slice(),

@@ -131,9 +131,9 @@ impl<T> States<T> {
 
 impl<T: Task> States<T> {
     /// [`Task::touch`] of the state of a task, if it is in.
-    pub fn touch(&self, task: u64) -> usize {
+    pub fn touch(&self, task: u64, depth: usize) -> usize {
         match self.blocks.get(task).and_then(|block| block.first()) {
-            Some(state) => state.touch(),
+            Some(state) => state.touch(depth),
             None => 0,
         }
     }

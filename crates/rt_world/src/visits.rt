@@ -24,6 +24,9 @@ use rt_model::{Answer, Outcome};
 /// How many numbers of a round are read ahead at a time.
 const AHEAD: usize = 16;
 
+/// How deep their states are read ahead.
+const DEPTHS: usize = 3;
+
 /// What comes of a poll.
 #[derive(Drop)]
 pub enum Turnout<O> {
@@ -243,14 +246,20 @@ impl<T: Task, G: Rng> World<T, T::Output, G> {
         Ok(())
     }
 
-    /// Reads what the visits of these numbers read. In short loops, since a processor has more loads under way then.
+    /// Reads what the visits of these numbers read. In many short loops, in which no load waits for another: so a processor has
+    /// more of them under way.
     fn touch(&self, numbers: &[u64]) -> usize {
         let mut touched = 0;
         for task in numbers {
-            touched ^= self.machine.touch(*task);
+            touched ^= usize::from(self.tasks.has(*task)) ^ usize::from(self.is_flagged(*task));
         }
         for task in numbers {
-            touched ^= self.tasks.touch(*task);
+            touched ^= self.machine.touch(*task);
+        }
+        for depth in 0..DEPTHS {
+            for task in numbers {
+                touched ^= self.tasks.touch(*task, depth);
+            }
         }
         touched
     }

@@ -5,8 +5,8 @@ use Rattle.rt_scenario.specs.Scenario.{is_name}
 use Rattle.rt_scenario.proofs.CommonLines.{joins_so, where_some}
 use Rattle.rt_scenario.proofs.common.joined.Goals as goal
 
-pub returns-in-106 : goal.returns-in-106
-returns-in-106 c =
+pub returns-in-106-clause-line : goal.returns-in-106-clause-line
+returns-in-106-clause-line c =
     let text = c.args.text.now in
     let long : 5 ≤ length text = omega (arith, c.in-106.len_at_least) in
     let begins : HasBytesAt text 0 (codes "join ") = search rules in

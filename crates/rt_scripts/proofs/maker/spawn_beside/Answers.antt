@@ -5,7 +5,7 @@ use Rattle.rt_model.specs.Turns.{Plainly}
 use Rattle.rt_core.specs.Contexts.{childs, child_heard}
 use Rattle.rt_world.proofs.Walked.{kept-kept, tells-lacking, rooted-lacks}
 use Rattle.rt_scripts.specs.Making.{beside, passed_over, placed_beside}
-use Rattle.rt_scripts.specs.Program.{text_at}
+use Rattle.rt_scenario.specs.Texts.{text_at}
 use Rattle.rt_scripts.proofs.Makings.{prepares-after}
 use Rattle.rt_scripts.proofs.maker.spawn_beside.Goals as goal
 

@@ -6,7 +6,7 @@ use Rattle.rt_scenario.proofs.draft.Draft.has_too_many.Goals as goal
 
 pub returns : goal.returns
 returns c =
-    let scripts = c.self.inside.closed.items in
+    let scripts = c.self.inside.closed in
     let places = c.args.places.now in
     let total : c.tasks_at.result ≡ capped (tasks_at (capped_tasks scripts) places) =
     c.tasks_at.ensures ∙ ap (λ tasks. capped (tasks_at tasks places)) (c.as_slice.ensures.value ∙ c.self.invariant.1) in

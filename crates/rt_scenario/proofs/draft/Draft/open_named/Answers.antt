@@ -1,26 +1,27 @@
-use Rattle.std.proofs.Common.{◌≡◌, ◌∙◌, None, refl, ap, sym, length, rules}
-use Rattle.std.specs.HashMap.{get}
+use Rattle.std.proofs.Common.{◌≡◌, ◌∙◌, true, false, is_some, refl, ap, sym, length, rules}
 use Rattle.rt_scenario.specs.Scenario.{script_at}
-use Rattle.rt_scenario.specs.Words.{is_text}
 use Rattle.rt_scenario.specs.Within.{IsBegun}
-use Rattle.rt_scenario.proofs.Scripts.{none_copied}
+use Rattle.rt_scenario.proofs.Scripts.{known, none_some}
 use Rattle.rt_scenario.proofs.draft.Draft.open_named.Goals as goal
+
+pub returns-then-contains : goal.returns-then-contains
+returns-then-contains c =
+    let twice : is_some (script_at c.self.inside.closed c.args.name.now) ≡ true =
+    sym (known c.self.inside.names.keys c.args.name.now c.of-name.result c.self.inside.closed true c.if-contains.ensures c.of-name.ensures c.self.invariant.0) in
+    rw (← c.self.view_is, c.requires.name, twice) refl
 
 pub invariant_of-self : goal.invariant_of-self
 invariant_of-self c =
-    let closed = c.self.inside.closed.items in
+    let closed = c.self.inside.closed in
     let script = c.new-2.result in
     let name = c.args.name.now in
     let named : script.name ≡ name = ap (λ s. s.name) c.new-2.ensures ∙ c.of-name.ensures in
-    let none : script_at closed name ≡ None =
-    sym (c.self.invariant.0 name) ∙ ap (λ n. get is_text c.self.inside.places n) (sym c.of-name.ensures) ∙ sym c.get.ensures.value ∙ none_copied c.get.result (sym c.if-is_some.ensures) in
+    let new = sym (known c.self.inside.names.keys name c.of-name.result closed false c.if-contains.ensures c.of-name.ensures c.self.invariant.0) in
     let begun : IsBegun (length closed) script = search rules in
-    (c.self.invariant.0, c.self.invariant.1, c.self.invariant.2, ap (script_at closed) named ∙ none, c.self.invariant.4, begun)
+    (c.self.invariant.0, c.self.invariant.1, c.self.invariant.2, ap (script_at closed) named ∙ none_some (script_at closed name) new, c.self.invariant.4, begun)
 
 pub returns : goal.returns
 returns c =
-    let closed = c.self.inside.closed.items in
-    let name = c.args.name.now in
-    let none : script_at closed name ≡ None =
-    sym (c.self.invariant.0 name) ∙ ap (λ n. get is_text c.self.inside.places n) (sym c.of-name.ensures) ∙ sym c.get.ensures.value ∙ none_copied c.get.result (sym c.if-is_some.ensures) in
-    rw (← c.self.view_is, c.requires.name, none, c.new-2.ensures, c.of-name.ensures) refl
+    let new : is_some (script_at c.self.inside.closed c.args.name.now) ≡ false =
+    sym (known c.self.inside.names.keys c.args.name.now c.of-name.result c.self.inside.closed false c.if-contains.ensures c.of-name.ensures c.self.invariant.0) in
+    rw (← c.self.view_is, c.requires.name, new, c.new-2.ensures, c.of-name.ensures) refl

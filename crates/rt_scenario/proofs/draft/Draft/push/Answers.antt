@@ -7,7 +7,7 @@ use Rattle.rt_scenario.proofs.draft.Draft.push.Goals as goal
 
 pub invariant_of-self-2 : goal.invariant_of-self-2
 invariant_of-self-2 c =
-    let closed = c.self.inside.closed.items in
+    let closed = c.self.inside.closed in
     let line = read c.args.line in
     let script = c.in-Some.script in
     let pushed : c.push.new.self ≡ with_line line script = search rules in
@@ -22,5 +22,5 @@ invariant_of-self-2 c =
       subst (λ s. IsBegun (length closed) s) (sym pushed) (begun_line (length closed) script line begun free),
     )
 
-pub push-requires : goal.push-requires
-push-requires c = free_clear (length c.args.self.now.scripts) (read c.args.line) c.requires.free
+pub push-requires-clause-clear : goal.push-requires-clause-clear
+push-requires-clause-clear c = free_clear (length c.args.self.now.scripts) (read c.args.line) c.requires.free

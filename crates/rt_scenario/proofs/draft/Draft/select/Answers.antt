@@ -10,7 +10,7 @@ use Rattle.rt_scenario.proofs.draft.Draft.select.Goals as goal
 
 pub invariant_of-self-in-Some : goal.invariant_of-self-in-Some
 invariant_of-self-in-Some c =
-    let closed = c.self.inside.closed.items in
+    let closed = c.self.inside.closed in
     let script = c.in-Some.script in
     let names = words_in c.args.args in
     let there : true ≡ is_some c.args.args = search rules in

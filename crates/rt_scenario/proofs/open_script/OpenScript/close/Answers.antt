@@ -27,7 +27,7 @@ returns c =
     let places = map (place_of (in_order names)) names in
     let for_lines : c.as_slice.result.now ≡ places = c.as_slice.ensures.value ∙ c.in_ok-handles.ensures.places in
     let written : c.of.result ≡ c.place_lines.new.lines =
-    c.of.ensures ∙ c.in_ok-lines.ensures ∙ written_over c.place_lines.new.lines _ c.self.inside.lines.len (c.place_lines.auto.lines ∙ c.as_mut_slice.ensures.len) in
+    c.of.ensures ∙ written_over c.place_lines.new.lines _ c.self.inside.lines.len (c.place_lines.auto.lines ∙ c.as_mut_slice.ensures.len) in
     let made : c.of.result ≡ map (placed_at places) lines =
     written ∙ c.place_lines.ensures ∙ ap (λ ps. map (placed_at ps) c.as_mut_slice.result.now) for_lines ∙ ap (map (placed_at places)) c.as_mut_slice.ensures.value in
     let placed_lines : c.of.result ≡ map (placed (in_order names)) (map (named_by names) lines) = made ∙ placed_named names (in_order names) lines c.self.invariant.0 in

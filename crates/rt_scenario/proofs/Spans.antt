@@ -3,7 +3,7 @@ use Rattle.std.proofs.Common.{◌≡◌, ℕ, List, ◌++◌, ◌∷◌, [], ◌
 use Rattle.std.proofs.lemmas.List.{drop-append-le, drop_at, get_or-map, length-append, length-drop, map-append, take-append-le, take_all}
 use Rattle.std.proofs.lemmas.List.Elements.{All-get_or, All-head, All-push, All-tail, All-weaker}
 use Rattle.std.specs.List.{All}
-use Rattle.rt_scripts.specs.Lists.{IsSpan}
+use Rattle.rt_scenario.specs.Lists.{IsSpan}
 
 module _ {V : Type 0} where
   pub span_within : (items : List V) (spans : List (ℕ × ℕ)) (k : ℕ) (d : ℕ × ℕ) → All (IsSpan items) spans → k < length spans → IsSpan items (get_or spans k d)

@@ -1,6 +1,6 @@
 use Rattle.std.proofs.Common.{◌≡◌, ◌++◌, ◌∷◌, [], length, rules}
-use Rattle.rt_scripts.proofs.Spans.{lists_pushed}
-use Rattle.rt_scripts.proofs.lists.Lists.push.Goals as goal
+use Rattle.rt_scenario.proofs.Spans.{lists_pushed}
+use Rattle.rt_scenario.proofs.lists.Lists.push.Goals as goal
 
 pub returns-clause-ok : goal.returns-clause-ok
 returns-clause-ok g c =

@@ -1,21 +1,22 @@
-// The name of a script.
+// Names of scripts, handles and signals.
 ghost use Rattle.std.specs.Prelude.{◌≡◌, ◌≤◌, length};
 
+use std::cmp::Ordering;
 use std::hash::{Hash, Hasher};
 use std::marker::Model;
 use std::str;
 
-/// The greatest number of its bytes.
-const MOST: usize = 32;
+/// The greatest number of bytes of a name.
+pub const NAME_LEN: usize = 32;
 
-/// The name of a script, in place: a scenario may have many. Contracts see its bytes.
+/// The name of a script, a handle or a signal, in place: a scenario may have many. Contracts see its bytes.
 #[derive(Debug, Drop)]
-pub struct ScriptName {
+pub struct ShortName {
     length: u8,
-    bytes: [u8; MOST],
+    bytes: [u8; NAME_LEN],
 }
 
-impl Model for ScriptName {
+impl Model for ShortName {
     ghost use Rattle.std.specs.Prelude.{◌≤◌, ℕ, List, take, IsUtf8};
 
     ghost Value = { List ℕ };
@@ -25,26 +26,26 @@ impl Model for ScriptName {
     ghost invariant = { λ n. (n.length ≤ 32) × IsUtf8 (take n.length n.bytes) };
 }
 
-impl ScriptName {
+impl ShortName {
     /// This name, of at most 32 bytes.
-    pub(crate) fn of(name: &str) -> ScriptName
+    pub(crate) fn of(name: &str) -> ShortName
         requires { length name.now ≤ 32 }
         ensures { result ≡ name.now }
     {
         let name = name.as_bytes();
-        let mut bytes = [0u8; MOST];
+        let mut bytes = [0u8; NAME_LEN];
         bytes[..name.len()].copy_from_slice(name);
-        ScriptName {
+        ShortName {
             length: name.len() as u8,
             bytes,
         }
     }
 
     /// The same name.
-    pub(crate) fn copy(&self) -> ScriptName
+    pub(crate) fn copy(&self) -> ShortName
         ensures { result ≡ self.now }
     {
-        ScriptName {
+        ShortName {
             length: self.length,
             bytes: self.bytes,
         }
@@ -59,7 +60,7 @@ impl ScriptName {
     }
 }
 
-impl PartialEq for ScriptName {
+impl PartialEq for ShortName {
     ghost use Rattle.std.specs.Prelude.{nat_eq};
     ghost use Rattle.std.specs.Cmp.{partial_equiv_from_equiv};
     ghost use Rattle.std.specs.Cmp.Lexicographic.{pointwise, nat_list_eq_equiv};
@@ -68,18 +69,50 @@ impl PartialEq for ScriptName {
 
     ghost laws = { partial_equiv_from_equiv nat_list_eq_equiv };
 
-    fn eq(&self, other: &ScriptName) -> bool {
+    fn eq(&self, other: &ShortName) -> bool {
         self.as_str() == other.as_str()
     }
 }
 
-impl Eq for ScriptName {
+impl Eq for ShortName {
     ghost use Rattle.std.specs.Cmp.Lexicographic.{nat_list_eq_equiv};
 
     ghost laws = { nat_list_eq_equiv };
 }
 
-impl Hash for ScriptName {
+impl PartialOrd for ShortName {
+    ghost use Rattle.std.specs.Prelude.{Some};
+    ghost use Rattle.std.specs.Cmp.Lexicographic.{texts_po};
+    ghost use Rattle.rt_base.specs.Attributes.{text_cmp};
+
+    ghost partial_cmp = { λ x y. Some (text_cmp x y) };
+
+    ghost laws = { texts_po };
+
+    fn partial_cmp(&self, other: &ShortName) -> Option<Ordering> {
+        Some(self.cmp(other))
+    }
+}
+
+impl Ord for ShortName {
+    ghost use Rattle.std.specs.Cmp.Lexicographic.{nat_list_cmp_total, texts_ties};
+    ghost use Rattle.rt_base.specs.Attributes.{text_cmp};
+    ghost use mathlib.Core.Path.{refl};
+
+    ghost cmp = { text_cmp };
+
+    ghost total = { nat_list_cmp_total };
+
+    ghost matches_partial_cmp = { λ x y. refl };
+
+    ghost matches_eq = { texts_ties };
+
+    fn cmp(&self, other: &ShortName) -> Ordering {
+        self.as_str().cmp(other.as_str())
+    }
+}
+
+impl Hash for ShortName {
     ghost use Rattle.std.specs.Hash as fed;
     ghost use Rattle.std.specs.Hash.{same_Alike};
     ghost use Rattle.std.specs.Cmp.Lexicographic.{bytes_decides};

@@ -1,5 +1,4 @@
-//! Many lists in little memory.
-
+// Many lists in little memory.
 ghost use Rattle.std.specs.Prelude.{◌≡◌, ◌<◌, ◌++◌, ◌∷◌, [], length, slice_index_or, IfOk, OnErr, OnOk};
 
 use rt_base::NoMemory;
@@ -7,7 +6,7 @@ use std::alloc::Global;
 use std::marker::Model;
 
 /// Lists whose items stand one behind another. Contracts see the lists.
-#[derive(Drop)]
+#[derive(Debug, Drop)]
 pub struct Lists<V> {
     items: Vec<V>,
     // from where and up to where each list stands
@@ -15,9 +14,9 @@ pub struct Lists<V> {
 }
 
 impl<V> Model for Lists<V> {
-    ghost use Rattle.std.specs.Prelude.{List, length, map, slice_range};
+    ghost use Rattle.std.specs.Prelude.{List, map, slice_range};
     ghost use Rattle.std.specs.List.{All};
-    ghost use Rattle.rt_scripts.specs.Lists.{IsSpan};
+    ghost use Rattle.rt_scenario.specs.Lists.{IsSpan};
 
     ghost Value = { List (List V) };
 
@@ -27,8 +26,20 @@ impl<V> Model for Lists<V> {
 }
 
 #[tactic(auto, using(crate::proofs::Spans::span_laws))]
+impl<V> Lists<V> {
+    /// The items of the list at a place.
+    pub fn list(&self, place: usize) -> &[V]
+        requires { place < length self.now }
+        ensures { result.now ≡ slice_index_or self.now place [] }
+    {
+        let (first, past) = self.spans[place];
+        &self.items[first..past]
+    }
+}
+
+#[tactic(auto, using(crate::proofs::Spans::span_laws))]
 impl<V: Copy> Lists<V> {
-    /// No lists. It takes room for so many lists, of so many items together.
+    /// No lists. It takes room for so many, of so many items together.
     pub fn with_capacity(alloc: Global, lists: usize, items: usize) -> Result<Lists<V>, NoMemory>
         ensures { IfOk result (λ lists. lists ≡ []) }
     {
@@ -48,14 +59,5 @@ impl<V: Copy> Lists<V> {
         self.items.extend_from_slice(items)?;
         self.spans.push_reserved((first, self.items.len()));
         Ok(())
-    }
-
-    /// The items of the list at a place.
-    pub fn list(&self, place: usize) -> &[V]
-        requires { place < length self.now }
-        ensures { result.now ≡ slice_index_or self.now place [] }
-    {
-        let (first, past) = self.spans[place];
-        &self.items[first..past]
     }
 }

@@ -1,0 +1,136 @@
+// The scripts of a scenario.
+ghost use Rattle.std.specs.Prelude.{◌≡◌, ◌<◌, ◌++◌, ◌∷◌, ◌==◌, [], IfOk, OnErr, OnOk, length};
+ghost use Rattle.rt_scenario.specs.Texts.{text_at};
+
+use crate::line::Line;
+use crate::lists::Lists;
+use crate::scenario::ScriptText;
+use crate::short_name::ShortName;
+use rt_base::{Items, NoMemory, Text};
+use std::alloc::Global;
+use std::marker::Model;
+
+/// What a script has beside its lines.
+#[derive(Debug, Drop)]
+pub struct Parts {
+    name: ShortName,
+    handles: Items<ShortName>,
+    words: Items<Text>,
+    choices: Items<usize>,
+}
+
+/// The scripts of a scenario, in order.
+///
+/// The lines of all stand in one block, since many scripts are read in turn, and mostly nothing but a line of each. Contracts
+/// see each script as a whole.
+#[derive(Debug, Drop)]
+pub struct ScriptTexts {
+    parts: Vec<Parts>,
+    lines: Lists<Line>,
+}
+
+impl Model for ScriptTexts {
+    ghost use Rattle.std.specs.Prelude.{◌≡◌, List, length};
+    ghost use Rattle.rt_scenario.specs.Texts.{wholes};
+    ghost use Rattle.rt_scenario.specs.declared.scenario.ScriptText.{ScriptText};
+
+    ghost Value = { List ScriptText };
+
+    ghost view = { λ s. wholes s.parts.items s.lines };
+
+    ghost invariant = { λ s. length s.lines ≡ length s.parts.items };
+}
+
+#[tactic(auto, using(crate::proofs::Texts::text_laws))]
+impl ScriptTexts {
+    /// No scripts. It takes room for so many, of so many lines together.
+    pub(crate) fn with_capacity(
+        alloc: Global,
+        scripts: usize,
+        lines: usize,
+    ) -> Result<ScriptTexts, NoMemory>
+        ensures { IfOk result (λ texts. texts ≡ []) }
+    {
+        Ok(ScriptTexts {
+            parts: Vec::with_capacity(alloc, scripts)?,
+            lines: Lists::with_capacity(alloc, scripts, lines)?,
+        })
+    }
+
+    /// Puts a script behind the others. Answers the room of its lines, which were copied.
+    pub(crate) fn push(&mut self, script: ScriptText) -> Result<Vec<Line>, NoMemory>
+        ensures ok { OnOk result (self.new ≡ self.old ++ script ∷ []) }
+        ensures err { OnErr result (self.new ≡ self.old) }
+    {
+        let ScriptText {
+            name,
+            lines,
+            handles,
+            words,
+            choices,
+        } = script;
+        self.parts.reserve(1)?;
+        self.lines.push(lines.as_slice())?;
+        self.parts.push_reserved(Parts {
+            name,
+            handles,
+            words,
+            choices,
+        });
+        Ok(lines.into_inner())
+    }
+
+    /// How many scripts there are.
+    pub fn len(&self) -> usize
+        ensures { result ≡ length self.now }
+    {
+        self.parts.len()
+    }
+
+    /// Whether there is none.
+    pub fn is_empty(&self) -> bool
+        ensures { result ≡ (length self.now == 0) }
+    {
+        self.len() == 0
+    }
+
+    /// The name of the script at a place.
+    pub fn name(&self, place: usize) -> &str
+        requires { place < length self.now }
+        ensures { result.now ≡ (text_at self.now place).name }
+    {
+        self.parts[place].name.as_str()
+    }
+
+    /// The lines of the script at a place.
+    pub fn lines(&self, place: usize) -> &[Line]
+        requires { place < length self.now }
+        ensures { result.now ≡ (text_at self.now place).lines }
+    {
+        self.lines.list(place)
+    }
+
+    /// The names of the handles and signals of the script at a place.
+    pub fn handles(&self, place: usize) -> &[ShortName]
+        requires { place < length self.now }
+        ensures { result.now ≡ (text_at self.now place).handles }
+    {
+        self.parts[place].handles.as_slice()
+    }
+
+    /// The words of the panics of the script at a place.
+    pub fn words(&self, place: usize) -> &[Text]
+        requires { place < length self.now }
+        ensures { result.now ≡ (text_at self.now place).words }
+    {
+        self.parts[place].words.as_slice()
+    }
+
+    /// The places of the names that the choices of the script at a place take.
+    pub fn choices(&self, place: usize) -> &[usize]
+        requires { place < length self.now }
+        ensures { result.now ≡ (text_at self.now place).choices }
+    {
+        self.parts[place].choices.as_slice()
+    }
+}
