@@ -15,8 +15,8 @@ label_of (Named label) = label
 
 -- its fields
 abbrev pub fields_of : FieldsKind → List (List ℕ)
-fields_of (OfTask number label) = number ∷ label ∷ []
-fields_of (OfTaskInPlace number label) = number ∷ label ∷ []
+fields_of (OfTask label number) = number ∷ label ∷ []
+fields_of (OfTaskInPlace label number) = number ∷ label ∷ []
 fields_of (Listed fields) = fields
 
 -- the numbers of a round

@@ -6,4 +6,3 @@ pub mod Digest
 pub mod Journal
 pub mod TaskEvent
 pub mod EntryParts
-pub mod LabelText

@@ -6,12 +6,12 @@ ghost use Rattle.rt_audit.specs.Lines.{line_of, start_text, called_text};
 use crate::line::{
     add_choices, add_fields, add_numbered, add_numbers, add_optional, add_space, add_word,
 };
-use crate::{
-    AnswerKind, Call, CallReply, Caller, EventFields, EventLabel, FinishCause, Moment, Order,
-    Packed,
-};
-use rt_base::{Choice, Items, Nanos, NoMemory};
+use crate::{AnswerKind, Call, CallReply, EventFields, EventLabel, FinishCause, Moment, Order};
+use rt_base::{Choice, Items, Nanos, NoMemory, Packed, PackedOption};
 use std::alloc::Global;
+
+/// The number of the task that makes a call; none where the maker of the root does.
+pub type Caller = PackedOption;
 
 /// An entry of a journal. Times are nanoseconds since the epoch.
 #[derive(Debug, Drop)]
@@ -105,7 +105,7 @@ impl Entry {
                 cycle.nanos(),
                 next.get(),
             ),
-            Entry::Call { by, call, reply } => add_call(alloc, text, by.task(), call, reply),
+            Entry::Call { by, call, reply } => add_call(alloc, text, by.get(), call, reply),
             Entry::Event { label, fields } => {
                 label.add_to(text)?;
                 add_fields(alloc, text, fields)

@@ -11,10 +11,11 @@ use std::marker::Model;
 /// How fields are kept. Those of a visit's event stand in place, but for a long label, since most events are of visits.
 #[derive(Debug, Drop)]
 pub enum FieldsKind {
-    /// The task's number in sixteen bytes, and its label.
-    OfTask { number: [u8; 16], label: Label },
+    /// The task's number in sixteen bytes, and its label. The number stands last, since it is read again at once: so its low
+    /// half lies within one of the words by which an entry is copied.
+    OfTask { label: Label, number: [u8; 16] },
     /// The same with a label that stands in place too.
-    OfTaskInPlace { number: [u8; 16], label: ShortLabel },
+    OfTaskInPlace { label: ShortLabel, number: [u8; 16] },
     Listed(Items<Items<u8>>),
 }
 

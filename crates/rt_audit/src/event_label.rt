@@ -5,7 +5,7 @@ ghost use Rattle.rt_audit.specs.TaskEvent.{task_event};
 
 use crate::Label;
 use crate::line::add_word;
-use rt_base::{NoMemory, Text};
+use rt_base::NoMemory;
 use std::alloc::Global;
 use std::marker::Model;
 
@@ -43,10 +43,10 @@ impl EventLabel {
     }
 
     /// Any label.
-    pub fn named(alloc: Global, label: Text) -> Result<EventLabel, NoMemory>
-        ensures { IfOk result (λ kept. kept ≡ label) }
+    pub fn named(alloc: Global, label: &str) -> Result<EventLabel, NoMemory>
+        ensures { IfOk result (λ kept. kept ≡ label.now) }
     {
-        let label = Label::new(alloc, label)?;
+        let label = Label::of(alloc, label)?;
         Ok(EventLabel {
             kind: LabelKind::Named(label),
         })

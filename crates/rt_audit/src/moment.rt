@@ -2,8 +2,7 @@
 
 ghost use Rattle.std.specs.Prelude.{◌≡◌};
 
-use crate::packed::Packed;
-use rt_base::Nanos;
+use rt_base::{Nanos, Packed};
 use std::marker::Model;
 
 /// The numbers of a half.

@@ -8,3 +8,4 @@ pub mod Layout
 pub mod Noted
 pub mod Options
 pub mod Outside
+pub mod SmallText

@@ -52,6 +52,21 @@ pub fn prefixed_name(alloc: Global, prefix: &str, name: &str) -> Result<String, 
     Ok(full)
 }
 
+/// Whether a child of a node with the label `prefix` may have this label.
+///
+/// Answers `BadLabel` where `label` isn't valid, and then `Reserved` where the full label begins with `runtime`.
+pub fn check_child_label(prefix: &str, label: &str) -> Result<(), MetricError>
+    ensures bad_label { (result ≡ Err MetricError.BadLabel) ↔ (is_label label.now ≡ false) }
+    ensures reserved { (result ≡ Err MetricError.Reserved) ↔ (IsTrue (is_label label.now) × IsTrue (is_reserved (prefixed prefix.now label.now))) }
+    ensures causes { IfErr result (λ kind. (kind ≡ MetricError.BadLabel) ⊎ (kind ≡ MetricError.Reserved)) }
+{
+    validate_label(label)?;
+    if is_reserved_name(prefix, label) {
+        return Err(MetricError::Reserved);
+    }
+    Ok(())
+}
+
 /// The full label of a child.
 ///
 /// Answers `Metric(BadLabel)` where `label` isn't valid, and then `Metric(Reserved)` where the full
@@ -62,10 +77,7 @@ pub fn child_label(alloc: Global, prefix: &str, label: &str) -> Result<String, E
     ensures reserved { (result ≡ Err (Error.Metric MetricError.Reserved)) ↔ (IsTrue (is_label label.now) × IsTrue (is_reserved (prefixed prefix.now label.now))) }
     ensures causes { IfErr result (λ error. (error ≡ Error.NoMemory) ⊎ (error ≡ Error.Metric MetricError.BadLabel) ⊎ (error ≡ Error.Metric MetricError.Reserved)) }
 {
-    validate_label(label)?;
-    if is_reserved_name(prefix, label) {
-        return Err(Error::Metric(MetricError::Reserved));
-    }
+    check_child_label(prefix, label)?;
     Ok(prefixed_name(alloc, prefix, label)?)
 }
 

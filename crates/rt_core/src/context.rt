@@ -24,13 +24,13 @@ ghost use Rattle.rt_core.specs.declared.stop.Stopping.TheVariants.{Begins};
 
 use crate::handle::HandleOf;
 use crate::signals::SignalKind;
+use crate::small_name::SmallName;
 use crate::stop::Stopping;
 use crate::{NoPoller, Signal, Sleep, Stop, Timeout};
 use rand_core::Rng;
 use rt_audit::Auditor;
 use rt_base::{
-    Error, Execution, Items, MAX_TIME, MetricError, Name, Nanos, NoMemory, Refused, Text,
-    add_attribute, clone_attributes, prefixed_name, validate_label,
+    Error, Execution, MAX_TIME, MetricError, Name, Nanos, NoMemory, Refused, validate_label,
 };
 use rt_world::{Stopped, World};
 use std::alloc::Global;
@@ -42,7 +42,7 @@ use std::marker::Model;
 /// Contracts see its node, its name and its hint.
 pub struct Context {
     node: u64,
-    name: Name,
+    name: SmallName,
     execution: Execution,
     alloc: Global,
 }
@@ -57,7 +57,7 @@ impl Model for Context {
 
 impl Context {
     /// A context on a node, with this name.
-    fn on(alloc: Global, node: u64, name: Name) -> Self
+    fn on(alloc: Global, node: u64, name: SmallName) -> Self
         ensures { result ≡ context_on node name }
     {
         Context {
@@ -72,11 +72,7 @@ impl Context {
     pub(crate) fn root(alloc: Global) -> Self
         ensures { result ≡ root_context }
     {
-        let name = Name {
-            label: Text::of(String::new(alloc)),
-            attributes: Items::of(Vec::new(alloc)),
-        };
-        Context::on(alloc, 0, name)
+        Context::on(alloc, 0, SmallName::empty(alloc))
     }
 
     /// A copy of its label and attributes. `NoMemory` alone is refused.
@@ -84,7 +80,7 @@ impl Context {
         ensures ok { IfOk result (λ name. name ≡ self.now.name) }
         ensures err { IfErr result (λ error. error ≡ Error.NoMemory) }
     {
-        Ok(self.name.clone_value()?)
+        Ok(self.name.to_name(self.alloc)?)
     }
 
     /// The context with this attribute; a key that is there gets this value. A refusal hands the context back as it was.
@@ -102,18 +98,14 @@ impl Context {
         }
         let Context {
             node,
-            name: Name { label, attributes },
+            name,
             execution,
             alloc,
         } = self;
-        let mut attributes = attributes.into_inner();
-        let added = add_attribute(alloc, &mut attributes, key, value);
+        let (name, added) = name.with_attribute(alloc, key, value);
         let back = Context {
             node,
-            name: Name {
-                label,
-                attributes: Items::of(attributes),
-            },
+            name,
             execution,
             alloc,
         };
@@ -160,7 +152,7 @@ impl Context {
         ensures err { IfErr result (λ e. IsRefused world.old world.new (Plainly (Child self.now.node label.now)) e) }
         ensures steps { Goes (childs self.now label.now) world.old world.new result tt }
     {
-        let Ok(name) = self.child_name(label) else {
+        let Ok(name) = self.name.child_name(self.alloc, label) else {
             world.lack();
             return Err(Error::NoMemory);
         };
@@ -377,16 +369,5 @@ impl Context {
             timeout,
             stage: Stopping::Begins,
         }
-    }
-
-    /// The name of a child.
-    fn child_name(&self, label: &str) -> Result<Name, NoMemory>
-        ensures { IfOk result (λ name. name ≡ child_name self.now.name label.now) }
-    {
-        let label = prefixed_name(self.alloc, self.name.label.as_str(), label)?;
-        Ok(Name {
-            label: Text::of(label),
-            attributes: clone_attributes(self.alloc, self.name.attributes.as_slice())?,
-        })
     }
 }

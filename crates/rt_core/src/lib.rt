@@ -19,6 +19,7 @@ mod select;
 mod signal_tests;
 mod signals;
 mod sleep;
+mod small_name;
 mod stop;
 #[cfg(test)]
 mod tests;
@@ -39,7 +40,7 @@ pub use rt_base::{
     Cell, Error, Execution, Items, MAX_TIME, MetricError, Name, Nanos, NoMemory, Poll, Refused,
     Text, spawn_cell,
 };
-pub use rt_world::{Answer, Cx, Outcome, Poller, ResultReceiver, ResultSender, Task, World};
+pub use rt_world::{Answer, Cx, Depth, Outcome, Poller, ResultReceiver, ResultSender, Task, World};
 pub use run_error::RunError;
 pub use runner::Runner;
 pub use select::{Select, SelectOf};

@@ -17,7 +17,7 @@ use crate::Machine;
 use crate::cause::Cause;
 use crate::room::take_places;
 use rt_audit::{Call, CallReply, Caller, Entry, Label, Moment, Refusal};
-use rt_base::{Error, MetricError, Nanos, NoMemory, Text, child_label};
+use rt_base::{Error, MetricError, Nanos, NoMemory, SmallText, check_child_label};
 use rt_super::{Alarms, NOBODY};
 
 #[tactic(auto, using(crate::proofs::Counts::count_laws, crate::proofs::Totals::place_laws, crate::proofs::Nodes::node_laws, crate::proofs::Refused::refused_laws, crate::proofs::Owed::owed_laws), unfolding(rt_model::specs::Effects::after))]
@@ -68,7 +68,7 @@ impl Machine {
     }
 
     /// The full label of a child of a node, or why there is none; without a cause memory was lacking.
-    fn full_label(&self, node: u64, label: &str) -> Result<Text, Option<Cause>>
+    fn full_label(&self, node: u64, label: &str) -> Result<SmallText, Option<Cause>>
         ensures live { IfOk result (λ full. is_live self.now.told.state.nodes node ≡ true) }
         ensures fine { IfOk result (λ full. label_refusal (label_at self.now.told.state.labels node) label.now ≡ None) }
         ensures full { IfOk result (λ full. full ≡ prefixed (label_at self.now.told.state.labels node) label.now) }
@@ -77,12 +77,15 @@ impl Machine {
         if !self.tree.lives(node) {
             return Err(Some(Cause::UnknownToken));
         }
-        let alloc = *self.ready.allocator();
-        match child_label(alloc, self.labels.get(node), label) {
-            Ok(full) => Ok(Text::of(full)),
-            Err(Error::Metric(MetricError::BadLabel)) => Err(Some(Cause::BadLabel)),
-            Err(Error::Metric(MetricError::Reserved)) => Err(Some(Cause::Reserved)),
-            Err(_) => Err(None),
+        let prefix = self.labels.get(node);
+        match check_child_label(prefix, label) {
+            Ok(()) => {}
+            Err(MetricError::BadLabel) => return Err(Some(Cause::BadLabel)),
+            Err(_) => return Err(Some(Cause::Reserved)),
+        }
+        match SmallText::prefixed(*self.ready.allocator(), prefix, label) {
+            Ok(full) => Ok(full),
+            Err(NoMemory) => Err(None),
         }
     }
 
@@ -112,7 +115,7 @@ impl Machine {
         by: Option<u64>,
         node: u64,
         call: Call,
-        full: Text,
+        full: SmallText,
     ) -> Result<(u64, bool), Error>
         requires calling { MayCall self.old.told.state by }
         requires live { is_live self.old.told.state.nodes node ≡ true }

@@ -30,7 +30,7 @@ fn leave_node(tree: &mut Tree, marks: &mut Table<Mark>, task: u64, settles: bool
     ensures spare { marks.new.spare ≡ marks.old.spare }
 {
     if let Some(mark) = marks.get(task) {
-        tree.release(mark.node);
+        tree.release(mark.node.get());
     }
     if settles {
         marks.remove(task);
@@ -78,7 +78,7 @@ impl Machine {
         ensures { result ≡ is_ended_at self.now.told.state.nodes (find task self.now.told.state.marks) }
     {
         match self.marks.get(task) {
-            Some(mark) => self.tree.has_ended(mark.node),
+            Some(mark) => self.tree.has_ended(mark.node.get()),
             None => true,
         }
     }
@@ -136,8 +136,9 @@ impl Machine {
         let Some(mark) = self.marks.get(task) else {
             unreachable!()
         };
-        self.journal.push(Entry::NodeEnd { node: mark.node });
-        self.tree.end(mark.node);
+        let node = mark.node.get();
+        self.journal.push(Entry::NodeEnd { node });
+        self.tree.end(node);
         let closes = is_missing(own);
         let before = end_result(&mut self.results, task, None, closes);
         let (waiter, place) = waiter_of(before);

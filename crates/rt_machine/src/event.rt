@@ -5,7 +5,7 @@ ghost use Rattle.std.specs.Int.{w32, cast_unsigned, to_be_bytes};
 ghost use Rattle.rt_model.specs.Events.{process_task};
 
 use rt_audit::{Entry, EventFields, EventLabel};
-use rt_base::{Items, NoMemory, Text};
+use rt_base::{Items, NoMemory};
 use std::alloc::Global;
 
 /// The event of a visit, of these fields.
@@ -27,7 +27,7 @@ pub fn stop_event(alloc: Global, value: i32) -> Result<Entry, NoMemory>
     field.extend_from_slice(&value.to_be_bytes())?;
     let mut fields = Vec::new(alloc);
     fields.push(Items::of(field))?;
-    let label = EventLabel::named(alloc, Text::of("stop".to_owned(alloc)?))?;
+    let label = EventLabel::named(alloc, "stop")?;
     Ok(Entry::Event {
         label,
         fields: EventFields::listed(Items::of(fields)),
@@ -38,7 +38,7 @@ pub fn stop_event(alloc: Global, value: i32) -> Result<Entry, NoMemory>
 pub fn stopped_event(alloc: Global) -> Result<Entry, NoMemory>
     ensures { IfOk result (λ entry. entry ≡ Entry.Event (codes "stopped") []) }
 {
-    let label = EventLabel::named(alloc, Text::of("stopped".to_owned(alloc)?))?;
+    let label = EventLabel::named(alloc, "stopped")?;
     let fields = EventFields::listed(Items::of(Vec::new(alloc)));
     Ok(Entry::Event { label, fields })
 }
@@ -49,7 +49,7 @@ pub fn draw_event(alloc: Global, name: &str) -> Result<Entry, NoMemory>
 {
     let mut fields = Vec::new(alloc);
     fields.push(Items::of(name.as_bytes().to_vec(alloc)?))?;
-    let label = EventLabel::named(alloc, Text::of("rand".to_owned(alloc)?))?;
+    let label = EventLabel::named(alloc, "rand")?;
     Ok(Entry::Event {
         label,
         fields: EventFields::listed(Items::of(fields)),

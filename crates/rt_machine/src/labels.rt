@@ -5,7 +5,7 @@ ghost use Rattle.rt_model.specs.Effects.{label_at};
 ghost use Rattle.rt_model.specs.Events.{task_fields};
 
 use rt_audit::{EventFields, Label, ShortLabel};
-use rt_base::{NoMemory, Text};
+use rt_base::{NoMemory, SmallText};
 use std::alloc::Global;
 use std::marker::Model;
 
@@ -21,7 +21,7 @@ pub enum NodeLabel {
 #[derive(Drop)]
 pub struct Labels {
     labels: Vec<NodeLabel>,
-    longs: Vec<Text>,
+    longs: Vec<SmallText>,
 }
 
 impl Model for Labels {
@@ -89,13 +89,13 @@ impl Labels {
     }
 
     /// Adds the label of the next node.
-    pub fn push(&mut self, label: Text)
+    pub fn push(&mut self, label: SmallText)
         requires { 0 < self.old.spare }
         ensures items { self.new.items ≡ self.old.items ++ (self.old.count, label) ∷ [] }
         ensures count { self.new.count ≡ self.old.count + 1 }
     {
-        match ShortLabel::of(label.as_str()) {
-            Some(short) => self.push_short(short),
+        match label.short() {
+            Some(short) => self.push_short(short.copy()),
             None => self.push_long(label),
         }
     }
@@ -108,7 +108,7 @@ impl Labels {
         self.labels.push_reserved(NodeLabel::Short(label));
     }
 
-    fn push_long(&mut self, label: Text)
+    fn push_long(&mut self, label: SmallText)
         requires spare { 0 < self.old.spare }
         requires long { 22 < length label }
         ensures items { self.new.items ≡ self.old.items ++ (self.old.count, label) ∷ [] }

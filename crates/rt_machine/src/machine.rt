@@ -24,10 +24,8 @@ use crate::results::may_abort;
 use crate::room::{take_entries, take_places};
 use crate::shuffle::shuffle;
 use rand_core::Rng;
-use rt_audit::{
-    AnswerKind, Entry, EventFields, FinishCause, Journal, Moment, Order, Packed, ShortLabel,
-};
-use rt_base::{Items, Nanos, NoMemory, Text};
+use rt_audit::{AnswerKind, Entry, EventFields, FinishCause, Journal, Moment, Order, ShortLabel};
+use rt_base::{Items, Nanos, NoMemory, Packed, SmallText};
 use rt_model::{Begin, Mark, Table, TaskResult};
 use rt_super::{Alarms, Tree};
 use std::alloc::Global;
@@ -80,7 +78,7 @@ fn first_node(alloc: Global) -> Result<(Tree, Labels), NoMemory>
     let tree = Tree::new(alloc)?;
     let mut labels = Labels::new(alloc);
     labels.reserve(1)?;
-    labels.push(Text::of(String::new(alloc)));
+    labels.push(SmallText::empty());
     Ok((tree, labels))
 }
 
@@ -283,8 +281,8 @@ impl Machine {
         let Some(mark) = self.marks.get(task) else {
             return 0;
         };
-        let label = self.labels.get(mark.node).len();
-        let lives = usize::from(self.tree.lives(mark.node));
+        let label = self.labels.get(mark.node.get()).len();
+        let lives = usize::from(self.tree.lives(mark.node.get()));
         label ^ lives ^ usize::from(may_abort(&self.results, task))
     }
 
@@ -295,7 +293,7 @@ impl Machine {
         ensures event { IfOk result (λ entry. entry ≡ Entry.Event process_task (task_fields task (task_label self.now.told.state task))) }
     {
         let fields = match self.marks.get(task) {
-            Some(mark) => self.labels.visit_fields(task, mark.node)?,
+            Some(mark) => self.labels.visit_fields(task, mark.node.get())?,
             None => EventFields::of_short_task(task, ShortLabel::empty()),
         };
         Ok(task_event(fields))

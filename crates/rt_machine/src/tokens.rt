@@ -15,7 +15,7 @@ use crate::results::{may_abort, note_abort, places_of, settle};
 use crate::room::take_places;
 use crate::wakes::wake_flagged;
 use rt_audit::{Call, CallReply, Caller, Entry};
-use rt_base::{Error, NoMemory};
+use rt_base::{Error, NoMemory, Packed};
 use rt_model::{Mark, Outcome, Table, TaskResult};
 use rt_super::Tree;
 
@@ -104,7 +104,7 @@ impl Machine {
         });
         self.labels.repeat(node);
         self.marks.push(Mark {
-            node,
+            node: Packed::new(node),
             left: false,
             flagged: false,
         });

@@ -4,9 +4,9 @@ use rt_base::{
     Addr, BLOB_PAGE_SIZE, BlobLayout, BlobVersion, Cell, Choice, DEFAULT_BLOB_LAYOUT,
     DEFAULT_BLOB_VERSION, Env, Error, Event, Execution, Failed, IoKind, Ip, Items, ListSink,
     ListSource, MAX_TIME, MetricError, Name, NoEnv, NoMemory, Poll, ReadOptions, Refused, SafeSink,
-    SafeSource, Sink8, Source, StdSink, StdSource, Text, Unread, WriteOptions, add_attribute,
-    child_label, prefixed_name, read_retried, read_whole, spawn_cell, validate_label,
-    write_retried, write_whole,
+    SafeSource, Sink8, SmallText, Source, StdSink, StdSource, Text, Unread, WriteOptions,
+    add_attribute, check_child_label, child_label, prefixed_name, read_retried, read_whole,
+    spawn_cell, validate_label, write_retried, write_whole,
 };
 use std::alloc::Global;
 use std::io;
@@ -548,9 +548,37 @@ fn refused_labels(rt: HostRuntime) {
         assert!(rt; refused, "at {label}");
     }
     for &(prefix, label, kind) in REFUSED_LABELS {
+        assert!(rt; check_child_label(prefix, label) == Err(kind), "at {label}");
         let answer = child_label(rt.alloc(), prefix, label);
         let refused = failed(answer, Error::Metric(kind));
         assert!(rt; refused, "at {label}");
+    }
+}
+
+/// A prefix, a name, the prefixed name, and whether it stands in place.
+const SMALL_TEXTS: &[(&str, &str, &str, bool)] = &[
+    ("", "", "", true),
+    ("", "c", "c", true),
+    ("p", "c", "p_c", true),
+    ("abcdefghijk", "abcdefghij", "abcdefghijk_abcdefghij", true),
+    (
+        "abcdefghijk",
+        "abcdefghijk",
+        "abcdefghijk_abcdefghijk",
+        false,
+    ),
+];
+
+/// Whether a prefixed name has this text, and stands in place.
+fn is_kept(text: SmallText, full: &str, in_place: bool) -> bool {
+    text.as_str() == full && text.short().is_some() == in_place
+}
+
+#[test]
+fn small_texts(rt: HostRuntime) {
+    for &(prefix, name, full, in_place) in SMALL_TEXTS {
+        let text = SmallText::prefixed(rt.alloc(), prefix, name).expect(&rt, "room");
+        assert!(rt; is_kept(text, full, in_place), "at {full}");
     }
 }
 

@@ -125,7 +125,6 @@ fn event(rt: &impl Abort, alloc: Global, label: &str, sizes: &[usize]) -> Event 
 }
 
 fn entry(rt: &impl Abort, alloc: Global, label: &str, sizes: &[usize]) -> Entry {
-    let label = Text::of(label.to_owned(alloc).expect(rt, "room"));
     let label = EventLabel::named(alloc, label).expect(rt, "room");
     let fields = EventFields::listed(zeros(rt, alloc, sizes));
     Entry::Event { label, fields }

@@ -3,9 +3,9 @@
 use crate::digest::{agree_on_an_event, in_a_list};
 use rt_audit::{
     AnswerKind, Call, CallReply, Caller, Entry, EventFields, EventLabel, FinishCause, Journal,
-    Label, Moment, Order, Packed, Payload, Refusal, ShortLabel, error_code,
+    Label, Moment, Order, Payload, Refusal, ShortLabel, error_code,
 };
-use rt_base::{Choice, Error, Items, NoMemory, Text};
+use rt_base::{Choice, Error, Items, NoMemory, Packed};
 use std::alloc::Global;
 use std::mem::size_of;
 use std::process::Abort;
@@ -82,8 +82,7 @@ fn add_calls(rt: &impl Abort, alloc: Global, text: &mut String) {
 
 /// Adds the line of a new child.
 fn add_child(rt: &impl Abort, alloc: Global, text: &mut String, node: u64, ended: bool) {
-    let name = Text::of("p_c".to_owned(alloc).expect(rt, "room"));
-    let label = Label::new(alloc, name).expect(rt, "room");
+    let label = Label::of(alloc, "p_c").expect(rt, "room");
     let call = Call::Child { node: 0, label };
     let reply = CallReply::NodeAt { node, ended };
     add_call(rt, alloc, text, Some(4), call, reply);
@@ -368,7 +367,6 @@ fn fields_are_shown(rt: &impl Abort, alloc: Global) -> bool {
 
 /// A label of its own text.
 fn label(rt: &impl Abort, alloc: Global, text: &str) -> EventLabel {
-    let text = Text::of(text.to_owned(alloc).expect(rt, "room"));
     EventLabel::named(alloc, text).expect(rt, "room")
 }
 

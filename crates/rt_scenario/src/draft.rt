@@ -22,7 +22,7 @@ use crate::numbers;
 use crate::open_script::OpenScript;
 use crate::scenario::{RunLine, Scenario, ScriptText, Settings};
 use crate::script_texts::ScriptTexts;
-use crate::short_name::ShortName;
+use crate::short_name::{ShortName, short_name};
 use crate::split::{is_passed_over, only_word, run_words, split_word, test_text, two_words};
 use crate::stop::Stop;
 use crate::tasks::{MAX_TASKS, tasks_at, tasks_of};
@@ -310,7 +310,7 @@ impl Draft {
         requires short { length name.now ≤ 32 }
         ensures { Answers (script_row self.old name.now) result self.new }
     {
-        let name = ShortName::of(name);
+        let name = short_name(name);
         if self.names.contains(&name) {
             return Err(Stop::Breaks(Kind::Twice));
         }
@@ -620,7 +620,7 @@ impl Draft {
         ensures found { result ≡ or_missing (script_at self.now.scripts name.now) }
         ensures there { IfOk result (λ place. place < length self.now.scripts) }
     {
-        match self.names.get_index_of(&ShortName::of(name)) {
+        match self.names.get_index_of(&short_name(name)) {
             Some(place) => Ok(place),
             None => Err(Kind::Missing),
         }

@@ -8,7 +8,7 @@ ghost use Rattle.rt_scenario.specs.Indexed.{in_order, numbered_from, with_name};
 ghost use Rattle.rt_scenario.specs.Scripts.{place_of};
 
 use crate::let_go::let_go;
-use crate::short_name::ShortName;
+use crate::short_name::{ShortName, short_name};
 use indexmap::IndexSet;
 use rt_base::NoMemory;
 use std::alloc::Global;
@@ -47,7 +47,7 @@ impl Handles {
         ensures refused { OnErr result (self.new ≡ self.old) }
         ensures absent { OnErr result (list_any (bytes_eq name.now) self.old ≡ false) }
     {
-        let (index, _) = self.names.insert_full(ShortName::of(name))?;
+        let (index, _) = self.names.insert_full(short_name(name))?;
         Ok(index)
     }
 

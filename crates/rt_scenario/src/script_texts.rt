@@ -1,6 +1,6 @@
 // The scripts of a scenario.
 ghost use Rattle.std.specs.Prelude.{◌≡◌, ◌<◌, ◌++◌, ◌∷◌, ◌==◌, [], IfOk, OnErr, OnOk, length};
-ghost use Rattle.rt_scenario.specs.Texts.{text_at};
+ghost use Rattle.rt_scenario.specs.Texts.{choices_in, handles_in, text_at, words_in};
 
 use crate::line::Line;
 use crate::lists::Lists;
@@ -14,9 +14,41 @@ use std::marker::Model;
 #[derive(Debug, Drop)]
 pub struct Parts {
     name: ShortName,
+    more: Option<Box<More>>,
+}
+
+/// What a script has beside its lines and its name. Most have none of it, and so it is behind a pointer.
+#[derive(Debug, Drop)]
+pub struct More {
     handles: Items<ShortName>,
     words: Items<Text>,
     choices: Items<usize>,
+}
+
+impl More {
+    /// What a script has of this, where that is anything.
+    fn kept(
+        alloc: Global,
+        handles: Items<ShortName>,
+        words: Items<Text>,
+        choices: Items<usize>,
+    ) -> Result<Option<Box<More>>, NoMemory>
+        ensures handles { IfOk result (λ more. handles_in more ≡ handles) }
+        ensures words { IfOk result (λ more. words_in more ≡ words) }
+        ensures choices { IfOk result (λ more. choices_in more ≡ choices) }
+    {
+        match (handles.as_slice(), words.as_slice(), choices.as_slice()) {
+            ([], [], []) => Ok(None),
+            _ => {
+                let more = More {
+                    handles,
+                    words,
+                    choices,
+                };
+                Ok(Some(Box::new(alloc, more)?))
+            }
+        }
+    }
 }
 
 /// The scripts of a scenario, in order.
@@ -69,14 +101,10 @@ impl ScriptTexts {
             words,
             choices,
         } = script;
+        let more = More::kept(*self.parts.allocator(), handles, words, choices)?;
         self.parts.reserve(1)?;
         self.lines.push(lines.as_slice())?;
-        self.parts.push_reserved(Parts {
-            name,
-            handles,
-            words,
-            choices,
-        });
+        self.parts.push_reserved(Parts { name, more });
         Ok(lines.into_inner())
     }
 
@@ -115,7 +143,10 @@ impl ScriptTexts {
         requires { place < length self.now }
         ensures { result.now ≡ (text_at self.now place).handles }
     {
-        self.parts[place].handles.as_slice()
+        match &self.parts[place].more {
+            Some(more) => more.handles.as_slice(),
+            None => &[],
+        }
     }
 
     /// The words of the panics of the script at a place.
@@ -123,7 +154,10 @@ impl ScriptTexts {
         requires { place < length self.now }
         ensures { result.now ≡ (text_at self.now place).words }
     {
-        self.parts[place].words.as_slice()
+        match &self.parts[place].more {
+            Some(more) => more.words.as_slice(),
+            None => &[],
+        }
     }
 
     /// The places of the names that the choices of the script at a place take.
@@ -131,6 +165,9 @@ impl ScriptTexts {
         requires { place < length self.now }
         ensures { result.now ≡ (text_at self.now place).choices }
     {
-        self.parts[place].choices.as_slice()
+        match &self.parts[place].more {
+            Some(more) => more.choices.as_slice(),
+            None => &[],
+        }
     }
 }

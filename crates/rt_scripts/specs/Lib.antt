@@ -1,4 +1,5 @@
 pub mod Asked
+pub mod Holdings
 pub mod Making
 pub mod Program
 pub mod Ran

@@ -5,6 +5,7 @@
 mod choosing;
 mod drawing;
 mod held;
+mod holdings;
 mod maker;
 mod outcome;
 mod program;

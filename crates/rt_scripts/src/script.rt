@@ -19,13 +19,13 @@ ghost use Rattle.rt_scripts.specs.Script.{Next, Script, started, sleeps, yields,
 
 use crate::Program;
 use crate::held::Held;
+use crate::holdings::Holdings;
 use rt_core::utils::reschedule;
 use rt_core::{
-    Answer, Context, Cx, Error, Handle, NoMemory, Outcome, Poll, Poller, Refused, Reschedule, Rng,
-    Signal, Sleep, Stop, Task, World,
+    Answer, Context, Cx, Depth, Error, Handle, NoMemory, Outcome, Poll, Poller, Refused,
+    Reschedule, Rng, Signal, Sleep, Stop, Task, World,
 };
 use rt_scenario::Line;
-use rt_world::Tasks;
 use std::marker::Model;
 use std::mem;
 
@@ -57,7 +57,7 @@ pub struct Script {
     // None or one. A token, and so apart from `waits`, which each line lets go; and in a block of its own, since a script is moved at
     // each visit.
     stop: Vec<Stop>,
-    held: Tasks<Held>,
+    held: Holdings,
     pub(crate) context: Context,
 }
 
@@ -83,7 +83,7 @@ impl Script {
         requires { script < length program }
         ensures { result ≡ started program script context }
     {
-        let held = Tasks::new(program.allocator(), 0);
+        let held = Holdings::new(program.allocator());
         let stop = Vec::new(program.allocator());
         Script {
             program,
@@ -709,14 +709,14 @@ impl Task for Script {
 
     /// Its place, its wait and its stop, which stand in several lines of the cache; where its lines stand; and the line that comes
     /// next with the one behind it, since a poll may do both, and the next line's duration may stand beside the one behind it.
-    fn touch(&self, depth: usize) -> usize {
+    fn touch(&self, depth: Depth) -> usize {
         match depth {
-            0 => {
+            Depth::State => {
                 let goes_on = matches!(self.waits, Waits::Nothing);
                 self.place ^ usize::from(goes_on) ^ self.stop.len()
             }
-            1 => self.program.line_count(self.script),
-            _ => {
+            Depth::Behind => self.program.line_count(self.script),
+            Depth::Further => {
                 let next = self.place.wrapping_add(1);
                 usize::from(self.is_yield(self.place)) ^ usize::from(self.is_yield(next))
             }
@@ -779,11 +779,7 @@ fn give_stop_up<G: Rng>(world: &mut World<Script, i64, G>, stop: Option<Stop>)
 
 /// Gives up what it waits for. Answers what is left of what the names hold.
 #[tactic(auto, using(rt_world::proofs::Walked::task_laws))]
-fn stop_waiting<G: Rng>(
-    world: &mut World<Script, i64, G>,
-    waits: Waits,
-    held: Tasks<Held>,
-) -> Tasks<Held>
+fn stop_waiting<G: Rng>(world: &mut World<Script, i64, G>, waits: Waits, held: Holdings) -> Holdings
     requires { MayCall world.old.told.state world.old.out }
     ensures left { result.items ≡ left_by waits held.items }
     ensures first { result.first ≡ held.first }
@@ -808,14 +804,14 @@ fn stop_waiting<G: Rng>(
 
 /// Gives up all that names hold, in order of the names.
 #[tactic(auto, using(rt_world::proofs::Walked::loop_laws))]
-fn release_all<G: Rng>(world: &mut World<Script, i64, G>, held: Tasks<Held>)
+fn release_all<G: Rng>(world: &mut World<Script, i64, G>, held: Holdings)
     requires { MayCall world.old.told.state world.old.out }
     ensures kept { Kept G.stream world.old world.new }
     ensures lacked { world.new.lacked ≡ world.old.lacked }
     ensures steps { (next : Last Script ℤ) (end : AnyWorld Script ℤ G) → Spent next world.new end → Spent (releases_all held.items next) world.old end }
 {
     let mut held = held;
-    while let Some(at) = held.ends_next(None) {
+    while let Some(at) = held.ends_next() {
         let Some(one) = held.take(at) else {
             unreachable!();
         };

@@ -6,4 +6,4 @@ use Rattle.rt_super.specs.declared.children.ChildrenKind.TheVariants.{Nobody, On
 abbrev pub children_of : ChildrenKind → List ℕ
 children_of Nobody = []
 children_of (One places) = places
-children_of (Many places) = places.items
+children_of (Many places) = places.value.items

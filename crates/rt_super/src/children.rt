@@ -5,12 +5,13 @@ use rt_base::NoMemory;
 use std::alloc::Global;
 use std::marker::Model;
 
-/// How places are kept. One alone stands in place, since most nodes have one child at most.
+/// How places are kept. One alone stands in place, since most nodes have one child at most; a list stands behind a pointer, so that
+/// a node is small.
 #[derive(Drop)]
 pub enum ChildrenKind {
     Nobody,
     One([usize; 1]),
-    Many(Vec<usize>),
+    Many(Box<Vec<usize>>),
 }
 
 /// The places of a node's children, the eldest first. Contracts see their list.
@@ -61,7 +62,7 @@ impl Children {
             ChildrenKind::One(one) => {
                 let both = [one[0], child];
                 let places = Vec::from_slice(alloc, &both)?;
-                self.kind = ChildrenKind::Many(places);
+                self.kind = ChildrenKind::Many(Box::new(alloc, places)?);
             }
             ChildrenKind::Many(places) => places.push(child)?,
         }

@@ -37,7 +37,7 @@ pub fn end_subtree(
         if !ended[at] {
             ended[at] = true;
             let place = &nodes[at];
-            flag(place.task, flags);
+            flag(place.task.get(), flags);
             push_children(place.children.as_slice(), pending);
         }
     }

@@ -9,7 +9,7 @@ use crate::children::Children;
 use crate::ending::end_subtree;
 use crate::history::{Change, History};
 use crate::node::Node;
-use rt_base::{Error, NoMemory};
+use rt_base::{Error, NoMemory, PackedOption};
 use std::alloc::Global;
 use std::collections::VecDeque;
 use std::marker::Model;
@@ -152,7 +152,7 @@ impl Tree {
         }
         let ended = self.was_ended(node);
         self.history = History::after(&self.history, &Change::Registered(node, task));
-        self.nodes[node as usize].task = Some(task);
+        self.nodes[node as usize].task = PackedOption::of(Some(task));
         Ok(ended)
     }
 
@@ -161,7 +161,7 @@ impl Tree {
         ensures { result ≡ live_task self.now node }
     {
         match self.nodes.get(node as usize) {
-            Some(place) if place.live => place.task,
+            Some(place) if place.live => place.task.get(),
             _ => None,
         }
     }
@@ -227,9 +227,9 @@ impl Tree {
         reserve_flags(&mut self.flags, places)?;
         adopt(&mut self.nodes, parent, number)?;
         self.nodes.push_reserved(Node {
-            parent,
             live: true,
-            task: None,
+            parent: PackedOption::of(parent),
+            task: PackedOption::of(None),
             children: Children::new(),
         });
         self.ended.push_reserved(ended);

@@ -12,7 +12,7 @@ use crate::slots::Slots;
 use crate::table::Table;
 use crate::told_alarms::ToldAlarms;
 use rt_audit::{Call, CallReply};
-use rt_base::{NoMemory, Text, prefixed_name};
+use rt_base::{NoMemory, Packed, Text, prefixed_name};
 use rt_model::{Mark, Outcome, TaskResult};
 use std::alloc::Global;
 
@@ -112,7 +112,7 @@ pub fn call_marks(marks: &mut Table<Mark>, call: &Call, reply: &CallReply) -> Re
     match (call, reply) {
         (Call::Spawn { node }, CallReply::TaskAt { task, .. }) => {
             let mark = Mark {
-                node: *node,
+                node: Packed::new(*node),
                 left: false,
                 flagged: false,
             };

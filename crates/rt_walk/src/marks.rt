@@ -35,7 +35,7 @@ pub fn is_ended_at(nodes: &Nodes, marks: &Table<Mark>, task: u64) -> bool
     ensures { result ≡ is_ended_at nodes.now (find task marks.now) }
 {
     match marks.get(task) {
-        Some(mark) => nodes.is_ended(mark.node),
+        Some(mark) => nodes.is_ended(mark.node.get()),
         None => true,
     }
 }
@@ -98,7 +98,7 @@ pub fn release(nodes: &mut Nodes, marks: &Table<Mark>, task: u64)
     ensures { nodes.new ≡ released (find task marks.now) nodes.old }
 {
     if let Some(mark) = marks.get(task) {
-        nodes.release(mark.node);
+        nodes.release(mark.node.get());
     }
 }
 

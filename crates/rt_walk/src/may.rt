@@ -49,7 +49,7 @@ impl Walker {
                 cycle.nanos(),
             ),
             Entry::Call { by, call, reply } => {
-                self.may_call(by.task())
+                self.may_call(by.get())
                     && self.answers(call, reply)?
                     && are_of(self.announced.as_slice(), call, reply)
             }
@@ -230,7 +230,7 @@ impl Walker {
     {
         match &self.stage {
             Stage::Leaving { task, .. } => match self.marks.get(*task) {
-                Some(mark) => mark.node == node,
+                Some(mark) => mark.node.get() == node,
                 None => false,
             },
             Stage::Cleaning { .. } => node == 0,

@@ -37,7 +37,7 @@ impl Walker {
     {
         match entry {
             Entry::Start { .. } => self.start(),
-            Entry::Call { by, call, reply } => self.call(by.task(), call, reply)?,
+            Entry::Call { by, call, reply } => self.call(by.get(), call, reply)?,
             Entry::Event { label, fields } => self.event(label, fields)?,
             Entry::Wake { task } => self.wake(*task)?,
             Entry::Draw { value } => self.draw(*value)?,

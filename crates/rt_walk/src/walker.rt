@@ -178,7 +178,7 @@ impl Walker {
         ensures { result.now ≡ task_label self.now task }
     {
         match self.marks.get(task) {
-            Some(mark) => self.label_at(mark.node),
+            Some(mark) => self.label_at(mark.node.get()),
             None => "",
         }
     }

@@ -2,9 +2,9 @@
 
 use rt_audit::{
     AnswerKind, Call, CallReply, Caller, Entry, EventFields, EventLabel, FinishCause, Label,
-    Moment, Order, Packed, Payload, Refusal,
+    Moment, Order, Payload, Refusal,
 };
-use rt_base::{Choice, Error, Items, MetricError, Nanos, NoMemory, Text};
+use rt_base::{Choice, Error, Items, MetricError, Nanos, NoMemory, Packed};
 use rt_journals::{number, signed, words_of};
 use std::alloc::Global;
 
@@ -192,7 +192,7 @@ fn call_event(alloc: Global, label: &str, values: &[&str]) -> Result<Option<Entr
             return Ok(None);
         }
     }
-    let label = EventLabel::named(alloc, Text::of(label.to_owned(alloc)?))?;
+    let label = EventLabel::named(alloc, label)?;
     let fields = fields_of(alloc, values)?;
     Ok(Some(Entry::Event { label, fields }))
 }
@@ -300,7 +300,7 @@ fn call_alone(word: &str) -> Option<Call> {
 }
 
 fn child(alloc: Global, node: &str, label: &str) -> Result<Option<Call>, NoMemory> {
-    let label = Label::new(alloc, Text::of(label.to_owned(alloc)?))?;
+    let label = Label::of(alloc, label)?;
     Ok(match number(node) {
         Some(node) => Some(Call::Child { node, label }),
         None => None,

@@ -3,6 +3,7 @@
 
 mod calls;
 mod cx;
+mod depth;
 mod draws;
 mod ends;
 mod outcome;
@@ -19,6 +20,7 @@ mod visits;
 mod world;
 
 pub use cx::Cx;
+pub use depth::Depth;
 pub use outcome::Outcome;
 pub use poller::Poller;
 pub use receiving::{ResultReceiver, ResultSender, polled};

@@ -6,8 +6,8 @@ ghost use Rattle.rt_model.specs.Lists.{find, without};
 ghost use Rattle.rt_model.specs.Turns.{with_task};
 ghost use Rattle.rt_world.specs.Seats.{numbers_of, with_top};
 
-use crate::Task;
 use crate::tasks::Tasks;
+use crate::{Depth, Task};
 use rt_base::NoMemory;
 use std::alloc::Global;
 use std::marker::Model;
@@ -131,7 +131,7 @@ impl<T> States<T> {
 
 impl<T: Task> States<T> {
     /// [`Task::touch`] of the state of a task, if it is in.
-    pub fn touch(&self, task: u64, depth: usize) -> usize {
+    pub fn touch(&self, task: u64, depth: Depth) -> usize {
         match self.blocks.get(task).and_then(|block| block.first()) {
             Some(state) => state.touch(depth),
             None => 0,

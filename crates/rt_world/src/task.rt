@@ -1,6 +1,6 @@
 //! Tasks: what a type does whose values run in a world.
 
-use crate::{Cx, Outcome, World};
+use crate::{Cx, Depth, Outcome, World};
 use rand_core::Rng;
 use rt_model::Answer;
 
@@ -42,10 +42,9 @@ pub trait Task: Outcome + Sized {
         ensures steps { Spent (steps.last self world.old.told.state.clock.time (number_of world.old.out)) world.old world.new };
 
     /// Reads what the next poll reads, so that it stands in a cache then. A round calls it for some tasks before it visits
-    /// them: for all of them at depth 0, the state itself, then at depth 1, what that leads to, and then at depth 2, what lies
-    /// behind that. What it answers is of no account, but it must come of what was read, since a load for nothing is left out. By
-    /// default it reads nothing.
-    fn touch(&self, _depth: usize) -> usize {
+    /// them, for all of them at one depth and then at the next. What it answers is of no account, but it must come of what was
+    /// read, since a load for nothing is left out. By default it reads nothing.
+    fn touch(&self, _depth: Depth) -> usize {
         0
     }
 }

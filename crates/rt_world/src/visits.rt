@@ -15,7 +15,7 @@ ghost use Rattle.rt_world.specs.Follows.{Agrees, AgreesAtLeast};
 ghost use Rattle.rt_world.specs.Seats.{put_top};
 ghost use Rattle.rt_world.specs.Visits.{StandsAfter, TurnoutStands, AgreesAfter, TurnoutAgrees, EndedAgrees, IsFresh, Passes, RoundStands};
 
-use crate::{Cx, Task, World};
+use crate::{Cx, Depth, Task, World};
 use rand_core::Rng;
 use rt_audit::{AnswerKind, Entry, FinishCause};
 use rt_base::Text;
@@ -24,8 +24,8 @@ use rt_model::{Answer, Outcome};
 /// How many numbers of a round are read ahead at a time.
 const AHEAD: usize = 16;
 
-/// How deep their states are read ahead.
-const DEPTHS: usize = 3;
+/// How deep their states are read, in turn.
+const DEPTHS: &[Depth] = &[Depth::State, Depth::Behind, Depth::Further];
 
 /// What comes of a poll.
 #[derive(Drop)]
@@ -246,8 +246,8 @@ impl<T: Task, G: Rng> World<T, T::Output, G> {
         Ok(())
     }
 
-    /// Reads what the visits of these numbers read. In many short loops, in which no load waits for another: so a processor has
-    /// more of them under way.
+    /// Reads what the visits of these numbers read. In many short loops, in each of which loads wait mostly for those of an earlier
+    /// loop alone: so a processor has more of them under way.
     fn touch(&self, numbers: &[u64]) -> usize {
         let mut touched = 0;
         for task in numbers {
@@ -256,9 +256,9 @@ impl<T: Task, G: Rng> World<T, T::Output, G> {
         for task in numbers {
             touched ^= self.machine.touch(*task);
         }
-        for depth in 0..DEPTHS {
+        for depth in DEPTHS {
             for task in numbers {
-                touched ^= self.tasks.touch(*task, depth);
+                touched ^= self.tasks.touch(*task, *depth);
             }
         }
         touched

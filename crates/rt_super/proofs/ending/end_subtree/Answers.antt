@@ -52,8 +52,8 @@ loop-at-preserved-then-not-ended-at c =
     let next = walk_mark _ _ _ _ _ _ _ (is_marked (set c.loop-at.ended c.in-Some.at true)) _ _ w c.requires.sound.older c.if-not-ended-at.true (λ m. is_marked-set c.loop-at.ended c.in-Some.at m (omega arith)) in
     let more = marks_set-set c.loop-at.ended c.in-Some.at (omega arith) c.if-not-ended-at.true in
     record {
-      walk = rw (c.push_children.ensures.pushed, c.as_slice.ensures, children, c.flag.ensures.noted, ← task) next;
-      few = few_flags c.loop-at.flags.items c.index-nodes-at.result.task _ _ _ c.flag.ensures.noted more c.loop-at.invariant.few;
+      walk = rw (c.push_children.ensures.pushed, c.as_slice.ensures, children, c.flag.ensures.noted, c.get.ensures, ← task) next;
+      few = few_flags c.loop-at.flags.items c.get.result _ _ _ c.flag.ensures.noted more c.loop-at.invariant.few;
       visits = c.push_children.ensures.room ∙ c.in-Some.ensures.capacity ∙ c.loop-at.invariant.visits;
       room = c.flag.ensures.room ∙ c.loop-at.invariant.room;
     }

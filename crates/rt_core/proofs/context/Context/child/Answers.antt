@@ -11,7 +11,7 @@ pub returns-in-Ok-child-clause-steps : goal.returns-in-Ok-child-clause-steps
 unfolding childs
 returns-in-Ok-child-clause-steps g c =
     rw (← c.self.view_is)
-    (child-tells c.args.world.now c.child.new.self _ (Ok c.on.result) c.self.inside.node c.args.label.now (Ok (c.in-Ok-child.node, c.in-Ok-child.field-0-1)) c.in-Ok-child.ensures.ok tt (rw (c.on.ensures, c.in-Ok.ensures, ← c.self.view_is) refl))
+    (child-tells c.args.world.now c.child.new.self _ (Ok c.on.result) c.self.inside.node c.args.label.now (Ok (c.in-Ok-child.node, c.in-Ok-child.field-0-1)) c.in-Ok-child.ensures.ok tt (rw (c.on.ensures, c.in-Ok.ensures) refl))
 
 pub returns-in-Err-clause-steps : goal.returns-in-Err-clause-steps
 unfolding childs

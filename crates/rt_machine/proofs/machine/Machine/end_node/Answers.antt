@@ -15,13 +15,30 @@ use Rattle.rt_machine.proofs.Over.{not-both}
 use Rattle.rt_machine.proofs.Ended.{node-ended}
 use Rattle.rt_machine.proofs.machine.Machine.end_node.Goals as goal
 
+pub wake_those-requires-clause-owed : goal.wake_those-requires-clause-owed
+wake_those-requires-clause-owed c =
+    let s = c.self.inside.journal.told.state in
+    let i = c.self.invariant in
+    let task = c.args.task in
+    let own = c.args.own in
+    let node = c.get-node.result in
+    let phase : s.phase ≡ Leaving task own (left_of s.phase) = rw (← c.self.view_is) at c.requires.phase in
+    let pushed_state = ap (λ (t : Told). t.state) c.push.ensures.told ∙ node-ended s task own (left_of s.phase) node phase in
+    let ended : c.end.new.self ≡ with_end c.self.inside.tree node = c.end.ensures.ended in
+    let due = due_all c.end.new.self.flags c.self.inside.marks.items in
+    let due_is : due_all (flagged_by s.nodes node) s.marks ≡ due = rw (i.nodes_are, i.marks_are, ended) refl in
+    let waiter = c.waiter_of-waiter.result.0 in
+    let wakes_waiter : those waiter ≡ ended_waiting None (is_none own) (find task s.results) = rw (c.waiter_of-waiter.ensures.waiter, i.results_are, ← c.is_missing-closes.ensures) c.end_result-before.ensures.waiting in
+    let owed : c.push.new.self.told.state.owed ≡ due ++ those waiter = ap (λ (x : State). x.owed) pushed_state ∙ rw (due_is, wakes_waiter) refl in
+    ([], ap (λ (x : State). x.owed) (c.wake_flags.ensures.state (those waiter) owed) ∙ sym (append-nil (those waiter)))
+
 pub overflow_sub-self : goal.overflow_sub-self
 overflow_sub-self c =
     let s = c.self.inside.journal.told.state in
     let i = c.self.invariant in
     let task = c.args.task in
     let own = c.args.own in
-    let node = c.in-Some.mark.node in
+    let node = c.get-node.result in
     let phase : s.phase ≡ Leaving task own (left_of s.phase) = rw (← c.self.view_is) at c.requires.phase in
     let pushed_state = ap (λ (t : Told). t.state) c.push.ensures.told ∙ node-ended s task own (left_of s.phase) node phase in
     let ended : c.end.new.self ≡ with_end c.self.inside.tree node = c.end.ensures.ended in
@@ -52,7 +69,7 @@ invariant_of-self c =
     let i = c.self.invariant in
     let task = c.args.task in
     let own = c.args.own in
-    let node = c.in-Some.mark.node in
+    let node = c.get-node.result in
     let phase : s.phase ≡ Leaving task own (left_of s.phase) = rw (← c.self.view_is) at c.requires.phase in
     let pushed_state = ap (λ (t : Told). t.state) c.push.ensures.told ∙ node-ended s task own (left_of s.phase) node phase in
     let ended : c.end.new.self ≡ with_end c.self.inside.tree node = c.end.ensures.ended in
@@ -121,7 +138,7 @@ returns-clause-gone c =
     let i = c.self.invariant in
     let task = c.args.task in
     let own = c.args.own in
-    let node = c.in-Some.mark.node in
+    let node = c.get-node.result in
     let phase : s.phase ≡ Leaving task own (left_of s.phase) = rw (← c.self.view_is) at c.requires.phase in
     let pushed_state = ap (λ (t : Told). t.state) c.push.ensures.told ∙ node-ended s task own (left_of s.phase) node phase in
     let ended : c.end.new.self ≡ with_end c.self.inside.tree node = c.end.ensures.ended in

@@ -26,8 +26,8 @@ invariant_of-self-2 c =
     let empty = rw (← c.self.view_is) at c.requires.rooted in
     let nodes = count_kept _ _ _ _ _ c.self.invariant.right ∙ length-map c.self.inside.nodes.items (λ x. x.parent) in
     record {
-      sound = rw (c.push_reserved.ensures.items, c.push_reserved-2.ensures.items, c.reserve-2.ensures.items) (sound_added c.adopt.new.nodes.items c.self.inside.nodes.items _ c.self.inside.ended.items c.args.ended c.len-number.result c.self.invariant.sound same lists c.new.ensures (omega (arith, c.len-number.ensures)) (older_of c.args.parent (length c.self.inside.nodes.items) (λ x e. omega (arith, live_within _ _ _ _ _ c.self.invariant.right x (live x e), count_states c.self.inside.nodes.items))) (unmarked_of c.self.inside.ended.items c.self.inside.history.told c.args.parent c.self.invariant.right.ended lasts) (λ e. ⊎_elim (λ on. inl on) (λ none. inr (sym nodes ∙ ap length none)) (empty e)));
-      right = rw (c.push_reserved.ensures.items, c.push_reserved-2.ensures.items, c.reserve-2.ensures.items, c.reserve_flags.ensures.items, c.after-self-inside.ensures) (right_added c.adopt.new.nodes.items c.self.inside.nodes.items _ c.self.inside.ended.items c.args.ended c.self.inside.flags.items c.self.inside.history.told c.len-number.result c.self.invariant.right same states_same refl refl c.self.invariant.sound.lengths (omega (arith, c.len-number.ensures)) lasts);
+      sound = rw (c.push_reserved.ensures.items, c.of.ensures, c.of-2.ensures, c.push_reserved-2.ensures.items, c.reserve-2.ensures.items) (sound_added c.adopt.new.nodes.items c.self.inside.nodes.items _ c.self.inside.ended.items c.args.ended c.len-number.result c.self.invariant.sound same lists c.new.ensures (omega (arith, c.len-number.ensures)) (older_of c.args.parent (length c.self.inside.nodes.items) (λ x e. omega (arith, live_within _ _ _ _ _ c.self.invariant.right x (live x e), count_states c.self.inside.nodes.items))) (unmarked_of c.self.inside.ended.items c.self.inside.history.told c.args.parent c.self.invariant.right.ended lasts) (λ e. ⊎_elim (λ on. inl on) (λ none. inr (sym nodes ∙ ap length none)) (empty e)));
+      right = rw (c.push_reserved.ensures.items, c.of.ensures, c.of-2.ensures, c.push_reserved-2.ensures.items, c.reserve-2.ensures.items, c.reserve_flags.ensures.items, c.after-self-inside.ensures) (right_added c.adopt.new.nodes.items c.self.inside.nodes.items _ c.self.inside.ended.items c.args.ended c.self.inside.flags.items c.self.inside.history.told c.len-number.result c.self.invariant.right same states_same refl refl c.self.invariant.sound.lengths (omega (arith, c.len-number.ensures)) lasts);
       flags = rw (c.push_reserved-2.ensures.items, c.reserve-2.ensures.items, c.reserve_flags.ensures.items) (omega (arith, c.self.invariant.flags, marks_set-push c.self.inside.ended.items c.args.ended));
       pending = c.reserve-3.ensures.items ∙ c.self.invariant.pending;
       visits = rw (c.push_reserved.ensures.items, length_push) (omega (arith, count, c.in_ok-reserve-3.ensures.ok));

@@ -14,10 +14,10 @@ invariant_of-self c =
     let parents_same = set_keeps (λ z. z.parent) c.self.inside.nodes.items c.args.node x y c.index_mut.ensures.value refl in
     let children_same = set_keeps (λ z. z.children) c.self.inside.nodes.items c.args.node x y c.index_mut.ensures.value refl in
     record {
-      sound = rw (parents_same, children_same) c.self.invariant.sound;
-      right = rw (parents_same, c.after-self-inside.ensures) (right_changed (λ z. record z { task = Some c.args.task }) c.self.inside.nodes.items _ _ _ c.args.node x y (record { number = λ z. refl; parent = λ z. refl; born = λ z. refl }) (λ z live task. rw live refl) c.self.invariant.right within c.index_mut.ensures.value);
+      sound = rw (c.of.ensures, parents_same, children_same) c.self.invariant.sound;
+      right = rw (c.of.ensures, parents_same, c.after-self-inside.ensures) (right_changed (λ z. record z { task = Some c.args.task }) c.self.inside.nodes.items _ _ _ c.args.node x y (record { number = λ z. refl; parent = λ z. refl; born = λ z. refl }) (λ z live task. rw live refl) c.self.invariant.right within c.index_mut.ensures.value);
       flags = c.self.invariant.flags;
       pending = c.self.invariant.pending;
-      visits = rw (length-set c.self.inside.nodes.items c.args.node y) c.self.invariant.visits;
-      room = rw (length-set c.self.inside.nodes.items c.args.node y) c.self.invariant.room;
+      visits = rw (c.of.ensures, length-set c.self.inside.nodes.items c.args.node y) c.self.invariant.visits;
+      room = rw (c.of.ensures, length-set c.self.inside.nodes.items c.args.node y) c.self.invariant.room;
     }
