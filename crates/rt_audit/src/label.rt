@@ -33,6 +33,7 @@ impl Label {
     }
 
     /// The text.
+    #[inline]
     pub fn as_str(&self) -> &str
         ensures { result.now ≡ self.now }
     {

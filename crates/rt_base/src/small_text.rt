@@ -1,5 +1,5 @@
 // A text that needs no memory where it is short.
-ghost use Rattle.std.specs.Prelude.{◌≡◌, ◌<◌, [], length, IfOk, IfSome, IfNone};
+ghost use Rattle.std.specs.Prelude.{◌≡◌, ◌<◌, [], length, IfOk, IfSome, IfNone, string_bytes};
 ghost use Rattle.rt_base.specs.Label.{prefixed};
 
 use crate::label::prefixed_name;
@@ -38,23 +38,21 @@ impl Model for SmallText {
 
 impl SmallText {
     /// No text.
+    #[inline]
     pub fn empty() -> SmallText
         ensures { result ≡ [] }
     {
-        SmallText {
-            kind: TextKind::Short(ShortText::empty()),
-        }
+        SmallText::in_place(ShortText::empty())
     }
 
     /// A copy of this text.
     pub fn of(alloc: Global, text: &str) -> Result<SmallText, NoMemory>
         ensures { IfOk result (λ small. small ≡ text.now) }
     {
-        let kind = match ShortText::of(text) {
-            Some(short) => TextKind::Short(short),
-            None => TextKind::Long(Box::new(alloc, Text::of(text.to_owned(alloc)?))?),
-        };
-        Ok(SmallText { kind })
+        match ShortText::of(text) {
+            Some(short) => Ok(SmallText::in_place(short)),
+            None => SmallText::behind(alloc, text.to_owned(alloc)?),
+        }
     }
 
     /// The name, after the prefix and an underscore where there is a prefix.
@@ -65,10 +63,31 @@ impl SmallText {
             return SmallText::of(alloc, name);
         }
         let full = prefixed_name(alloc, prefix, name)?;
-        SmallText::of(alloc, full.as_str())
+        match ShortText::of(full.as_str()) {
+            Some(short) => Ok(SmallText::in_place(short)),
+            None => SmallText::behind(alloc, full),
+        }
+    }
+
+    fn in_place(short: ShortText<MOST>) -> SmallText
+        ensures { result ≡ short }
+    {
+        SmallText {
+            kind: TextKind::Short(short),
+        }
+    }
+
+    /// Keeps a text that is too long to stand in place.
+    fn behind(alloc: Global, text: String) -> Result<SmallText, NoMemory>
+        requires { 22 < length (string_bytes text) }
+        ensures { IfOk result (λ small. small ≡ string_bytes text) }
+    {
+        let kind = TextKind::Long(Box::new(alloc, Text::of(text))?);
+        Ok(SmallText { kind })
     }
 
     /// The text where it stands in place.
+    #[inline]
     pub fn short(&self) -> Option<&ShortText<MOST>>
         ensures short { IfSome result (λ short. short.now ≡ self.now) }
         ensures long { IfNone result (22 < length self.now) }
@@ -80,6 +99,7 @@ impl SmallText {
     }
 
     /// The text.
+    #[inline]
     pub fn as_str(&self) -> &str
         ensures { result.now ≡ self.now }
     {

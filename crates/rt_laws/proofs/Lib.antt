@@ -11,6 +11,7 @@ pub mod AsIf
 pub mod Announcing
 pub mod Chains
 pub mod Audited
+pub mod Behind
 pub mod Drawings
 pub mod Followed
 pub mod Fronts
@@ -41,6 +42,7 @@ pub mod Spawned
 pub mod Stands
 pub mod Starts
 pub mod Stays
+pub mod Stopping
 pub mod Stopped
 pub mod Supervising
 pub mod Tasks

@@ -6,6 +6,7 @@ pub mod Earliest
 pub mod Examples
 pub mod Giving
 pub mod Kin
+pub mod Onward
 pub mod Panics
 pub mod Polls
 pub mod Refusals

@@ -29,18 +29,21 @@ ghost use Rattle.rt_super.specs.Alarms.{Alarm};
 ghost use Rattle.rt_super.specs.Ancestry.{is_known, is_ended, links, nodes_below};
 ghost use Rattle.rt_model.specs.declared.begin.Begin.{Begin};
 ghost use Rattle.rt_model.specs.declared.mark.Mark.{Mark};
-ghost use Rattle.rt_model.specs.State.{State, Turn, Making, Entered, Ending, Turning, Over, Finished, begun};
+ghost use Rattle.rt_model.specs.State.{State, Turn, Making, Entered, Ending, Turning, Over, Finished, begun, stood_in};
 ghost use Rattle.rt_model.specs.Causes.{is_late, overflows, reached};
 ghost use Rattle.rt_model.specs.Effects.{after, after_all};
-ghost use Rattle.rt_model.specs.Rules.{IsLawful};
+ghost use Rattle.rt_model.specs.Rules.{IsLawful, May, MayClose};
 ghost use Rattle.rt_model.specs.Lists.{find};
 ghost use Rattle.rt_model.specs.Marks.{is_flagged};
-ghost use Rattle.rt_model.specs.Tied.{Steps, Value, Moves};
+ghost use Rattle.rt_model.specs.Tied.{Steps, Value, Moves, IsTied, taken};
+ghost use Rattle.rt_model.specs.Turns.{Held};
+ghost use Rattle.rt_model.specs.Walk.{Walks};
 ghost use Rattle.rt_model.specs.Run.{IsRun};
 ghost use Rattle.rt_model.specs.Runs.{AreLawful, runs_from};
 ghost use Rattle.rt_laws.specs.Aborts.{IsAbortOf};
 ghost use Rattle.rt_laws.specs.Cleanup.{IsOfCleanup};
 ghost use Rattle.rt_laws.specs.Earliest.{IsEarliest};
+ghost use Rattle.rt_laws.specs.Onward.{IsOnward};
 ghost use Rattle.rt_laws.specs.Polls.{PollsNone};
 ghost use Rattle.rt_laws.specs.Sends.{SpendsSender};
 ghost use Rattle.rt_laws.specs.Several.{GoesOn};
@@ -189,6 +192,13 @@ pub fn a_run_ends_for_a_cause_that_holds()
     ensures tasks { (b : Begin) (x y : List Entry) → IsLawful (begun b) (x ++ Cleanup ∷ y) → (after_all (begun b) (x ++ Cleanup ∷ y)).phase ≡ Finished TooManyTasks → ((after_all (begun b) x).phase ≡ Making) × (2 ^ 64 - 1 ≤ (after_all (begun b) x).numbers.next) }
 {}
 
+/// A run goes past no place where a cause is reached and its cleanup may begin: only that may come there, once who is owed a wake
+/// has it. The maker's calls may still come, and then no root.
+pub fn a_run_stops_where_a_cause_is_reached()
+    ensures stops { (s : State) (e : Entry) (cause : FinishCause) → MayClose s.phase → s.phase ≢ Making → s.owed ≡ [] → reached s ≡ Some cause → May s e → e ≡ Cleanup }
+    ensures maker { (s : State) (task : ℕ) (cause : FinishCause) → s.phase ≡ Making → reached s ≡ Some cause → May s (Root task) → ⊥ }
+{}
+
 /// Only the root is stopped, and only where a panic is kept. None is kept where panics are caught.
 #[tactic(auto, using(crate::proofs::Stopped::run_stops, crate::proofs::Stopped::run_keeps))]
 pub fn the_root_is_stopped_by_a_kept_panic()
@@ -248,6 +258,13 @@ pub fn nobody_calls_behind_the_last_end()
 pub fn lacking_memory_keeps_the_other_tasks<A, O>()
     ensures polls { (p : Steps A O) (s : State) (v w : Value A O) (task other : ℕ) → Moves p s v (Answer task NoMemory) w → other ≢ task → All (λ (t : Turn). Spawns other t → ⊥) s.turns → find other w.held.tasks ≡ find other v.held.tasks }
     ensures ends { (p : Steps A O) (s : State) (v w : Value A O) (task other : ℕ) → Moves p s v (Answer task Ended) w → other ≢ task → All (λ (t : Turn). Spawns other t → ⊥) s.turns → find other w.held.tasks ≡ find other v.held.tasks }
+{}
+
+/// Behind a poll or an end that lacked memory a run only ends: it goes on by no round, visit or step of the clock. A poll that
+/// lacked it answers so. No entry tells it of an end, so each end behind which the run goes on has made all calls of its steps.
+pub fn behind_a_lack_of_memory_a_run_only_ends<A, O>()
+    ensures polls { (p : Steps A O) (s : State) (v w : Value A O) (task : ℕ) (x y : List Entry) (e : Entry) → IsOnward e → IsTied p s v (Answer task NoMemory ∷ x ++ e ∷ y) w → ⊥ }
+    ensures ends { (p : Steps A O) (s : State) (v w : Value A O) (task : ℕ) (x y : List Entry) (e : Entry) → IsOnward e → IsTied p s v (Answer task Ended ∷ x ++ e ∷ y) w → (a : A) × (find task v.held.tasks ≡ Some a) × ((end : Held A O) × Walks (p.task.last a s.clock.time task) (taken task v.held) s.turns (stood_in s) tt tt end) }
 {}
 
 /// Several runs in one journal are walked one after another: runs that are lawful each from its own beginning are lawful

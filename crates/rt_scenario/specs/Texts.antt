@@ -17,16 +17,16 @@ abbrev pub handles_in : Option (Box More Global) → List (List ℕ)
 handles_in None = []
 handles_in (Some more) = more.value.handles
 
-abbrev pub words_in : Option (Box More Global) → List (List ℕ)
-words_in None = []
-words_in (Some more) = more.value.words
+abbrev pub panic_words_in : Option (Box More Global) → List (List ℕ)
+panic_words_in None = []
+panic_words_in (Some more) = more.value.words
 
 abbrev pub choices_in : Option (Box More Global) → List ℕ
 choices_in None = []
 choices_in (Some more) = more.value.choices
 
 abbrev pub whole : Parts → List Line → ScriptText
-whole parts lines = record { name = parts.name; lines = lines; handles = handles_in parts.more; words = words_in parts.more; choices = choices_in parts.more }
+whole parts lines = record { name = parts.name; lines = lines; handles = handles_in parts.more; words = panic_words_in parts.more; choices = choices_in parts.more }
 
 -- each script with the lines at its place
 abbrev pub wholes : List Parts → List (List Line) → List ScriptText

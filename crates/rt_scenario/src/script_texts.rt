@@ -1,6 +1,6 @@
 // The scripts of a scenario.
 ghost use Rattle.std.specs.Prelude.{◌≡◌, ◌<◌, ◌++◌, ◌∷◌, ◌==◌, [], IfOk, OnErr, OnOk, length};
-ghost use Rattle.rt_scenario.specs.Texts.{choices_in, handles_in, text_at, words_in};
+ghost use Rattle.rt_scenario.specs.Texts.{choices_in, handles_in, text_at, panic_words_in};
 
 use crate::line::Line;
 use crate::lists::Lists;
@@ -34,7 +34,7 @@ impl More {
         choices: Items<usize>,
     ) -> Result<Option<Box<More>>, NoMemory>
         ensures handles { IfOk result (λ more. handles_in more ≡ handles) }
-        ensures words { IfOk result (λ more. words_in more ≡ words) }
+        ensures words { IfOk result (λ more. panic_words_in more ≡ words) }
         ensures choices { IfOk result (λ more. choices_in more ≡ choices) }
     {
         match (handles.as_slice(), words.as_slice(), choices.as_slice()) {

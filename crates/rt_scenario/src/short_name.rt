@@ -7,7 +7,7 @@ use rt_base::ShortText;
 pub const NAME_LEN: usize = 32;
 
 /// The name of a script, a handle or a signal, in place: a scenario may have many.
-pub type ShortName = ShortText<32>;
+pub type ShortName = ShortText<NAME_LEN>;
 
 /// This name, of at most 32 bytes.
 #[inline(always)]

@@ -6,6 +6,7 @@ mod choosing;
 mod drawing;
 mod held;
 mod holdings;
+mod laws;
 mod maker;
 mod outcome;
 mod program;
@@ -14,6 +15,7 @@ mod script;
 mod shutdown;
 mod simulate;
 
+pub use laws::{a_journal_decides_its_checkpoint, reports_tell_the_runs_of_all_lines};
 pub use maker::RootScript;
 pub use outcome::{Outcome, RunReport, RunResult};
 pub use program::Program;

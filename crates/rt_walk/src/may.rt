@@ -17,8 +17,7 @@ use rt_audit::{AnswerKind, Entry, EventFields, EventLabel, FinishCause};
 use rt_base::{Choice, Items, MAX_TIME, Nanos, NoMemory};
 
 impl Walker {
-    /// Whether the entry may come next. It takes memory where a round's order is compared with the ready list, and where a
-    /// child gets a label.
+    /// Whether the entry may come next. It takes memory where a round's order is compared with the ready list.
     #[tactic(auto, using(crate::proofs::Quiet::quiet_laws))]
     pub fn may(&self, entry: &Entry) -> Result<bool, NoMemory>
         ensures here { IfOk result (λ may. IsTrue may ↔ May self.now entry.now) }
@@ -50,7 +49,7 @@ impl Walker {
             ),
             Entry::Call { by, call, reply } => {
                 self.may_call(by.get())
-                    && self.answers(call, reply)?
+                    && self.answers(call, reply)
                     && are_of(self.announced.as_slice(), call, reply)
             }
             Entry::Event { label, fields } => self.may_event(label, fields),

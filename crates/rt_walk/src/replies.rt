@@ -1,30 +1,27 @@
 //! What a call may be answered.
 
-ghost use Rattle.std.specs.Prelude.{◌≡◌, ◌↔◌, ◌⊎◌, ◌-◌, ◌^◌, IfErr, IfOk, IfSome, OnErr, IsTrue, Some, option_map};
+ghost use Rattle.std.specs.Prelude.{◌≡◌, ◌↔◌, ◌⊎◌, ◌-◌, ◌^◌, IfErr, IsTrue};
 ghost use Rattle.rt_base.specs.declared.error.Error.TheVariants.{UnknownToken, Metric};
 ghost use Rattle.rt_audit.specs.declared.call.Call.TheVariants.{Abort, AbortTask, Auditor, Child, CloneSignal, CloseNode, FillBytes, GiveUp, NextU32, NextU64, SleepPoll, Slot, Spawn, Wake};
 ghost use Rattle.rt_model.specs.State.{State};
 ghost use Rattle.rt_model.specs.Signals.{met_reply, shown_reply, stopped_reply};
 ghost use Rattle.rt_model.specs.Lists.{find};
-ghost use Rattle.rt_walk.specs.Memory.{HasLabel};
-ghost use Rattle.rt_model.specs.Rules.{Answers, ChildAnswers, IsRefusal, IsSent, JoinAnswers, OutcomeAnswers, ReceiveAnswers, ShownAs, SpawnAnswers, Unless, label_refusal};
+ghost use Rattle.rt_model.specs.Rules.{Answers, ChildAnswers, IsRefusal, IsSent, JoinAnswers, OutcomeAnswers, ReceiveAnswers, ShownAs, SpawnAnswers, Unless};
 
 use crate::Walker;
 use crate::results::may_abort;
 use rt_audit::{Call, CallReply, Label};
-use rt_base::{Error, MAX_TIME, MetricError, Nanos, NoMemory, Poll, child_label};
+use rt_base::{Error, MAX_TIME, MetricError, Nanos, Poll, check_child_label};
 use rt_model::{Outcome, TaskResult};
 use rt_super::Stopped;
-use std::alloc::Global;
 
 impl Walker {
-    /// Whether the call may have this reply. It takes memory where the label of a child is compared.
-    pub(crate) fn answers(&self, call: &Call, reply: &CallReply) -> Result<bool, NoMemory>
-        ensures ok { IfOk result (λ may. IsTrue may ↔ Answers self.now call.now reply.now) }
-        ensures err { OnErr result (HasLabel call.now) }
+    /// Whether the call may have this reply.
+    pub(crate) fn answers(&self, call: &Call, reply: &CallReply) -> bool
+        ensures { IsTrue result ↔ Answers self.now call.now reply.now }
     {
-        Ok(match call {
-            Call::Child { node, label } => self.child_answers(*node, label, reply)?,
+        match call {
+            Call::Child { node, label } => self.child_answers(*node, label, reply),
             Call::CloseNode { node } => is_done(reply) && self.nodes.is_live(*node),
             Call::Spawn { node } => self.spawn_answers(*node, reply),
             Call::Abort { task } => is_done(reply) && may_abort(&self.results, *task),
@@ -57,27 +54,27 @@ impl Walker {
             Call::NextU64 => is_number(reply, u64::MAX),
             Call::FillBytes { len } => are_bytes(reply, *len),
             Call::Auditor => are_bytes(reply, 4),
-        })
+        }
     }
 
-    fn child_answers(&self, node: u64, label: &Label, reply: &CallReply) -> Result<bool, NoMemory>
-        ensures { IfOk result (λ may. IsTrue may ↔ Answers self.now (Child node label.now) reply.now) }
+    fn child_answers(&self, node: u64, label: &Label, reply: &CallReply) -> bool
+        ensures { IsTrue result ↔ Answers self.now (Child node label.now) reply.now }
     {
         if !self.nodes.is_live(node) {
-            return Ok(is_unknown(reply));
+            return is_unknown(reply);
         }
-        let refusal = refusal_of(self.allocator(), self.label_at(node), label.as_str())?;
-        Ok(match (reply, refusal) {
+        let refusal = check_child_label(self.label_at(node), label.as_str());
+        match (reply, refusal) {
             (
                 CallReply::NodeAt {
                     node: number,
                     ended,
                 },
-                None,
+                Ok(()),
             ) => !self.nodes.is_known(*number) && *ended == self.nodes.is_ended(node),
-            (CallReply::Refused { error }, Some(refusal)) => is_metric(error.error(), refusal),
+            (CallReply::Refused { error }, Err(refusal)) => is_metric(error.error(), refusal),
             _ => false,
-        })
+        }
     }
 
     fn spawn_answers(&self, node: u64, reply: &CallReply) -> bool
@@ -354,36 +351,5 @@ fn is_metric(error: &Error, kind: MetricError) -> bool
     match error {
         Error::Metric(other) => *other == kind,
         _ => false,
-    }
-}
-
-/// The kind of a metric's error.
-fn metric_error(error: &Error) -> Option<MetricError>
-    ensures some { IfSome result (λ kind. error.now ≡ Error.Metric kind) }
-    ensures each { (kind : MetricError) → error.now ≡ Error.Metric kind → result ≡ Some kind }
-{
-    match error {
-        Error::Metric(kind) => Some(*kind),
-        _ => None,
-    }
-}
-
-/// Why a label is refused under that of a node.
-fn refusal_of(alloc: Global, prefix: &str, label: &str) -> Result<Option<MetricError>, NoMemory>
-    ensures { IfOk result (λ refusal. option_map Metric refusal ≡ label_refusal prefix.now label.now) }
-{
-    match child_label(alloc, prefix, label) {
-        Ok(label) => {
-            drop(label);
-            Ok(None)
-        }
-        Err(error) => {
-            let kind = metric_error(&error);
-            drop(error);
-            match kind {
-                Some(kind) => Ok(Some(kind)),
-                None => Err(NoMemory),
-            }
-        }
     }
 }
