@@ -1,4 +1,4 @@
--- How a source or a sink in memory stands, and what a call of it does.
+-- The state of a source or a sink in memory, and what a call of it does.
 use Rattle.std.specs.Prelude.{◌≡◌, ℕ, ◌+◌, ◌-◌, ◌^◌, List, ◌++◌, Result, Ok, Err, take, drop, length, min, Contains}
 use Rattle.rt_base.specs.declared.failed.Failed.{Failed}
 

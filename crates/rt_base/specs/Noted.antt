@@ -1,4 +1,4 @@
--- What an environment keeps of the calls that are told to it.
+-- What an environment keeps of the calls that are noted in it.
 use Rattle.std.specs.Prelude.{◌≡◌, ℕ, List, ◌++◌, Option, Some, IfSome}
 use Rattle.rt_base.specs.declared.event.Event.{Event}
 
@@ -7,6 +7,6 @@ pub data Noted : Type 0 where
   Happened : Event → Noted
   Drawn : ℕ → Noted
 
--- where the record is told, it grows by these
+-- where the record is shown, it grows by these
 abbrev pub Adds : Option (List Noted) → List Noted → Option (List Noted) → Type 0
 Adds old more new = IfSome old (λ kept. new ≡ Some (kept ++ more))

@@ -7,7 +7,7 @@ abbrev pub kind_text : TextKind → List ℕ
 kind_text (Short text) = text
 kind_text (Long text) = text.value
 
--- only what is too long to stand in place is kept elsewhere
+-- only what is too long to be kept in place is kept elsewhere
 abbrev pub IsKept : TextKind → Type 0
 IsKept (Short text) = Unit {0}
 IsKept (Long text) = 22 < length text.value

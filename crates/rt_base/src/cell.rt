@@ -19,28 +19,28 @@ impl<C> Cell<C> {
     ghost use Rattle.std.specs.Borrow.{Lends, sem};
     ghost use Rattle.rt_base.specs.contracts.cell.Cell.{the_row};
 
-    /// A cell with its context.
+    /// Makes a cell with its context.
     pub fn new(context: C) -> Cell<C>
         ensures { result ≡ Present context }
     {
         Cell::Present(context)
     }
 
-    /// Whether the context is here.
+    /// Returns whether the context is here.
     pub fn is_present(&self) -> bool
         ensures { result ≡ is_there self.now }
     {
         matches!(self, Cell::Present(_))
     }
 
-    /// Whether the context was taken.
+    /// Returns whether the context was taken.
     pub fn is_missing(&self) -> bool
         ensures { result ≡ not (is_there self.now) }
     {
         !self.is_present()
     }
 
-    /// Takes the context out, and leaves the cell without one.
+    /// Takes the context out, which must be here, and leaves the cell without one.
     pub fn take(&mut self) -> C
         requires { is_there self.old ≡ true }
         ensures context { self.old ≡ Present result }
@@ -49,7 +49,7 @@ impl<C> Cell<C> {
         mem::replace(self, Cell::Missing).into_present()
     }
 
-    /// The context.
+    /// Returns the context, borrowed; it must be here.
     pub fn as_present(&self) -> &C
         requires { is_there self.now ≡ true }
         ensures { self.now ≡ Present result.now }
@@ -60,7 +60,7 @@ impl<C> Cell<C> {
         }
     }
 
-    /// The context, to change it.
+    /// Returns the context, borrowed to be changed; it must be here. What is changed is changed in the cell.
     pub fn as_present_mut(&mut self) -> &mut C
         requires { is_there self.old ≡ true }
         ensures* writes_back { sem 𝓛 (Lends (the_row C.row) C.row self.entry result Present) }
@@ -72,7 +72,7 @@ impl<C> Cell<C> {
         }
     }
 
-    /// The context alone.
+    /// Spends the cell and returns the context, which must be here.
     pub fn into_present(self) -> C
         requires { is_there self ≡ true }
         ensures { self ≡ Present result }
@@ -83,7 +83,7 @@ impl<C> Cell<C> {
         }
     }
 
-    /// Puts a context where one was taken.
+    /// Puts a context into a cell whose own was taken.
     pub fn restore(&mut self, context: C)
         requires { is_there self.old ≡ false }
         ensures { self.new ≡ Present context }
@@ -97,7 +97,7 @@ impl<C> Cell<C> {
 
 /// Takes the context of a cell that has one, leaves the cell without it, and spawns on that context: the maker has a
 /// fresh cell with the new task's own context under the name that is given, as in `spawn_cell!(self.cell, rt, |cell| ..)`.
-/// The answer is that of the context's `spawn`.
+/// It returns what the context's `spawn` returns.
 #[macro_export]
 macro_rules! spawn_cell {
     ($cell:expr, $world:expr, |$fresh:ident| $body:expr) => {{

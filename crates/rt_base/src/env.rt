@@ -14,7 +14,7 @@ pub trait Env {
 
     ghost spare: { Self → ℕ };
 
-    /// Raises the spare entries to at least `entries`.
+    /// Takes room for at least this many further entries. It notes nothing.
     fn reserve(&mut self, entries: usize) -> Result<(), NoMemory>
         ensures room { OnOk result (entries ≤ spare self.new) }
         ensures kept { spare self.old ≤ spare self.new }
@@ -33,7 +33,7 @@ pub trait Env {
         ensures spare { spare self.old ≤ spare self.new + 1 };
 }
 
-/// Keeps nothing and draws 0.
+/// An environment that keeps nothing and draws 0. It always has room.
 #[derive(Clone, Copy, Debug, PartialEq, Eq)]
 pub struct NoEnv;
 

@@ -94,7 +94,7 @@ pub enum Error {
 }
 
 impl Error {
-    /// An equal error. Only texts take memory.
+    /// Returns an equal error. Only texts take memory.
     pub fn clone_value(&self) -> Result<Error, NoMemory>
         ensures { IfOk result (λ error. error ≡ self.now) }
     {

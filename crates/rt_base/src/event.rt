@@ -1,4 +1,4 @@
-// What an audited call tells its environment.
+// What an audited call notes in its environment.
 
 use crate::items::Items;
 use crate::text::Text;

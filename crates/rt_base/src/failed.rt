@@ -1,5 +1,5 @@
 // The one refusal of a source or a sink.
 
-/// A read or a write failed. The count of faults of the source or sink rose with it.
+/// The error of a read or a write that failed. The count of faults of the source or sink rose with it.
 #[derive(Clone, Copy, Debug, PartialEq, Eq)]
 pub struct Failed;

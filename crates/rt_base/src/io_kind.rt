@@ -1,4 +1,4 @@
-// Why a store answers an input or output error.
+// Why a store returns an input or output error.
 
 use thiserror::Error;
 

@@ -5,7 +5,7 @@ use std::alloc::Global;
 use std::hash::{Hash, Hasher};
 use std::marker::Model;
 
-/// A `Vec` whose capacity nobody asks about. None of its calls takes memory.
+/// A list that is a `Vec` without its capacity: contracts see its elements. None of its calls takes memory.
 #[derive(Debug, Drop)]
 pub struct Items<V> {
     inner: Vec<V>,
@@ -20,14 +20,14 @@ impl<V> Model for Items<V> {
 }
 
 impl<V> Items<V> {
-    /// The elements of a `Vec`.
+    /// Makes a list of the elements of a `Vec`.
     pub fn of(inner: Vec<V>) -> Items<V>
         ensures { result ≡ inner.items }
     {
         Items { inner }
     }
 
-    /// The elements, borrowed.
+    /// Returns the elements, borrowed.
     pub fn as_slice(&self) -> &[V]
         ensures { result.now ≡ self.now }
     {
@@ -39,7 +39,7 @@ impl<V> Items<V> {
         *self.inner.allocator()
     }
 
-    /// The `Vec` again.
+    /// Returns the `Vec` with the same elements.
     pub fn into_inner(self) -> Vec<V>
         ensures { result.items ≡ self }
     {

@@ -9,7 +9,9 @@ use crate::no_memory::NoMemory;
 use crate::text::Text;
 use std::alloc::Global;
 
-/// Whether the label is a letter and then letters, digits and underscores.
+/// Checks that a label is a letter and then letters, digits and underscores.
+///
+/// Error: `BadLabel`.
 pub fn validate_label(label: &str) -> Result<(), MetricError>
     ensures valid { is_ok result ≡ is_label label.now }
     ensures cause { IfErr result (λ kind. kind ≡ MetricError.BadLabel) }
@@ -21,7 +23,7 @@ pub fn validate_label(label: &str) -> Result<(), MetricError>
     }
 }
 
-/// Whether the bytes are a letter and then letters, digits and underscores.
+/// Returns whether the bytes are a letter and then letters, digits and underscores.
 pub fn is_label(text: &[u8]) -> bool
     ensures { result ≡ is_label text.now }
 {
@@ -37,7 +39,7 @@ fn are_word_bytes(text: &[u8]) -> bool
     text.iter().all(|b| b.is_ascii_alphanumeric() || *b == b'_')
 }
 
-/// The name, after the prefix and an underscore where there is a prefix.
+/// Returns the prefix, an underscore and the name, or the name alone where the prefix is empty.
 pub fn prefixed_name(alloc: Global, prefix: &str, name: &str) -> Result<String, NoMemory>
     ensures { IfOk result (λ full. string_bytes full ≡ prefixed prefix.now name.now) }
 {
@@ -52,9 +54,9 @@ pub fn prefixed_name(alloc: Global, prefix: &str, name: &str) -> Result<String, 
     Ok(full)
 }
 
-/// Whether a child of a node with the label `prefix` may have this label.
+/// Checks whether a child of a node with the label `prefix` may have this label. It takes no memory.
 ///
-/// Answers `BadLabel` where `label` isn't valid, and then `Reserved` where the full label begins with `runtime`.
+/// Errors: `BadLabel` where `label` isn't a label, then `Reserved` where the full label begins with `runtime`.
 pub fn check_child_label(prefix: &str, label: &str) -> Result<(), MetricError>
     ensures bad_label { (result ≡ Err MetricError.BadLabel) ↔ (is_label label.now ≡ false) }
     ensures reserved { (result ≡ Err MetricError.Reserved) ↔ (IsTrue (is_label label.now) × IsTrue (is_reserved (prefixed prefix.now label.now))) }
@@ -67,10 +69,11 @@ pub fn check_child_label(prefix: &str, label: &str) -> Result<(), MetricError>
     Ok(())
 }
 
-/// The full label of a child.
+/// Returns the full label of a child: the prefix, an underscore and the label, or the label alone where the prefix is
+/// empty.
 ///
-/// Answers `Metric(BadLabel)` where `label` isn't valid, and then `Metric(Reserved)` where the full
-/// label begins with `runtime`.
+/// Errors: `Metric(BadLabel)` where `label` isn't a label, then `Metric(Reserved)` where the full label begins with
+/// `runtime`; `NoMemory`.
 pub fn child_label(alloc: Global, prefix: &str, label: &str) -> Result<String, Error>
     ensures full { IfOk result (λ full. string_bytes full ≡ prefixed prefix.now label.now) }
     ensures bad_label { (result ≡ Err (Error.Metric MetricError.BadLabel)) ↔ (is_label label.now ≡ false) }
@@ -81,7 +84,7 @@ pub fn child_label(alloc: Global, prefix: &str, label: &str) -> Result<String, E
     Ok(prefixed_name(alloc, prefix, label)?)
 }
 
-/// Whether the prefixed name begins with `runtime`.
+/// Returns whether the prefixed name begins with `runtime`.
 fn is_reserved_name(prefix: &str, name: &str) -> bool
     ensures { result ≡ is_reserved (prefixed prefix.now name.now) }
 {

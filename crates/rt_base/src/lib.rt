@@ -1,4 +1,4 @@
-//! The small types, errors and traits of the outside that every crate of the runtime stands on.
+//! The small types, errors and traits of the outside that every crate of the runtime uses.
 #![tactic(auto)]
 
 mod addr;

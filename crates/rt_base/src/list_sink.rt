@@ -8,8 +8,8 @@ use crate::sink::Sink8;
 use std::alloc::Global;
 use std::marker::Model;
 
-/// Keeps what is written. Calls are counted from 1, and those that are listed fail, as does one
-/// that gets no memory.
+/// A sink in memory whose writes can be made to fail. Calls are counted from 1, and those that are listed fail, as does
+/// one that gets no memory.
 #[derive(Debug, Drop)]
 pub struct ListSink {
     bytes: Vec<u8>,
@@ -31,8 +31,7 @@ impl Model for ListSink {
 }
 
 impl ListSink {
-    /// An empty sink, whose calls with these numbers fail and which takes at most `most` bytes a
-    /// call.
+    /// Makes an empty sink, whose calls with these numbers fail and which takes at most `most` bytes a call.
     pub fn new(alloc: Global, failing: Vec<u64>, most: usize) -> ListSink
         requires { 1 ≤ most }
         ensures { result ≡ begun [] failing.items most }
@@ -46,7 +45,7 @@ impl ListSink {
         }
     }
 
-    /// What was written.
+    /// Returns the bytes that were written.
     pub fn as_slice(&self) -> &[u8]
         ensures { result.now ≡ self.now.bytes }
     {

@@ -8,7 +8,8 @@ use crate::front::copy_front;
 use crate::source::Source;
 use std::marker::Model;
 
-/// Gives the bytes of a list. Calls are counted from 1, and those that are listed fail.
+/// A source of the bytes of a list, whose reads can be made to fail. Calls are counted from 1, and those that are
+/// listed fail.
 #[derive(Debug, Drop)]
 pub struct ListSource {
     bytes: Vec<u8>,
@@ -31,8 +32,7 @@ impl Model for ListSource {
 }
 
 impl ListSource {
-    /// A source of these bytes, whose calls with these numbers fail and which gives at most `most`
-    /// bytes a call.
+    /// Makes a source of these bytes, whose calls with these numbers fail and which gives at most `most` bytes a call.
     pub fn new(bytes: Vec<u8>, failing: Vec<u64>, most: usize) -> ListSource
         requires { 1 ≤ most }
         ensures { result ≡ begun bytes.items failing.items most }

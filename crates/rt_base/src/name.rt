@@ -16,7 +16,7 @@ pub struct Name {
 }
 
 impl Name {
-    /// An equal name.
+    /// Returns an equal name.
     pub fn clone_value(&self) -> Result<Name, NoMemory>
         ensures { IfOk result (λ name. name ≡ self.now) }
     {
@@ -27,7 +27,7 @@ impl Name {
     }
 }
 
-/// Equal attributes.
+/// Returns a copy of these attributes.
 pub fn clone_attributes(
     alloc: Global,
     attributes: &[(Text, Text)],
@@ -41,7 +41,8 @@ pub fn clone_attributes(
     Ok(Items::of(copy))
 }
 
-/// Gives the key this value. The list stays sorted by key; a key that is there keeps its place.
+/// Gives the key this value. The list stays sorted by key; a key that is there keeps its place, and any other is
+/// inserted.
 ///
 /// Nothing has changed after `NoMemory`.
 pub fn add_attribute(

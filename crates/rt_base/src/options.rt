@@ -21,14 +21,14 @@ impl ReadOptions {
     /// Bit 0: the bytes aren't read again soon.
     pub const DONT_CACHE: ReadOptions = ReadOptions { dont_cache: true };
 
-    /// Whether all bits of `options` are set.
+    /// Returns whether all bits of `options` are set.
     pub fn contains(self, options: ReadOptions) -> bool
         ensures { IsTrue result ↔ HasReadOptions self options }
     {
         self.dont_cache || !options.dont_cache
     }
 
-    /// These bits cleared.
+    /// Returns the options with the bits of `options` cleared.
     pub fn without(self, options: ReadOptions) -> ReadOptions
         ensures { result ≡ without_read_options self options }
     {
@@ -37,7 +37,7 @@ impl ReadOptions {
         }
     }
 
-    /// The bits as a number.
+    /// Returns the bits as a number.
     pub fn bits(self) -> u8
         ensures { result ≡ bit self.dont_cache 1 }
     {
@@ -72,7 +72,7 @@ impl BitOrAssign for ReadOptions {
 }
 
 impl WriteOptions {
-    /// Bit 0: the bytes are durable once the write is answered.
+    /// Bit 0: the bytes are durable once the write has returned.
     pub const SYNC: WriteOptions = WriteOptions {
         sync: true,
         dont_cache: false,
@@ -84,14 +84,14 @@ impl WriteOptions {
         dont_cache: true,
     };
 
-    /// Whether all bits of `options` are set.
+    /// Returns whether all bits of `options` are set.
     pub fn contains(self, options: WriteOptions) -> bool
         ensures { IsTrue result ↔ HasWriteOptions self options }
     {
         (self.sync || !options.sync) && (self.dont_cache || !options.dont_cache)
     }
 
-    /// These bits cleared.
+    /// Returns the options with the bits of `options` cleared.
     pub fn without(self, options: WriteOptions) -> WriteOptions
         ensures { result ≡ without_write_options self options }
     {
@@ -101,7 +101,7 @@ impl WriteOptions {
         }
     }
 
-    /// The bits as a number.
+    /// Returns the bits as a number.
     pub fn bits(self) -> u8
         ensures { result ≡ bit self.sync 1 + bit self.dont_cache 2 }
     {

@@ -1,9 +1,10 @@
-// Numbers that may stand at any place.
+// Numbers without an alignment.
 ghost use Rattle.std.specs.Prelude.{◌≡◌};
 
 use std::marker::Model;
 
-/// A number in bytes, so that what holds it needs no padding before it. Contracts see the number.
+/// A number in eight bytes without an alignment, so that what holds it needs no padding before it. Packing and
+/// unpacking cost less than a first touch of the memory that the padding would take. Contracts see the number.
 #[derive(Clone, Copy, Debug)]
 pub struct Packed {
     bytes: [u8; 8],
@@ -27,7 +28,7 @@ impl Model for Packed {
 }
 
 impl Packed {
-    /// Keeps a number.
+    /// Packs a number.
     #[inline(always)]
     pub fn new(number: u64) -> Packed
         ensures { result ≡ number }
@@ -37,7 +38,7 @@ impl Packed {
         }
     }
 
-    /// The number.
+    /// Returns the number.
     #[inline(always)]
     pub fn get(&self) -> u64
         ensures { result ≡ self.now }
@@ -46,7 +47,7 @@ impl Packed {
     }
 }
 
-/// A number or none, in nine bytes. Contracts see it as an option.
+/// A number or none, in nine bytes without an alignment. Contracts see it as an option.
 #[derive(Clone, Copy, Debug)]
 pub struct PackedOption {
     number: Option<Packed>,
@@ -63,7 +64,7 @@ impl Model for PackedOption {
 }
 
 impl PackedOption {
-    /// Keeps this number, or none.
+    /// Packs this number, or none.
     #[inline(always)]
     pub fn of(number: Option<u64>) -> PackedOption
         ensures { result ≡ number }
@@ -75,7 +76,7 @@ impl PackedOption {
         PackedOption { number }
     }
 
-    /// The number, if there is one.
+    /// Returns the number, if there is one.
     #[inline(always)]
     pub fn get(&self) -> Option<u64>
         ensures { result ≡ self.now }

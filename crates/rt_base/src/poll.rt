@@ -1,6 +1,6 @@
-// The answer of a poll.
+// The result of a poll.
 
-/// A value, or the news that it isn't there yet.
+/// The result of a poll: a value, or that it isn't there yet.
 #[derive(Debug, Drop, PartialEq, Eq)]
 pub enum Poll<V> {
     Ready(V),

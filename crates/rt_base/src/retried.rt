@@ -11,7 +11,8 @@ use std::io::{Error, ErrorKind, Read, Write};
 /// How many calls in a row a signal may cut short before the last of them counts as failed.
 const MOST_TRIES: u32 = 64;
 
-/// Reads once, and again where a signal cut the read short. Each error raises the count.
+/// Reads once, and again where a signal cut the read short, and returns how many bytes were read. Each error raises the
+/// count.
 ///
 /// What was read is what the reader gave: a read that failed took nothing.
 pub fn read_retried<R: Read>(
@@ -33,8 +34,8 @@ pub fn read_retried<R: Read>(
     Err(Failed)
 }
 
-/// Writes once, and again where a signal cut the write short. Each error raises the count, as does
-/// a write of nothing of a piece that isn't empty.
+/// Writes once, and again where a signal cut the write short, and returns how many bytes were written. Each error
+/// raises the count, as does a write of nothing of a piece that isn't empty.
 ///
 /// What the writer holds grows by what was written: a write that failed wrote nothing.
 pub fn write_retried<W: Write>(

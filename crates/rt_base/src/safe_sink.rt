@@ -7,7 +7,8 @@ use crate::sink::Sink8;
 use std::alloc::Global;
 use std::marker::Model;
 
-/// Keeps what is written. Where memory is lacking it keeps no more and tells nothing from then on.
+/// A sink in memory whose writes never fail. Once it runs out of memory it keeps no more, and contracts see no content
+/// from then on.
 #[derive(Debug, Drop)]
 pub struct SafeSink {
     bytes: Vec<u8>,
@@ -23,7 +24,7 @@ impl Model for SafeSink {
 }
 
 impl SafeSink {
-    /// An empty sink.
+    /// Makes an empty sink.
     pub fn new(alloc: Global) -> SafeSink
         ensures { result ≡ Some [] }
     {
@@ -33,7 +34,7 @@ impl SafeSink {
         }
     }
 
-    /// What was written, as long as it is told.
+    /// Returns what was written, as long as memory didn't run out.
     pub fn as_slice(&self) -> &[u8]
         ensures { IfSome self.now (λ held. result.now ≡ held) }
     {

@@ -6,7 +6,8 @@ use crate::front::copy_front;
 use crate::source::Source;
 use std::marker::Model;
 
-/// Gives the bytes of a list, as many a call as the buffer takes. Contracts see what is left.
+/// A source of the bytes of a list, whose reads never fail and give as many bytes as the buffer takes. Contracts see
+/// what is left.
 #[derive(Debug, Drop)]
 pub struct SafeSource {
     bytes: Vec<u8>,
@@ -24,7 +25,7 @@ impl Model for SafeSource {
 }
 
 impl SafeSource {
-    /// A source of these bytes.
+    /// Makes a source of these bytes.
     pub fn new(bytes: Vec<u8>) -> SafeSource
         ensures { result ≡ bytes.items }
     {

@@ -24,7 +24,7 @@ impl<const N: usize> Model for ShortText<N> {
 }
 
 impl<const N: usize> ShortText<N> {
-    /// No text.
+    /// Returns the text of no bytes.
     #[inline(always)]
     pub fn empty() -> ShortText<N>
         ensures { result ≡ [] }
@@ -35,7 +35,7 @@ impl<const N: usize> ShortText<N> {
         }
     }
 
-    /// This text, where it is short.
+    /// Copies this text, where it has at most `N` bytes and at most 255.
     #[inline(always)]
     pub fn of(text: &str) -> Option<ShortText<N>>
         ensures text { IfSome result (λ short. short ≡ text.now) }
@@ -52,7 +52,7 @@ impl<const N: usize> ShortText<N> {
         Some(ShortText { length, bytes })
     }
 
-    /// The same text.
+    /// Returns a copy of the text.
     #[inline(always)]
     pub fn copy(&self) -> ShortText<N>
         ensures { result ≡ self.now }
@@ -63,7 +63,7 @@ impl<const N: usize> ShortText<N> {
         }
     }
 
-    /// Its bytes.
+    /// Returns the bytes of the text.
     #[inline(always)]
     pub fn as_bytes(&self) -> &[u8]
         ensures { result.now ≡ self.now }
@@ -71,7 +71,7 @@ impl<const N: usize> ShortText<N> {
         self.as_str().as_bytes()
     }
 
-    /// The text.
+    /// Returns the text.
     #[inline(always)]
     pub fn as_str(&self) -> &str
         ensures { result.now ≡ self.now }
@@ -101,7 +101,7 @@ impl<const N: usize> Eq for ShortText<N> {
     ghost laws = { nat_list_eq_equiv };
 }
 
-/// Byte by byte.
+/// The order of the bytes, one by one.
 impl<const N: usize> PartialOrd for ShortText<N> {
     ghost use Rattle.std.specs.Prelude.{Some};
     ghost use Rattle.std.specs.Cmp.Lexicographic.{texts_po};

@@ -9,17 +9,18 @@ use crate::text::Text;
 use std::alloc::Global;
 use std::marker::Model;
 
-/// The greatest number of bytes that stand in place.
+/// The greatest number of bytes that are kept in place.
 const MOST: usize = 22;
 
-/// How the text is kept. A long one is behind a pointer, so that the whole is no larger than a `String`.
+/// How a small text is kept. A long one is behind a pointer, so that the whole is no larger than a `String`.
 #[derive(Debug, Drop)]
 pub enum TextKind {
     Short(ShortText<MOST>),
     Long(Box<Text>),
 }
 
-/// A text of which up to 22 bytes stand in place; one of more takes memory. Contracts see its bytes.
+/// A text of which up to 22 bytes are kept in place, without a block of memory; a longer one takes memory, a block more
+/// than a `String` does. Contracts see its bytes.
 #[derive(Debug, Drop)]
 pub struct SmallText {
     kind: TextKind,
@@ -37,7 +38,7 @@ impl Model for SmallText {
 }
 
 impl SmallText {
-    /// No text.
+    /// Returns the text of no bytes.
     #[inline]
     pub fn empty() -> SmallText
         ensures { result ≡ [] }
@@ -45,7 +46,7 @@ impl SmallText {
         SmallText::in_place(ShortText::empty())
     }
 
-    /// A copy of this text.
+    /// Returns a copy of a text of any length.
     pub fn of(alloc: Global, text: &str) -> Result<SmallText, NoMemory>
         ensures { IfOk result (λ small. small ≡ text.now) }
     {
@@ -55,7 +56,7 @@ impl SmallText {
         }
     }
 
-    /// The name, after the prefix and an underscore where there is a prefix.
+    /// Returns the prefix, an underscore and the name, or the name alone where the prefix is empty.
     pub fn prefixed(alloc: Global, prefix: &str, name: &str) -> Result<SmallText, NoMemory>
         ensures { IfOk result (λ full. full ≡ prefixed prefix.now name.now) }
     {
@@ -77,7 +78,7 @@ impl SmallText {
         }
     }
 
-    /// Keeps a text that is too long to stand in place.
+    /// Keeps a text that is too long to be kept in place.
     fn behind(alloc: Global, text: String) -> Result<SmallText, NoMemory>
         requires { 22 < length (string_bytes text) }
         ensures { IfOk result (λ small. small ≡ string_bytes text) }
@@ -86,7 +87,7 @@ impl SmallText {
         Ok(SmallText { kind })
     }
 
-    /// The text where it stands in place.
+    /// Returns the text where it is kept in place: where it has at most 22 bytes.
     #[inline]
     pub fn short(&self) -> Option<&ShortText<MOST>>
         ensures short { IfSome result (λ short. short.now ≡ self.now) }
@@ -98,7 +99,7 @@ impl SmallText {
         }
     }
 
-    /// The text.
+    /// Returns the text.
     #[inline]
     pub fn as_str(&self) -> &str
         ensures { result.now ≡ self.now }

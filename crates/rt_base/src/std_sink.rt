@@ -25,7 +25,7 @@ impl Model for StdSink {
 }
 
 impl StdSink {
-    /// Standard output, with no fault so far.
+    /// Opens standard output, with no fault so far.
     pub fn new(rt: &HostRuntime) -> StdSink
         ensures { result ≡ 0 }
     {

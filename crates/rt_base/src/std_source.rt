@@ -25,7 +25,7 @@ impl Model for StdSource {
 }
 
 impl StdSource {
-    /// Standard input, with no fault so far.
+    /// Opens standard input, with no fault so far.
     pub fn new(rt: &HostRuntime) -> StdSource
         ensures { result ≡ 0 }
     {

@@ -7,7 +7,8 @@ use std::fmt;
 use std::hash::{Hash, Hasher};
 use std::marker::Model;
 
-/// A `String` whose capacity nobody asks about. None of its calls but `clone_value` takes memory.
+/// A text that is a `String` without its capacity: contracts see its bytes. None of its calls but `clone_value` takes
+/// memory.
 #[derive(Debug, Drop)]
 pub struct Text {
     inner: String,
@@ -22,28 +23,28 @@ impl Model for Text {
 }
 
 impl Text {
-    /// The text of a `String`.
+    /// Makes a text of a `String`, with the same bytes.
     pub fn of(inner: String) -> Text
         ensures { result ≡ string_bytes inner }
     {
         Text { inner }
     }
 
-    /// The text, borrowed.
+    /// Returns the text, borrowed.
     pub fn as_str(&self) -> &str
         ensures { result.now ≡ self.now }
     {
         self.inner.as_str()
     }
 
-    /// The `String` again.
+    /// Returns the `String` with the same bytes.
     pub fn into_inner(self) -> String
         ensures { string_bytes result ≡ self }
     {
         self.inner
     }
 
-    /// An equal text.
+    /// Returns an equal text.
     pub fn clone_value(&self) -> Result<Text, NoMemory>
         ensures { IfOk result (λ text. text ≡ self.now) }
     {
@@ -73,7 +74,7 @@ impl Eq for Text {
     ghost laws = { nat_list_eq_equiv };
 }
 
-/// Byte by byte.
+/// The order of the bytes, one by one.
 impl PartialOrd for Text {
     ghost use Rattle.std.specs.Prelude.{Some};
     ghost use Rattle.std.specs.Cmp.Lexicographic.{texts_po};

@@ -14,14 +14,14 @@ pub struct BlobVersion {
 pub const DEFAULT_BLOB_VERSION: BlobVersion = BlobVersion { version: 0 };
 
 impl BlobVersion {
-    /// The version of this number.
+    /// Makes the version of this number.
     pub fn new(version: u16) -> BlobVersion
         ensures { result.version ≡ version }
     {
         BlobVersion { version }
     }
 
-    /// Its number.
+    /// Returns the number of the version.
     pub fn get(self) -> u16
         ensures { result ≡ self.version }
     {

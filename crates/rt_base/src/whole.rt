@@ -31,7 +31,9 @@ impl From<AllocError> for Unread {
     }
 }
 
-/// Reads to the end of the input, at most `limit` bytes.
+/// Reads to the end of the input, and returns its bytes, at most `limit` of them.
+///
+/// Errors: `Failed` after a read that failed, `TooLong` where there are more bytes than the limit, `NoMemory`.
 pub fn read_whole<S: Source>(alloc: Global, source: &mut S, limit: usize) -> Result<Vec<u8>, Unread>
     ensures within { IfOk result (λ bytes. vec_len bytes ≤ limit) }
     ensures whole { IfOk result (λ bytes. IfSome (S.left source.old) (λ left. bytes.items ≡ left)) }
@@ -50,7 +52,7 @@ pub fn read_whole<S: Source>(alloc: Global, source: &mut S, limit: usize) -> Res
     Err(Unread::TooLong)
 }
 
-// Reads once, appends what came and answers how many bytes that were.
+// Reads once, appends what came and returns how many bytes that were.
 fn read_piece<S: Source>(
     source: &mut S,
     piece: &mut [u8],
@@ -78,7 +80,7 @@ fn empty_piece(alloc: Global) -> Result<Vec<u8>, AllocError>
     vec![in alloc; 0u8; PIECE]
 }
 
-/// Writes the whole piece.
+/// Writes the whole piece, in as many writes as it takes.
 ///
 /// After a fault its first bytes have been written.
 pub fn write_whole<K: Sink8>(sink: &mut K, piece: &[u8]) -> Result<(), Failed>
