@@ -7,8 +7,8 @@ use rt_base::NoMemory;
 use std::alloc::Global;
 use std::marker::Model;
 
-/// Bytes that are put together: small pieces are copied into one buffer, and shared ones are taken
-/// as they are.
+/// Bytes that are put together in order: small pieces are copied into one buffer, and shared ones are taken as they
+/// are.
 #[derive(Drop)]
 pub struct Builder {
     done: IoBufs,
@@ -24,7 +24,7 @@ impl Model for Builder {
 }
 
 impl Builder {
-    /// No bytes.
+    /// Makes a builder without bytes.
     pub fn new(alloc: Global) -> Self
         ensures { result ≡ [] }
     {
@@ -52,7 +52,7 @@ impl Builder {
         self.done.append(buf)
     }
 
-    /// All bytes that were put and pushed, in order. A refusal gives them up.
+    /// Returns all bytes that were put and pushed, in order. A refusal gives them up.
     pub fn finish(self) -> Result<IoBufs, NoMemory>
         ensures { IfOk result (λ b. b.bytes ≡ self) }
     {

@@ -24,7 +24,7 @@ impl Model for IoBuf {
 }
 
 impl IoBuf {
-    /// The bytes of a `Vec`, which are not copied.
+    /// Makes a buffer of the bytes of a `Vec`, which are not copied. Of no bytes it takes no memory.
     pub fn from_vec(bytes: Vec<u8>) -> Result<IoBuf, NoMemory>
         ensures bytes { IfOk result (λ b. b ≡ bytes.items) }
         ensures empty { bytes.items ≡ [] → IsOk result }
@@ -50,7 +50,7 @@ impl IoBuf {
         }
     }
 
-    /// How many bytes there are.
+    /// Returns how many bytes there are.
     pub fn len(&self) -> usize
         ensures value { result ≡ length self.now }
         ensures bound { result < 2 ^ 63 }
@@ -58,21 +58,21 @@ impl IoBuf {
         self.bytes.len()
     }
 
-    /// Whether there are none.
+    /// Returns whether there are no bytes.
     pub fn is_empty(&self) -> bool
         ensures { IsTrue result ↔ (self.now ≡ []) }
     {
         self.bytes.is_empty()
     }
 
-    /// All bytes.
+    /// Returns all bytes, borrowed.
     pub fn as_slice(&self) -> &[u8]
         ensures { result.now ≡ self.now }
     {
         self.bytes.as_slice()
     }
 
-    /// Another owner of the bytes from `from` up to, not including, `to`.
+    /// Returns another owner of the bytes from the place `from` up to, not including, the place `to`.
     pub fn slice(&self, from: usize, to: usize) -> Result<IoBuf, NoMemory>
         requires ordered { from ≤ to }
         requires in_range { to ≤ length self.now }
@@ -86,7 +86,7 @@ impl IoBuf {
         })
     }
 
-    /// Cuts the first `at` bytes off and returns them. A cut at either end takes no memory.
+    /// Cuts the first `at` bytes off and returns them, with no copy. A cut at either end takes no memory.
     pub fn split_to(&mut self, at: usize) -> Result<IoBuf, NoMemory>
         requires { at ≤ length self.old }
         ensures front { IfOk result (λ b. b ≡ take at self.old) }
@@ -102,7 +102,7 @@ impl IoBuf {
         })
     }
 
-    /// Gives the first `n` bytes up. It takes no memory.
+    /// Drops the first `n` bytes. It takes no memory.
     pub fn advance(&mut self, n: usize)
         requires { n ≤ length self.old }
         ensures { self.new ≡ drop n self.old }
@@ -110,15 +110,15 @@ impl IoBuf {
         self.bytes.advance(n);
     }
 
-    /// Gives the bytes from `len` on up, where there are such. It takes no memory.
+    /// Drops the bytes from the place `len` on, where there are such. It takes no memory.
     pub fn truncate(&mut self, len: usize)
         ensures { self.new ≡ take len self.old }
     {
         self.bytes.truncate(len);
     }
 
-    /// The same bytes, to be written: those in place where this is their only owner, and else a
-    /// copy of them. A refusal gives them up.
+    /// Returns the same bytes, to be written: those in place where this is their only owner, and else a copy of them. A
+    /// refusal gives them up.
     pub fn into_mut(self) -> Result<IoBufMut, NoMemory>
         ensures { IfOk result (λ b. b.bytes ≡ self) }
     {

@@ -30,7 +30,7 @@ impl IoBufMut {
         IoBufMut { bytes }
     }
 
-    /// No bytes, and room for at least `n`.
+    /// Makes a buffer without bytes that has room for at least `n` bytes.
     pub fn with_capacity(alloc: Global, n: usize) -> Result<IoBufMut, NoMemory>
         ensures bytes { IfOk result (λ b. b.bytes ≡ []) }
         ensures capacity { IfOk result (λ b. n ≤ b.capacity) }
@@ -39,7 +39,7 @@ impl IoBufMut {
         Ok(IoBufMut { bytes })
     }
 
-    /// How many bytes there are.
+    /// Returns how many bytes there are.
     pub fn len(&self) -> usize
         ensures value { result ≡ length self.now.bytes }
         ensures bound { result ≤ self.now.capacity }
@@ -47,7 +47,7 @@ impl IoBufMut {
         self.bytes.len()
     }
 
-    /// How many bytes it can hold without more memory, those that are there with them.
+    /// Returns how many bytes the buffer can hold without more memory, those that are there with them.
     pub fn capacity(&self) -> usize
         ensures value { result ≡ self.now.capacity }
         ensures bound { length self.now.bytes ≤ result }
@@ -55,14 +55,14 @@ impl IoBufMut {
         self.bytes.capacity()
     }
 
-    /// All bytes.
+    /// Returns all bytes, borrowed.
     pub fn as_slice(&self) -> &[u8]
         ensures { result.now ≡ self.now.bytes }
     {
         self.bytes.as_slice()
     }
 
-    /// Adds `bytes` at the end.
+    /// Adds `bytes` at the end, within the capacity. It takes no memory.
     pub fn put_slice(&mut self, bytes: &[u8])
         requires { length self.old.bytes + length bytes.now ≤ self.old.capacity }
         ensures bytes { self.new.bytes ≡ self.old.bytes ++ bytes.now }
@@ -71,7 +71,7 @@ impl IoBufMut {
         self.bytes.extend_reserved(bytes);
     }
 
-    /// Adds `n` zero bytes at the end.
+    /// Adds `n` zero bytes at the end, within the capacity. It takes no memory.
     pub fn put_zeros(&mut self, n: usize)
         requires { length self.old.bytes + n ≤ self.old.capacity }
         ensures bytes { self.new.bytes ≡ self.old.bytes ++ replicate n 0 }
@@ -82,7 +82,7 @@ impl IoBufMut {
         self.bytes.as_mut_slice()[len..].fill(0);
     }
 
-    /// Writes `bytes` over those that stand from the place `at` on.
+    /// Writes `bytes` over those from the place `at` on, all of which must be there.
     pub fn overwrite(&mut self, at: usize, bytes: &[u8])
         requires { at + length bytes.now ≤ length self.old.bytes }
         ensures bytes { self.new.bytes
@@ -92,7 +92,7 @@ impl IoBufMut {
         write_over(self.bytes.as_mut_slice(), at, bytes);
     }
 
-    /// Gives the bytes from `len` on up, where there are such. The capacity stays.
+    /// Drops the bytes from the place `len` on, where there are such. The capacity stays.
     pub fn truncate(&mut self, len: usize)
         ensures bytes { self.new.bytes ≡ take len self.old.bytes }
         ensures capacity { self.new.capacity ≡ self.old.capacity }
@@ -100,7 +100,7 @@ impl IoBufMut {
         self.bytes.truncate(len);
     }
 
-    /// Gives all bytes up. The capacity stays.
+    /// Drops all bytes. The capacity stays.
     pub fn clear(&mut self)
         ensures bytes { self.new.bytes ≡ [] }
         ensures capacity { self.new.capacity ≡ self.old.capacity }
@@ -108,7 +108,7 @@ impl IoBufMut {
         self.bytes.truncate(0);
     }
 
-    /// The same bytes, which no one writes any more. A refusal gives them up.
+    /// Returns the same bytes as a shared buffer, which no one writes any more. A refusal gives them up.
     pub fn freeze(self) -> Result<IoBuf, NoMemory>
         ensures bytes { IfOk result (λ b. b ≡ self.bytes) }
         ensures empty { self.bytes ≡ [] → IsOk result }
@@ -119,7 +119,7 @@ impl IoBufMut {
     }
 }
 
-// Writes `bytes` over those of `place` that stand from `at` on.
+// Writes `bytes` over those of `place` from `at` on.
 fn write_over(place: &mut [u8], at: usize, bytes: &[u8])
     requires { at + length bytes.now ≤ length place.old }
     ensures { place.new ≡ take at place.old ++ bytes.now ++ drop (at + length bytes.now) place.old }

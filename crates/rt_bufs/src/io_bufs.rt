@@ -12,7 +12,11 @@ use std::collections::VecDeque;
 use std::marker::Model;
 use std::mem;
 
-/// Shared buffers in a row, the chunks. Empty ones aren't kept.
+/// Shared buffers in a row, the chunks, read as one run of bytes. Empty ones aren't kept, so the first chunk of buffers
+/// that have bytes has bytes.
+///
+/// Contracts see the bytes, which most callers need alone, and the chunks, for one who writes them out without a copy.
+/// The chunks are in a queue with two ends, since they are cut at the front and added at the end.
 #[derive(Drop)]
 pub struct IoBufs {
     chunks: VecDeque<IoBuf>,
@@ -32,7 +36,7 @@ impl Model for IoBufs {
 }
 
 impl IoBufs {
-    /// No bytes.
+    /// Makes buffers without bytes.
     pub fn new(alloc: Global) -> Self
         ensures bytes { result.bytes ≡ [] }
         ensures chunks { result.chunks ≡ [] }
@@ -43,7 +47,7 @@ impl IoBufs {
         }
     }
 
-    /// The bytes of one buffer.
+    /// Makes buffers of the bytes of one buffer.
     pub fn from_buf(alloc: Global, buf: IoBuf) -> Result<IoBufs, NoMemory>
         ensures bytes { IfOk result (λ b. b.bytes ≡ buf) }
         ensures chunks { IfOk result (λ b. b.chunks ≡ chunks_of buf) }
@@ -56,21 +60,21 @@ impl IoBufs {
         Ok(bufs)
     }
 
-    /// How many bytes there are.
+    /// Returns how many bytes there are.
     pub fn len(&self) -> usize
         ensures { result ≡ length self.now.bytes }
     {
         self.len
     }
 
-    /// Whether there are none.
+    /// Returns whether there are no bytes.
     pub fn is_empty(&self) -> bool
         ensures { IsTrue result ↔ (self.now.bytes ≡ []) }
     {
         self.len == 0
     }
 
-    /// How many chunks there are. The chunks in order are the bytes, and none is empty.
+    /// Returns how many chunks there are. The chunks in order are the bytes, and none is empty.
     pub fn chunk_count(&self) -> usize
         ensures count { result ≡ length self.now.chunks }
         ensures joined { concat self.now.chunks ≡ self.now.bytes }
@@ -79,7 +83,7 @@ impl IoBufs {
         self.chunks.len()
     }
 
-    /// The first chunk, or no bytes where there is none.
+    /// Returns the first chunk, or no bytes where there is no chunk.
     pub fn chunk(&self) -> &[u8]
         ensures first { result.now ≡ unwrap_or (slice_get self.now.chunks 0) [] }
         ensures front { take (length result.now) self.now.bytes ≡ result.now }
@@ -92,7 +96,7 @@ impl IoBufs {
         }
     }
 
-    /// The chunk with this number, from 0 on.
+    /// Returns the chunk with this number, which counts from 0.
     pub fn chunk_at(&self, index: usize) -> &[u8]
         requires { index < length self.now.chunks }
         ensures chunk { slice_get self.now.chunks index ≡ Some result.now }
@@ -102,7 +106,7 @@ impl IoBufs {
         self.chunks[index].as_slice()
     }
 
-    /// Adds the bytes of `buf` at the end, with no copy.
+    /// Adds the bytes of `buf` at the end, with no copy. An empty buffer takes no memory.
     pub fn append(&mut self, buf: IoBuf) -> Result<(), NoMemory>
         ensures bytes { OnOk result (self.new.bytes ≡ self.old.bytes ++ buf) }
         ensures chunks { OnOk result (self.new.chunks ≡ self.old.chunks ++ chunks_of buf) }
@@ -157,7 +161,7 @@ impl IoBufs {
         Ok(())
     }
 
-    /// Gives the first `n` bytes up. It takes no memory.
+    /// Drops the first `n` bytes. It takes no memory.
     pub fn advance(&mut self, n: usize)
         requires { n ≤ length self.old.bytes }
         ensures { self.new.bytes ≡ drop n self.old.bytes }
@@ -188,7 +192,7 @@ impl IoBufs {
         n
     }
 
-    /// Gives the bytes from `len` on up, where there are such. It takes no memory.
+    /// Drops the bytes from the place `len` on, where there are such. It takes no memory.
     pub fn truncate(&mut self, len: usize)
         ensures { self.new.bytes ≡ take len self.old.bytes }
     {
@@ -218,8 +222,7 @@ impl IoBufs {
         n
     }
 
-    /// Cuts the first `n` bytes off and returns them, with no copy. A cut at either end takes no
-    /// memory.
+    /// Cuts the first `n` bytes off and returns them, with no copy. A cut at either end takes no memory.
     pub fn split_to(&mut self, n: usize) -> Result<IoBufs, NoMemory>
         requires { n ≤ length self.old.bytes }
         ensures front { IfOk result (λ b. b.bytes ≡ take n self.old.bytes) }
@@ -285,8 +288,8 @@ impl IoBufs {
         Ok(Some(self.chunks[index].slice(0, len)?))
     }
 
-    /// All bytes as one buffer. It copies them where they lie in two chunks or more, and else takes
-    /// no memory. A refusal gives them up.
+    /// Returns all bytes as one buffer. It copies them where they are in two chunks or more, and else takes no memory.
+    /// A refusal gives them up.
     pub fn coalesce(mut self) -> Result<IoBuf, NoMemory>
         ensures bytes { IfOk result (λ b. b ≡ self.bytes) }
         ensures one { length self.chunks ≤ 1 → IsOk result }

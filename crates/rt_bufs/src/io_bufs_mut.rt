@@ -8,8 +8,7 @@ use rt_base::NoMemory;
 use std::alloc::Global;
 use std::marker::Model;
 
-/// Buffers in a row that one owner writes. Every call that makes one makes it of one buffer, so
-/// this keeps no list.
+/// Buffers in a row that one owner writes. Every call that makes one makes it of one buffer, so this keeps no list.
 #[derive(Drop)]
 pub struct IoBufsMut {
     buf: IoBufMut,
@@ -26,7 +25,7 @@ impl Model for IoBufsMut {
 }
 
 impl IoBufsMut {
-    /// The bytes and the capacity of one buffer.
+    /// Makes buffers of one buffer, with its bytes and its capacity.
     pub fn from_mut(alloc: Global, buf: IoBufMut) -> Result<IoBufsMut, NoMemory>
         ensures bytes { IfOk result (λ b. b.bytes ≡ buf.bytes) }
         ensures capacity { IfOk result (λ b. b.capacity ≡ buf.capacity) }
@@ -34,7 +33,7 @@ impl IoBufsMut {
         Ok(IoBufsMut { buf, alloc })
     }
 
-    /// How many bytes there are.
+    /// Returns how many bytes there are.
     pub fn len(&self) -> usize
         ensures value { result ≡ length self.now.bytes }
         ensures bound { result ≤ self.now.capacity }
@@ -42,7 +41,7 @@ impl IoBufsMut {
         self.buf.len()
     }
 
-    /// How many bytes it can hold without more memory, those that are there with them.
+    /// Returns how many bytes the buffers can hold without more memory, those that are there with them.
     pub fn capacity(&self) -> usize
         ensures value { result ≡ self.now.capacity }
         ensures bound { length self.now.bytes ≤ result }
@@ -50,7 +49,7 @@ impl IoBufsMut {
         self.buf.capacity()
     }
 
-    /// How many chunks there are. The chunks in order are the bytes, and none is empty.
+    /// Returns how many chunks there are. The chunks in order are the bytes, and none is empty.
     pub fn chunk_count(&self) -> usize
         ensures count { result ≡ length self.now.chunks }
         ensures joined { concat self.now.chunks ≡ self.now.bytes }
@@ -59,7 +58,7 @@ impl IoBufsMut {
         if self.buf.len() == 0 { 0 } else { 1 }
     }
 
-    /// The chunk with this number, from 0 on.
+    /// Returns the chunk with this number, which counts from 0.
     pub fn chunk_at(&self, index: usize) -> &[u8]
         requires { index < length self.now.chunks }
         ensures { slice_get self.now.chunks index ≡ Some result.now }
@@ -67,7 +66,7 @@ impl IoBufsMut {
         self.buf.as_slice()
     }
 
-    /// The same bytes, which no one writes any more. A refusal gives them up.
+    /// Returns the same bytes as shared buffers, which no one writes any more. A refusal gives them up.
     pub fn freeze(self) -> Result<IoBufs, NoMemory>
         ensures { IfOk result (λ b. b.bytes ≡ self.bytes) }
     {
@@ -75,7 +74,7 @@ impl IoBufsMut {
         IoBufs::from_buf(alloc, buf.freeze()?)
     }
 
-    /// All bytes in one buffer, with at least the capacity that was there.
+    /// Returns all bytes in one buffer, with at least the capacity that was there.
     pub fn coalesce(self) -> Result<IoBufMut, NoMemory>
         ensures bytes { IfOk result (λ b. b.bytes ≡ self.bytes) }
         ensures capacity { IfOk result (λ b. self.capacity ≤ b.capacity) }
