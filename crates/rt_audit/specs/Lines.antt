@@ -28,7 +28,7 @@ abbrev pub optional_number : Option ℕ → List ℕ
 optional_number None = codes "-"
 optional_number (Some number) = decimal number
 
--- each number behind a space
+-- each number after a space
 abbrev pub numbers_text : List ℕ → List ℕ
 numbers_text [] = []
 numbers_text (number ∷ numbers) = (codes " " ++ decimal number) ++ numbers_text numbers
@@ -38,7 +38,7 @@ abbrev pub hex_text : List ℕ → List ℕ
 hex_text [] = codes "-"
 hex_text (byte ∷ bytes) = encode_lower (byte ∷ bytes)
 
--- each field behind a space
+-- each field after a space
 abbrev pub fields_text : List (List ℕ) → List ℕ
 fields_text [] = []
 fields_text (field ∷ fields) = (codes " " ++ hex_text field) ++ fields_text fields
@@ -48,7 +48,7 @@ choice_text Kept = codes "k"
 choice_text Dropped = codes "d"
 choice_text (Prefix length) = codes "p" ++ decimal length
 
--- each choice behind a space
+-- each choice after a space
 abbrev pub choices_text : List Choice → List ℕ
 choices_text [] = []
 choices_text (choice ∷ choices) = (codes " " ++ choice_text choice) ++ choices_text choices

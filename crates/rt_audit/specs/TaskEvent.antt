@@ -11,6 +11,6 @@ task_event = codes "process_task"
 abbrev pub small_number : List ℕ → List ℕ
 small_number low = 0 ∷ 0 ∷ 0 ∷ 0 ∷ 0 ∷ 0 ∷ 0 ∷ 0 ∷ low
 
--- its framed bytes behind this digest, up to the low bytes of such a number
+-- its framed bytes after this digest, up to the low bytes of such a number
 abbrev pub task_front : List ℕ → List ℕ
 task_front digest = framed (digest ∷ task_event ∷ []) ++ (to_be_bytes w64 16 ++ small_number [])

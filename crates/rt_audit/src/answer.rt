@@ -6,7 +6,7 @@ ghost use Rattle.rt_audit.specs.Lines.{kind_word};
 use crate::line::add_word;
 use rt_base::NoMemory;
 
-/// The kind of an `Answer` entry.
+/// How a poll or an end of a task went, as an `Answer` entry keeps it.
 #[derive(Clone, Copy, Debug, PartialEq, Eq)]
 pub enum AnswerKind {
     /// The poll is to be called again.
@@ -17,14 +17,14 @@ pub enum AnswerKind {
     Panicked,
     /// The root wasn't polled, since a panic was kept.
     Stopped,
-    /// A call of the poll lacked memory.
+    /// A call of the poll ran out of memory.
     NoMemory,
     /// The task's state was ended.
     Ended,
 }
 
 impl AnswerKind {
-    /// The word of a journal's line.
+    /// Returns the word of a journal's line for this kind.
     pub fn word(self) -> &'static str
         ensures { result.now ≡ kind_word self }
     {
@@ -38,7 +38,7 @@ impl AnswerKind {
         }
     }
 
-    /// Adds the word behind a space.
+    /// Adds the word after a space.
     pub(crate) fn add_to(self, text: &mut String) -> Result<(), NoMemory>
         ensures { OnOk result (string_bytes text.new ≡ string_bytes text.old ++ (codes " " ++ kind_word self)) }
     {

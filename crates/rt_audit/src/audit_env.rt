@@ -1,4 +1,4 @@
-//! An environment that digests the events that it is told, and draws from a generator.
+//! An environment that digests the events that are noted in it, and draws from a generator.
 
 ghost use Rattle.std.specs.Prelude.{◌≡◌, ◌≤◌, None, Ok, OnOk};
 ghost use Rattle.rand_core.specs.Stream.{next_u64};
@@ -8,7 +8,7 @@ use crate::Auditor;
 use rand_core::Rng;
 use rt_base::{Env, Event, NoMemory};
 
-/// Keeps the digest of its events, and a generator. It always has room, and takes no memory.
+/// An environment that keeps the digest of its events, and a generator. It always has room, and takes no memory.
 #[derive(Drop)]
 pub struct AuditEnv<G: Rng> {
     auditor: Auditor,
@@ -16,7 +16,7 @@ pub struct AuditEnv<G: Rng> {
 }
 
 impl<G: Rng> AuditEnv<G> {
-    /// No events so far.
+    /// Makes an environment of no events so far, which draws from this generator.
     pub fn new(rng: G) -> Self
         ensures auditor { result.auditor ≡ first_digest }
         ensures rng { result.rng ≡ rng }
@@ -27,7 +27,7 @@ impl<G: Rng> AuditEnv<G> {
         }
     }
 
-    /// An auditor of all events so far.
+    /// Returns an auditor of all events so far.
     pub fn auditor(&self) -> Auditor
         ensures { result ≡ self.now.auditor }
     {

@@ -27,7 +27,7 @@ impl Model for AuditHasher {
 }
 
 impl AuditHasher {
-    /// No fields so far.
+    /// Makes a checksum of no fields so far.
     pub fn new() -> Self
         ensures { result ≡ register_of (framed []) }
     {
@@ -77,7 +77,7 @@ impl AuditHasher {
         self.checksum.update_word((length as u64).to_be_bytes());
     }
 
-    /// The checksum of all fields as four bytes, the highest first.
+    /// Returns the checksum of all fields as four bytes, the highest first.
     pub fn finalize(self) -> [u8; 4]
         ensures register { result ≡ to_be_bytes w32 (bit_xor self all_ones) }
         ensures digest { (fields : List (List ℕ)) → self ≡ register_of (framed fields) → result ≡ fields_digest fields }

@@ -13,7 +13,8 @@ use rt_base::{Event, Items, NoMemory};
 use std::alloc::Global;
 use std::marker::Model;
 
-/// The digest of the events so far, of four bytes. Contracts see these bytes.
+/// The digest of the events so far, four bytes: that of each event takes in the digest before it, the label and the
+/// fields. Contracts see these bytes.
 #[derive(Clone, Copy, Debug, PartialEq, Eq)]
 pub struct Auditor {
     digest: [u8; 4],
@@ -30,14 +31,15 @@ impl Model for Auditor {
 }
 
 impl Auditor {
-    /// No events so far: four bytes of zeros.
+    /// Makes the digest of no events: four bytes of zeros.
     pub fn new() -> Self
         ensures { result ≡ first_digest }
     {
         Auditor { digest: [0; 4] }
     }
 
-    /// Takes an event in.
+    /// Takes an event in: the digest becomes that of the digest before, the label and the event's fields, in this
+    /// order.
     pub fn event(&mut self, event: &Event)
         ensures { self.new ≡ event_digest self.old event.now.label event.now.fields }
     {
@@ -96,7 +98,7 @@ impl Auditor {
         hasher
     }
 
-    /// The checksum up to the label of an event.
+    /// Returns the checksum up to the label of an event.
     fn labelled(&self, label: &str) -> AuditHasher
         ensures { result ≡ register_of (framed (self.now ∷ label.now ∷ [])) }
     {
@@ -106,14 +108,14 @@ impl Auditor {
         hasher
     }
 
-    /// The four bytes.
+    /// Returns the four bytes of the digest.
     pub fn digest(&self) -> [u8; 4]
         ensures { result ≡ self.now }
     {
         self.digest
     }
 
-    /// The digest as eight lower-case hex digits.
+    /// Returns the digest as eight lower-case hex digits.
     pub fn state(&self, alloc: Global) -> Result<String, NoMemory>
         ensures { IfOk result (λ text. string_bytes text ≡ encode_lower self.now) }
     {

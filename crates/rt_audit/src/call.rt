@@ -7,12 +7,12 @@ use crate::line::{add_numbered, add_signed, add_space, add_word};
 use crate::{Label, Moment};
 use rt_base::NoMemory;
 
-/// A call on the world, as its line shows it.
+/// A call on the world, as its line in a journal shows it.
 #[derive(Debug, Drop)]
 pub enum Call {
     /// Makes a child of a node.
     Child { node: u64, label: Label },
-    /// Closes the context that stands on a node.
+    /// Closes the context of a node.
     CloseNode { node: u64 },
     /// Spawns a task on a node.
     Spawn { node: u64 },
@@ -71,7 +71,7 @@ pub enum Call {
 }
 
 impl Call {
-    /// Adds the words of a journal's line.
+    /// Adds the words of a call to the text of a journal's line.
     pub fn add_to(&self, text: &mut String) -> Result<(), NoMemory>
         ensures { OnOk result (string_bytes text.new ≡ string_bytes text.old ++ call_text self.now) }
     {

@@ -5,7 +5,7 @@ ghost use Rattle.rt_audit.specs.Codes.{code_of};
 
 use rt_base::Error;
 
-/// The number of an error: 1 for `Exited` up to 22 for an error of input or output, and 23 for any other.
+/// Returns the number of an error: 1 for `Exited` up to 22 for an error of input or output, and 23 for any other.
 pub fn error_code(error: &Error) -> u64
     ensures { result ≡ code_of error.now }
 {

@@ -30,7 +30,7 @@ impl Model for Crc32c {
 }
 
 impl Crc32c {
-    /// No bytes so far.
+    /// Makes the checksum of no bytes so far.
     pub fn new() -> Self
         ensures { result ≡ register_of [] }
     {
@@ -51,7 +51,7 @@ impl Crc32c {
         Crc32c { register }
     }
 
-    /// Takes further bytes in.
+    /// Takes further bytes in, in pieces of any size.
     pub fn update(&mut self, bytes: &[u8])
         ensures register { self.new ≡ byte_steps self.old bytes.now }
         ensures taken { (taken : List ℕ) → self.old ≡ register_of taken → self.new ≡ register_of (taken ++ bytes.now) }
@@ -67,7 +67,7 @@ impl Crc32c {
         self.register = take_word(self.register, word);
     }
 
-    /// The checksum of all bytes. The one that is published for the digits `123456789` is `0xe3069283`.
+    /// Returns the checksum of all bytes. The one that is published for the digits `123456789` is `0xe3069283`.
     pub fn finish(self) -> u32
         ensures register { result ≡ bit_xor self all_ones }
         ensures checksum { (taken : List ℕ) → self ≡ register_of taken → result ≡ crc32c taken }
@@ -76,7 +76,7 @@ impl Crc32c {
     }
 }
 
-/// The register after bytes.
+/// Returns the register after bytes.
 fn take_bytes(register: u32, bytes: &[u8]) -> u32
     ensures { result ≡ byte_steps register bytes.now }
 {

@@ -3,7 +3,7 @@
 ghost use Rattle.std.specs.Prelude.{◌≡◌, ◌<◌, ◌+◌, ◌*◌};
 ghost use Rattle.rt_audit.specs.Crc32c.{bit_steps};
 
-/// What a register that holds this byte alone becomes: after the byte's own bits, and those of so many bytes of zeros.
+/// Returns what a register that holds this byte alone becomes: after the byte's own bits, and those of so many bytes of zeros.
 #[inline(always)]
 pub fn remainder(byte: u8, zeros: usize) -> u32
     requires { zeros < 8 }

@@ -2,7 +2,7 @@
 
 ghost use Rattle.std.specs.Prelude.{◌≡◌, ◌<◌, ◌+◌, ◌/◌, ◌%◌, ◌∷◌, []};
 
-/// The two digits of a number below 100, which may begin with a zero.
+/// Returns the two digits of a number below 100, which may begin with a zero.
 #[inline(always)]
 pub fn two_digits(number: u64) -> [u8; 2]
     requires { number < 100 }

@@ -10,10 +10,15 @@ use crate::{AnswerKind, Call, CallReply, EventFields, EventLabel, FinishCause, M
 use rt_base::{Choice, Items, Nanos, NoMemory, Packed, PackedOption};
 use std::alloc::Global;
 
-/// The number of the task that makes a call; none where the maker of the root does.
+/// The number of the task that makes a call, or none where the maker of the root makes it.
 pub type Caller = PackedOption;
 
 /// An entry of a journal. Times are nanoseconds since the epoch.
+///
+/// An entry has 64 bytes; the widest are a start, the event of a visit and a call. Numbers and times that would have
+/// padding before them are kept as bytes without an alignment (`Packed`, `PackedOption`, [`Moment`]): with plain ones
+/// an entry would have 96 bytes. A call isn't behind a pointer, since closing a context writes one and takes no memory,
+/// and while calls are in place, no other part behind a pointer makes an entry smaller.
 #[derive(Debug, Drop)]
 pub enum Entry {
     /// A run begins at `now`. The first task of this run gets the number `next`.
@@ -23,7 +28,7 @@ pub enum Entry {
         deadline: Option<Moment>,
         cycle: Moment,
     },
-    /// A call by a task, or by the maker of the root, was answered.
+    /// A call by a task, or by the maker of the root, got its reply.
     Call {
         by: Caller,
         call: Call,
@@ -54,7 +59,7 @@ pub enum Entry {
     Visit {
         task: u64,
     },
-    /// A poll, a visit or an end went so.
+    /// A poll, a visit or an end of a task went this way.
     Answer {
         task: u64,
         kind: AnswerKind,
@@ -88,7 +93,9 @@ pub enum Entry {
 }
 
 impl Entry {
-    /// Adds the entry's line, without its end.
+    /// Adds the line of the entry to a text, without the end of the line.
+    ///
+    /// After `NoMemory` the text may have a part of the line.
     pub fn add_to(&self, alloc: Global, text: &mut String) -> Result<(), NoMemory>
         ensures { OnOk result (string_bytes text.new ≡ string_bytes text.old ++ line_of self.now) }
     {

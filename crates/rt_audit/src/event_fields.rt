@@ -8,13 +8,14 @@ use crate::{Label, ShortLabel};
 use rt_base::Items;
 use std::marker::Model;
 
-/// How fields are kept. Those of a visit's event stand in place, but for a long label, since most events are of visits.
+/// How fields are kept. Nearly all events of a run are of visits, so those of a visit's event are kept in place and
+/// take no memory, but for a label of more than 22 bytes, which is behind a pointer.
 #[derive(Debug, Drop)]
 pub enum FieldsKind {
-    /// The task's number in sixteen bytes, and its label. The number stands last, since it is read again at once: so its low
-    /// half lies within one of the words by which an entry is copied.
+    /// The task's number in sixteen bytes, and its label. The number is last, since it is read again at once: so its
+    /// low half lies within one of the words by which an entry is copied.
     OfTask { label: Label, number: [u8; 16] },
-    /// The same with a label that stands in place too.
+    /// The same with a label that is kept in place too.
     OfTaskInPlace { label: ShortLabel, number: [u8; 16] },
     Listed(Items<Items<u8>>),
 }
@@ -35,7 +36,8 @@ impl Model for EventFields {
 }
 
 impl EventFields {
-    /// Those of a task's visit: its number as sixteen bytes, the highest first, and its label.
+    /// Makes the fields of a task's visit: its number as sixteen bytes, the highest first, and its label. It takes no
+    /// memory.
     #[inline(always)]
     pub fn of_task(task: u64, label: Label) -> EventFields
         ensures { result ≡ to_be_bytes w128 task ∷ label ∷ [] }
@@ -48,7 +50,8 @@ impl EventFields {
         }
     }
 
-    /// The same of a short label. It takes no memory.
+    /// Makes the fields of a task's visit of its number and a short label. They are those of
+    /// [`of_task`](Self::of_task), and it takes no memory.
     #[inline(always)]
     pub fn of_short_task(task: u64, label: ShortLabel) -> EventFields
         ensures { result ≡ to_be_bytes w128 task ∷ label ∷ [] }
@@ -61,7 +64,7 @@ impl EventFields {
         }
     }
 
-    /// Any fields.
+    /// Makes fields of any list of bytes.
     pub fn listed(fields: Items<Items<u8>>) -> EventFields
         ensures { result ≡ fields }
     {
@@ -70,7 +73,7 @@ impl EventFields {
         }
     }
 
-    /// How many fields there are.
+    /// Returns how many fields there are.
     pub fn len(&self) -> usize
         ensures { result ≡ length self.now }
     {
@@ -80,7 +83,7 @@ impl EventFields {
         }
     }
 
-    /// Whether there is none.
+    /// Returns whether there are no fields.
     pub fn is_empty(&self) -> bool
         ensures { IsTrue result ↔ (self.now ≡ []) }
     {
@@ -90,7 +93,7 @@ impl EventFields {
         }
     }
 
-    /// The bytes of the field at a place.
+    /// Returns the bytes of the field at a place, where there is one.
     pub fn get(&self, place: usize) -> Option<&[u8]>
         ensures some { IfSome result (λ field. slice_get self.now place ≡ Some field.now) }
         ensures none { IfNone result (slice_get self.now place ≡ None) }
@@ -110,7 +113,7 @@ impl EventFields {
         }
     }
 
-    /// Whether these are the fields of a visit of this task, of this label.
+    /// Returns whether these are the fields of a visit of this task with this label.
     pub fn are_of_task(&self, task: u64, label: &str) -> bool
         ensures { IsTrue result ↔ (self.now ≡ to_be_bytes w128 task ∷ label.now ∷ []) }
     {
@@ -141,14 +144,14 @@ impl EventFields {
     }
 }
 
-/// Whether these are the sixteen bytes of a task's number.
+/// Returns whether these are the sixteen bytes of a task's number.
 fn is_number(bytes: &[u8], task: u64) -> bool
     ensures { IsTrue result ↔ (bytes.now ≡ to_be_bytes w128 task) }
 {
     bytes == (task as u128).to_be_bytes().as_slice()
 }
 
-/// Whether these are the bytes of a label.
+/// Returns whether these are the bytes of a label.
 fn is_told(bytes: &[u8], label: &str) -> bool
     ensures { IsTrue result ↔ (bytes.now ≡ label.now) }
 {

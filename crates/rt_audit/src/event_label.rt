@@ -9,7 +9,8 @@ use rt_base::NoMemory;
 use std::alloc::Global;
 use std::marker::Model;
 
-/// How a label is kept. That of a visit's event needs no memory.
+/// How the label of an event is kept. That of a visit's event needs no memory, since nearly all events of a run are of
+/// visits.
 #[derive(Debug, Drop)]
 pub enum LabelKind {
     ProcessTask,
@@ -32,7 +33,7 @@ impl Model for EventLabel {
 }
 
 impl EventLabel {
-    /// `process_task`, of the event of a task's visit.
+    /// Makes the label `process_task`, that of the event of a task's visit. It takes no memory.
     #[inline(always)]
     pub fn process_task() -> EventLabel
         ensures { result ≡ task_event }
@@ -42,7 +43,7 @@ impl EventLabel {
         }
     }
 
-    /// Any label.
+    /// Makes an event's label of any text.
     pub fn named(alloc: Global, label: &str) -> Result<EventLabel, NoMemory>
         ensures { IfOk result (λ kept. kept ≡ label.now) }
     {
@@ -52,7 +53,7 @@ impl EventLabel {
         })
     }
 
-    /// The label.
+    /// Returns the text of the label.
     #[inline(always)]
     pub fn as_str(&self) -> &str
         ensures { result.now ≡ self.now }
@@ -63,7 +64,7 @@ impl EventLabel {
         }
     }
 
-    /// Adds it behind the word of an event.
+    /// Adds the label after the word of an event.
     #[inline(always)]
     pub(crate) fn add_to(&self, text: &mut String) -> Result<(), NoMemory>
         ensures { OnOk result (string_bytes text.new ≡ string_bytes text.old ++ (codes "event " ++ self.now)) }

@@ -3,12 +3,12 @@
 ghost use Rattle.std.specs.Prelude.{◌≡◌};
 ghost use Rattle.rt_audit.specs.Lines.{cause_word};
 
-/// The cause that a `Finish` entry keeps. The text of a panic isn't kept.
+/// Why a run ended, as a `Finish` entry keeps it. The text of a panic isn't kept.
 #[derive(Clone, Copy, Debug, PartialEq, Eq)]
 pub enum FinishCause {
     /// The root gave its output.
     Completed,
-    /// The deadline was there.
+    /// The deadline was reached.
     Timeout,
     /// Nobody was ready, and no alarm was set.
     Stalled,
@@ -23,7 +23,7 @@ pub enum FinishCause {
 }
 
 impl FinishCause {
-    /// The word of a journal's line.
+    /// Returns the word of a journal's line for this cause.
     pub fn word(self) -> &'static str
         ensures { result.now ≡ cause_word self }
     {

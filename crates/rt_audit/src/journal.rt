@@ -10,7 +10,9 @@ use std::marker::Model;
 
 /// The entries of all runs so far, in order.
 ///
-/// Contracts see the entries, and `spare`: how many more have room.
+/// Contracts see the entries, and `spare`: how many more have room. Beside the entries the journal keeps the last time,
+/// the count of rounds and the digest, which follow each entry as it is pushed: so reading them costs nothing, and a
+/// report doesn't read the entries once more.
 #[derive(Debug, Drop)]
 pub struct Journal {
     entries: Vec<Entry>,
@@ -31,7 +33,7 @@ impl Model for Journal {
 }
 
 impl Journal {
-    /// A journal without entries or room.
+    /// Makes a journal without entries or room.
     pub fn new(alloc: Global) -> Self
         ensures entries { result.entries ≡ [] }
         ensures spare { result.spare ≡ 0 }
@@ -44,63 +46,64 @@ impl Journal {
         }
     }
 
-    /// The entries.
+    /// Returns the entries in order, borrowed.
     pub fn entries(&self) -> &[Entry]
         ensures { result.now ≡ self.now.entries }
     {
         self.entries.as_slice()
     }
 
-    /// How many entries there are.
+    /// Returns how many entries there are.
     pub fn len(&self) -> usize
         ensures { result ≡ length self.now.entries }
     {
         self.entries.len()
     }
 
-    /// Whether there is no entry.
+    /// Returns whether there is no entry.
     pub fn is_empty(&self) -> bool
         ensures { IsTrue result ↔ (self.now.entries ≡ []) }
     {
         self.entries.is_empty()
     }
 
-    /// The time of the last start, advance or skip, in nanoseconds since the epoch, and 0 before any.
+    /// Returns the time of the last start, advance or skip, in nanoseconds since the epoch, and 0 before any.
     pub fn last_time(&self) -> Nanos
         ensures { result ≡ last_time self.now.entries }
     {
         self.last
     }
 
-    /// How many rounds the runs have had.
+    /// Returns how many rounds the runs have had.
     pub fn rounds(&self) -> u64
         ensures { result ≡ rounds_in self.now.entries }
     {
         self.rounds
     }
 
-    /// The digest of the events, four bytes. No other entry moves it.
+    /// Returns the digest of all events, four bytes. No other entry moves it.
     pub fn digest(&self) -> [u8; 4]
         ensures { result ≡ digest_of self.now.entries }
     {
         self.auditor.digest()
     }
 
-    /// An auditor of all events so far.
+    /// Returns an auditor of all events so far.
     pub fn auditor(&self) -> Auditor
         ensures { result ≡ digest_of self.now.entries }
     {
         self.auditor
     }
 
-    /// How many more entries have room.
+    /// Returns how many more entries have room.
     pub fn spare(&self) -> usize
         ensures { result ≡ self.now.spare }
     {
         self.entries.capacity() - self.entries.len()
     }
 
-    /// Takes room for at least so many further entries.
+    /// Takes room for at least this many further entries, and changes no entry. Where they have room already it
+    /// succeeds.
     pub fn reserve(&mut self, entries: usize) -> Result<(), NoMemory>
         ensures entries { self.new.entries ≡ self.old.entries }
         ensures kept { self.old.spare ≤ self.new.spare }

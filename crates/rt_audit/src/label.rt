@@ -6,10 +6,10 @@ use rt_base::{NoMemory, ShortText, SmallText};
 use std::alloc::Global;
 use std::marker::Model;
 
-/// A text that stands in place.
+/// A label of at most 22 bytes, which is kept in place and takes no memory.
 pub type ShortLabel = ShortText<22>;
 
-/// A text that few entries have, and so behind a pointer. Contracts see its bytes.
+/// A label that is behind a pointer, since few entries have one. Contracts see its bytes.
 #[derive(Debug, Drop)]
 pub struct Label {
     inner: Box<SmallText>,
@@ -24,7 +24,7 @@ impl Model for Label {
 }
 
 impl Label {
-    /// Keeps a copy of a text.
+    /// Makes a label of a copy of a text.
     pub fn of(alloc: Global, text: &str) -> Result<Label, NoMemory>
         ensures { IfOk result (λ label. label ≡ text.now) }
     {
@@ -32,7 +32,7 @@ impl Label {
         Ok(Label { inner })
     }
 
-    /// The text.
+    /// Returns the text of the label.
     #[inline]
     pub fn as_str(&self) -> &str
         ensures { result.now ≡ self.now }

@@ -17,7 +17,7 @@ use std::str;
 /// So many bytes are printed in hex without memory of their own.
 const SHORT_HEX: usize = 32;
 
-/// A word.
+/// Adds a word.
 #[inline(always)]
 pub fn add_word(text: &mut String, word: &str) -> Result<(), NoMemory>
     ensures { OnOk result (string_bytes text.new ≡ string_bytes text.old ++ word.now) }
@@ -26,7 +26,7 @@ pub fn add_word(text: &mut String, word: &str) -> Result<(), NoMemory>
     Ok(())
 }
 
-/// A space.
+/// Adds a space.
 #[inline(always)]
 pub fn add_space(text: &mut String) -> Result<(), NoMemory>
     ensures { OnOk result (string_bytes text.new ≡ string_bytes text.old ++ codes " ") }
@@ -35,7 +35,7 @@ pub fn add_space(text: &mut String) -> Result<(), NoMemory>
     Ok(())
 }
 
-/// A number. Most have few digits.
+/// Adds a number. Most have few digits.
 #[inline(always)]
 pub fn add_number(text: &mut String, number: u128) -> Result<(), NoMemory>
     ensures { OnOk result (string_bytes text.new ≡ string_bytes text.old ++ decimal number) }
@@ -103,7 +103,7 @@ fn add_ascii(text: &mut String, word: &[u8]) -> Result<(), NoMemory>
     add_word(text, word)
 }
 
-/// A word with its space, and a number.
+/// Adds a word with its space, and a number.
 #[inline(always)]
 pub fn add_numbered(text: &mut String, word: &str, number: u128) -> Result<(), NoMemory>
     ensures { OnOk result (string_bytes text.new ≡ string_bytes text.old ++ (word.now ++ decimal number)) }
@@ -112,7 +112,7 @@ pub fn add_numbered(text: &mut String, word: &str, number: u128) -> Result<(), N
     add_number(text, number)
 }
 
-/// A word with its space, and a number that may be below zero.
+/// Adds a word with its space, and a number that may be below zero.
 pub fn add_signed(text: &mut String, word: &str, number: i32) -> Result<(), NoMemory>
     ensures { OnOk result (string_bytes text.new ≡ string_bytes text.old ++ (word.now ++ signed_decimal number)) }
 {
@@ -121,7 +121,7 @@ pub fn add_signed(text: &mut String, word: &str, number: i32) -> Result<(), NoMe
     Ok(())
 }
 
-/// A number, or `-` where there is none.
+/// Adds a number, or `-` where there is none.
 #[inline(always)]
 pub fn add_optional(text: &mut String, number: Option<u128>) -> Result<(), NoMemory>
     ensures { OnOk result (string_bytes text.new ≡ string_bytes text.old ++ optional_number number) }
@@ -132,7 +132,7 @@ pub fn add_optional(text: &mut String, number: Option<u128>) -> Result<(), NoMem
     }
 }
 
-/// Each number behind a space.
+/// Adds each number after a space.
 pub fn add_numbers(text: &mut String, numbers: &[u64]) -> Result<(), NoMemory>
     ensures { OnOk result (string_bytes text.new ≡ string_bytes text.old ++ numbers_text numbers.now) }
 {
@@ -160,7 +160,7 @@ fn add_field(alloc: Global, text: &mut String, bytes: &[u8]) -> Result<(), NoMem
     add_hex(alloc, text, bytes)
 }
 
-/// Bytes as lower-case hex, or `-` where there are none.
+/// Adds bytes as lower-case hex, or `-` where there are none.
 pub fn add_bytes(alloc: Global, text: &mut String, bytes: &[u8]) -> Result<(), NoMemory>
     ensures { OnOk result (string_bytes text.new ≡ string_bytes text.old ++ hex_text bytes.now) }
 {
@@ -213,7 +213,7 @@ fn add_short_hex(text: &mut String, bytes: &[u8]) -> Result<(), NoMemory>
     add_word(text, word)
 }
 
-/// Each field behind a space.
+/// Adds each field after a space.
 pub fn add_fields(alloc: Global, text: &mut String, fields: &EventFields) -> Result<(), NoMemory>
     ensures { OnOk result (string_bytes text.new ≡ string_bytes text.old ++ fields_text fields.now) }
 {
@@ -250,7 +250,7 @@ fn add_choice(text: &mut String, choice: Choice) -> Result<(), NoMemory>
     }
 }
 
-/// Each choice behind a space.
+/// Adds each choice after a space.
 pub fn add_choices(text: &mut String, choices: &[Choice]) -> Result<(), NoMemory>
     ensures { OnOk result (string_bytes text.new ≡ string_bytes text.old ++ choices_text choices.now) }
 {

@@ -8,7 +8,7 @@ use std::marker::Model;
 /// The numbers of a half.
 const HALF: u128 = 0x1_0000_0000_0000_0000;
 
-/// A time in nanoseconds since the epoch, in two halves that may stand at any place: an entry that holds one has no
+/// A time in nanoseconds since the epoch, in two halves without an alignment, so that an entry that holds one has no
 /// padding before it. Contracts see the time.
 #[derive(Debug, Drop)]
 pub struct Moment {
@@ -25,7 +25,7 @@ impl Model for Moment {
 }
 
 impl Moment {
-    /// Keeps a time.
+    /// Packs a time, in nanoseconds since the epoch.
     #[inline(always)]
     pub fn new(time: Nanos) -> Moment
         ensures { result ≡ time }
@@ -36,7 +36,7 @@ impl Moment {
         }
     }
 
-    /// The time.
+    /// Returns the time, in nanoseconds since the epoch.
     #[inline(always)]
     pub fn nanos(&self) -> Nanos
         ensures { result ≡ self.now }

@@ -6,7 +6,7 @@ use rt_base::{Items, NoMemory};
 use std::alloc::Global;
 use std::marker::Model;
 
-/// How the numbers are kept. One alone stands in place, since most rounds have one.
+/// How the numbers are kept. One alone is kept in place, since most rounds have one.
 #[derive(Debug, Drop)]
 pub enum OrderKind {
     One([u64; 1]),
@@ -29,7 +29,7 @@ impl Model for Order {
 }
 
 impl Order {
-    /// A copy of these numbers. One alone takes no memory.
+    /// Makes an order of a copy of these numbers. One alone takes no memory.
     pub fn of(alloc: Global, numbers: &[u64]) -> Result<Order, NoMemory>
         ensures order { IfOk result (λ order. order ≡ numbers.now) }
         ensures one { length numbers.now ≡ 1 → IsOk result }
@@ -41,7 +41,7 @@ impl Order {
         Ok(Order { kind })
     }
 
-    /// These numbers. It takes no memory.
+    /// Makes an order of the numbers of a `Vec`. It takes no memory.
     pub fn from_vec(numbers: Vec<u64>) -> Order
         ensures { result ≡ numbers.items }
     {
@@ -50,7 +50,7 @@ impl Order {
         }
     }
 
-    /// The numbers.
+    /// Returns the numbers in order, borrowed.
     #[inline(always)]
     pub fn as_slice(&self) -> &[u64]
         ensures { result.now ≡ self.now }

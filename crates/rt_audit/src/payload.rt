@@ -6,7 +6,7 @@ use rt_base::NoMemory;
 use std::alloc::Global;
 use std::marker::Model;
 
-/// Bytes behind a pointer, since few entries have them. Contracts see their list.
+/// The bytes of a reply, behind a pointer, since few entries have them. Contracts see their list.
 #[derive(Debug, Drop)]
 pub struct Payload {
     inner: Box<Vec<u8>>,
@@ -21,7 +21,7 @@ impl Model for Payload {
 }
 
 impl Payload {
-    /// Keeps a copy of bytes.
+    /// Makes a payload of a copy of these bytes.
     pub fn of(alloc: Global, bytes: &[u8]) -> Result<Payload, NoMemory>
         ensures { IfOk result (λ payload. payload ≡ bytes.now) }
     {
@@ -30,7 +30,7 @@ impl Payload {
         Ok(Payload { inner })
     }
 
-    /// Keeps other bytes in their place, as many. It takes no memory.
+    /// Puts other bytes, as many, in the place of those that are kept. It takes no memory.
     pub fn set(&mut self, bytes: &[u8])
         requires { length bytes.now ≡ length self.old }
         ensures { self.new ≡ bytes.now }
@@ -38,7 +38,7 @@ impl Payload {
         self.inner.copy_from_slice(bytes);
     }
 
-    /// The bytes.
+    /// Returns the bytes.
     pub fn as_slice(&self) -> &[u8]
         ensures { result.now ≡ self.now }
     {

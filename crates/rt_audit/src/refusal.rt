@@ -6,7 +6,8 @@ use rt_base::{Error, NoMemory};
 use std::alloc::Global;
 use std::marker::Model;
 
-/// An error behind a pointer, since few entries have one. Contracts see the error.
+/// The error of a refused call, behind a pointer, since few entries have one and an error holds texts. Contracts see
+/// the error.
 #[derive(Debug, Drop)]
 pub struct Refusal {
     inner: Box<Error>,
@@ -21,7 +22,7 @@ impl Model for Refusal {
 }
 
 impl Refusal {
-    /// Keeps an error.
+    /// Keeps an error in a block of its own.
     pub fn new(alloc: Global, error: Error) -> Result<Refusal, NoMemory>
         ensures { IfOk result (λ refusal. refusal ≡ error) }
     {
@@ -29,7 +30,7 @@ impl Refusal {
         Ok(Refusal { inner })
     }
 
-    /// The error.
+    /// Returns the error, borrowed.
     pub fn error(&self) -> &Error
         ensures { result.now ≡ self.now }
     {

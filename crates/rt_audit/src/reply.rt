@@ -1,4 +1,4 @@
-//! What calls on the world are answered.
+//! The replies to calls on the world.
 
 ghost use Rattle.std.specs.Prelude.{◌≡◌, ◌++◌, OnOk, string_bytes};
 ghost use Rattle.rt_audit.specs.Lines.{reply_text};
@@ -9,14 +9,15 @@ use crate::{Payload, Refusal};
 use rt_base::NoMemory;
 use std::alloc::Global;
 
-/// A reply, as its line shows it. A refusal keeps the error itself, of which the line shows the number.
+/// The reply to a call, as its line in a journal shows it. A refusal keeps the error itself, of which the line shows
+/// the number.
 #[derive(Debug, Drop)]
 pub enum CallReply {
     /// The call was carried out, and there is no more to say.
     Done,
     /// This node was made. It may have been born ended.
     NodeAt { node: u64, ended: bool },
-    /// This task was spawned. Its own context stands on this node.
+    /// This task was spawned. Its own context has this node.
     TaskAt { task: u64, node: u64 },
     /// The task was spawned on a node that has ended, and so it isn't run.
     Closed,
@@ -45,7 +46,7 @@ pub enum CallReply {
 }
 
 impl CallReply {
-    /// Adds the words of a journal's line.
+    /// Adds the words of a reply to the text of a journal's line.
     #[inline(always)]
     pub fn add_to(&self, alloc: Global, text: &mut String) -> Result<(), NoMemory>
         ensures { OnOk result (string_bytes text.new ≡ string_bytes text.old ++ reply_text self.now) }

@@ -1,12 +1,12 @@
 //! What the digest before leaves in the register at the number of a task, in the event of its visit.
 //!
-//! The bytes between are the same in each such event, so what each byte of the digest leaves stands in a table.
+//! The bytes between are the same in each such event, so what each byte of the digest leaves is kept in a table.
 
 ghost use Rattle.std.specs.Prelude.{◌≡◌, ◌<◌, ◌+◌, ◌*◌};
 ghost use Rattle.rt_audit.specs.Crc32c.{bit_steps};
 
-/// What a register that holds this byte alone becomes: after the byte's own bits, those of so many bytes of the digest
-/// behind it, and those of the 36 bytes that stand between the digest and the number.
+/// Returns what a register that holds this byte alone becomes: after the byte's own bits, those of so many bytes of the digest
+/// after it, and those of the 36 bytes between the digest and the number.
 #[inline(always)]
 pub fn task_remainder(byte: u8, behind: usize) -> u32
     requires { behind < 4 }
@@ -15,7 +15,7 @@ pub fn task_remainder(byte: u8, behind: usize) -> u32
     TASK_TABLES[behind][byte as usize]
 }
 
-/// A table for each number of bytes behind, with an entry for each byte.
+/// A table for each number of bytes after it, with an entry for each byte.
 static TASK_TABLES: [[u32; 256]; 4] = [
     [
         0x00000000, 0xff6571a2, 0xfb2695b5, 0x0443e417, 0xf3a15d9b, 0x0cc42c39, 0x0887c82e,
