@@ -14,7 +14,7 @@ alarms_of entries = map alarm_of entries
 abbrev pub list_of : Inside → AlarmList
 list_of a = record { alarms = alarms_of a.tasks; count = vec_len a.dues }
 
--- The due times stand in places by number, and a live alarm's is its own.
+-- The due times are in places by number, and a live alarm's is its own.
 pub record IsWhole (a : Inside) : Type 0 where
   pub set : AreSet (list_of a)
   pub counted : vec_len a.dues ≡ length a.dues.items

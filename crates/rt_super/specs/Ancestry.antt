@@ -53,7 +53,7 @@ abbrev pub is_child : ℕ → Option ℕ → Bool
 is_child a None = false
 is_child a (Some parent) = a == parent
 
--- what stands below a node among these later ones: each child, the eldest first, and before the next child what stands below
+-- what is below a node among these later ones: each child, the eldest first, and before the next child what is below
 -- it. This is the preorder of the tree; a child is younger than its parent.
 abbrev pub nodes_below : ℕ → List (ℕ × Option ℕ) → List ℕ
 nodes_below a [] = []
@@ -62,11 +62,11 @@ nodes_below a (x ∷ later) =
     then (x.0 ∷ nodes_below x.0 later) ++ nodes_below a later
     else nodes_below a later
 
--- a node, and then what stands below it
+-- a node, and then what is below it
 abbrev pub subtree : List (ℕ × Option ℕ) → ℕ → List ℕ
 subtree nodes a = a ∷ nodes_below a nodes
 
--- whether a number stands in a list
+-- whether a number is in a list
 abbrev pub stands_in : List ℕ → ℕ → Bool
 stands_in xs n = list_any (λ x. x == n) xs
 
@@ -75,7 +75,7 @@ stands_in xs n = list_any (λ x. x == n) xs
 abbrev pub was_born_ended : TreeRecord → ℕ → Bool
 was_born_ended r n = option_map_or (λ x. x.born_ended) (node_at r n) false
 
--- the node was born ended, or it or an ancestor stands in the list of ends
+-- the node was born ended, or it or an ancestor is in the list of ends
 abbrev pub is_ended : TreeRecord → ℕ → Bool
 is_ended r n = was_born_ended r n || list_any (λ e. stands_in (subtree (links r) e) n) r.ends
 

@@ -32,7 +32,7 @@ abbrev pub children_from : ℕ → ℕ → List (Option ℕ) → List ℕ
 children_from a i [] = []
 children_from a i (parent ∷ rest) = if is_child a parent then i ∷ children_from a (suc i) rest else children_from a (suc i) rest
 
--- each parent stands before its child
+-- each parent is before its child
 abbrev pub IsOlder : Option ℕ → ℕ → Type 0
 IsOlder None i = Unit {0}
 IsOlder (Some parent) i = parent < i

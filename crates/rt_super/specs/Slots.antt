@@ -39,7 +39,7 @@ abbrev pub with_abort : {V : Type 0} → SlotState V → SlotState V
 with_abort GivenUp = GivenUp
 with_abort _ = Aborted
 
--- what a poll answers: a value, that none comes any more, or that neither is known yet
+-- what a poll returns: a value, that none comes any more, or that neither is known yet
 abbrev pub poll_answer : {V : Type 0} → Option (SlotState V) → Poll (Option V)
 poll_answer (Some (Full value)) = Ready (Some value)
 poll_answer (Some (Open waiting)) = Pending

@@ -26,7 +26,7 @@ count_of group (x ∷ xs) = (if x.1 == group then 1 else 0) + count_of group xs
 abbrev pub numbers_at : List (List ℕ) → ℕ → List ℕ
 numbers_at lists group = group ∷ get_or lists group []
 
--- Each one stands in the list of its group, the lists are in order, and the counts are right.
+-- Each one is in the list of its group, the lists are in order, and the counts are right.
 pub record AreTied (os : List (ℕ × ℕ)) (ls : List (List ℕ)) (live : List ℕ) (next : ℕ) : Type 0 where
   pub lists : length ls ≡ next
   pub lives : length live ≡ next

@@ -10,9 +10,8 @@ use rt_base::{Nanos, NoMemory};
 use std::alloc::Global;
 use std::marker::Model;
 
-/// The alarms that are set. Each has a due time in nanoseconds, a number, and the task that it
-/// wakes, if it wakes one: `NOBODY` in its place stands for none. Alarms are numbered from 0 in the
-/// order of `set`.
+/// The alarms that are set, by due time and number. Each has a due time in nanoseconds, a number, and the task that it
+/// wakes, if it wakes one: `NOBODY` in its place means none. Alarms are numbered from 0 in the order of `set`.
 ///
 /// Only `set` takes memory: 16 bytes of it stay for each alarm that was ever set.
 #[derive(Drop)]
@@ -36,7 +35,7 @@ impl Model for Alarms {
 }
 
 impl Alarms {
-    /// No alarm.
+    /// Makes a set of no alarms.
     pub fn new(alloc: Global) -> Self
         ensures { result ≡ no_alarms }
     {
@@ -46,7 +45,9 @@ impl Alarms {
         }
     }
 
-    /// Sets an alarm that is due at a moment and wakes a task, and answers its number.
+    /// Sets an alarm that is due at a moment and wakes a task, and returns its number.
+    ///
+    /// Error: `NoMemory`, also where no number below `u64::MAX` is left. Nothing has changed after it.
     pub fn set(&mut self, due: Nanos, task: u64) -> Result<u64, NoMemory>
         ensures number { IfOk result (λ alarm. alarm ≡ self.old.count) }
         ensures given { IfOk result (λ alarm. alarm < 2 ^ 64 - 1) }
@@ -60,7 +61,7 @@ impl Alarms {
         Ok(number)
     }
 
-    /// Lets a live alarm wake another task. Nothing where no live alarm has the number.
+    /// Makes a live alarm wake another task, or nobody. It does nothing where no live alarm has the number.
     pub fn rewake(&mut self, alarm: u64, task: u64)
         ensures { self.new ≡ alarm_rewoken self.old alarm (waker_of task) }
     {
@@ -70,7 +71,7 @@ impl Alarms {
         self.tasks.rewake((due, alarm), task);
     }
 
-    /// When the least alarm is due.
+    /// Returns when the first alarm by due time and number is due, in nanoseconds.
     pub fn earliest(&self) -> Option<Nanos>
         ensures first { result ≡ first_due self.now.alarms }
         ensures set { AreSet self.now }
@@ -79,7 +80,7 @@ impl Alarms {
         Some(key.0)
     }
 
-    /// The number of the least alarm by due time and number, if it is due.
+    /// Returns the number of the first alarm by due time and number, if it is due.
     pub fn due(&self, now: Nanos) -> Option<u64>
         ensures first { result ≡ option_map (λ a. a.number) (due_first self.now.alarms now) }
         ensures set { AreSet self.now }
@@ -88,8 +89,7 @@ impl Alarms {
         if key.0 <= now { Some(key.1) } else { None }
     }
 
-    /// Takes the least alarm by due time and number, if it is due, and answers its number and its
-    /// task.
+    /// Takes the first alarm by due time and number out, if it is due, and returns its number and its task.
     pub fn pop_due(&mut self, now: Nanos) -> Option<(u64, u64)>
         ensures first { option_map named_of result ≡ option_map woken_of (due_first self.old.alarms now) }
         ensures popped { self.new ≡ alarm_popped self.old now }
@@ -109,14 +109,14 @@ impl Alarms {
         self.tasks.clear();
     }
 
-    /// How many alarms were ever set, which is the number of the next.
+    /// Returns how many alarms were ever set, which is the number of the next.
     pub fn count(&self) -> u64
         ensures { result ≡ self.now.count }
     {
         self.dues.len() as u64
     }
 
-    /// How many alarms are set.
+    /// Returns how many alarms are set.
     pub fn len(&self) -> usize
         ensures count { result ≡ length self.now.alarms }
         ensures set { AreSet self.now }
@@ -124,14 +124,14 @@ impl Alarms {
         self.tasks.len()
     }
 
-    /// Whether no alarm is set.
+    /// Returns whether no alarm is set.
     pub fn is_empty(&self) -> bool
         ensures { result ≡ (length self.now.alarms == 0) }
     {
         self.tasks.is_empty()
     }
 
-    /// When a live alarm is due.
+    /// Returns when the live alarm of this number is due, in nanoseconds.
     pub fn due_of(&self, alarm: u64) -> Option<Nanos>
         ensures due { result ≡ due_at self.now.alarms alarm }
         ensures set { AreSet self.now }

@@ -5,7 +5,7 @@ use rt_base::NoMemory;
 use std::alloc::Global;
 use std::marker::Model;
 
-/// How places are kept. One alone stands in place, since most nodes have one child at most; a list stands behind a pointer, so that
+/// How places are kept. One alone is kept in place, since most nodes have one child at most; a list is behind a pointer, so that
 /// a node is small.
 #[derive(Drop)]
 pub enum ChildrenKind {
@@ -30,7 +30,7 @@ impl Model for Children {
 }
 
 impl Children {
-    /// No children.
+    /// Makes a list of no children.
     pub fn new() -> Children
         ensures { result ≡ [] }
     {
@@ -39,7 +39,7 @@ impl Children {
         }
     }
 
-    /// Their places.
+    /// Returns the places of the children, the eldest first.
     pub fn as_slice(&self) -> &[usize]
         ensures { result.now ≡ self.now }
     {
@@ -50,7 +50,7 @@ impl Children {
         }
     }
 
-    /// Adds the youngest one.
+    /// Adds the place of the youngest child.
     pub fn push(&mut self, alloc: Global, child: usize) -> Result<(), NoMemory>
         ensures pushed { OnOk result (self.new ≡ self.old ++ child ∷ []) }
         ensures refused { OnErr result (self.new ≡ self.old) }

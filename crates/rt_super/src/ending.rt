@@ -10,8 +10,8 @@ ghost use Rattle.rt_super.specs.Ending.{fresh_tasks};
 use crate::node::Node;
 use std::collections::VecDeque;
 
-/// Marks a node and all that stands below it, and notes the tasks of what wasn't marked, in
-/// preorder. A marked node's children are marked, so it is passed over with all of them.
+/// Marks a node and all that is below it, and notes the tasks of what wasn't marked, in preorder. A marked node's
+/// children are marked, so it is skipped with all of them.
 pub fn end_subtree(
     nodes: &[Node],
     node: usize,

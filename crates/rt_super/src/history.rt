@@ -33,14 +33,14 @@ impl Model for History {
 impl History {
     ghost use Rattle.rt_super.specs.History.{after};
 
-    /// Of no node.
+    /// Makes the record of no node.
     pub fn new() -> History
         ensures { result.told ≡ no_history }
     {
         History {}
     }
 
-    /// After one change more.
+    /// Makes the record after one change more.
     pub fn after(_before: &History, _change: &Change) -> History
         ensures { result.told ≡ after _change.now _before.now.told }
     {

@@ -15,15 +15,16 @@ use std::alloc::Global;
 use std::collections::VecDeque;
 use std::marker::Model;
 
-/// Groups of signals. A group has a signaler, by whose number it goes. It gives the group a value,
-/// once, or is given up. The signals of the group show the value, and its completions are met
-/// once the value came and each signal was given up. The signaler, the first signal and the
-/// first completion have one number, and each further one has the next.
+/// Groups of signals. A group has a signaler, by whose number it goes. It gives the group a value, once, or is given
+/// up. The signals of the group show the value, and its completions are met once the value came and each signal was
+/// given up. The signaler, the first signal and the first completion have one number, and each further one has the
+/// next.
 ///
-/// `next_woken` answers whom the last call of any other kind met. A call that is refused changes
-/// nothing, and so this list neither: take it after each call.
+/// `next_woken` returns whom the last call of any other kind met. A call that is refused changes nothing, and so this
+/// list neither: take it after each call.
 ///
-/// Only `add` and `clone_signal` take memory.
+/// Only `add` and `clone_signal` take memory. Each call leaves each shutdown ([`Stopper`](crate::Stopper)) as one, but
+/// for `signal` and `close_signaler` of its number before its first `stop`.
 #[derive(Drop)]
 pub struct Signals {
     groups: Table<SignalGroup>,
@@ -46,7 +47,7 @@ impl Model for Signals {
 }
 
 impl Signals {
-    /// No group.
+    /// Makes a set of no groups.
     pub fn new(alloc: Global) -> Self
         ensures none { result.told ≡ no_signals }
         ensures woken { result.woken ≡ [] }
@@ -59,7 +60,9 @@ impl Signals {
         }
     }
 
-    /// Adds a group, and answers its number, which its signaler, a signal and a completion have.
+    /// Adds a group, and returns its number, which its signaler, a signal and a completion have. Nobody is woken.
+    ///
+    /// Error: `NoMemory`. Nothing has changed after it.
     pub fn add(&mut self) -> Result<u64, NoMemory>
         ensures number { IfOk result (λ number. number ≡ self.old.told.count) }
         ensures added { OnOk result (self.new.told ≡ with_group self.old.told) }
@@ -84,9 +87,9 @@ impl Signals {
         Ok(number)
     }
 
-    /// Adds an open signal of the same group, and answers its number.
+    /// Adds an open signal of the same group as this one, and returns its number.
     ///
-    /// Errors: `UnknownToken` where no open signal has the number, `NoMemory`.
+    /// Errors: `UnknownToken` where no open signal has the number, `NoMemory`. Nothing has changed after an error.
     #[tactic(auto, using(crate::proofs::Shutdowns::clone_keeps))]
     pub fn clone_signal(&mut self, signal: u64) -> Result<u64, Error>
         ensures number { IfOk result (λ number. number ≡ self.old.told.count) }
@@ -104,7 +107,7 @@ impl Signals {
         Ok(number)
     }
 
-    /// Gives a group its value, for good. Nothing where its signaler isn't there.
+    /// Gives a group its value, for good. It does nothing where the signaler isn't there.
     pub fn signal(&mut self, signaler: u64, value: i32)
         ensures given { self.new.told ≡ signaled self.old.told signaler value }
         ensures shutdowns { KeepOthers signaler self.old.told self.new.told }
@@ -114,12 +117,12 @@ impl Signals {
         self.give(signaler, value);
     }
 
-    /// The value that a signal shows, each time, in the name of a task, which waits where none
-    /// came yet; with `NOBODY` nobody waits. The signal of a group that was never made stays
-    /// without one.
+    /// Returns the value that a signal shows, at each poll again, in the name of a task, which waits where no value
+    /// came yet, in the place of who waited before. `NOBODY` polls in nobody's name, and then nobody waits. The signal
+    /// of a group that was never made stays without a value.
     ///
-    /// Errors: `UnknownToken` where no open signal has the number, `Closed` where the signaler was
-    /// given up without a value.
+    /// Errors: `UnknownToken` where no open signal has the number, `Closed` where the signaler was given up without a
+    /// value.
     #[tactic(auto, using(crate::proofs::Shutdowns::poll_keeps, crate::proofs::Shutdowns::shows))]
     pub fn poll_signal(&mut self, signal: u64, task: u64) -> Result<Poll<i32>, Error>
         ensures answer { result ≡ signal_answer self.old.told signal }
@@ -146,8 +149,9 @@ impl Signals {
         Ok(Poll::Pending)
     }
 
-    /// Whether the value of a completion's group came and each signal of the group was given up,
-    /// in the name of a task, which waits where that isn't so yet; with `NOBODY` nobody waits.
+    /// Returns whether a completion is met, which is so once the value of its group came and each signal of it was
+    /// given up, in the name of a task, which waits where that isn't so yet, in the place of who waited before.
+    /// `NOBODY` polls in nobody's name, and then nobody waits.
     ///
     /// Error: `UnknownToken` where no live completion has the number.
     #[tactic(auto, using(crate::proofs::Shutdowns::polled_keeps))]
@@ -169,9 +173,11 @@ impl Signals {
         Ok(Poll::Pending)
     }
 
-    /// What a signal shows: the value of its group once it came. The signal of a group that was never made stays without one.
+    /// Returns what a poll of a signal would return: the value of its group once it came. The signal of a group that
+    /// was never made stays without one.
     ///
-    /// Errors: `UnknownToken` where no open signal has the number, `Closed` where the signaler was given up without a value.
+    /// Errors: `UnknownToken` where no open signal has the number, `Closed` where the signaler was given up without a
+    /// value.
     pub fn shown(&self, signal: u64) -> Result<Poll<i32>, Error>
         ensures answer { result ≡ signal_answer self.now.told signal }
         ensures causes { IfErr result (λ e. (e ≡ Error.UnknownToken) ⊎ (e ≡ Error.Closed)) }
@@ -189,8 +195,9 @@ impl Signals {
         }
     }
 
-    /// Whether a completion is met: the value of its group came, and each of its signals was given up. `UnknownToken` where no
-    /// live completion has the number.
+    /// Returns whether a completion is met: the value of its group came, and each of its signals was given up.
+    ///
+    /// Error: `UnknownToken` where no live completion has the number.
     pub fn met(&self, completion: u64) -> Result<Poll<()>, Error>
         ensures answer { result ≡ completion_answer self.now.told completion }
         ensures causes { IfErr result (λ e. e ≡ Error.UnknownToken) }
@@ -205,42 +212,43 @@ impl Signals {
         }
     }
 
-    /// Whether an open signal has this number.
+    /// Returns whether an open signal has this number.
     pub fn has_signal(&self, signal: u64) -> bool
         ensures { result ≡ is_some (find signal self.now.told.signals) }
     {
         self.signals.get(signal).is_some()
     }
 
-    /// Whether a live completion has this number.
+    /// Returns whether a live completion has this number.
     pub fn has_completion(&self, completion: u64) -> bool
         ensures { result ≡ is_some (find completion self.now.told.completions) }
     {
         self.completions.get(completion).is_some()
     }
 
-    /// Whether somebody waits by an open signal.
+    /// Returns whether somebody waits by the open signal of this number.
     pub fn is_signal_waited(&self, signal: u64) -> bool
         ensures { result ≡ is_waited signal self.now.told.signals }
     {
         self.signals.is_waited(signal)
     }
 
-    /// Whether somebody waits by a live completion.
+    /// Returns whether somebody waits by the live completion of this number.
     pub fn is_completion_waited(&self, completion: u64) -> bool
         ensures { result ≡ is_waited completion self.now.told.completions }
     {
         self.completions.is_waited(completion)
     }
 
-    /// The number that the next signaler, signal or completion gets.
+    /// Returns the number that the next signaler, signal or completion gets.
     pub fn count(&self) -> u64
         ensures { result ≡ self.now.told.count }
     {
         self.signals.count()
     }
 
-    /// Gives an open signal up. Nothing for any other number.
+    /// Gives an open signal up. With the last one of a group whose value came, its completions are met. It does nothing
+    /// for any other number.
     #[tactic(auto, using(crate::proofs::Shutdowns::close_keeps))]
     pub fn close_signal(&mut self, signal: u64)
         ensures closed { self.new.told ≡ signal_closed self.old.told signal }
@@ -251,8 +259,8 @@ impl Signals {
         self.drop_signal(signal);
     }
 
-    /// Gives a signaler up without a value, and the completion of its number with it. Nothing
-    /// where it isn't there.
+    /// Gives a signaler up without a value, and the completion of its number with it. Who waits by its signals is
+    /// woken. It does nothing where the signaler isn't there.
     pub fn close_signaler(&mut self, signaler: u64)
         ensures closed { self.new.told ≡ signaler_closed self.old.told signaler }
         ensures shutdowns { KeepOthers signaler self.old.told self.new.told }
@@ -271,7 +279,7 @@ impl Signals {
         self.completions.remove(signaler);
     }
 
-    /// Gives a live completion up. Nothing for any other number.
+    /// Gives a live completion up. It does nothing for any other number.
     pub fn close_completion(&mut self, completion: u64)
         ensures closed { self.new.told ≡ completion_closed self.old.told completion }
         ensures shutdowns { KeepShutdowns self.old.told self.new.told }
@@ -281,8 +289,8 @@ impl Signals {
         self.drop_completion(completion);
     }
 
-    /// Nobody waits for what is there: each signal by which somebody waits is pending, and so is
-    /// each such completion. And the next number was never given.
+    /// States by its clauses that nobody waits for what is there: each signal by which somebody waits is pending, and
+    /// so is each such completion. And the next number was never given.
     pub fn facts(&self)
         ensures signals { (signal : ℕ) (t : SignalToken) → find signal self.now.told.signals ≡ Some t → IsSome t.waits → signal_answer self.now.told signal ≡ Ok Poll.Pending }
         ensures completions { (completion : ℕ) (t : SignalToken) → find completion self.now.told.completions ≡ Some t → IsSome t.waits → completion_answer self.now.told completion ≡ Ok Poll.Pending }
@@ -293,8 +301,8 @@ impl Signals {
         self.completions.facts();
     }
 
-    /// The next task whose wait the last call met that wasn't refused. Of a group the waits by
-    /// signals come first, each kind in the order of its numbers.
+    /// Takes the next task whose wait the last call met that wasn't refused. Of a group the waits by signals come
+    /// first, each kind in the order of its numbers.
     pub fn next_woken(&mut self) -> Option<u64>
         ensures first { result ≡ slice_get self.old.woken 0 }
         ensures taken { self.new.woken ≡ drop 1 self.old.woken }
@@ -393,7 +401,7 @@ impl Signals {
         self.woken.clear();
     }
 
-    /// Whether a signaler is there.
+    /// Returns whether the signaler of this number is there.
     pub fn is_alive(&self, signaler: u64) -> bool
         ensures { result ≡ is_alive self.now.told signaler }
     {
@@ -403,7 +411,7 @@ impl Signals {
         }
     }
 
-    /// Whether a group's value came.
+    /// Returns whether a group's value came.
     fn has_value(&self, group: u64) -> bool
         ensures { result ≡ has_value self.now.told group }
     {
@@ -413,7 +421,7 @@ impl Signals {
         }
     }
 
-    /// Whether the completions of a group are met.
+    /// Returns whether the completions of a group are met.
     fn completes(&self, group: u64) -> bool
         ensures { result ≡ completes self.now.told group }
     {

@@ -35,7 +35,7 @@ impl<V> SlotState<V> {
         }
     }
 
-    /// Closes an open slot and answers the task that waits.
+    /// Closes an open slot and returns the task that waits.
     pub fn close(&mut self) -> Option<u64>
         ensures waiting { result ≡ waiting_of (Some self.old) }
         ensures closed { self.new ≡ without_value self.old }
@@ -53,7 +53,7 @@ impl<V> SlotState<V> {
         }
     }
 
-    /// Answers the value, or lets a task or nobody wait.
+    /// Returns the value, or notes that a task or nobody waits.
     pub fn poll(&mut self, waker: Option<u64>) -> Poll<Option<V>>
         requires held { IsTrue (is_held (Some self.old)) }
         ensures answer { result ≡ poll_answer (Some self.old) }
@@ -71,7 +71,7 @@ impl<V> SlotState<V> {
 }
 
 impl<V: Drop> SlotState<V> {
-    /// Gives an open slot its value and answers the task that waits.
+    /// Gives an open slot its value and returns the task that waits.
     pub fn put(&mut self, value: V) -> Option<u64>
         ensures waiting { result ≡ waiting_of (Some self.old) }
         ensures given { self.new ≡ with_value value self.old }
@@ -84,7 +84,7 @@ impl<V: Drop> SlotState<V> {
         waiting
     }
 
-    /// Aborts a slot that wasn't given up, and answers the task that waits.
+    /// Aborts a slot that wasn't given up, and returns the task that waits.
     pub fn abort(&mut self) -> Option<u64>
         ensures waiting { result ≡ waiting_of (Some self.old) }
         ensures aborted { self.new ≡ with_abort self.old }

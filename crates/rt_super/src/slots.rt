@@ -9,9 +9,8 @@ use rt_base::{NoMemory, Poll};
 use std::alloc::Global;
 use std::marker::Model;
 
-/// Places for results that come once. A slot has two sides: one gives the value or closes, and
-/// one polls until it gives up. An abort lets the value go, whichever side asks for it. Slots are
-/// numbered from 0 in the order of `add`.
+/// Places for results that come once. A slot has two sides: one gives the value or closes, and one polls until it gives
+/// up. An abort drops the value, whichever side asks for it. Slots are numbered from 0 in the order of `add`.
 ///
 /// Only `add` takes memory.
 #[derive(Drop)]
@@ -29,7 +28,7 @@ impl<V> Model for Slots<V> {
 }
 
 impl<V> Slots<V> {
-    /// No slot.
+    /// Makes a set of no slots.
     pub fn new(alloc: Global) -> Self
         ensures { result ≡ [] }
     {
@@ -38,7 +37,7 @@ impl<V> Slots<V> {
         }
     }
 
-    /// Adds an open slot and answers its number.
+    /// Adds an open slot and returns its number, which is the next. Nothing has changed after `NoMemory`.
     pub fn add(&mut self) -> Result<u64, NoMemory>
         ensures number { IfOk result (λ slot. slot ≡ length self.old) }
         ensures added { IfOk result (λ slot. self.new ≡ self.old ++ SlotState.Open None ∷ []) }
@@ -50,7 +49,7 @@ impl<V> Slots<V> {
         Ok(slot)
     }
 
-    /// Whether the slot was added and not given up.
+    /// Returns whether the slot was added and not given up.
     pub fn holds(&self, slot: u64) -> bool
         ensures { result ≡ is_held (slice_get self.now slot) }
     {
@@ -60,7 +59,7 @@ impl<V> Slots<V> {
         }
     }
 
-    /// Whether an abort of the slot was asked for, and it wasn't given up since.
+    /// Returns whether an abort of the slot was asked for, and it wasn't given up since.
     pub fn is_aborted(&self, slot: u64) -> bool
         ensures { result ≡ is_aborted (slice_get self.now slot) }
     {
@@ -70,8 +69,8 @@ impl<V> Slots<V> {
         }
     }
 
-    /// Closes an open slot, so that no value comes any more, and answers the task that waits for
-    /// it. Any other slot stays as it is.
+    /// Closes an open slot, so that no value comes any more, and returns the task that waits for it. Any other slot
+    /// stays as it is.
     pub fn close(&mut self, slot: u64) -> Option<u64>
         ensures waiting { result ≡ waiting_of (slice_get self.old slot) }
         ensures closed { self.new ≡ changed_at self.old slot without_value }
@@ -83,9 +82,9 @@ impl<V> Slots<V> {
         }
     }
 
-    /// Asks for the value in the name of a task, which waits where neither a value nor the closing
-    /// came yet; `NOBODY` asks in nobody's name, and then nobody waits. A value is given once;
-    /// after it, after the closing and after an abort, the answer is None.
+    /// Asks for the value of a slot in the name of a task, which waits where neither a value nor the closing came yet,
+    /// in the place of who waited before. `NOBODY` asks in nobody's name, and then nobody waits. A value is given once;
+    /// after it, after the closing and after an abort, the result is `None`.
     pub fn poll(&mut self, slot: u64, task: u64) -> Poll<Option<V>>
         requires held { IsTrue (is_held (slice_get self.old slot)) }
         ensures answer { result ≡ poll_answer (slice_get self.old slot) }
@@ -96,8 +95,8 @@ impl<V> Slots<V> {
 }
 
 impl<V: Drop> Slots<V> {
-    /// Gives an open slot its value, and answers the task that waits for it. Any other slot stays
-    /// as it is, and the value is let go, so `V` is `Drop`.
+    /// Gives an open slot its value, and returns the task that waits for it. Any other slot stays as it is, and the
+    /// value is dropped, so `V` is `Drop`.
     pub fn put(&mut self, slot: u64, value: V) -> Option<u64>
         ensures waiting { result ≡ waiting_of (slice_get self.old slot) }
         ensures given { self.new ≡ changed_at self.old slot (with_value value) }
@@ -109,8 +108,8 @@ impl<V: Drop> Slots<V> {
         }
     }
 
-    /// Aborts a slot, whatever came, unless it was given up, and answers the task that waits for
-    /// it. A value in it is let go, so `V` is `Drop`.
+    /// Aborts a slot, whatever came, unless it was given up, and returns the task that waits for it. A value in it is
+    /// dropped, so `V` is `Drop`.
     pub fn abort(&mut self, slot: u64) -> Option<u64>
         ensures waiting { result ≡ waiting_of (slice_get self.old slot) }
         ensures aborted { self.new ≡ changed_at self.old slot with_abort }
@@ -122,7 +121,7 @@ impl<V: Drop> Slots<V> {
         }
     }
 
-    /// Nobody polls the slot any more. A value in it is let go, so `V` is `Drop`.
+    /// Gives a slot up: nobody polls it any more. A value in it is dropped, so `V` is `Drop`.
     pub fn give_up(&mut self, slot: u64)
         ensures { self.new ≡ changed_at self.old slot (λ _. SlotState.GivenUp) }
     {

@@ -6,15 +6,15 @@ use crate::signals::Signals;
 use rt_base::NoMemory;
 use std::marker::Model;
 
-/// A signal of a shutdown: an open one by its number, or the value that came.
+/// What a `stopped` gives: an open signal of the shutdown by its number, or the value that came.
 #[derive(Debug, Drop, PartialEq, Eq)]
 pub enum Stopped {
     Waiting(u64),
     Resolved(i32),
 }
 
-/// A shutdown, as a group of signals of which the first `stop` decides the value. A `stop` or
-/// `stopped` that is refused changes nothing, also not whom the call before met.
+/// A shutdown, as a group of signals of which the first `stop` decides the value. A `stop` or `stopped` that is refused
+/// changes nothing, nor the list of those whom the call before met.
 #[derive(Drop)]
 pub struct Stopper {
     group: u64,
@@ -30,7 +30,9 @@ impl Model for Stopper {
 }
 
 impl Stopper {
-    /// A shutdown that nobody began.
+    /// Makes a shutdown that nobody began, as a group of these signals. Each other shutdown stays one.
+    ///
+    /// Error: `NoMemory`. Nothing has changed after it.
     pub fn new(signals: &mut Signals) -> Result<Self, NoMemory>
         ensures made { IfOk result (λ stopper. stopper ≡ new_stop signals.old.told) }
         ensures added { OnOk result (signals.new.told ≡ with_group signals.old.told) }
@@ -43,8 +45,11 @@ impl Stopper {
         Ok(Stopper { group, value: None })
     }
 
-    /// Begins the shutdown with a value, unless it began before; and answers the number of a
-    /// completion of its own.
+    /// Begins the shutdown with a value, unless it began before, and returns the number of a completion of its own. The
+    /// first stop gives up the group's first signal and own completion too; a later one changes no value and wakes
+    /// nobody.
+    ///
+    /// Error: `NoMemory`. Nothing has changed after it.
     #[tactic(auto, using(crate::proofs::Shutdowns::shows))]
     pub fn stop(&mut self, signals: &mut Signals, value: i32) -> Result<u64, NoMemory>
         ensures number { IfOk result (λ number. number ≡ signals.old.told.count) }
@@ -67,7 +72,10 @@ impl Stopper {
         Ok(completion)
     }
 
-    /// A signal of the shutdown: an open one, or the value where it came.
+    /// Makes an open signal of the shutdown under the next number before the first `stop`, and returns the value of
+    /// that stop after it.
+    ///
+    /// Error: `NoMemory`. Nothing has changed after it.
     #[tactic(auto, using(crate::proofs::Shutdowns::stopped_keeps, crate::proofs::Shutdowns::shows))]
     pub fn stopped(&mut self, signals: &mut Signals) -> Result<Stopped, NoMemory>
         ensures answer { IfOk result (λ stopped. stopped ≡ stopped_answer signals.old.told self.old) }
@@ -90,14 +98,14 @@ impl Stopper {
         }
     }
 
-    /// The number of its group.
+    /// Returns the number of the shutdown's group.
     pub fn group(&self) -> u64
         ensures { result ≡ self.now.group }
     {
         self.group
     }
 
-    /// What [`stopped`](Self::stopped) answers where there is memory.
+    /// Returns what [`stopped`](Self::stopped) returns where there is memory.
     pub fn answer(&self, signals: &Signals) -> Stopped
         ensures { result ≡ stopped_answer signals.now.told self.now }
     {

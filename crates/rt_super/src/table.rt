@@ -25,7 +25,7 @@ impl<V> Model for Table<V> {
 
 #[tactic(auto, using(crate::proofs::Rows::row_laws))]
 impl<V: Copy> Table<V> {
-    /// Nothing, up to this number.
+    /// Makes a table in which no number has anything, whose first number is this.
     pub fn new(alloc: Global, first: u64) -> Self
         ensures items { result.items ≡ [] }
         ensures next { result.next ≡ first }
@@ -36,7 +36,7 @@ impl<V: Copy> Table<V> {
         }
     }
 
-    /// Takes room for so many further numbers.
+    /// Takes room for this many further numbers.
     pub fn reserve(&mut self, places: usize) -> Result<(), NoMemory>
         ensures items { self.new.items ≡ self.old.items }
         ensures next { self.new.next ≡ self.old.next }
@@ -47,7 +47,8 @@ impl<V: Copy> Table<V> {
         Ok(())
     }
 
-    /// No number from the next one on has anything, and those that have something are in order.
+    /// States by its clauses that no number from the next one on has anything, and that those that have something are
+    /// in order.
     pub fn facts(&self)
         ensures none { (task : ℕ) → self.now.next ≤ task → find task self.now.items ≡ None }
         ensures rising { AreRising self.now.items }
@@ -56,7 +57,7 @@ impl<V: Copy> Table<V> {
         let _ = &self.places;
     }
 
-    /// The next number, where it fits.
+    /// Returns the next number, where it fits into 64 bits.
     pub fn next(&self) -> Option<u64>
         ensures number { IfSome result (λ next. next ≡ self.now.next) }
         ensures past { (result ≡ None) ↔ (2 ^ 64 ≤ self.now.next) }
@@ -64,7 +65,7 @@ impl<V: Copy> Table<V> {
         self.first.checked_add(self.places.len() as u64)
     }
 
-    /// What a task has.
+    /// Returns what a number has, if it has something.
     pub fn get(&self, task: u64) -> Option<V>
         ensures { result ≡ find task self.now.items }
     {
@@ -77,7 +78,7 @@ impl<V: Copy> Table<V> {
         }
     }
 
-    /// Puts this in the place of what a task has. Nothing where it has nothing.
+    /// Puts this in the place of what a number has. It does nothing where the number has nothing.
     pub fn set(&mut self, task: u64, value: V)
         ensures items { self.new.items ≡ replaced (λ old. value) task self.old.items }
         ensures next { self.new.next ≡ self.old.next }
@@ -90,7 +91,7 @@ impl<V: Copy> Table<V> {
         self.places[place] = Some(value);
     }
 
-    /// Takes what a task has out.
+    /// Takes out what a number has.
     pub fn remove(&mut self, task: u64)
         ensures items { self.new.items ≡ without task self.old.items }
         ensures gone { find task self.new.items ≡ None }
@@ -104,7 +105,7 @@ impl<V: Copy> Table<V> {
         self.places[place] = None;
     }
 
-    /// Adds what the next number has.
+    /// Gives the next number this, in one of the spare places. It takes no memory.
     pub fn push(&mut self, value: V)
         requires { 0 < self.old.spare }
         ensures items { self.new.items ≡ self.old.items ++ (self.old.next, value) ∷ [] }
@@ -114,7 +115,7 @@ impl<V: Copy> Table<V> {
         self.places.push_reserved(Some(value));
     }
 
-    /// Passes the next number over.
+    /// Skips the next number, which has nothing then, and uses one of the spare places. It takes no memory.
     pub fn skip(&mut self)
         requires { 0 < self.old.spare }
         ensures items { self.new.items ≡ self.old.items }

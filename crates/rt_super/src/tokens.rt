@@ -47,7 +47,7 @@ impl Tokens {
         }
     }
 
-    /// The next number.
+    /// Returns the next number.
     pub fn count(&self) -> u64
         ensures { result ≡ self.now.next }
     {
@@ -60,7 +60,7 @@ impl Tokens {
         self.table.get(number)
     }
 
-    /// Whether somebody waits by this one.
+    /// Returns whether somebody waits by this one.
     pub fn is_waited(&self, number: u64) -> bool
         ensures { result ≡ is_waited number self.now.items }
     {
@@ -70,7 +70,7 @@ impl Tokens {
         }
     }
 
-    /// Whether one of the group is there.
+    /// Returns whether one of the group is there.
     pub fn is_open(&self, group: u64) -> bool
         ensures { result ≡ is_open group self.now.items }
     {
@@ -92,7 +92,7 @@ impl Tokens {
         Ok(())
     }
 
-    /// Passes the next number over.
+    /// Skips the next number.
     pub fn skip(&mut self)
         requires { 0 < self.old.spare }
         ensures items { self.new.items ≡ self.old.items }

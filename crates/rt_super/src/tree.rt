@@ -14,11 +14,12 @@ use std::alloc::Global;
 use std::collections::VecDeque;
 use std::marker::Model;
 
-/// The tree of contexts. A node ends with its parent: an `end` reaches the node and every node
-/// below it, and the tasks on the newly ended nodes are then answered by `next_flag`.
+/// The tree of contexts. A node ends with its parent: an `end` reaches the node and every node below it, and the tasks
+/// on the newly ended nodes are then taken by `next_flag`.
 ///
-/// `end`, `next_flag` and `release` take no memory, since each node has its room from its making
-/// on, and none of them calls itself. An `end` visits the nodes that it ends and their children.
+/// `end`, `next_flag` and `release` take no memory, since each node has its room from its making on, and none of them
+/// calls itself. An `end` visits the nodes that it ends and their children. Flags have room for twice the nodes, since
+/// their queue grows by the length that is asked for, and would else be copied at each child.
 #[derive(Drop)]
 pub struct Tree {
     nodes: Vec<Node>,
@@ -45,7 +46,7 @@ impl Model for Tree {
 }
 
 impl Tree {
-    /// A tree of one node, which isn't ended.
+    /// Makes a tree of one node, number 0, which isn't ended.
     pub fn new(alloc: Global) -> Result<Tree, NoMemory>
         ensures { IfOk result (λ tree. tree ≡ first_record) }
     {
@@ -60,22 +61,22 @@ impl Tree {
         Ok(tree)
     }
 
-    /// The first node.
+    /// Returns the number of the first node, which is 0.
     pub fn root(&self) -> u64
         ensures { result ≡ 0 }
     {
         0
     }
 
-    /// Whether the node was ended, by an end of its own or of an ancestor's, or at its birth.
-    /// False for a node that isn't live.
+    /// Returns whether a live node was ended, by an end of its own or of an ancestor's, or at its birth. It returns
+    /// false for a node that isn't live.
     pub fn is_ended(&self, node: u64) -> bool
         ensures { result ≡ (is_live self.now node && is_ended self.now node) }
     {
         self.lives(node) && self.has_ended(node)
     }
 
-    /// Whether the node was made and not released.
+    /// Returns whether the node was made and not released.
     pub fn lives(&self, node: u64) -> bool
         ensures { result ≡ is_live self.now node }
     {
@@ -85,7 +86,8 @@ impl Tree {
         }
     }
 
-    /// Whether the node, live or released, was ended, as `is_ended` tells it of a live one.
+    /// Returns whether the node, live or released, was ended: by an end of its own or of an ancestor's, or at its
+    /// birth.
     pub fn has_ended(&self, node: u64) -> bool
         ensures { result ≡ is_ended self.now node }
     {
@@ -103,7 +105,7 @@ impl Tree {
         self.ended[node as usize]
     }
 
-    /// Whether the first node was ended, and so every node.
+    /// Returns whether the first node was ended, and so every node.
     pub fn is_over(&self) -> bool
         ensures first { result ≡ is_ended self.now 0 }
         ensures all { result ≡ true → AreEnded self.now }
@@ -113,10 +115,10 @@ impl Tree {
         over
     }
 
-    /// Makes a node below a live one, and answers its number and whether its parent is ended; then
-    /// the child is born ended, and stands below nothing.
+    /// Makes a node below a live one, and returns its number and whether its parent is ended; then the child is born
+    /// ended, and has no parent. The number is the count of the nodes before it.
     ///
-    /// Errors: `UnknownToken` where the parent isn't live, `NoMemory`.
+    /// Errors: `UnknownToken` where the parent isn't live, `NoMemory`. Nothing has changed after an error.
     pub fn child(&mut self, parent: u64) -> Result<(u64, bool), Error>
         ensures flag { IfOk result (λ made. made.1 ≡ is_ended self.old parent) }
         ensures made { IfOk result (λ made. self.new ≡ with_child self.old made.0 parent) }
@@ -136,9 +138,9 @@ impl Tree {
         Ok((number, ended))
     }
 
-    /// Puts a task on a live node, and answers whether the node is ended.
+    /// Puts a task on a live node that has none, and returns whether the node is ended.
     ///
-    /// Error: `UnknownToken` where the node isn't live.
+    /// Error: `UnknownToken` where the node isn't live. Nothing has changed after it.
     pub fn register(&mut self, node: u64, task: u64) -> Result<bool, Error>
         requires free { live_task self.old node ≡ None }
         ensures flag { IfOk result (λ ended. ended ≡ is_ended self.old node) }
@@ -156,7 +158,7 @@ impl Tree {
         Ok(ended)
     }
 
-    /// The task on a live node. Where there is none, `register` may put one.
+    /// Returns the task on a live node. Where there is none, `register` may put one.
     pub fn task_of(&self, node: u64) -> Option<u64>
         ensures { result ≡ live_task self.now node }
     {
@@ -166,8 +168,9 @@ impl Tree {
         }
     }
 
-    /// Ends a node, live or released, and every node below it. An end of the first node ends all
-    /// nodes. Where the node was ended, no task is noted; where it was never made, nothing changes.
+    /// Ends a node, live or released, and every node below it, and flags the tasks of those that it newly ends, in
+    /// preorder. An end of the first node ends all nodes. Where the node was ended, no task is flagged; where it was
+    /// never made, nothing changes.
     pub fn end(&mut self, node: u64)
         ensures ended { self.new ≡ with_end self.old node }
         ensures again { is_ended self.old node ≡ true → self.new.flags ≡ self.old.flags }
@@ -185,9 +188,9 @@ impl Tree {
         }
     }
 
-    /// The next task of the nodes that have ended and whose tasks weren't answered yet: first those
-    /// of the earlier ends, and of one end in preorder, so an ancestor's before its descendants'
-    /// and an elder child's before a younger one's.
+    /// Takes the first flag: the next task of the nodes that have ended and whose tasks weren't taken yet. First come
+    /// those of the earlier ends, and of one end in preorder, so an ancestor's before its descendants' and an elder
+    /// child's before a younger one's.
     pub fn next_flag(&mut self) -> Option<u64>
         ensures first { result ≡ slice_get self.old.flags 0 }
         ensures taken { self.new ≡ with_flag_taken self.old }
@@ -196,8 +199,8 @@ impl Tree {
         self.flags.pop_front()
     }
 
-    /// Gives a live node up. It stays as an ancestor of what stands below it, and its task stays on
-    /// it. Nothing where the node isn't live.
+    /// Gives a live node up. It stays as an ancestor of what is below it, and its task stays on it. It does nothing
+    /// where the node isn't live.
     pub fn release(&mut self, node: u64)
         ensures { self.new ≡ with_release self.old node }
     {

@@ -13,7 +13,8 @@ use std::marker::Model;
 
 /// Whom each alarm wakes, by due time and number.
 ///
-/// The first stands beside the map of the later ones, so that an alarm that is alone comes and goes without the map.
+/// The first is kept beside the map of the later ones, so that an alarm that is alone, as that of a sleep mostly is,
+/// comes and goes without the map.
 #[derive(Drop)]
 pub struct Queue {
     first: Option<((Nanos, u64), u64)>,
@@ -34,7 +35,7 @@ impl Model for Queue {
 }
 
 impl Queue {
-    /// No alarm.
+    /// Makes a queue of no alarms.
     pub fn new(alloc: Global) -> Self
         ensures { result ≡ [] }
     {
@@ -67,7 +68,7 @@ impl Queue {
         Ok(())
     }
 
-    /// Lets an alarm wake another task. Nothing where it isn't there.
+    /// Makes an alarm wake another task. It does nothing where the alarm isn't there.
     pub fn rewake(&mut self, key: (Nanos, u64), task: u64)
         ensures entries { self.new ≡ set_value (is_at (key_cmp key)) self.old task }
         ensures ordered { IsStrictlySortedBy key_cmp (keys_of self.new) }
@@ -84,7 +85,7 @@ impl Queue {
         }
     }
 
-    /// Whether an alarm is there.
+    /// Returns whether an alarm is there.
     pub fn contains(&self, key: (Nanos, u64)) -> bool
         ensures { result ≡ is_some (lookup (is_at (key_cmp key)) self.now) }
     {
@@ -94,7 +95,7 @@ impl Queue {
         }
     }
 
-    /// The first alarm.
+    /// Returns the first alarm.
     pub fn first(&self) -> Option<((Nanos, u64), u64)>
         ensures first { IfSome result (λ entry. slice_get self.now 0 ≡ Some entry) }
         ensures none { IfNone result (self.now ≡ []) }
@@ -121,7 +122,7 @@ impl Queue {
         self.later.clear();
     }
 
-    /// How many alarms there are.
+    /// Returns how many alarms there are.
     pub fn len(&self) -> usize
         ensures { result ≡ length self.now }
     {
@@ -131,7 +132,7 @@ impl Queue {
         }
     }
 
-    /// Whether there is no alarm.
+    /// Returns whether there is no alarm.
     pub fn is_empty(&self) -> bool
         ensures { result ≡ (length self.now == 0) }
     {
