@@ -1,4 +1,4 @@
--- How many bytes a `recv` answers: as many as it asked for.
+-- How many bytes a `recv` returns: as many as it asked for.
 use Rattle.std.specs.Prelude.{◌≡◌, ℕ, length, Option, Some, None}
 use Rattle.rt_base.specs.declared.poll.Poll.{Poll}
 use Rattle.rt_base.specs.declared.poll.Poll.TheVariants.{Ready, Pending}

@@ -1,4 +1,4 @@
--- The calls of a `Net`: for each what it may answer, and the network after it as a function of the network before it,
+-- The calls of a `Net`: for each what it may return, and the network after it as a function of the network before it,
 -- of the arguments and of the answer.
 use Rattle.std.specs.Prelude.{◌≡◌, ℕ, ◌+◌, ◌<◌, ◌≤◌, ◌⊎◌, true, false, List, [], ◌∷◌, ◌++◌, length, Option, Some, None, Result, Ok, Err, MatchOption, option_map, slice_get, slice_set, drop, is_some}
 use Rattle.rt_base.specs.declared.addr.Addr.{Addr}
@@ -149,7 +149,7 @@ closed_at s n (Some l) = record s {
 abbrev pub net_after_close : NetworkState → ℕ → NetworkState
 net_after_close s n = closed_at s n (live_listener s.listeners n)
 
--- the next task that the last closing woke, and the network once it was told
+-- the next task that the last closing woke, and the network once it was returned
 abbrev pub next_told : NetworkState → Option ℕ
 next_told s = slice_get s.woken 0
 

@@ -105,7 +105,7 @@ settled c task Pending = record c { sender = Some task; sending = true }
 abbrev pub failed_send : ChannelState → ChannelState
 failed_send c = with_ended_sink c (failed c.sink)
 
--- what `send` may answer, and whom it wakes
+-- what `send` may return, and whom it wakes
 abbrev pub Sends : ChannelState → List ℕ → Result (Poll Unit) Error → Option ℕ → Type 0
 Sends c bytes (Ok answer) wake =
     (is_spent c.sink ≡ false) × (c.stream.alive ≡ true) × (wake ≡ handed_task (appended c bytes) c.receiver) × Settles (sent c bytes) answer
@@ -120,7 +120,7 @@ after_send c bytes task (Ok answer) = settled (sent c bytes) task answer
 after_send c bytes task (Err NoMemory) = c
 after_send c bytes task (Err e) = failed_send c
 
--- what a poll of a `send` may answer; where none is started there is nothing to wait for
+-- what a poll of a `send` may return; where none is started there is nothing to wait for
 abbrev pub PollsSend : ChannelState → Result (Poll Unit) Error → Type 0
 PollsSend c (Ok (Ready done)) = (is_drained c || (c.stream.alive && not c.sending)) ≡ true
 PollsSend c (Ok Pending) = (is_drained c ≡ false) × (c.stream.alive ≡ true) × (c.sending ≡ true)
@@ -150,7 +150,7 @@ drained_task c = if is_drained c then c.sender else None
 abbrev pub moved : ChannelState → ℕ → ChannelState
 moved c len = record c { taken = c.taken + min (left c) (max len c.buffer_size - held c) }
 
--- the channel as `recv` leaves it before it answers
+-- the channel as `recv` leaves it before it returns
 abbrev pub pulled : ChannelState → ℕ → ChannelState
 pulled c len = drained (moved c len)
 
@@ -166,7 +166,7 @@ failed_recv c = record c { stream = failed c.stream; receiver = None; receiving 
 abbrev pub parked : ChannelState → ℕ → ℕ → ChannelState
 parked c len task = record c { receiver = Some (record { need = len - held c; task = task }); receiving = Some len }
 
--- what `recv` answers once `len` bytes are asked of what the stream holds: exactly so many, the next ones
+-- what `recv` returns once `len` bytes are asked of what the stream holds: exactly so many, the next ones
 abbrev pub Answers : ChannelState → ℕ → Poll Chunked → Type 0
 Answers c len (Ready buffers) = (len ≤ held c) × (length buffers.bytes ≡ len) × (buffers.bytes ≡ take len (unread c))
 Answers c len Pending = (held c < len) × (is_open c.sink ≡ true)
@@ -175,7 +175,7 @@ abbrev pub after_answer : ChannelState → ℕ → ℕ → Poll Chunked → Chan
 after_answer c len task (Ready _) = answered c len
 after_answer c len task Pending = parked c len task
 
--- what `recv` may answer, and whom it wakes
+-- what `recv` may return, and whom it wakes
 abbrev pub Receives : ChannelState → ℕ → Result (Reply (Poll Chunked)) Error → Type 0
 Receives c len (Ok r) =
     (is_spent c.stream ≡ false) × (r.wake ≡ drained_task (moved c len)) × (r.link ≡ None) × Answers (pulled c len) len r.value
@@ -195,7 +195,7 @@ after_recv c len task (Err e) = c
 abbrev pub started_length : ChannelState → ℕ
 started_length c = unwrap_or c.receiving 0
 
--- what the next poll of a started `recv` may answer
+-- what the next poll of a started `recv` may return
 abbrev pub PollsReceive : ChannelState → Result (Poll Chunked) Error → Type 0
 PollsReceive c (Ok answer) = Answers c (started_length c) answer
 PollsReceive c (Err RecvFailed) = (held c < started_length c) × (is_open c.sink ≡ false)
@@ -206,7 +206,7 @@ abbrev pub after_poll_recv : ChannelState → ℕ → Result (Poll Chunked) Erro
 after_poll_recv c task (Ok answer) = after_answer c (started_length c) task answer
 after_poll_recv c task (Err e) = failed_recv c
 
--- what `peek` may answer
+-- what `peek` may return
 abbrev pub Peeks : ChannelState → ℕ → Result (List ℕ) Error → Type 0
 Peeks c len (Ok bytes) = bytes ≡ take (min len (held c)) (unread c)
 Peeks c len (Err NoMemory) = Unit {0}

@@ -4,7 +4,7 @@ use Rattle.rt_net.specs.declared.pipe.Pipe.TheInside.{Inside}
 use Rattle.rt_net.specs.Forgotten.{IsWhole}
 use Rattle.rt_net.specs.Channel.{ChannelState, AreCounted, IsQuiet}
 
--- the bytes kept stand between those that were answered and those that were given up with the channel
+-- the bytes kept are between those that were answered and those that were given up with the channel
 abbrev pub channel_of : Inside → ChannelState
 channel_of p = record {
   put = p.forgotten.past.before ++ (p.bytes ++ p.forgotten.past.after);

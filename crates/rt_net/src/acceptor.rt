@@ -23,7 +23,7 @@ pub struct Connection {
 }
 
 /// A listener: the connections that wait in the order of their dials, and the task that waits for one.
-/// Closing a connection wakes at most two tasks, and the room for them is kept.
+/// Closing a connection wakes at most two tasks. The room for them is taken at each dial, so closing takes no memory.
 #[derive(Debug, Drop)]
 pub struct Acceptor {
     alive: bool,
@@ -45,7 +45,7 @@ impl Model for Acceptor {
 }
 
 impl Acceptor {
-    /// A listener where nothing waits.
+    /// Makes a listener where nothing waits.
     pub fn new(alloc: Global) -> Acceptor
         ensures { result ≡ fresh_listener }
     {
@@ -57,7 +57,7 @@ impl Acceptor {
         }
     }
 
-    /// The task that waits for a connection. None waits while one is there.
+    /// Returns the task that waits for a connection, if any. None waits while one is there.
     pub fn waiting(&self) -> Option<u64>
         ensures task { result ≡ self.now.task }
         ensures quiet { IsQuietListener self.now }
@@ -65,14 +65,14 @@ impl Acceptor {
         self.task
     }
 
-    /// Whether it wasn't closed.
+    /// Returns whether the listener wasn't closed.
     pub fn is_alive(&self) -> bool
         ensures { result ≡ self.now.alive }
     {
         self.alive
     }
 
-    /// Adds a connection, and answers the task that this wakes. Where memory is refused nothing changes.
+    /// Adds a connection, and returns the task that this wakes. Where memory is refused nothing changes.
     pub fn push(&mut self, connection: Connection) -> Result<Option<u64>, NoMemory>
         ensures woken { IfOk result (λ wake. wake ≡ self.old.task) }
         ensures added { OnOk result (self.new ≡ record self.old { waiting = self.old.waiting ++ connection ∷ []; task = None }) }
@@ -110,7 +110,7 @@ impl Acceptor {
         self.task = None;
     }
 
-    /// Closes it and both halves of each connection that waits, and answers the tasks that this wakes. It takes no
+    /// Closes it and both halves of each connection that waits, and returns the tasks that this wakes. It takes no
     /// memory.
     pub fn close(&mut self, channels: &mut Vec<Pipe>) -> VecDeque<u64>
         ensures listener { self.new ≡ closed_listener self.old }

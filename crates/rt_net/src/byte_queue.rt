@@ -25,7 +25,7 @@ impl Model for ByteQueue {
 }
 
 impl ByteQueue {
-    /// An empty queue.
+    /// Makes an empty queue.
     pub fn new(alloc: Global) -> ByteQueue
         ensures { result ≡ [] }
     {
@@ -35,21 +35,21 @@ impl ByteQueue {
         }
     }
 
-    /// The number of bytes held.
+    /// Returns the number of bytes held.
     pub fn len(&self) -> usize
         ensures { result ≡ length self.now }
     {
         self.bytes.len() - self.start
     }
 
-    /// All bytes held, the oldest first.
+    /// Returns all bytes held, the oldest first.
     pub fn as_slice(&self) -> &[u8]
         ensures { result.now ≡ self.now }
     {
         &self.bytes.as_slice()[self.start..]
     }
 
-    /// A copy of the first `len` bytes.
+    /// Returns a copy of the first `len` bytes.
     pub fn first(&self, len: usize) -> Result<IoBuf, NoMemory>
         requires { len ≤ length self.now }
         ensures { IfOk result (λ b. b ≡ take len self.now) }
@@ -59,7 +59,7 @@ impl ByteQueue {
         IoBuf::from_vec(first)
     }
 
-    /// A copy of the first `len` bytes, in a row of one chunk.
+    /// Returns a copy of the first `len` bytes as buffers of one chunk.
     pub fn first_chunk(&self, len: usize) -> Result<IoBufs, NoMemory>
         requires { len ≤ length self.now }
         ensures { IfOk result (λ b. b.bytes ≡ take len self.now) }
@@ -67,7 +67,7 @@ impl ByteQueue {
         IoBufs::from_buf(self.alloc(), self.first(len)?)
     }
 
-    /// The memory that the queue lives in.
+    /// Returns the allocator of the queue.
     pub fn alloc(&self) -> Global {
         *self.bytes.allocator()
     }

@@ -12,7 +12,8 @@ use rt_base::Error;
 pub struct Channel;
 
 impl Channel {
-    /// A channel of 65,536 bytes of buffer.
+    /// Makes a channel with a buffer of 65,536 bytes, and returns its two halves, which have the next number of the
+    /// network.
     pub fn init(net: &mut Net) -> Result<(Sink, Stream), Error>
         ensures halves { IfOk result (λ r. r ≡ (idle_sink (length net.old.state.channels), idle_stream (length net.old.state.channels))) }
         ensures opens { OnOk result (net.new ≡ moved_to net.old (opened net.old.state 65536)) }
@@ -22,7 +23,8 @@ impl Channel {
         Channel::init_with_buffer_size(net, DEFAULT_BUFFER_SIZE)
     }
 
-    /// A channel with this many bytes of buffer: a `send` is pending while more are left, and a `recv` takes as many.
+    /// Makes a channel with a buffer of this many bytes, and returns its two halves, which have the next number of
+    /// the network. A `send` is pending while more are left, and a `recv` takes as many.
     pub fn init_with_buffer_size(net: &mut Net, buffer_size: usize) -> Result<(Sink, Stream), Error>
         ensures halves { IfOk result (λ r. r ≡ (idle_sink (length net.old.state.channels), idle_stream (length net.old.state.channels))) }
         ensures opens { OnOk result (net.new ≡ moved_to net.old (opened net.old.state buffer_size)) }

@@ -4,7 +4,7 @@ ghost use Rattle.rt_net.specs.Network.{live_sink, live_stream, with_closed_sink,
 
 use crate::pipe::Pipe;
 
-/// Whether a live sink has the number.
+/// Returns whether a live sink has the number.
 pub fn has_sink(pipes: &Vec<Pipe>, number: u64) -> bool
     ensures { result ≡ is_some (live_sink pipes.now.items number) }
 {
@@ -13,7 +13,7 @@ pub fn has_sink(pipes: &Vec<Pipe>, number: u64) -> bool
         .is_some_and(|pipe| pipe.has_sink())
 }
 
-/// Whether a live stream has the number.
+/// Returns whether a live stream has the number.
 pub fn has_stream(pipes: &Vec<Pipe>, number: u64) -> bool
     ensures { result ≡ is_some (live_stream pipes.now.items number) }
 {
@@ -22,7 +22,7 @@ pub fn has_stream(pipes: &Vec<Pipe>, number: u64) -> bool
         .is_some_and(|pipe| pipe.has_stream())
 }
 
-/// Closes the sink of this number, and answers the receiver that this wakes.
+/// Closes the sink of this number, and returns the receiver that this wakes.
 pub fn close_sink(pipes: &mut Vec<Pipe>, number: u64) -> Option<u64>
     ensures woken { result ≡ sink_wakes pipes.old.items number }
     ensures closed { pipes.new.items ≡ with_closed_sink pipes.old.items number }
@@ -33,7 +33,7 @@ pub fn close_sink(pipes: &mut Vec<Pipe>, number: u64) -> Option<u64>
     pipes[number as usize].close_sink()
 }
 
-/// Closes the stream of this number, and answers the sender that this wakes.
+/// Closes the stream of this number, and returns the sender that this wakes.
 pub fn close_stream(pipes: &mut Vec<Pipe>, number: u64) -> Option<u64>
     ensures woken { result ≡ stream_wakes pipes.old.items number }
     ensures closed { pipes.new.items ≡ with_closed_stream pipes.old.items number }

@@ -6,7 +6,7 @@ ghost use Rattle.rt_net.specs.Forgotten.{Past, nothing_forgotten, with_answered,
 use crate::byte_queue::ByteQueue;
 use std::marker::{Model, PhantomData};
 
-/// What was forgotten. It takes no memory.
+/// The bytes of a channel that are no longer kept, which contracts alone see. It takes no memory.
 #[derive(Drop)]
 pub struct Forgotten {
     marker: PhantomData<()>,
@@ -18,7 +18,7 @@ impl Model for Forgotten {
 }
 
 impl Forgotten {
-    /// Nothing yet.
+    /// Makes a record in which nothing is forgotten yet.
     pub fn new() -> Forgotten
         ensures { result.past ≡ nothing_forgotten }
     {
@@ -27,14 +27,14 @@ impl Forgotten {
         }
     }
 
-    /// The first `count` of the bytes kept were answered.
+    /// Records that the first `count` of the bytes kept were received.
     pub fn answer(&mut self, bytes: &ByteQueue, count: usize)
         ensures { self.new.past ≡ with_answered self.old.past bytes.now count }
     {
         self.set(bytes, count);
     }
 
-    /// The bytes kept are given up, of which the stream held `held`.
+    /// Records that the bytes kept are dropped, of which the stream held `held`.
     pub fn lose(&mut self, bytes: &ByteQueue, held: usize)
         ensures { self.new.past ≡ with_lost self.old.past bytes.now held }
     {

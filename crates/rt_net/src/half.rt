@@ -22,7 +22,7 @@ pub struct Parked {
 }
 
 impl Half {
-    /// A half that was just made.
+    /// Makes a half that is alive, hasn't failed, and of which no wait was given up.
     pub fn new() -> Half
         ensures { result ≡ record { alive = true; failed = false; given_up = false } }
     {
@@ -33,14 +33,14 @@ impl Half {
         }
     }
 
-    /// Neither closed nor failed.
+    /// Returns whether the half is neither closed nor failed.
     pub fn is_open(&self) -> bool
         ensures { result ≡ (self.now.alive && not self.now.failed) }
     {
         self.alive && !self.failed
     }
 
-    /// A further call is refused.
+    /// Returns whether a further `send` or `recv` of the half is refused, since one failed or was given up.
     pub fn is_spent(&self) -> bool
         ensures { result ≡ (self.now.failed || self.now.given_up) }
     {

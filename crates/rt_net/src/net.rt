@@ -26,7 +26,7 @@ const LOCALHOST: Ip = Ip::V4([127, 0, 0, 1]);
 /// The first port of a dialer.
 const FIRST_PORT: u16 = 32768;
 
-/// The port behind a dialer's last.
+/// The port after a dialer's last.
 const PORTS_END: u16 = 61000;
 
 /// The buffer size of a channel, in bytes.
@@ -34,12 +34,14 @@ pub const DEFAULT_BUFFER_SIZE: usize = 65536;
 
 /// Channels, listeners and connections in memory.
 ///
-/// Contracts see the whole network, with the bytes that were answered, and the count of refusals.
+/// Contracts see the whole network, with the bytes that were received, though these take no memory, and the count of
+/// refusals. A closing of a listener wakes the receiver and then the sender of each connection that waits there, in the
+/// order of their dials.
 ///
 /// Errors, each with its cause:
 /// - `bind`: `BindFailed` for an address of 127.0.0.1 with a port from 32,768 up to 60,999, and for one that was bound
 ///   before, even if that listener was closed.
-/// - `dial`: `PortsExhausted` after 28,232 dials that were taken or answered with `ConnectionFailed`, and else
+/// - `dial`: `PortsExhausted` after 28,232 dials that were taken or refused with `ConnectionFailed`, and else
 ///   `ConnectionFailed` where no listener is alive at the address.
 /// - `send`: `Closed` where the sink has failed or a `send` of it was given up, and else `SendFailed` where the stream was
 ///   closed. A poll of it: `SendFailed` where the stream was closed and more than the buffer size is left.
@@ -51,9 +53,11 @@ pub const DEFAULT_BUFFER_SIZE: usize = 65536;
 pub struct Net {
     channels: Vec<Pipe>,
     listeners: Vec<Acceptor>,
+    // In the order of the binds, so that the place of an address is the number of its listener, and each is kept once.
     addresses: IndexSet<Addr>,
     port: u16,
     woken: VecDeque<u64>,
+    // It stays at the end of its type; a caller takes it as risen there.
     refusals: u64,
 }
 
@@ -69,7 +73,7 @@ impl Model for Net {
 }
 
 impl Net {
-    /// A network without channels and listeners.
+    /// Makes a network without channels and listeners, whose first dialer gets port 32,768. It is never refused.
     pub fn new(alloc: Global) -> Result<Net, NoMemory>
         ensures { result ≡ Ok empty_net }
     {
@@ -83,7 +87,8 @@ impl Net {
         })
     }
 
-    /// The tasks that wait to receive and to send on the channel of this number. None waits for what is there.
+    /// Returns the task that waits to receive and the one that waits to send on the channel of this number. Neither
+    /// waits for what is there already (`quiet`). Where there is no such channel both are `None`.
     pub fn waiting_halves(&self, number: u64) -> (Option<u64>, Option<u64>)
         ensures tasks { result ≡ waiting_halves (slice_get self.now.state.channels number) }
         ensures quiet { (c : ChannelState) → slice_get self.now.state.channels number ≡ Some c → IsQuiet c }
@@ -95,7 +100,8 @@ impl Net {
         }
     }
 
-    /// The task that waits for a connection at the listener of this number. None waits while one is there.
+    /// Returns the task that waits for a connection at the listener of this number, if any. None waits while a
+    /// connection is there.
     pub fn waiting_acceptor(&self, number: u64) -> Option<u64>
         ensures task { result ≡ waiting_task (slice_get self.now.state.listeners number) }
         ensures quiet { (l : ListenerState) → slice_get self.now.state.listeners number ≡ Some l → IsQuietListener l }
@@ -106,7 +112,7 @@ impl Net {
         }
     }
 
-    /// Whether a task waits at any channel or listener. None waits for what is there, at no channel and no listener.
+    /// Returns whether a task waits at any channel or listener. No task waits for what is there already.
     pub fn anyone_waits(&self) -> bool
         ensures answer { result ≡ (list_any is_waited_at self.now.state.channels || list_any has_acceptor self.now.state.listeners) }
         ensures channels { All IsQuiet self.now.state.channels }

@@ -1,4 +1,4 @@
-// The network, by what each call may answer, leave and note.
+// The network, by what each call may return, leave and note.
 //
 // Code over any `N: Network` is proved from this trait alone. There is one relation for each call, over the network
 // and the token before it, the arguments, the answer, the network and the token after it, and what the call noted in
@@ -18,20 +18,21 @@ use crate::{Receiving, Reply, Sending};
 use rt_base::{Addr, Env, Error, NoMemory, Poll};
 use rt_bufs::{IoBuf, IoBufs};
 
-/// The sink of a network.
+/// The type of a network's sinks, from which bytes are sent.
 pub type SinkOf<N> = <N as Network>::Sink;
 
-/// The stream of a network.
+/// The type of a network's streams, at which bytes are received.
 pub type StreamOf<N> = <N as Network>::Stream;
 
-/// The listener of a network.
+/// The type of a network's listeners.
 pub type ListenerOf<N> = <N as Network>::Listener;
 
-/// Listeners, and channels whose halves are tokens that must be spent. `task` is the number of the task that calls,
-/// which waits where the answer is pending.
+/// A network: listeners, and channels whose two halves are tokens that must be spent. `task` is the number of the task
+/// that calls, which waits where the answer is pending.
 ///
-/// Errors are said as the network in memory (`Net`) gives them. Beside these, `UnknownToken` answers a token whose number
-/// is that of no live object here, and `NoMemory` a call that is out of memory; neither changes a channel or a listener.
+/// Errors are given as the network in memory (`Net`) has them. Beside these, a call is refused with `UnknownToken` where
+/// no live object here has the token's number, and with `NoMemory` where it is out of memory; neither changes a channel or
+/// a listener.
 pub trait Network {
     type Listener;
 
@@ -82,21 +83,21 @@ pub trait Network {
 
     ghost tells_woken: { Self → Option ℕ → Self → Type 0 };
 
-    /// How many entries of its environment a call uses at most, where a `usize` can say it.
+    /// Returns how many entries of its environment a call uses at most, or `None` where a `usize` can't say it.
     fn most_entries() -> Option<usize>
         ensures some { IfSome result (λ entries. entries ≡ most) }
         ensures none { IfNone result (2 ^ 64 ≤ most) };
 
-    /// Takes the room in an environment of one call, and of `more` entries beside it.
+    /// Takes the room in an environment for the entries of one call, and for `more` beside them.
     fn take_room<E: Env>(env: &mut E, more: usize) -> Result<(), NoMemory>
         ensures room { OnOk result (most + more ≤ E.spare env.new) }
         ensures kept { E.spare env.old ≤ E.spare env.new }
         ensures noted { E.noted env.new ≡ E.noted env.old };
 
-    /// Sends the bytes, and is pending where too many are left in the channel.
+    /// Sends the bytes, and is pending while more than the buffer size is left in the channel.
     ///
-    /// Errors: `Closed` where the sink has failed or a `send` of it was given up, and `SendFailed` where the stream was
-    /// closed. After either the sink has failed.
+    /// Errors: `Closed` where the sink has failed or a `send` of it was given up, and `SendFailed` where the stream
+    /// was closed. After either the sink has failed.
     fn send<E: Env>(
         &mut self,
         env: &mut E,
@@ -110,7 +111,7 @@ pub trait Network {
         ensures half { Self.Sink.sending sink.new ≡ is_pending result.value }
         ensures counts { Counts (refusals self.old) (refusals self.new) result.value };
 
-    /// Polls a `send` that was pending. Where the poll is refused and nothing changes, the `send` still waits.
+    /// Polls a `send` that was pending. A poll that is refused with `NoMemory` or `UnknownToken` leaves it waiting.
     ///
     /// Errors: `SendFailed` where too many bytes are left and the stream was closed. The sink has failed then.
     fn poll_send<E: Env>(
@@ -144,10 +145,11 @@ pub trait Network {
         ensures asked { waits result ≡ true → asked self.new stream.new ≡ len }
         ensures counts { Counts (refusals self.old) (refusals self.new) result };
 
-    /// Polls a `recv` that was pending, which is answered by as many bytes as it asked for. Where the poll is refused and
-    /// nothing changes, the `recv` still waits.
+    /// Polls a `recv` that was pending, which receives as many bytes as it asked for. A poll that is refused with
+    /// `NoMemory` or `UnknownToken` leaves it waiting.
     ///
-    /// Errors: `RecvFailed` where bytes are missing and the sink has failed or was closed. The stream has failed then.
+    /// Errors: `RecvFailed` where bytes are missing and the sink has failed or was closed. The stream has failed
+    /// then.
     fn poll_recv<E: Env>(
         &mut self,
         env: &mut E,
@@ -162,11 +164,11 @@ pub trait Network {
         ensures asked { still_waits result ≡ true → asked self.new stream.new ≡ asked self.old stream.old }
         ensures counts { Counts (refusals self.old) (refusals self.new) result };
 
-    /// How many bytes the `recv` that waits at the stream asked for. It takes no memory.
+    /// Returns how many bytes the `recv` that waits at the stream asked for. It takes no memory.
     fn asked_len(&self, stream: &Self::Stream) -> usize
         ensures { result ≡ asked self.now stream.now };
 
-    /// A copy of the first bytes that the stream holds, at most `max_len`.
+    /// Returns a copy of the first bytes that the stream holds, at most `max_len`, and leaves them there.
     fn peek<E: Env>(
         &mut self,
         env: &mut E,
@@ -177,41 +179,43 @@ pub trait Network {
         ensures spent { E.spare env.old ≤ E.spare env.new + most }
         ensures counts { Counts (refusals self.old) (refusals self.new) result };
 
-    /// Gives a `send` up. It takes no memory.
+    /// Gives up the `send` that waits at the sink, if any; the next `send` is refused with `Closed` then. It takes no
+    /// memory.
     fn give_up_send(&mut self, sink: &mut Self::Sink)
         ensures gives { gives_send_up self.old sink.old self.new sink.new }
         ensures half { Self.Sink.sending sink.new ≡ false }
         ensures counts { refusals self.old ≤ refusals self.new };
 
-    /// Gives a `recv` up. It takes no memory.
+    /// Gives up the `recv` that waits at the stream, if any; the next `recv` is refused with `Closed` then. It takes
+    /// no memory.
     fn give_up_recv(&mut self, stream: &mut Self::Stream)
         ensures gives { gives_recv_up self.old stream.old self.new stream.new }
         ensures half { Self.Stream.receiving stream.new ≡ false }
         ensures counts { refusals self.old ≤ refusals self.new };
 
-    /// Closes the sink, and answers the task that this wakes. It takes no memory.
+    /// Closes the sink, and returns the task that this wakes, if any. It takes no memory.
     fn close_sink(&mut self, sink: Self::Sink) -> Option<u64>
         ensures gives { closes_sink self.old sink result self.new }
         ensures counts { refusals self.old ≤ refusals self.new };
 
-    /// Closes the stream, and answers the task that this wakes. It takes no memory.
+    /// Closes the stream, and returns the task that this wakes, if any. It takes no memory.
     fn close_stream(&mut self, stream: Self::Stream) -> Option<u64>
         ensures gives { closes_stream self.old stream result self.new }
         ensures counts { refusals self.old ≤ refusals self.new };
 
-    /// Listens at an address.
+    /// Makes a listener at an address.
     ///
-    /// Errors: `BindFailed` where the address is one that dialers have, or was bound before, even if that listener was
-    /// closed.
+    /// Errors: `BindFailed` where the address is one that dialers have, or was bound before, even if that listener
+    /// was closed.
     fn bind<E: Env>(&mut self, env: &mut E, socket: Addr) -> Result<Self::Listener, Error>
         ensures gives { Notes (E.noted env.old) (λ x. binds self.old socket result self.new x) (E.noted env.new) }
         ensures spent { E.spare env.old ≤ E.spare env.new + most }
         ensures counts { Counts (refusals self.old) (refusals self.new) result };
 
-    /// Connects to the listener at an address.
+    /// Connects to the listener at an address, and returns the dialer's halves of the two new channels.
     ///
-    /// Errors: `PortsExhausted` where every port of a dialer is used up, and `ConnectionFailed` where no listener is alive
-    /// at the address. The latter uses up a port too.
+    /// Errors: `PortsExhausted` where every port of a dialer is used up, and `ConnectionFailed` where no listener is
+    /// alive at the address. The latter uses up a port too.
     fn dial<E: Env>(
         &mut self,
         env: &mut E,
@@ -222,7 +226,8 @@ pub trait Network {
         ensures half { AreIdle Self.Sink.sending Self.Stream.receiving result }
         ensures counts { Counts (refusals self.old) (refusals self.new) result };
 
-    /// Takes the next connection, with the address that it was dialed from, and is pending where none waits.
+    /// Takes the next connection of a listener, with the address that it was dialed from, and is pending where none
+    /// waits.
     fn accept<E: Env>(
         &mut self,
         env: &mut E,
@@ -246,21 +251,22 @@ pub trait Network {
         ensures half { TakesIdle Self.Sink.sending Self.Stream.receiving result }
         ensures counts { Counts (refusals self.old) (refusals self.new) result };
 
-    /// The address that the listener was bound at. It takes no memory.
+    /// Returns the address that the listener was bound at. It takes no memory.
     fn local_addr(&self, listener: &Self::Listener) -> Addr
         ensures { has_address self.now listener.now result };
 
-    /// Gives an `accept` up. It takes no memory.
+    /// Gives up the `accept` that waits at the listener, if any. It takes no memory.
     fn give_up_accept(&mut self, listener: &mut Self::Listener)
         ensures gives { gives_accept_up self.old listener.old self.new listener.new }
         ensures counts { refusals self.old ≤ refusals self.new };
 
-    /// Closes the listener and the connections that wait at it. It takes no memory.
+    /// Closes the listener and the connections that wait at it. `next_woken` then returns the tasks that this wakes,
+    /// in place of those of an earlier closing. It takes no memory.
     fn close_listener(&mut self, listener: Self::Listener)
         ensures gives { closes_listener self.old listener self.new }
         ensures counts { refusals self.old ≤ refusals self.new };
 
-    /// The next task that the last closing of a listener woke. It takes no memory.
+    /// Returns the next task that the last closing of a listener woke, each of them once. It takes no memory.
     fn next_woken(&mut self) -> Option<u64>
         ensures gives { tells_woken self.old result self.new }
         ensures counts { refusals self.old ≤ refusals self.new };

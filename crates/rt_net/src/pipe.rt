@@ -1,4 +1,4 @@
-// One channel: the bytes that were not answered yet, and who waits at its two ends.
+// One channel: the bytes that were not received yet, and who waits at its two ends.
 ghost use Rattle.std.specs.Prelude.{◌≡◌, ◌-◌, ◌<◌, ◌≤◌, OnOk, OnErr, IfOk, IfErr, None, true, false};
 ghost use Rattle.rt_base.specs.declared.error.Error.TheVariants.{RecvFailed};
 ghost use Rattle.rt_base.specs.declared.poll.Poll.TheVariants.{Pending};
@@ -13,12 +13,14 @@ use rt_bufs::{IoBuf, IoBufs};
 use std::alloc::Global;
 use std::marker::Model;
 
-/// A channel, of which the bytes that were not answered are kept. Contracts see it whole.
+/// A channel, which keeps the bytes that were not received yet. Contracts see it whole, with all bytes that were ever
+/// sent.
 #[derive(Drop)]
 pub struct Pipe {
     forgotten: Forgotten,
     bytes: ByteQueue,
     held: usize,
+    // The bytes of a waiting `recv`, made by the `send` that completes it, so that polling takes no memory.
     ready: Option<IoBufs>,
     buffer_size: usize,
     receiver: Option<Parked>,
@@ -42,7 +44,7 @@ impl Model for Pipe {
 }
 
 impl Pipe {
-    /// A channel without bytes.
+    /// Makes a channel without bytes.
     pub fn new(alloc: Global, buffer_size: usize) -> Pipe
         ensures { result ≡ fresh buffer_size }
     {
@@ -61,7 +63,7 @@ impl Pipe {
         }
     }
 
-    /// The tasks that wait to receive and to send. None waits for what is there.
+    /// Returns the tasks that wait to receive and to send. Neither waits for what is there already.
     pub fn waiting(&self) -> (Option<u64>, Option<u64>)
         ensures tasks { result ≡ (receiver_task self.now.receiver, self.now.sender) }
         ensures quiet { IsQuiet self.now }
@@ -70,14 +72,14 @@ impl Pipe {
         (self.waiting_receiver(), self.sender)
     }
 
-    /// Whether the sink wasn't closed.
+    /// Returns whether the sink wasn't closed.
     pub fn has_sink(&self) -> bool
         ensures { result ≡ self.now.sink.alive }
     {
         self.sink.alive
     }
 
-    /// Whether the stream wasn't closed.
+    /// Returns whether the stream wasn't closed.
     pub fn has_stream(&self) -> bool
         ensures { result ≡ self.now.stream.alive }
     {
@@ -103,7 +105,7 @@ impl Pipe {
         }
     }
 
-    /// Polls a `send`. Where none is started it waits for nothing.
+    /// Polls a `send`. Where none is started it is ready: nobody would wake it.
     pub fn poll_send(&mut self, task: u64) -> Result<Poll<()>, Error>
         requires { self.old.sink.alive ≡ true }
         ensures polls { PollsSend self.old result }
@@ -140,7 +142,7 @@ impl Pipe {
         Ok(Reply::of(Poll::Ready(bytes), wake))
     }
 
-    /// Polls a `recv` that was started.
+    /// Polls a `recv`. Where none is started it receives no bytes.
     pub fn poll_recv(&mut self, task: u64) -> Result<Poll<IoBufs>, Error>
         requires { self.old.stream.alive ≡ true }
         ensures polls { PollsReceive self.old result }
@@ -162,14 +164,14 @@ impl Pipe {
         Ok(Poll::Ready(bytes))
     }
 
-    /// How many bytes the started `recv` asked for, where one is.
+    /// Returns how many bytes the started `recv` asked for, and 0 where none is started.
     pub fn asked_len(&self) -> usize
         ensures { result ≡ started_length self.now }
     {
         self.receiving.unwrap_or(0)
     }
 
-    /// A copy of the first bytes held, at most `max_len`.
+    /// Returns a copy of the first bytes held, at most `max_len`.
     pub fn peek(&self, max_len: usize) -> Result<IoBuf, Error>
         requires { self.now.stream.alive ≡ true }
         ensures { Peeks self.now max_len result }
@@ -200,7 +202,7 @@ impl Pipe {
         }
     }
 
-    /// Closes the sink, and answers the receiver that this wakes.
+    /// Closes the sink, and returns the receiver that this wakes.
     pub fn close_sink(&mut self) -> Option<u64>
         ensures woken { result ≡ receiver_task self.old.receiver }
         ensures closed { self.new ≡ closed_sink self.old }
@@ -213,7 +215,7 @@ impl Pipe {
         wake
     }
 
-    /// Closes the stream, and answers the sender that this wakes.
+    /// Closes the stream, and returns the sender that this wakes.
     pub fn close_stream(&mut self) -> Option<u64>
         ensures woken { result ≡ self.old.sender }
         ensures closed { self.new ≡ closed_stream self.old }
@@ -228,7 +230,7 @@ impl Pipe {
         wake
     }
 
-    // Takes bytes in and hands them to a parked `recv` that they complete, whose task it answers.
+    // Takes bytes in and hands them to a parked `recv` that they complete, whose task it returns.
     fn accept(&mut self, bufs: &IoBufs) -> Result<Option<u64>, NoMemory>
         requires { self.old.sink.alive ≡ true }
         ensures woken { IfOk result (λ wake. wake ≡ handed_task (appended self.old bufs.now.bytes) self.old.receiver) }
@@ -290,7 +292,7 @@ impl Pipe {
         self.held + left.min(len.max(self.buffer_size).saturating_sub(self.held))
     }
 
-    // Moves the bytes that a `recv` of `len` bytes may move, and answers the sender that this wakes.
+    // Moves the bytes that a `recv` of `len` bytes may move, and returns the sender that this wakes.
     // What was started before is over.
     fn pull(&mut self, len: usize) -> Option<u64>
         requires { self.old.stream.alive ≡ true }
@@ -330,7 +332,7 @@ impl Pipe {
         Ok(Poll::Pending)
     }
 
-    // Takes the first `len` bytes out, which were answered.
+    // Takes the first `len` bytes out, which were received.
     fn answer(&mut self, len: usize)
         requires alive { self.old.stream.alive ≡ true }
         requires held { len ≤ held self.old }
@@ -354,7 +356,7 @@ impl Pipe {
         })
     }
 
-    // Leaves the sink so, which is open no more, and answers the receiver that this wakes.
+    // Leaves the sink in this state, which isn't open, and returns the receiver that this wakes.
     fn end_sink(&mut self, sink: Half) -> Option<u64>
         requires alive { sink.alive ≡ true → self.old.sink.alive ≡ true }
         requires over { is_open sink ≡ false }

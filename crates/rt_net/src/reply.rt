@@ -1,17 +1,18 @@
-// What a call on the network answers, and which answers leave it waiting.
+// What a call on the network returns, and which answers leave it waiting.
 ghost use Rattle.std.specs.Prelude.{◌≡◌, None};
 ghost use Rattle.rt_net.specs.Waiting.{is_pending, waits};
 
 use rt_base::{Error, Nanos, Poll};
 
-/// An answer, and the task that the call wakes.
+/// What a call on a network returns: an answer, and the task that the call wakes.
 #[derive(Debug, Drop)]
 pub struct Reply<V> {
     /// The answer.
     pub value: V,
     /// The number of the one task to wake.
     pub wake: Option<u64>,
-    /// The number of a stream and when its bytes arrive there; None, since bytes arrive at once.
+    /// The number of a stream and when its bytes arrive there, for bytes that arrive later than they are sent. In a `Net`
+    /// they arrive at once, and it is `None`.
     pub link: Option<(u64, Nanos)>,
 }
 
@@ -28,14 +29,14 @@ impl<V> Reply<V> {
     }
 }
 
-/// The call waits.
+/// Returns whether the call waits.
 pub fn is_pending<V>(answer: &Result<Poll<V>, Error>) -> bool
     ensures { result ≡ is_pending answer.now }
 {
     matches!(answer, Ok(Poll::Pending))
 }
 
-/// The call waits, of an answer that also tells a task.
+/// Returns whether a call waits whose answer also names a task to wake.
 pub fn waits<V>(answer: &Result<Reply<Poll<V>>, Error>) -> bool
     ensures { result ≡ waits answer.now }
 {

@@ -7,7 +7,7 @@ use rt_base::Addr;
 pub trait Sending {
     ghost sending: { Self → Bool };
 
-    /// Whether a `send` waits.
+    /// Returns whether a `send` of the half waits.
     fn is_sending(&self) -> bool
         ensures { result ≡ sending self.now };
 }
@@ -16,7 +16,7 @@ pub trait Sending {
 pub trait Receiving {
     ghost receiving: { Self → Bool };
 
-    /// Whether a `recv` waits.
+    /// Returns whether a `recv` of the half waits.
     fn is_receiving(&self) -> bool
         ensures { result ≡ receiving self.now };
 }
@@ -39,7 +39,7 @@ impl Sink {
         }
     }
 
-    /// The number that it has in its `Net`, where no other sink has it.
+    /// Returns the number of the sink, which no other sink of its `Net` has.
     pub fn number(&self) -> u64
         ensures { result ≡ self.now.number }
     {
@@ -73,7 +73,7 @@ impl Stream {
         }
     }
 
-    /// The number that it has in its `Net`, where no other stream has it.
+    /// Returns the number of the stream, which no other stream of its `Net` has.
     pub fn number(&self) -> u64
         ensures { result ≡ self.now.number }
     {
@@ -89,7 +89,7 @@ impl Receiving for Stream {
     }
 }
 
-/// A listener. It must be spent by `Network::close_listener`.
+/// A token of a listener. It must be spent by `Network::close_listener`.
 #[derive(Debug)]
 pub struct Listener {
     pub(crate) number: u64,
@@ -97,7 +97,7 @@ pub struct Listener {
 }
 
 impl Listener {
-    /// The number that it has in its `Net`, where no other listener has it.
+    /// Returns the number of the listener, which no other listener of its `Net` has.
     pub fn number(&self) -> u64
         ensures { result ≡ self.now.number }
     {

@@ -8,13 +8,13 @@ pub trait Waited {
 
     ghost quiet: { Self → Type 0 };
 
-    /// Whether a task waits.
+    /// Returns whether a task waits at this place.
     fn anyone_waits(&self) -> bool
         ensures answer { result ≡ waited self.now }
         ensures quiet { quiet self.now };
 }
 
-/// Whether a task waits at any of them. None waits for what is there.
+/// Returns whether a task waits at any of these places. No task waits for what is there already.
 pub fn anyone_waits_at<W: Waited>(places: &Vec<W>) -> bool
     ensures answer { result ≡ list_any W.waited places.now.items }
     ensures quiet { All W.quiet places.now.items }
