@@ -13,7 +13,7 @@ abbrev pub alarm_of : AlarmList → ℕ → Option ℕ → ℕ
 alarm_of a due None = a.count
 alarm_of a due (Some number) = if is_set a.alarms due number then number else a.count
 
--- after a sleep was told this number: a new alarm, or its own with the task in the place of the one before
+-- after a sleep received this number: a new alarm, or its own with the task in the place of the one before
 abbrev pub slept : AlarmList → Option ℕ → ℕ → ℕ → AlarmList
 slept a by due number = if eqb number a.count then alarm_set a due by else alarm_rewoken a number by
 

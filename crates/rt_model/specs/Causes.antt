@@ -20,7 +20,7 @@ is_late c = is_late_at c.fixed.deadline c.time
 abbrev pub overflows : Clock → Bool
 overflows c = ltb MAX_TIME (c.time + c.fixed.cycle)
 
--- the numbers of a round from the first on that runs. Those before it are passed over
+-- the numbers of a round from the first on that runs. Those before it are skipped
 abbrev pub from_running : List ℕ → List ℕ → List ℕ
 from_running running [] = []
 from_running running (k ∷ left) = if has_number k running then k ∷ left else from_running running left

@@ -17,7 +17,7 @@ abbrev pub IsDigested : List ℕ → Entry → Type 0
 IsDigested digest (CallEntry by call reply) = IsAnswered digest reply call
 IsDigested digest _ = Unit {0}
 
--- each of the entries says so, behind events of this digest
+-- each of the entries says so, after events of this digest
 abbrev pub AreDigested : List ℕ → List Entry → Type 0
 AreDigested digest [] = Unit {0}
 AreDigested digest (e ∷ es) = IsDigested digest e × AreDigested (digest_after digest e) es

@@ -151,7 +151,7 @@ alarms_after a _ = a
 abbrev pub nodes_called : TreeRecord → Call → CallReply → TreeRecord
 nodes_called n (Child node label) (NodeAt number ended) = with_child n number node
 nodes_called n (CloseNode node) Done = with_release n node
--- the spawned task's own context stands on a child of the node, which was made first
+-- the spawned task's own context has a child of the node, which was made first
 nodes_called n (Spawn node) (TaskAt task number) = with_task (with_child n number node) node task
 nodes_called n (Spawn node) Closed = with_release n node
 nodes_called n _ _ = n
@@ -210,7 +210,7 @@ marks_called ms (Abort task) Done = flag task ms
 marks_called ms (AbortTask task) Done = flag task ms
 marks_called ms _ _ = ms
 
--- no node ends behind the end of this task: in a cleanup, or where its node had ended before
+-- no node ends after the end of this task: in a cleanup, or where its node had ended before
 abbrev pub is_settled : State → ℕ → Bool
 is_settled s task = is_closing s.phase || is_ended_at s.nodes (find task s.marks)
 
@@ -306,7 +306,7 @@ abbrev pub stop_after_entry : StopRecord → Entry → StopRecord
 stop_after_entry s (CallEntry by call reply) = stop_called s call reply
 stop_after_entry s _ = s
 
--- what stands after a call
+-- what is there after a call
 abbrev pub stood_called : Stood → Option ℕ → Call → CallReply → Stood
 stood_called s by call reply = record {
   alarms = alarms_called s.alarms by call reply;
@@ -385,7 +385,7 @@ turns_after s (Event label fields) = s.turns
 turns_after s (Draw value) = s.turns
 turns_after s _ = []
 
--- where the run stands
+-- the phase of the run
 
 abbrev pub left_of : Phase → List ℕ
 left_of (Visiting left) = left
@@ -404,7 +404,7 @@ visited (Leaving task result left) = task
 visited (Halted task) = task
 visited _ = 0
 
--- behind the event of a visit: the root isn't polled where a panic is kept, and a task that is flagged ends unpolled
+-- after the event of a visit: the root isn't polled where a panic is kept, and a task that is flagged ends unpolled
 abbrev pub entered_by : Bool → Bool → ℕ → List ℕ → Phase
 entered_by true flagged task left = Halted task
 entered_by false true task left = Ending task None left
@@ -420,7 +420,7 @@ cause_of (Closing cause) = cause
 cause_of (Crashed cause) = cause
 cause_of _ = None
 
--- behind its end a task leaves its visit, or its node ends first
+-- after its end a task leaves its visit, or its node ends first
 abbrev pub leaves : Bool → ℕ → Option Outcome → List ℕ → Phase
 leaves true task result left = Visiting left
 leaves false task result left = Leaving task result left

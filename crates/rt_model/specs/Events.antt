@@ -17,7 +17,7 @@ task_fields task label = to_be_bytes w128 task ∷ label ∷ []
 abbrev pub drawing : List ℕ → List Announced
 drawing name = record { label = codes "rand"; fields = name ∷ [] } ∷ []
 
--- the events of a call with its reply, which stand directly before it
+-- the events of a call with its reply, which are directly before it
 abbrev pub announced_by : Call → CallReply → List Announced
 announced_by (Stop value) reply = record { label = codes "stop"; fields = to_be_bytes w32 (cast_unsigned w32 value) ∷ [] } ∷ []
 announced_by Stopped reply = record { label = codes "stopped"; fields = [] } ∷ []
@@ -26,7 +26,7 @@ announced_by NextU64 reply = drawing (codes "next_u64")
 announced_by (FillBytes len) reply = drawing (codes "fill_bytes")
 announced_by _ reply = []
 
--- behind these events this one is the next of a call
+-- after these events this one is the next of a call
 abbrev pub IsOfCall : List Announced → List ℕ → List (List ℕ) → Type 0
 IsOfCall announced label fields =
     (call : Call) × (reply : CallReply) × (announced_by call reply ≡ announced ++ record { label = label; fields = fields } ∷ [])

@@ -73,7 +73,7 @@ SpawnAnswers s node (TaskAt task number) =
 SpawnAnswers s node Closed = is_ended s.nodes node ≡ true
 SpawnAnswers s node _ = ⊥
 
--- the refusals of a call in their order: the first that holds, or what the call answers without one
+-- the refusals of a call in their order: the first that holds, or what the call returns without one
 abbrev pub Unless : Bool → Error → (CallReply → Type 0) → CallReply → Type 0
 Unless true error otherwise reply = IsRefusal error reply
 Unless false error otherwise reply = otherwise reply
@@ -249,7 +249,7 @@ abbrev pub May : State → Entry → Type 0
 May s (Wake task) = s.owed ≡ task ∷ drop 1 s.owed
 May s e = (s.owed ≡ []) × MayFree s e
 
--- each of the entries may come where it stands
+-- each of the entries may come at its place
 abbrev pub IsLawful : State → List Entry → Type 0
 IsLawful s [] = Unit {0}
 IsLawful s (e ∷ es) = May s e × IsLawful (after s e) es

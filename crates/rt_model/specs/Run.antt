@@ -11,18 +11,19 @@ use Rattle.rt_model.specs.Tied.{Steps, Value, nothing, IsTied}
 
 -- from this beginning, a run of these steps that ends for this cause, in this state and with these values
 pub record IsRun {A O : Type 0} (p : Steps A O) (begin : Begin) (x : List Entry) (cause : FinishCause) (end : State) (value : Value A O) : Type 0 where
-  -- each entry may come where it stands. The first is the start
+  -- each entry may come at its place. The first is the start
   pub lawful : IsLawful (begun begin) x
   -- each entry has one effect
   pub reaches : after_all (begun begin) x ≡ end
   pub ends : end.phase ≡ Finished cause
-  -- a run that lacks memory is cut off
+  -- a run that runs out of memory is cut off
   pub caused : cause ≢ NoMemory
-  -- the maker, and each task in its polls and its end, makes the calls of its own steps and answers so
+  -- the maker, and each task in its polls and its end, makes the calls of its own steps and gives their answer
   pub tied : IsTied p (begun begin) nothing x value
   pub whole : value.whole ≡ true
 
--- a run that was cut off since it was out of memory. Of a part that lacked it a front is tied; the values of the others are as they were
+-- a run that was cut off since it was out of memory. Of a part that ran out of it a front is tied; the values of the others are
+-- as they were
 pub record IsCutOff {A O : Type 0} (p : Steps A O) (begin : Begin) (x : List Entry) : Type 0 where
   pub value : Value A O
   pub lawful : IsLawful (begun begin) x

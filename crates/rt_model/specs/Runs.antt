@@ -24,7 +24,7 @@ abbrev pub next_run : Runs → List Begin → Runs
 next_run r [] = r
 next_run r (begin ∷ later) = runs_from begin later
 
--- behind a completed run a start begins the next one
+-- after a completed run a start begins the next one
 abbrev pub renewed : Runs → Entry → Runs
 renewed r e = if renews e r.state.phase then next_run r r.later else r
 
@@ -35,7 +35,7 @@ abbrev pub runs_after : Runs → List Entry → Runs
 runs_after r [] = r
 runs_after r (e ∷ es) = runs_after (run_after r e) es
 
--- each of the entries may come where it stands, in its run
+-- each of the entries may come at its place, in its run
 abbrev pub AreLawful : Runs → List Entry → Type 0
 AreLawful r [] = Unit {0}
 AreLawful r (e ∷ es) = May (renewed r e).state e × AreLawful (run_after r e) es

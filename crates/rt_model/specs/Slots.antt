@@ -8,7 +8,7 @@ use Rattle.rt_model.specs.Lists.{without, replaced}
 use Rattle.rt_model.specs.Results.{new_result, with_outcome}
 
 pub record Slotted : Type 0 where
-  -- how the slots stand whose receivers weren't spent
+  -- the results of the slots whose receivers weren't spent
   pub results : List (ℕ × TaskResult)
   -- the slots whose senders weren't spent
   pub senders : List (ℕ × Unit {0})
@@ -26,7 +26,7 @@ with_slot s ss = record {
   count = s + 1;
 }
 
--- what is sent stands from then on where the slot is open. Any other is as it was
+-- what is sent is there from then on where the slot is open. Any other is as it was
 abbrev pub settled : Outcome → TaskResult → TaskResult
 settled o r = elim r.outcome [ Open waits ↦ record r { outcome = o } | There ↦ r | Exited ↦ r | IsClosed ↦ r ]
 
@@ -34,7 +34,7 @@ settled o r = elim r.outcome [ Open waits ↦ record r { outcome = o } | There �
 abbrev pub with_sent : Outcome → ℕ → Slotted → Slotted
 with_sent o s ss = record ss { results = replaced (settled o) s ss.results; senders = without s ss.senders }
 
--- the receiver polled, and the slot stands so
+-- the receiver polled, and the slot has this result
 abbrev pub with_polled : Outcome → ℕ → Slotted → Slotted
 with_polled o s ss = record ss { results = with_outcome o s ss.results }
 

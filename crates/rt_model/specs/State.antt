@@ -14,7 +14,7 @@ use Rattle.rt_model.specs.Draws.{Drawn}
 use Rattle.rt_model.specs.Slots.{Slotted, no_slots}
 use Rattle.rt_model.specs.Signals.{shutdown_alone, no_stop}
 
--- where the run stands, which decides what may come next
+-- the phase of the run, which decides what may come next
 pub data Phase : Type 0 where
   -- before its start
   Blank : Phase
@@ -36,7 +36,7 @@ pub data Phase : Type 0 where
   Leaving : (task : ℕ) → (result : Option Outcome) → (left : List ℕ) → Phase
   -- in a clock step
   Turning : Phase
-  -- the root is finished, or a poll lacked memory
+  -- the root is finished, or a poll ran out of memory
   Over : (cause : FinishCause) → Phase
   -- the cleanup has begun, and node 0 ends next. Without a cause the run was cut off
   Cleaning : (cause : Option FinishCause) → Phase
@@ -55,7 +55,7 @@ pub record Numbers : Type 0 where
   pub first : ℕ
   pub next : ℕ
 
--- an event that stands before its call
+-- an event that is before its call
 pub record Announced : Type 0 where
   pub label : List ℕ
   pub fields : List (List ℕ)
@@ -69,7 +69,7 @@ pub record Stood : Type 0 where
   pub signals : SignalRecord
   pub stop : StopRecord
 
--- a call with its reply, and what stood when it was made
+-- a call with its reply, and what was there when it was made
 pub record Turn : Type 0 where
   pub call : Call
   pub reply : CallReply

@@ -30,7 +30,7 @@ abbrev pub with_first : {A O : Type 0} → TaskSteps A O → First A O → Steps
 with_first task first = record { task = task; first = first }
 
 -- the values of a run: those that the world holds, the root's output, the text of a panic that is kept or that the root reported, a
--- root that was made and not taken in, and whether no part has lacked memory
+-- root that was made and not taken in, and whether no part has run out of memory
 pub record Value (A O : Type 0) : Type 0 where
   pub held : Held A O
   pub output : Option O
@@ -38,7 +38,7 @@ pub record Value (A O : Type 0) : Type 0 where
   pub unmade : Option A
   pub whole : Bool
 
--- no task, no output, and no part that lacked memory
+-- no task, no output, and no part that ran out of memory
 abbrev pub nothing : {A O : Type 0} → Value A O
 nothing = record { held = record { tasks = []; results = []; sent = []; executions = [] }; output = None; panic = None; unmade = None; whole = true }
 
@@ -54,7 +54,7 @@ no_number = 2 ^ 64 - 1
 abbrev pub Leaves : {A O : Type 0} → Value A O → Held A O → Value A O → Type 0
 Leaves v end w = w ≡ record v { held = end }
 
--- the calls since the visit began are those of the task's poll, which answers so and leaves these values
+-- the calls since the visit began are those of the task's poll, which ends with this answer and leaves these values
 pub record Polls {A O : Type 0} (p : Steps A O) (s : State) (task : ℕ) (held : Held A O) (answer : Answer O) (end : Held A O) : Type 0 where
   pub before : A
   pub left : A
@@ -72,7 +72,7 @@ pub record PollBreaks {A O : Type 0} (p : Steps A O) (s : State) (task : ℕ) (v
   pub breaks : Breaks (p.task.next before s.clock.time task) (taken task v.held) s.turns (stood_in s) moved ⊎ Fronts (p.task.next before s.clock.time task) (taken task v.held) s.turns moved
   pub is : w ≡ record v { held = put task left moved; whole = false }
 
--- the calls are those of the end of this state, or its end lacked memory
+-- the calls are those of the end of this state, or its end ran out of memory
 abbrev pub EndsState : {A O : Type 0} → Steps A O → State → ℕ → A → Held A O → Value A O → Value A O → Type 0
 EndsState p s number before held v w =
     (Walks (p.task.last before s.clock.time number) held s.turns (stood_in s) tt tt w.held × (w ≡ record v { held = w.held }))
@@ -111,7 +111,7 @@ MovesAnswer p s v task IsStopped w = w ≡ v
 MovesAnswer p s v task LacksMemory w = PollBreaks p s task v w
 MovesAnswer p s v task IsEnded w = EndsTask p s v task w
 
--- the maker lacked memory, and then the root that it made is free; or it said so itself, and made none
+-- the maker ran out of memory, and then the root that it made is free; or it said so itself, and made none
 abbrev pub MakerBreaks : {A O : Type 0} → Steps A O → State → Value A O → Value A O → Type 0
 MakerBreaks p s v w =
     (Breaks (p.first s.clock.time) v.held s.turns (stood_in s) w.held × (w ≡ record v { held = w.held; unmade = w.unmade; whole = false }))
@@ -136,7 +136,7 @@ Moves {A = A} {O = O} p s v (Root task) w =
 Moves p s v (AnswerEntry task kind) w = MovesAnswer p s v task kind w
 Moves p s v Cleanup w = MovesCleanup p s v s.phase w
 Moves p s v (Crash choices) w = MovesCrash p s v v.unmade w
--- behind a part that lacked memory the run doesn't go on
+-- after a part that ran out of memory the run doesn't go on
 Moves p s v (Round order) w = (w ≡ v) × (v.whole ≡ true)
 Moves p s v (Visit task) w = (w ≡ v) × (v.whole ≡ true)
 Moves p s v (Advance now) w = (w ≡ v) × (v.whole ≡ true)

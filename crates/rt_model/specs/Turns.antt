@@ -1,4 +1,5 @@
--- A call of a part: what it carries beside its entry, what is told of it, and which values it moves. Each has a line for each call.
+-- A call of a part: what it carries beside its entry, what is heard of it, and which values it moves. Each has a line for each
+-- call.
 use Rattle.std.specs.Prelude.{◌≡◌, ℕ, List, [], ◌∷◌, ◌++◌, Option, Some, None, is_some, option_and_then, Result, Ok, Err, Bool, true, ltb, if◌then◌else◌}
 use Rattle.rt_base.specs.declared.error.Error.{Error}
 use Rattle.rt_base.specs.declared.execution.Execution.{Execution}
@@ -42,7 +43,7 @@ call_of (Sleeping due alarm) = SleepPoll due
 call_of (Sending slot sent) = SlotSend slot
 call_of (Spawning node execution made) = Spawn node
 
--- a pending sleep is told the number of its own alarm
+-- a pending sleep receives the number of its own alarm
 abbrev pub IsOwn : AlarmList → ℕ → Option ℕ → CallReply → Type 0
 IsOwn alarms due alarm (PendingAt number) = number ≡ alarm_of alarms due alarm
 IsOwn alarms due alarm _ = Unit {0}
@@ -54,7 +55,7 @@ IsPlain (Spawn node) = ⊥
 IsPlain (SlotSend slot) = ⊥
 IsPlain _ = Unit {0}
 
--- what was sent into a slot decides what its poll answers: it is ready with a value, and refused with the error that was sent
+-- what was sent into a slot decides what its poll returns: it is ready with a value, and refused with the error that was sent
 abbrev pub IsAnswerOf : {O : Type 0} → Option (Result O Error) → CallReply → Type 0
 IsAnswerOf None reply = Unit {0}
 IsAnswerOf (Some (Ok value)) reply = reply ≡ IsReady
@@ -90,7 +91,7 @@ abbrev pub with_spawned : {A O : Type 0} → ℕ → Execution → A → Held A 
 with_spawned k execution a held =
     record held { tasks = with_task k a held.tasks; executions = held.executions ++ (k, execution) ∷ [] }
 
--- what is told of a turn: a result that is there is handed out
+-- what is heard of a turn: a result that is there is handed out
 abbrev pub handed : {O : Type 0} → Option O → CallReply → Heard O
 handed None reply = Plain reply
 handed (Some value) reply = Handed value
@@ -125,7 +126,7 @@ freed_by held (SlotGiveUp slot) Done = unsent slot held
 freed_by held (AbortWait slot) Done = unsent slot held
 freed_by held _ _ = held
 
--- what is sent is held from then on, where the slot is open. Elsewhere it is let go
+-- what is sent is held from then on, where the slot is open. Elsewhere it is dropped
 abbrev pub with_sent : {A O : Type 0} → Slotted → ℕ → Result O Error → Held A O → Held A O
 with_sent slots slot sent held =
     if is_open (find slot slots.results) then record held { sent = with_task slot sent held.sent } else held
@@ -140,7 +141,8 @@ moved_by stood held _ call reply = freed_by held call reply
 abbrev pub moved : {A O : Type 0} → Held A O → Ask A O → Turn → Held A O
 moved held ask t = moved_by t.stood held ask t.call t.reply
 
--- the values behind a call whose ask isn't known: a task that it spawned has some state, and asked to run somewhere, and what it sent
+-- the values after a call whose ask isn't known: a task that it spawned has some state, and asked to run somewhere, and what it
+-- sent
 -- is some result
 abbrev pub FreesOne : {A O : Type 0} → Stood → Held A O → Call → CallReply → Held A O → Type 0
 FreesOne {A = A} stood held (Spawn node) (TaskAt task number) end =

@@ -4,7 +4,8 @@ use Rattle.rt_audit.specs.declared.reply.CallReply.TheVariants.{Done}
 use Rattle.rt_model.specs.State.{Stood, Turn}
 use Rattle.rt_model.specs.Turns.{Ask, Heard, Held, Asks, Frees, call_of, heard_of, moved, has_place}
 
--- what is done next: a call, and then what follows from what was heard of it; a token spent, which tells nothing; or an answer and the state after it
+-- what is done next: a call, and then what follows from what was heard of it; a token spent, of which nothing is heard; or an
+-- answer and the state after it
 pub data Step (A L O R : Type 0) : Type 0 where
   Does : (ask : Ask A O) → (on : Heard O → Step A L O R) → Step A L O R
   Spends : (ask : Ask A O) → (next : Step A L O R) → Step A L O R
@@ -29,7 +30,7 @@ Goes more held (Spends ask next) t =
 Goes more held (Gives given state) t = ⊥
 
 -- with these values held, these turns are made one after another, and then this answer is given, in this state and with these values.
--- What stands is what stands when it is given
+-- `stood` is what is there when it is given
 abbrev pub Walks : {A L O R : Type 0} → Step A L O R → Held A O → List Turn → Stood → R → L → Held A O → Type 0
 Walks step held [] stood answer left end = Gave stood held step answer left end
 Walks step held (t ∷ turns) stood answer left end =
@@ -40,23 +41,24 @@ abbrev pub Fronts : {A L O R : Type 0} → Step A L O R → Held A O → List Tu
 Fronts step held [] end = end ≡ held
 Fronts step held (t ∷ turns) end = Goes (λ held step. Fronts step held turns end) held step t
 
--- what stood before these turns, when this stands after them
+-- what was there before these turns, when this is there after them
 abbrev pub stood_before : List Turn → Stood → Stood
 stood_before [] stood = stood
 stood_before (t ∷ turns) stood = t.stood
 
--- a call comes next that may lack memory, behind what is spent and has no place
+-- a call comes next that may run out of memory, after what is spent and has no place
 abbrev pub Lacks : {A L O R : Type 0} → Stood → Step A L O R → Type 0
 Lacks stood (Does ask on) = Unit {0}
 Lacks stood (Spends ask next) = (has_place stood (call_of ask) ≡ false) × Lacks stood next
 Lacks stood (Gives answer left) = ⊥
 
--- these turns are made one after another and leave these values, and then a call lacks memory
+-- these turns are made one after another and leave these values, and then a call runs out of memory
 abbrev pub Stops : {A L O R : Type 0} → Step A L O R → Held A O → List Turn → Stood → Held A O → Type 0
 Stops step held [] stood end = Lacks stood step × (end ≡ held)
 Stops step held (t ∷ turns) stood end = Goes (λ held step. Stops step held turns stood end) held step t
 
--- a part in which a call lacked memory: its turns up to there are a front of the walk, at which a call comes that may lack it, and what
+-- a part in which a call ran out of memory: its turns up to there are a front of the walk, at which a call comes that may run
+-- out of it, and what
 -- they made is held. The calls that came after are free, and so is what those made
 pub record Breaks {A L O R : Type 0} (step : Step A L O R) (held : Held A O) (turns : List Turn) (stood : Stood) (end : Held A O) : Type 0 where
   pub front : List Turn

@@ -1,10 +1,10 @@
-//! What a poll of a task answers.
+//! What a poll of a task returns.
 
 ghost use Rattle.std.specs.Prelude.{◌≡◌, ◌↔◌, IsTrue};
 
 use rt_base::Text;
 
-/// The answer of a poll.
+/// What a poll of a task returns.
 #[derive(Debug, Drop)]
 pub enum Answer<O> {
     /// The poll is to be called again.
@@ -13,19 +13,19 @@ pub enum Answer<O> {
     Ready(O),
     /// The task has panicked, with this text.
     Panicked(Text),
-    /// A call lacked memory. The run ends.
+    /// A call ran out of memory. The run ends.
     NoMemory,
 }
 
 impl<O> Answer<O> {
-    /// Whether the poll is to be called again.
+    /// Returns whether the poll is to be called again.
     pub fn is_pending(&self) -> bool
         ensures { IsTrue result ↔ (self.now ≡ Answer.Pending) }
     {
         matches!(self, Answer::Pending)
     }
 
-    /// Whether the task has finished.
+    /// Returns whether the task has finished with an output.
     pub fn is_ready(&self) -> bool
         ensures { IsTrue result ↔ ((output : O) × (self.now ≡ Answer.Ready output)) }
     {

@@ -1,5 +1,5 @@
 //! What a run is: the state that a journal tells, what may come next in it, and how it is tied to the task type.
-//! The definitions stand in `specs/`; the functions here state laws about them.
+//! The definitions are in `specs/`; the functions here state laws about them.
 #![tactic(auto)]
 
 mod answer;

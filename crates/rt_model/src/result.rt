@@ -1,6 +1,6 @@
 //! The results of tasks.
 
-/// How the result of a task stands.
+/// What the result of a task is at a moment.
 #[derive(Clone, Copy, Debug)]
 pub enum Outcome {
     /// The task hasn't ended. It may be that a task waits.
