@@ -1,4 +1,4 @@
--- What calls of the reader answer, out of memory apart.
+-- What calls of the reader return, out of memory apart.
 use Rattle.std.specs.Prelude.{◌≡◌, ℕ, true, false, if◌then◌else◌, List, Option, Some, None, Result, Ok, Err}
 use Rattle.std.specs.Borrow.{Bor}
 use Rattle.rt_scenario.specs.Scenario.{Draft, Reading, Whole, BrokenAt, ending, is_name, script_at, scripts_at}
@@ -61,7 +61,7 @@ abbrev pub Finishes : Draft → Option Scenario → Type 0
 Finishes d None = (n : ℕ) → ending n d ≡ BrokenAt n NoRun
 Finishes d (Some s) = (n : ℕ) → ending n d ≡ Whole s
 
--- the reader answers what the bytes say
+-- the reader returns what the bytes say
 abbrev pub Reads : Reading → Result Scenario Refusal → Type 0
 Reads said (Ok s) = said ≡ Whole s
 Reads said (Err (Breaks' b)) = said ≡ BrokenAt b.line b.kind

@@ -1,4 +1,4 @@
--- Numbers of tasks as they are kept: `u64::MAX` stands for each that is past it.
+-- Numbers of tasks as they are kept: `u64::MAX` means each that is past it.
 use Rattle.std.specs.Prelude.{ℕ, ◌-◌, ◌^◌, List, map, min}
 use Rattle.rt_scenario.specs.Scripts.{tasks_of}
 use Rattle.rt_scenario.specs.declared.scenario.ScriptText.{ScriptText}

@@ -1,5 +1,5 @@
 -- Lines as they are kept while a script is open: the place of a handle or a signal is the index of its name among the
--- names, each of which stands there once.
+-- names, each of which is there once.
 use Rattle.std.specs.Prelude.{ℕ, ◌+◌, ◌<◌, ◌≤◌, List, [], ◌∷◌, fold, slice_index, slice_index_or, Option, Some, None, length}
 use Rattle.std.specs.Option.{IfSome}
 use Rattle.std.specs.Borrow.{Bor}
@@ -54,7 +54,7 @@ HasIndex names (step.Stopped index) = index < names
 HasIndex names (step.Wait index) = index < names
 HasIndex names line = Unit {0}
 
--- a name goes behind the others, unless it is there
+-- a name goes after the others, unless it is there
 abbrev pub with_name : List (List ℕ) → Option (List ℕ) → List (List ℕ)
 with_name names None = names
 with_name names (Some name) = insert_last bytes_eq names name

@@ -1,4 +1,4 @@
--- Many lists whose items stand in one list.
+-- Many lists whose items are in one list.
 use Rattle.std.specs.Prelude.{ℕ, List, ◌≤◌, length}
 
 -- from the first place of a list up to the one past its last, within these items

@@ -1,5 +1,5 @@
 -- Numbers: decimal, without sign or leading zero, below 2^128, or 2^64 where that is said; and values: an i64, or an i32
--- for a shutdown, where a minus sign may stand before a number other than 0.
+-- for a shutdown, where a minus sign may be before a number other than 0.
 use Rattle.std.specs.Prelude.{ℕ, ◌^◌, ◌==◌, ◌&&◌, ◌||◌, not, nat_lt, nat_le, Bool, false, if◌then◌else◌, List, [], ◌∷◌, length, Option, Some, None, ℤ, pos, neg_ℤ, int_lt}
 use Rattle.std.specs.List.{list_all}
 use Rattle.std.specs.Option.{option_and_then}

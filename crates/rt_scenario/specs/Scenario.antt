@@ -55,12 +55,12 @@ is_name word = is_label word && nat_le (length word) 32
 abbrev pub is_between : Draft → Bool
 is_between d = is_none d.current && length d.runs == 0
 
--- and no script stands above
+-- and no script is above
 abbrev pub is_first : Draft → Bool
 is_first d = is_between d && length d.scripts == 0
 
--- where each word may stand: settings before the first script, steps within a script, scripts and runs
--- outside of scripts, and nothing but runs behind a run
+-- where each word is allowed: settings before the first script, steps within a script, scripts and runs
+-- outside of scripts, and nothing but runs after a run
 abbrev pub is_placed : Draft → Word → Bool
 is_placed d Seed = is_first d
 is_placed d Next = is_first d
@@ -74,7 +74,7 @@ is_placed d word = is_some d.current
 
 -- what each word does with its numbers, names and values, or the rule that it breaks
 
--- what stands for a setting after a line, or the rule that the line breaks: it may stand once, and a word that isn't its value
+-- the value of a setting after a line, or the rule that the line breaks: it may be given once, and a word that isn't its value
 -- is wrong
 abbrev pub once : {A : Type 0} → Option A → Option A → Kind → Result (Option A) Kind
 once stood None wrong = Err wrong
@@ -111,7 +111,7 @@ value_row d (Some v) = step_row d (Plain (step.End v))
 abbrev pub end_row : Draft → List ℕ → Result Draft Kind
 end_row d word = if is_text word (codes "last") then step_row d (Plain step.EndLast) else value_row d (value_of word)
 
--- a panic's word goes behind those before it
+-- a panic's word goes after those before it
 abbrev pub with_panic : List ℕ → Begun → Begun
 with_panic word s = record s { lines = s.lines ++ Plain (step.Panic (length s.words)) ∷ []; words = s.words ++ word ∷ [] }
 
@@ -140,7 +140,7 @@ within_row d limit handle = if not (is_name handle) then Err kind.Name else limi
 abbrev pub abort_row : Draft → List ℕ → Result Draft Kind
 abort_row d word = if is_text word (codes "self") then step_row d (Plain step.AbortSelf) else handle_row d Abort word
 
--- names that are chosen go behind those before them
+-- names that are chosen go after those before them
 abbrev pub with_choices : List (List ℕ) → Begun → Begun
 with_choices names s = record s { choices = s.choices ++ names }
 
@@ -249,7 +249,7 @@ after_words d (w ∷ ws) = known_words d (word_of w) ws
 abbrev pub is_printable : ℕ → Bool
 is_printable b = nat_le 32 b && nat_le b 126
 
--- empty lines and those that begin with '#' are passed over
+-- empty lines and those that begin with '#' are skipped
 abbrev pub is_passed_over : List ℕ → Bool
 is_passed_over text = length text == 0 || slice_index text 0 == 35
 

@@ -10,7 +10,7 @@ use Rattle.rt_scenario.specs.declared.named_line.NamedLine.{NamedLine}
 use Rattle.rt_scenario.specs.declared.named_line.NamedLine.TheVariants.{Plain, Spawn, Abort, Drop, Join, Within, Stopped, Wait}
 use Rattle.rt_scenario.specs.declared.scenario.ScriptText.{ScriptText}
 
--- a script without its `done`; handles and signals stand in its lines and choices by their names
+-- a script without its `done`; handles and signals are in its lines and choices by their names
 pub record Begun : Type 0 where
   pub name : List ℕ
   pub lines : List (NamedLine (List ℕ))
@@ -48,7 +48,7 @@ all_names lines choices = fold (insert_key text_cmp) (handles_of lines) choices
 abbrev pub names_of : Begun → List (List ℕ)
 names_of s = all_names s.lines s.choices
 
--- the place of a name among these: as many stand before it
+-- the place of a name among these: as many are before it
 abbrev pub place_of : List (List ℕ) → List ℕ → ℕ
 place_of names name = length (filter (λ other. is_lt (text_cmp other name)) names)
 

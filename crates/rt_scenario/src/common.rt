@@ -1,4 +1,4 @@
-// The lines that stand most often, each told by its bytes at once.
+// The lines that are most frequent, each known by its bytes at once.
 ghost use Rattle.std.specs.Prelude.{◌≡◌, ◌≤◌, true, ℕ, IfSome, is_some, length};
 ghost use Rattle.rt_scenario.specs.Scenario.{Draft, after_text, is_between, is_name, script_at, script_row, spawned_row, step_row};
 ghost use Rattle.rt_scenario.specs.Within.{IsFree};
@@ -12,7 +12,8 @@ use crate::split::two_words;
 /// So many bytes these lines have at most.
 const SHORT: usize = 64;
 
-/// The line that a text of a script is, where it is `yield`, `sleep` with a number or `end` with a value: it needs no other test.
+/// Returns the line that a text of a script is, where it is `yield`, `sleep` with a number or `end` with a value: it
+/// needs no other test.
 pub fn common_line(text: &[u8]) -> Option<Line>
     ensures line { IfSome result (λ line. (d : Draft) → is_some d.current ≡ true → after_text d text.now ≡ step_row d (Plain line)) }
     ensures free { IfSome result (λ line. (scripts : ℕ) → IsFree scripts (Plain line)) }
@@ -38,7 +39,7 @@ fn end_line(text: &[u8]) -> Option<Line>
     }
 }
 
-/// The name of the handle that a text of a script joins, where it is `join` with a name: it needs no other test.
+/// Returns the name of the handle that a text of a script joins, where it is `join` with a name: it needs no other test.
 pub fn joined(text: &[u8]) -> Option<&str>
     ensures short { IfSome result (λ name. length name.now ≤ 32) }
     ensures line { IfSome result (λ name. (d : Draft) → is_some d.current ≡ true → after_text d text.now ≡ step_row d (Join name.now)) }
@@ -49,7 +50,8 @@ pub fn joined(text: &[u8]) -> Option<&str>
     }
 }
 
-/// The names of the handle and of the script, where a text of a script is `spawn` with two names: it needs no other test.
+/// Returns the names of the handle and of the script, where a text of a script is `spawn` with two names: it needs no
+/// other test.
 pub fn spawned(text: &[u8]) -> Option<(&str, &str)>
     ensures line { IfSome result (λ names. (d : Draft) → is_some d.current ≡ true → after_text d text.now ≡ spawned_row d names.0.now (script_at d.scripts names.1.now)) }
     ensures short { IfSome result (λ names. (length names.0.now ≤ 32) × (length names.1.now ≤ 32)) }
@@ -66,7 +68,8 @@ pub fn spawned(text: &[u8]) -> Option<(&str, &str)>
     }
 }
 
-/// The name of the script that a text opens, where it is `script` with a name: outside of scripts and runs it needs no other test.
+/// Returns the name of the script that a text opens, where it is `script` with a name: outside of scripts and runs it
+/// needs no other test.
 pub fn opened(text: &[u8]) -> Option<&str>
     ensures name { IfSome result (λ name. is_name name.now ≡ true) }
     ensures short { IfSome result (λ name. length name.now ≤ 32) }

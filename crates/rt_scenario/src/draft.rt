@@ -74,7 +74,9 @@ impl Model for Draft {
 }
 
 impl Draft {
-    /// Nothing yet, with about the room for what a text of so many bytes holds.
+    /// Makes a draft without lines, with about the room for what a text of so many bytes holds.
+    ///
+    /// Memory that is mapped and not used costs nothing, and what has room isn't copied as it grows.
     pub fn for_text(alloc: Global, bytes: usize) -> Result<Draft, NoMemory>
         ensures { IfOk result (λ draft. draft ≡ blank) }
     {
@@ -99,7 +101,7 @@ impl Draft {
         })
     }
 
-    /// The scenario, or `None` where a script isn't closed or nothing is run.
+    /// Returns the scenario, or `None` where a script isn't closed or nothing is run.
     pub fn finish(self) -> Option<Scenario>
         ensures says { Finishes self result }
         ensures runs { IfSome result (λ s. All (CanRunLine s.scripts s.settings) s.runs) }
@@ -196,7 +198,7 @@ impl Draft {
         self.take(word, args)
     }
 
-    /// Whether a line with this first word may stand here.
+    /// Returns whether a line with this first word is allowed here.
     fn allows(&self, word: Word) -> bool
         ensures { result ≡ is_placed self.now word }
     {
@@ -215,7 +217,7 @@ impl Draft {
         self.current.is_none() && self.runs.is_empty()
     }
 
-    /// Takes a line in, by its first word and what stands after it.
+    /// Takes a line in, by its first word and what is after it.
     fn take(&mut self, word: Word, args: Option<&[u8]>) -> Result<(), Stop>
         requires placed { is_placed self.old word ≡ true }
         requires printable { list_all (list_all is_printable) (words_in args) ≡ true }
@@ -481,7 +483,7 @@ impl Draft {
         self.push(NamedLine::Wait(signal))
     }
 
-    /// Takes a shutdown in, with its value and the limit that may stand behind it.
+    /// Takes a shutdown in, with its value and the limit that may be after it.
     fn shut_down(&mut self, args: Option<&[u8]>) -> Result<(), Stop>
         requires { is_some self.old.current ≡ true }
         ensures { Answers (row self.old word.Stop (words_in args.entry)) result self.new }
@@ -526,7 +528,7 @@ impl Draft {
         }
     }
 
-    /// Puts a script behind the others.
+    /// Puts a script after the others.
     fn declare(&mut self, script: ScriptText) -> Result<(), Stop>
         requires absent { script_at self.old.scripts script.name ≡ None }
         requires places { HasPlaces (length self.old.scripts) script }
@@ -582,14 +584,14 @@ impl Draft {
         Ok(())
     }
 
-    /// Whether the scripts at these places have more tasks than a run may have.
+    /// Returns whether the scripts at these places have more tasks than a run may have.
     fn has_too_many(&self, places: &[usize]) -> bool
         ensures { result ≡ nat_lt 100000 (total_at (tasks_of self.now.scripts) places.now) }
     {
         tasks_at(self.tasks.as_slice(), places) > MAX_TASKS
     }
 
-    /// The places of the root's script and of those that the words name.
+    /// Returns the places of the root's script and of those that the words name.
     fn find_run(&self, root: &[u8], with: Option<&[u8]>) -> Result<Vec<usize>, Stop>
         requires root { is_name root.now ≡ true }
         requires with { list_all is_name (words_in with) ≡ true }
@@ -603,7 +605,7 @@ impl Draft {
         Ok(places)
     }
 
-    /// The place of the script that the word names.
+    /// Returns the place of the script that the word names.
     fn find(&self, word: &[u8]) -> Result<usize, Kind>
         ensures found { result ≡ found_at self.now.scripts word.now }
         ensures there { IfOk result (λ place. place < length self.now.scripts) }
@@ -614,7 +616,7 @@ impl Draft {
         }
     }
 
-    /// The place of the script of this name.
+    /// Returns the place of the script of this name.
     fn find_named(&self, name: &str) -> Result<usize, Kind>
         requires { length name.now ≤ 32 }
         ensures found { result ≡ or_missing (script_at self.now.scripts name.now) }
@@ -626,7 +628,7 @@ impl Draft {
         }
     }
 
-    /// Puts the places of the scripts that the words name behind those that are there.
+    /// Puts the places of the scripts that the words name after those that are there.
     fn find_all(&self, words: Option<&[u8]>, places: &mut Vec<usize>) -> Result<(), Stop>
         requires { list_all is_name (words_in words) ≡ true }
         ensures { MatchResult result (λ _. option_map (λ more. places.old.items ++ more) (scripts_at self.now.scripts (words_in words.entry)) ≡ Some places.new.items) (Lacks self.now.scripts (words_in words.entry)) }
@@ -659,7 +661,7 @@ fn two<'a>(args: Option<&'a [u8]>) -> Result<(&'a [u8], &'a [u8]), Stop>
     }
 }
 
-/// Puts the value of a setting, which stands once at most; `wrong` is the rule that a word without a value breaks.
+/// Puts the value of a setting, which is given once at most; `wrong` is the rule that a word without a value breaks.
 fn put<T: Copy>(setting: &mut Option<T>, value: Option<T>, wrong: Kind) -> Result<(), Kind>
     ensures { MatchResult result (λ _. once setting.old value wrong ≡ Ok setting.new) (λ kind. once setting.old value wrong ≡ Err kind) }
 {
@@ -673,7 +675,7 @@ fn put<T: Copy>(setting: &mut Option<T>, value: Option<T>, wrong: Kind) -> Resul
     Ok(())
 }
 
-/// Whether a run can keep the settings.
+/// Returns whether a run can keep the settings.
 fn is_runnable(settings: Settings) -> bool
     ensures { result ≡ is_runnable settings }
 {

@@ -30,6 +30,7 @@ impl Model for Handles {
 }
 
 impl Handles {
+    /// Makes a list of no names.
     pub fn new(alloc: Global) -> Handles
         ensures { result ≡ [] }
     {
@@ -38,7 +39,8 @@ impl Handles {
         }
     }
 
-    /// The index of this name, which goes behind the others if it is new. A name that is there takes no memory.
+    /// Returns the index of this name, which is put after the others if it is new. A name that is there takes no
+    /// memory.
     pub fn index_of(&mut self, name: &str) -> Result<usize, NoMemory>
         requires { length name.now ≤ 32 }
         ensures names { OnOk result (self.new ≡ with_name self.old (Some name.now)) }
@@ -51,7 +53,7 @@ impl Handles {
         Ok(index)
     }
 
-    /// The names in byte order, and the place there of each.
+    /// Returns the names in byte order, and the place there of each.
     pub fn in_order(self) -> Result<(Vec<ShortName>, Vec<usize>), NoMemory>
         ensures names { IfOk result (λ both. both.0.items ≡ in_order self) }
         ensures places { IfOk result (λ both. both.1.items ≡ map (place_of (in_order self)) self) }
@@ -70,7 +72,7 @@ impl Handles {
         Ok(both)
     }
 
-    /// The names with their indices.
+    /// Returns the names with their indices.
     fn numbered(&self) -> Result<Vec<(ShortName, usize)>, NoMemory>
         ensures names { IfOk result (λ numbered. numbered.items ≡ numbered_from 0 self.now) }
         ensures distinct { IfOk result (λ _. IsDistinct bytes_eq self.now) }
@@ -84,7 +86,7 @@ impl Handles {
     }
 }
 
-/// The names, and the place of each by its index.
+/// Returns the names, and the place of each by its index.
 fn apart(
     alloc: Global,
     numbered: &[(ShortName, usize)],

@@ -4,8 +4,8 @@ ghost use Rattle.rt_scenario.specs.KindWords.{kind_word};
 
 use std::fmt;
 
-/// The rule that the first broken line breaks. Rules are tested in this order, but that the first word is known is
-/// tested before whether the line is allowed there.
+/// The rule that the first broken line of a scenario breaks. Rules are tested in this order, but that the first word is
+/// known is tested before whether the line is allowed there.
 #[derive(Clone, Copy, Debug, PartialEq, Eq)]
 pub enum Kind {
     /// The last line has no LF.
@@ -14,7 +14,7 @@ pub enum Kind {
     Long,
     /// A byte isn't within 0x20 to 0x7E.
     Byte,
-    /// A space begins or ends the line, or two stand together.
+    /// A space begins or ends the line, or two are next to each other.
     Space,
     /// The line isn't allowed there.
     Place,
@@ -22,11 +22,11 @@ pub enum Kind {
     Unknown,
     /// The number of words.
     Count,
-    /// A word isn't a name, or it isn't `on` or `off` where one of these stands.
+    /// A word isn't a name, or it isn't `on` or `off` where one of these is due.
     Name,
     /// A word isn't a number, or it is past a limit.
     Number,
-    /// The setting or the script stands twice.
+    /// The setting or the script comes twice.
     Twice,
     /// A script isn't declared above.
     Missing,

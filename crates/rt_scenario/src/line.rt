@@ -12,11 +12,11 @@ pub enum Line {
     Sleep(Nanos),
     /// Sleeps until this moment.
     Until(Nanos),
-    /// Lets the others go first.
+    /// Lets the other tasks run first.
     Yield,
     /// Draws the generator's next number, and takes it modulo 2^63.
     Draw,
-    /// Answers pending at each poll.
+    /// Returns pending at each poll.
     Pend,
     /// Ends with this value.
     End(i64),

@@ -5,11 +5,11 @@ use rt_base::NoMemory;
 use std::alloc::Global;
 use std::marker::Model;
 
-/// Lists whose items stand one behind another. Contracts see the lists.
+/// Lists whose items are kept one after another in one block. Contracts see the lists.
 #[derive(Debug, Drop)]
 pub struct Lists<V> {
     items: Vec<V>,
-    // from where and up to where each list stands
+    // from where and up to where each list goes
     spans: Vec<(usize, usize)>,
 }
 
@@ -27,7 +27,7 @@ impl<V> Model for Lists<V> {
 
 #[tactic(auto, using(crate::proofs::Spans::span_laws))]
 impl<V> Lists<V> {
-    /// The items of the list at a place.
+    /// Returns the items of the list at a place.
     pub fn list(&self, place: usize) -> &[V]
         requires { place < length self.now }
         ensures { result.now ≡ slice_index_or self.now place [] }
@@ -39,7 +39,7 @@ impl<V> Lists<V> {
 
 #[tactic(auto, using(crate::proofs::Spans::span_laws))]
 impl<V: Copy> Lists<V> {
-    /// No lists. It takes room for so many, of so many items together.
+    /// Makes a set of no lists, with room for so many, of so many items together.
     pub fn with_capacity(alloc: Global, lists: usize, items: usize) -> Result<Lists<V>, NoMemory>
         ensures { IfOk result (λ lists. lists ≡ []) }
     {

@@ -8,7 +8,7 @@ use crate::handles::Handles;
 use crate::line::Line;
 use rt_base::{Nanos, NoMemory};
 
-/// What a line says, where an `N` stands for the name of its handle or signal.
+/// What a line says, where an `N` is the name of its handle or signal.
 #[derive(Clone, Copy)]
 pub enum NamedLine<N> {
     /// A line without a name.
@@ -24,7 +24,7 @@ pub enum NamedLine<N> {
     Wait(N),
 }
 
-/// The line with the index of its name, which goes behind the others if it is new.
+/// Returns the line with the index of its name, which is put after the others if it is new.
 pub fn indexed(line: NamedLine<&str>, handles: &mut Handles) -> Result<Line, NoMemory>
     requires clear { IsClear (read line) }
     requires short { HasShortName (read line) }
@@ -45,7 +45,7 @@ pub fn indexed(line: NamedLine<&str>, handles: &mut Handles) -> Result<Line, NoM
     }
 }
 
-/// The line with the place of its name, by the places of the names.
+/// Returns the line with the place of its name, by the places of the names.
 pub fn placed(line: Line, places: &[usize]) -> Line
     ensures { result ≡ placed_at places.now line }
 {
@@ -61,7 +61,7 @@ pub fn placed(line: Line, places: &[usize]) -> Line
     }
 }
 
-/// The place of the name of this index.
+/// Returns the place of the name of this index.
 pub fn place_at(places: &[usize], index: usize) -> usize
     ensures { result ≡ slice_index places.now index }
 {

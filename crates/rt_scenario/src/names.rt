@@ -13,7 +13,7 @@ use rt_base::{NoMemory, Text, is_label};
 use std::alloc::Global;
 use std::str;
 
-/// The name that the word is: a letter and then letters, digits and underscores, at most 32 bytes.
+/// Returns the name that the word is: a letter and then letters, digits and underscores, at most 32 bytes.
 pub fn name_of(word: &[u8]) -> Option<&str>
     ensures name { MatchOption result (is_name word.now ≡ false) (λ name. (is_name word.now ≡ true) × (name.now ≡ word.now)) }
     ensures short { IfSome result (λ name. length name.now ≤ 32) }
@@ -25,7 +25,7 @@ pub fn name_of(word: &[u8]) -> Option<&str>
     Some(unsafe { str::from_utf8_unchecked(word) })
 }
 
-/// Whether each of the words is a name.
+/// Returns whether each of the words is a name.
 pub fn are_names(words: Option<&[u8]>) -> bool
     ensures { result ≡ list_all is_name (words_in words.entry) }
 {
@@ -40,7 +40,7 @@ pub fn are_names(words: Option<&[u8]>) -> bool
     true
 }
 
-/// The name that the word is.
+/// Returns the name that the word is.
 pub fn named(word: &[u8]) -> Result<&str, Stop>
     ensures named { Named word.now result }
     ensures short { IfOk result (λ name. length name.now ≤ 32) }
@@ -51,7 +51,7 @@ pub fn named(word: &[u8]) -> Result<&str, Stop>
     }
 }
 
-/// The word as a text.
+/// Returns the word as a text.
 pub fn text_of(alloc: Global, word: &[u8]) -> Result<Text, NoMemory>
     requires { list_all is_printable word.now ≡ true }
     ensures { IfOk result (λ text. text ≡ word.now) }

@@ -5,7 +5,7 @@ ghost use Rattle.std.specs.Char.{is_ascii_digit, digit_value};
 ghost use Rattle.std.specs.Str.Parse.{digits_value, digits_value_after};
 ghost use Rattle.rt_scenario.specs.Numbers.{number_of, small_number_of, value_of, small_value_of, is_decimal, minus, narrow, below};
 
-/// A decimal number without sign or leading zero, below `2^128`.
+/// Returns the decimal number, without sign or leading zero and below `2^128`, that the text writes.
 pub fn number_of(text: &[u8]) -> Option<u128>
     ensures { result ≡ number_of text.now }
 {
@@ -16,14 +16,14 @@ pub fn number_of(text: &[u8]) -> Option<u128>
     }
 }
 
-/// Such a number below `2^64`.
+/// Returns the decimal number, without sign or leading zero and below `2^64`, that the text writes.
 pub fn small_number_of(text: &[u8]) -> Option<u64>
     ensures { result ≡ small_number_of text.now }
 {
     u64::try_from(number_of(text)?).ok()
 }
 
-/// The number that digits write, by 64 bits as long as it fits them.
+/// Returns the number that digits write, by 64 bits as long as it fits them.
 fn digits_number(text: &[u8]) -> Option<u128>
     requires { list_all is_ascii_digit text.now ≡ true }
     ensures { result ≡ below (2 ^ 128) (digits_value 10 text.now) }
@@ -40,7 +40,7 @@ fn digits_number(text: &[u8]) -> Option<u128>
     Some(u128::from(number))
 }
 
-/// The number with a digit more, where 64 bits hold it.
+/// Returns the number with a digit more, where 64 bits hold it.
 fn with_digit(number: u64, digit: u8) -> Option<u64>
     requires { is_ascii_digit digit ≡ true }
     ensures { result ≡ below (2 ^ 64) (number * 10 + digit_value digit) }
@@ -55,7 +55,7 @@ fn digit_number(digit: u8) -> u64
     u64::from(digit - b'0')
 }
 
-/// The number that these digits and then those of the text write.
+/// Returns the number that these digits and then those of the text write.
 fn wide_number(start: u64, text: &[u8]) -> Option<u128>
     requires { list_all is_ascii_digit text.now ≡ true }
     ensures { result ≡ below (2 ^ 128) (digits_value_after 10 start text.now) }
@@ -71,7 +71,7 @@ fn wide_number(start: u64, text: &[u8]) -> Option<u128>
     Some(number)
 }
 
-/// A number, or a minus sign and a number other than 0, within an `i64`.
+/// Returns the number, or the minus sign and the number other than 0, within an `i64`, that the text writes.
 pub fn value_of(text: &[u8]) -> Option<i64>
     ensures { result ≡ value_of text.now }
 {
@@ -81,7 +81,7 @@ pub fn value_of(text: &[u8]) -> Option<i64>
     }
 }
 
-/// Such a value within an `i32`.
+/// Returns the number, or the minus sign and the number other than 0, within an `i32`, that the text writes.
 pub fn small_value_of(text: &[u8]) -> Option<i32>
     ensures { result ≡ small_value_of text.now }
 {

@@ -45,7 +45,7 @@ impl Model for OpenScript {
 }
 
 impl OpenScript {
-    /// A script without lines, which keeps them in the room of `spare`.
+    /// Opens a script without lines, which keeps them in the room of `spare`.
     pub fn new(alloc: Global, name: ShortName, spare: Vec<Line>) -> OpenScript
         ensures { result ≡ record { name = name; lines = []; words = []; choices = [] } }
     {
@@ -83,7 +83,7 @@ impl OpenScript {
         Ok(())
     }
 
-    /// The script with a choice among what these words name.
+    /// Returns the script with a choice among what these words name.
     pub fn with_select(self, names: Option<&[u8]>) -> Result<OpenScript, NoMemory>
         requires { list_all is_name (words_in names) ≡ true }
         ensures { IfOk result (λ script. script ≡ with_select (words_in names.entry) self) }
@@ -120,7 +120,7 @@ impl OpenScript {
         Ok(())
     }
 
-    /// The script as it stands, with the places of its names.
+    /// Returns the script as it is now, with the places of its names.
     pub fn close(self) -> Result<ScriptText, NoMemory>
         ensures { IfOk result (λ closed. closed ≡ closed_script self) }
     {

@@ -12,7 +12,7 @@ use crate::split::split_line;
 use crate::stop::Stop;
 use std::alloc::Global;
 
-/// The first line that breaks a rule.
+/// The first line that breaks a rule, and the rule.
 #[derive(Clone, Copy, Debug, PartialEq, Eq)]
 pub struct Broken {
     /// Its number, from 1.
@@ -27,10 +27,11 @@ pub enum Refusal {
     NoMemory,
 }
 
-/// Reads a scenario in one pass.
+/// Reads the text of a scenario in one pass, and returns the scenario, which can be run, or why there is none.
 ///
-/// Where a script isn't closed at the end, or nothing is run, the line after the last is broken. Beside a scenario, large tables
-/// that only the reader needs keep their memory until the process ends.
+/// Errors: `Broken` with the first line that breaks a rule, `NoMemory`. Where a script isn't closed at the end, or
+/// nothing is run, the line after the last is broken. Beside a scenario, large tables that only the reader needs keep
+/// their memory until the process ends.
 pub fn read_scenario(alloc: Global, bytes: &[u8]) -> Result<Scenario, Refusal>
     ensures says { Reads (scenario_of bytes.now) result }
     ensures runs { IfOk result (λ s. All (CanRunLine s.scripts s.settings) s.runs) }

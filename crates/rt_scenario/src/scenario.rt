@@ -5,26 +5,27 @@ use crate::script_texts::ScriptTexts;
 use crate::short_name::ShortName;
 use rt_base::{Items, Nanos, Text};
 
-/// A scenario that breaks no rule.
+/// A scenario that breaks no rule: its settings, its scripts and its runs.
 #[derive(Debug, Drop)]
 pub struct Scenario {
     pub settings: Settings,
     /// The scripts in order; each has a name of its own.
     pub scripts: ScriptTexts,
-    /// The runs in order, each behind the one before it.
+    /// The runs in order, each after the one before it.
     pub runs: Items<RunLine>,
 }
 
-/// A run: the places of scripts among those of the scenario.
+/// A run of a scenario, by the places of scripts among those of the scenario.
 #[derive(Debug, Drop)]
 pub struct RunLine {
     /// The script of the root.
     pub root: usize,
-    /// The scripts that are spawned beside it, in order; one may stand there often.
+    /// The scripts that are spawned beside it, in order; one may be there often.
     pub with: Items<usize>,
 }
 
-/// What the lines before the first script say of the runs. Each is `None` where no line says it.
+/// The settings of a scenario: what the lines before the first script say of the runs. Each is `None` where no line
+/// says it.
 #[derive(Clone, Copy, Debug)]
 pub struct Settings {
     /// The seed of the generator.

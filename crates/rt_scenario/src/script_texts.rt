@@ -26,7 +26,7 @@ pub struct More {
 }
 
 impl More {
-    /// What a script has of this, where that is anything.
+    /// Returns what a script has of this, where that is anything.
     fn kept(
         alloc: Global,
         handles: Items<ShortName>,
@@ -53,8 +53,9 @@ impl More {
 
 /// The scripts of a scenario, in order.
 ///
-/// The lines of all stand in one block, since many scripts are read in turn, and mostly nothing but a line of each. Contracts
-/// see each script as a whole.
+/// The lines of all are in one block, apart from the other parts of each script: many scripts are read in turn, and mostly
+/// nothing but a line of each, where its other parts would be one more miss of the cache. Short scripts are next to one another
+/// so, without unused room between them. Contracts see each script as a whole.
 #[derive(Debug, Drop)]
 pub struct ScriptTexts {
     parts: Vec<Parts>,
@@ -75,7 +76,7 @@ impl Model for ScriptTexts {
 
 #[tactic(auto, using(crate::proofs::Texts::text_laws))]
 impl ScriptTexts {
-    /// No scripts. It takes room for so many, of so many lines together.
+    /// Makes a list of no scripts, with room for so many, of so many lines together.
     pub(crate) fn with_capacity(
         alloc: Global,
         scripts: usize,
@@ -89,7 +90,7 @@ impl ScriptTexts {
         })
     }
 
-    /// Puts a script behind the others. Answers the room of its lines, which were copied.
+    /// Puts a script after the others, and returns the room of its lines, which were copied.
     pub(crate) fn push(&mut self, script: ScriptText) -> Result<Vec<Line>, NoMemory>
         ensures ok { OnOk result (self.new ≡ self.old ++ script ∷ []) }
         ensures err { OnErr result (self.new ≡ self.old) }
@@ -108,21 +109,21 @@ impl ScriptTexts {
         Ok(lines.into_inner())
     }
 
-    /// How many scripts there are.
+    /// Returns how many scripts there are.
     pub fn len(&self) -> usize
         ensures { result ≡ length self.now }
     {
         self.parts.len()
     }
 
-    /// Whether there is none.
+    /// Returns whether there is no script.
     pub fn is_empty(&self) -> bool
         ensures { result ≡ (length self.now == 0) }
     {
         self.len() == 0
     }
 
-    /// The name of the script at a place.
+    /// Returns the name of the script at a place, which must be there.
     pub fn name(&self, place: usize) -> &str
         requires { place < length self.now }
         ensures { result.now ≡ (text_at self.now place).name }
@@ -130,7 +131,7 @@ impl ScriptTexts {
         self.parts[place].name.as_str()
     }
 
-    /// The lines of the script at a place.
+    /// Returns the lines of the script at a place, which must be there.
     pub fn lines(&self, place: usize) -> &[Line]
         requires { place < length self.now }
         ensures { result.now ≡ (text_at self.now place).lines }
@@ -138,7 +139,7 @@ impl ScriptTexts {
         self.lines.list(place)
     }
 
-    /// The names of the handles and signals of the script at a place.
+    /// Returns the names of the handles and signals of the script at a place, which must be there, in byte order.
     pub fn handles(&self, place: usize) -> &[ShortName]
         requires { place < length self.now }
         ensures { result.now ≡ (text_at self.now place).handles }
@@ -149,7 +150,7 @@ impl ScriptTexts {
         }
     }
 
-    /// The words of the panics of the script at a place.
+    /// Returns the words of the panics of the script at a place, which must be there, in the order of the lines.
     pub fn words(&self, place: usize) -> &[Text]
         requires { place < length self.now }
         ensures { result.now ≡ (text_at self.now place).words }
@@ -160,7 +161,8 @@ impl ScriptTexts {
         }
     }
 
-    /// The places of the names that the choices of the script at a place take.
+    /// Returns the places of the names that the choices of the script at a place take, which must be there, in the
+    /// order of the lines.
     pub fn choices(&self, place: usize) -> &[usize]
         requires { place < length self.now }
         ensures { result.now ≡ (text_at self.now place).choices }

@@ -6,10 +6,11 @@ use rt_base::ShortText;
 /// The greatest number of bytes of a name.
 pub const NAME_LEN: usize = 32;
 
-/// The name of a script, a handle or a signal, in place: a scenario may have many.
+/// The name of a script, a handle or a signal, at most 32 bytes that are kept in place: a scenario may have many, and
+/// none takes a block of memory for its name.
 pub type ShortName = ShortText<NAME_LEN>;
 
-/// This name, of at most 32 bytes.
+/// Returns this name, of at most 32 bytes, kept in place.
 #[inline(always)]
 pub fn short_name(name: &str) -> ShortName
     requires { length name.now ≤ 32 }

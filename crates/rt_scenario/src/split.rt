@@ -4,7 +4,7 @@ ghost use Rattle.std.specs.List.{list_all, list_any};
 ghost use Rattle.rt_scenario.specs.Scenario.{is_printable, is_passed_over, has_stray_space, names_run};
 ghost use Rattle.rt_scenario.specs.Lines.{lines_of, words_of, words_in};
 
-/// The first line, with its LF if it has one, and what stands after it.
+/// Returns the first line, with its LF if it has one, and what is after it.
 pub fn split_line(text: &[u8]) -> (&[u8], &[u8])
     requires { 0 < length text.now }
     ensures lines { lines_of text.now ≡ result.0.now ∷ lines_of result.1.now }
@@ -19,7 +19,7 @@ pub fn split_line(text: &[u8]) -> (&[u8], &[u8])
     }
 }
 
-/// The first word, and what stands after the space behind it.
+/// Returns the first word, and what is after the space that follows it.
 pub fn split_word(text: &[u8]) -> (&[u8], Option<&[u8]>)
     ensures words { words_of text.now ≡ result.0.now ∷ words_in result.1 }
     ensures shorter { IfSome result.1 (λ rest. length rest.now < length text.now) }
@@ -32,7 +32,7 @@ pub fn split_word(text: &[u8]) -> (&[u8], Option<&[u8]>)
     }
 }
 
-/// The word, where there is just one.
+/// Returns the word, where there is just one.
 pub fn only_word<'a>(text: Option<&'a [u8]>) -> Option<&'a [u8]>
     ensures { MatchOption result (length (words_in text.entry) ≢ 1) (λ word. words_in text.entry ≡ word.now ∷ []) }
 {
@@ -42,7 +42,7 @@ pub fn only_word<'a>(text: Option<&'a [u8]>) -> Option<&'a [u8]>
     }
 }
 
-/// The two words, where there are just two.
+/// Returns the two words, where there are just two.
 pub fn two_words<'a>(text: Option<&'a [u8]>) -> Option<(&'a [u8], &'a [u8])>
     ensures { MatchOption result (length (words_in text.entry) ≢ 2) (λ words. words_in text.entry ≡ words.0.now ∷ words.1.now ∷ []) }
 {
@@ -51,7 +51,7 @@ pub fn two_words<'a>(text: Option<&'a [u8]>) -> Option<(&'a [u8], &'a [u8])>
     Some((first, second))
 }
 
-/// The word of a root and the words behind `with`, where the words are those of a run.
+/// Returns the word of a root and the words after `with`, where the words are those of a run.
 pub fn run_words<'a>(text: Option<&'a [u8]>) -> Option<(&'a [u8], Option<&'a [u8]>)>
     ensures { MatchOption result (names_run (words_in text.entry) ≡ None) (λ words. names_run (words_in text.entry) ≡ Some (words.0.now ∷ words_in words.1)) }
 {
@@ -67,19 +67,19 @@ pub fn run_words<'a>(text: Option<&'a [u8]>) -> Option<(&'a [u8], Option<&'a [u8
     }
 }
 
-/// Whether the line is empty or a comment.
+/// Returns whether the line is empty or a comment.
 pub fn is_passed_over(text: &[u8]) -> bool
     ensures { result ≡ is_passed_over text.now }
 {
     text.is_empty() || text[0] == b'#'
 }
 
-/// What one pass over a line tells.
+/// What one pass over a line finds.
 #[derive(Clone, Copy)]
 pub struct Tested {
     /// Each byte is within 0x20 to 0x7E.
     pub is_printable: bool,
-    /// A space begins or ends the text, or two stand together.
+    /// A space begins or ends the text, or two are next to each other.
     pub has_stray_space: bool,
 }
 
@@ -104,7 +104,7 @@ pub fn test_text(text: &[u8]) -> Tested
     }
 }
 
-// How many bytes stand before the first of this kind.
+// How many bytes are before the first of this kind.
 fn front_len(text: &[u8], byte: u8) -> usize
     ensures within { result ≤ length text.now }
     ensures before { (k : ℕ) → k < result → slice_index text.now k ≢ byte }

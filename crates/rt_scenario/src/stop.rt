@@ -4,7 +4,7 @@ use crate::kind::Kind;
 use rt_base::NoMemory;
 use std::alloc::{AllocError, AllocFailed};
 
-/// The line breaks a rule, or memory is lacking.
+/// Why reading stops at a line: it breaks a rule, or memory ran out.
 #[derive(Clone, Copy, Debug, PartialEq, Eq)]
 pub enum Stop {
     Breaks(Kind),

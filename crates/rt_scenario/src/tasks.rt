@@ -8,7 +8,7 @@ use crate::line::Line;
 /// The greatest number of tasks of a run.
 pub const MAX_TASKS: u64 = 100_000;
 
-/// The tasks of the scripts at these places, by the tasks of each script; `u64::MAX` where there are more.
+/// Returns the tasks of the scripts at these places, by the tasks of each script; `u64::MAX` where there are more.
 pub fn tasks_at(tasks: &[u64], places: &[usize]) -> u64
     ensures { result ≡ capped (tasks_at tasks.now places.now) }
 {

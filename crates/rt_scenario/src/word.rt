@@ -33,7 +33,7 @@ pub enum Word {
 }
 
 impl Word {
-    /// The word that this text is.
+    /// Returns the word that this text is.
     pub fn of(text: &[u8]) -> Option<Word>
         ensures { result ≡ word_of text.now }
     {
@@ -68,7 +68,7 @@ impl Word {
     }
 }
 
-/// Whether a setting is on.
+/// Returns whether a setting is on.
 pub fn switch_of(word: &[u8]) -> Option<bool>
     ensures { result ≡ switch_of word.now }
 {
