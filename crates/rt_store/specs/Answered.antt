@@ -24,7 +24,7 @@ CountsDone old new (Ok (Gated (Ready held))) = Counts old new held
 CountsDone old new (Ok (Gated (Numbered n))) = old ≤ new
 CountsDone old new (Err e) = let r : Result Done Error = Err e in Counts old new r
 
--- a start of a sync is itself refused for two causes alone; any other refusal stands in the ticket
+-- a start of a sync is itself refused for two causes alone; any other refusal is in the ticket
 abbrev pub StartsOrLacks : Result Ticket Error → Type 0
 StartsOrLacks (Ok ticket) = ⊤
 StartsOrLacks (Err NoMemory) = ⊤
@@ -40,7 +40,8 @@ abbrev pub IsCopy : Result Unit Error → Poll (Result Unit Error) → Type 0
 IsCopy (Ok u) p = p ≡ poll.Ready (Ok tt)
 IsCopy (Err e) p = (p ≡ poll.Ready (Err e)) ⊎ (p ≡ poll.Ready (Err NoMemory))
 
--- a poll answers a copy of what the ticket holds then: a ready ticket stays as it is, and one with a number is ready once it is answered
+-- a poll returns a copy of what the ticket holds then: a ready ticket stays as it is, and one with a number is ready once it
+-- is answered
 abbrev pub PollsTicket : Ticket → Poll (Result Unit Error) → Ticket → Type 0
 PollsTicket (Ready held) p new = IsCopy held p × (new ≡ Ready held)
 PollsTicket (Numbered n) poll.Pending new = new ≡ Numbered n

@@ -28,6 +28,6 @@ partitions_fields files shelves partitions = flat_map (λ e. shelf_fields files 
 abbrev pub audit_fields : StoreState → List (List ℕ)
 audit_fields s = partitions_fields s.files s.directory.shelves s.directory.shelf
 
--- a checksum takes further fields in, behind those that it had
+-- a checksum takes further fields in, after those that it had
 abbrev pub TakesFields : List (List ℕ) → ℕ → ℕ → Type 0
 TakesFields fields old new = (before : List (List ℕ)) → old ≡ register_of (framed before) → new ≡ register_of (framed (before ++ fields))

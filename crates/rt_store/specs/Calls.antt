@@ -1,4 +1,4 @@
--- The calls of a `MemStore`: for each what it may answer, and the store after an answer of Ok.
+-- The calls of a `MemStore`: for each what it may return, and the store after an answer of Ok.
 use Rattle.std.specs.Prelude.{◌≡◌, ℕ, ◌+◌, ◌≤◌, ⊤, Bool, ◌&&◌, ◌||◌, ◌==◌, if◌then◌else◌, List, [], ◌∷◌, ◌++◌, length, map, take, drop, Option, Some, None, Result, Ok, Err, Vec, slice_get, slice_set, is_some, nat_lt}
 use Rattle.std.specs.Char.{is_ascii_alphanumeric}
 use Rattle.std.specs.Global.{Global}
@@ -86,7 +86,7 @@ Saves v k r x = Answers (refusal_at (blob_of v k) no_refusal) v.faults.sync_rate
 abbrev pub after_sync : Kept → Blob → StoreState
 after_sync v k = with_blob v k synced
 
--- a started sync is a sync whose answer stands in the ticket, save where there was no memory or no such token
+-- a started sync is a sync whose answer is in the ticket, except where there was no memory or no such token
 abbrev pub started : Result Unit Error → Result Ticket Error
 started (Ok _) = Ok (Ready (Ok tt))
 started (Err NoMemory) = Err NoMemory

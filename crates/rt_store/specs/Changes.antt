@@ -1,4 +1,4 @@
--- How a blob goes back to its base: bytes that a change cuts are held further on, behind those of the blob, and each
+-- How a blob goes back to its base: bytes that a change cuts are held further on, after those of the blob, and each
 -- later change is kept with the bytes that it wrote over.
 use Rattle.std.specs.Prelude.{ℕ, ◌+◌, ◌-◌, ◌≤◌, max, List, [], ◌∷◌, length, take, map, replicate}
 use Rattle.rt_store.specs.declared.change.Before.{Before}

@@ -10,7 +10,7 @@ use Rattle.std.specs.List.Sorted.{IsStrictlySortedBy}
 abbrev pub is_name : List ℕ → List ℕ → Bool
 is_name q n = is_eq (slice_cmp nat_cmp q n)
 
--- what stands at a name
+-- what is at a name
 abbrev pub at_name : {X : Type 0} → List ℕ → List (List ℕ × X) → Option X
 at_name q es = lookup (is_name q) es
 

@@ -14,7 +14,7 @@ Passes (suc rate) x = (d : ℕ) × (x ≡ Drawn d ∷ []) × (suc rate ≤ d % 1
 abbrev pub Fails : ℕ → List Noted → Type 0
 Fails rate x = (d : ℕ) × (x ≡ Drawn d ∷ []) × (d % 1000000 < rate)
 
--- What a call answers that is refused for this cause, if any, and else may meet a fault. Without memory it notes
+-- What a call returns that is refused for this cause, if any, and else may meet a fault. Without memory it notes
 -- nothing.
 abbrev pub Refused : Option Error → ℕ → Error → List Noted → Type 0
 Refused refusal rate NoMemory x = x ≡ []

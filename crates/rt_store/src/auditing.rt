@@ -18,7 +18,7 @@ pub fn audit_all(directory: &Directory, files: &Files, hasher: &mut AuditHasher)
     }
 }
 
-// The same of the blobs of one partition.
+// Takes in the fields of the blobs of one partition.
 fn audit_names(files: &Files, partition: &[u8], names: &Names, hasher: &mut AuditHasher)
     ensures { TakesFields (names_fields files.now partition.now names.now) hasher.old hasher.new }
 {
@@ -27,7 +27,7 @@ fn audit_names(files: &Files, partition: &[u8], names: &Names, hasher: &mut Audi
     }
 }
 
-// The same of one blob, where it is there.
+// Takes in the fields of one blob, if it is there.
 fn audit_blob(files: &Files, partition: &[u8], name: &[u8], place: u64, hasher: &mut AuditHasher)
     ensures { TakesFields (blob_fields partition.now name.now (slice_get files.now place)) hasher.old hasher.new }
 {

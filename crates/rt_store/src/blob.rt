@@ -1,7 +1,8 @@
 // The token of an open blob of a `MemStore`.
 ghost use Rattle.std.specs.Prelude.{◌≡◌};
 
-/// An open blob. It must be spent by `Storage::close`.
+/// A token of an open blob of a `MemStore`: its place and the number of its `open`. The number never comes again. It
+/// must be spent by `Storage::close`.
 #[derive(Debug)]
 pub struct Blob {
     pub(crate) number: u64,
@@ -9,7 +10,7 @@ pub struct Blob {
 }
 
 impl Blob {
-    /// The number that it has in its `MemStore`, where no other token has it.
+    /// Returns the number of the token, which no other token of its `MemStore` has.
     pub fn number(&self) -> u64
         ensures { result ≡ self.now.number }
     {

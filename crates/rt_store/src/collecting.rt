@@ -6,8 +6,9 @@ use rt_base::{Error, NoMemory};
 use rt_bufs::IoBufsMut;
 use std::alloc::Global;
 
-/// Puts the buffers of `ranges` ranges, each with its place, into the order of the places. A later buffer for the same
-/// place replaces an earlier one. `ReadFailed` where a place isn't below `ranges`, or a range has no buffer.
+/// Puts the buffers of `ranges` ranges, each with its place, into the order of the places. A later buffer for the
+/// same place replaces an earlier one. It is refused with `ReadFailed` where a place isn't below `ranges`, or a range
+/// has no buffer.
 pub fn collect_reads(reads: Vec<(usize, IoBufsMut)>, ranges: usize) -> Result<Vec<IoBufsMut>, Error>
     ensures ok { IfOk result (λ bufs. AreCollected ranges reads.items bufs.items) }
     ensures refused { IfErr result (λ e. (e ≡ Error.NoMemory) ⊎ ((e ≡ Error.ReadFailed) × (IsWhole ranges reads.items → ⊥))) }

@@ -27,7 +27,7 @@ pub fn put(content: &mut Vec<u8>, at: usize, bytes: &[u8])
     }
 }
 
-/// Cuts, or extends with zeros.
+/// Cuts the bytes, or extends them with zeros.
 pub fn set_len(content: &mut Vec<u8>, len: usize)
     requires { len ≤ vec_capacity content.old }
     ensures bytes { content.new.items ≡ resized len content.old.items }
@@ -73,7 +73,7 @@ fn clear(held: &mut Vec<u8>, from: usize, to: usize)
     }
 }
 
-/// Does a change of a blob that has the first `len` bytes, and answers how many it has then. Those that are cut stay
+/// Does a change of a blob that has the first `len` bytes, and returns how many it has then. Those that are cut stay
 /// held.
 #[tactic(auto, using(crate::proofs::Undone::laid_is, crate::proofs::Undone::laid_long))]
 pub fn lay(held: &mut Vec<u8>, len: usize, mutation: &Mutation) -> usize
@@ -112,7 +112,8 @@ pub fn undo(held: &mut Vec<u8>, before: &Before)
     held.truncate(before.held);
 }
 
-/// What undoes a change of a blob that has the first `len` bytes, once it is done. Bytes that are cut aren't copied.
+/// Returns what undoes a change of a blob that has the first `len` bytes, once it is done. Bytes that are cut aren't
+/// copied.
 #[tactic(auto, using(crate::proofs::Undone::back_write_laid, crate::proofs::Undone::back_length_laid))]
 pub fn before_of(
     alloc: Global,
@@ -136,7 +137,7 @@ pub fn before_of(
     }
 }
 
-// The bytes that a change of a blob from `at` up to `end` writes over: from its own end on where it begins behind that.
+// The bytes that a change of a blob from `at` up to `end` writes over: from its own end on where it begins after that.
 fn written_over(
     alloc: Global,
     held: &[u8],

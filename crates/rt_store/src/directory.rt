@@ -38,7 +38,7 @@ impl Model for Directory {
 }
 
 impl Directory {
-    /// No partitions.
+    /// Makes a directory without partitions.
     #[tactic(auto, using(crate::proofs::Leading::no_shelves))]
     pub fn new(alloc: Global) -> Directory
         ensures { result ≡ no_partitions }
@@ -50,7 +50,7 @@ impl Directory {
         }
     }
 
-    /// The number of the blob of this name.
+    /// Returns the number of the blob of this name, if any.
     pub fn number_of(&self, partition: &[u8], name: &[u8]) -> Option<u64>
         ensures value { result ≡ number_of partition.now name.now self.now }
         ensures shelves { LeadToShelves self.now.shelf (length self.now.shelves) }
@@ -61,7 +61,7 @@ impl Directory {
         }
     }
 
-    /// The names of a partition, where it is there.
+    /// Returns the names of a partition, if it is there.
     pub fn names_in(&self, partition: &[u8]) -> Option<&Names>
         ensures value { option_copied result ≡ names_in partition.now self.now }
         ensures shelves { LeadToShelves self.now.shelf (length self.now.shelves) }
@@ -72,22 +72,22 @@ impl Directory {
         }
     }
 
-    /// The partitions with the numbers of their shelves, in order.
+    /// Returns the partitions with the numbers of their shelves, in order.
     pub fn partitions(&self) -> Iter<'_, Vec<u8>, u64>
         ensures { map (λ e. (e.0.items, e.1)) result ≡ self.now.shelf }
     {
         self.partitions.entries()
     }
 
-    /// The names of a shelf, where it is there.
+    /// Returns the names of a shelf, if it is there.
     pub fn shelf(&self, shelf: u64) -> Option<&Names>
         ensures { option_copied result ≡ slice_get self.now.shelves shelf }
     {
         self.shelves.get(shelf as usize)
     }
 
-    /// What a crash leaves of the blobs of all names, in order. It takes no memory, and answers how many changes it
-    /// decided over.
+    /// Leaves what a crash leaves of the blobs of all names, in order. It takes no memory, and returns how many
+    /// changes it decided over.
     pub fn crash<E: Env>(
         &self,
         files: &mut Files,
@@ -110,7 +110,7 @@ impl Directory {
         fewer
     }
 
-    // The same for the blobs of one shelf.
+    // Leaves what a crash leaves of the blobs of one shelf.
     fn crash_shelf<E: Env>(
         &self,
         shelf: u64,
@@ -154,7 +154,7 @@ impl Directory {
         self.partitions.remove(partition);
     }
 
-    /// Gives a name a number, save where a fault is drawn.
+    /// Gives a name a number, except where a fault is drawn.
     #[tactic(auto, using(crate::proofs::Leading::shelf_within, crate::proofs::Leading::set_length))]
     pub fn name<E: Env>(
         &mut self,

@@ -12,7 +12,7 @@ pub struct FaultConfig {
     pub resize: ResizeConfig,
 }
 
-/// Writes: how often they fail, and how often a crash keeps one that wasn't synced, in parts per million.
+/// Rates of writes: how often they fail, and how often a crash keeps one that wasn't synced, in parts per million.
 #[derive(Clone, Copy, Debug, PartialEq, Eq, Default)]
 pub struct WriteConfig {
     pub rate: u32,
@@ -20,7 +20,8 @@ pub struct WriteConfig {
     pub partial: PartialWriteMode,
 }
 
-/// Changes of length: how often they fail, and how often a crash keeps one that wasn't synced, in parts per million.
+/// Rates of changes of length: how often they fail, and how often a crash keeps one that wasn't synced, in parts per
+/// million.
 #[derive(Clone, Copy, Debug, PartialEq, Eq, Default)]
 pub struct ResizeConfig {
     pub rate: u32,

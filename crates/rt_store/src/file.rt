@@ -3,8 +3,9 @@
 // There is one block of bytes, of which the content is the first ones. Each change that a crash may undo is kept with
 // the bytes that it wrote over, so the base is the content with these changes undone: a sync forgets them and copies
 // nothing, and a crash undoes them and does those again that it keeps, in the room that they had. Bytes that a change
-// of length cuts stay in the block behind the content until a sync or a crash, so that it copies none; what is written
-// there before that is kept as any other change.
+// of length cuts stay in the block after the content until a sync or a crash, so that it copies none; what is written
+// there before that is kept as any other change. So a blob that is cut and grown again and again between two syncs holds
+// what was cut each time, and its memory grows by the sum of that.
 ghost use Rattle.std.specs.Prelude.{◌≡◌, ◌+◌, ◌*◌, ◌^◌, ◌<◌, ◌≤◌, ◌++◌, [], List, length, None, true, false, ⊤, IfOk, OnOk, vec_len, vec_capacity};
 ghost use Rattle.rt_base.specs.Counted.{Notes};
 ghost use Rattle.rt_base.specs.declared.choice.Choice.{Choice};
@@ -23,7 +24,8 @@ use rt_base::{BlobVersion, Choice, Env, Error, IoKind};
 use std::alloc::Global;
 use std::marker::Model;
 
-/// The most bytes that a blob of this store can hold; it has no memory for more.
+/// The most bytes that a blob of this store can hold, so that no write of a few bytes asks for more than a machine
+/// has.
 const MOST_BYTES: usize = 4_294_967_296;
 
 /// The bytes of a blob, and its changes since its base.
@@ -50,7 +52,7 @@ impl Model for File {
 }
 
 impl File {
-    /// A blob without bytes that a token has.
+    /// Makes a blob without bytes that a token has.
     pub fn new(alloc: Global, version: BlobVersion, token: u64) -> File
         ensures { result ≡ fresh_file version token }
     {
@@ -64,35 +66,35 @@ impl File {
         }
     }
 
-    /// The version of its content.
+    /// Returns the version of the blob's content.
     pub fn version(&self) -> BlobVersion
         ensures { result ≡ self.now.version }
     {
         self.version
     }
 
-    /// The number of its live token.
+    /// Returns the number of the blob's live token, if any.
     pub fn token(&self) -> Option<u64>
         ensures { result ≡ self.now.token }
     {
         self.token
     }
 
-    /// All bytes.
+    /// Returns all bytes of the blob.
     pub fn content(&self) -> &[u8]
         ensures { result.now ≡ self.now.content }
     {
         &self.held[..self.len]
     }
 
-    /// How many changes a crash decides over.
+    /// Returns how many changes a crash decides over.
     pub fn later(&self) -> usize
         ensures { result ≡ length self.now.later }
     {
         self.later.len()
     }
 
-    /// Changes the bytes, save where a fault is drawn. It answers how many changes more a crash decides over.
+    /// Changes the bytes, except where a fault is drawn. It returns how many more changes a crash decides over.
     pub fn mutate<E: Env>(
         &mut self,
         env: &mut E,
@@ -185,7 +187,7 @@ impl File {
         self.removed || (mutation.is_durable() && self.later.is_empty())
     }
 
-    /// The base becomes the content. It copies nothing, and answers how many changes a crash decides over no more.
+    /// Makes the content the base, and returns how many changes a crash no longer decides over. It copies nothing.
     pub fn sync(&mut self) -> usize
         ensures synced { self.new ≡ synced self.old }
         ensures later { result ≡ length self.old.later }
@@ -196,8 +198,8 @@ impl File {
         fewer
     }
 
-    /// What a crash leaves: the base, and on it the later changes as far as they are kept. It takes no memory, and
-    /// answers how many changes it decided over.
+    /// Leaves what a crash leaves: the base, and on it the later changes as far as they are kept. It takes no memory,
+    /// and returns how many changes it decided over.
     pub fn crash<E: Env>(
         &mut self,
         env: &mut E,
@@ -222,8 +224,8 @@ impl File {
         decided
     }
 
-    /// The blob was removed: no crash decides over its changes any more, and without a live token its bytes are gone.
-    /// It copies nothing, and answers how many changes those were.
+    /// Marks the blob as removed: no crash decides over its changes any more, and without a live token its bytes are
+    /// dropped. It copies nothing, and returns how many changes those were.
     pub fn detach(&mut self) -> usize
         ensures detached { self.new ≡ detached self.old }
         ensures later { result ≡ length self.old.later }
@@ -244,7 +246,7 @@ impl File {
         self.token = Some(token);
     }
 
-    /// The live token no longer is. The bytes of a removed blob are gone with it.
+    /// Ends the live token; the bytes of a removed blob are dropped with it.
     pub fn close(&mut self)
         ensures { self.new ≡ closed self.old }
     {
@@ -276,7 +278,7 @@ fn len_before(later: &[Change], len: usize) -> usize
     }
 }
 
-// Takes the room for a change that a crash decides over, and answers what undoes it, save where a fault is drawn.
+// Takes the room for a change that a crash decides over, and returns what undoes it, save where a fault is drawn.
 fn begin<E: Env>(
     held: &mut Vec<u8>,
     len: usize,

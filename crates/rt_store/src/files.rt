@@ -19,7 +19,7 @@ use rt_base::{BlobVersion, Choice, Env, Error, NoMemory};
 use std::alloc::Global;
 use std::marker::Model;
 
-/// The blobs ever made. A call that may leave fewer changes to a crash answers how many fewer.
+/// The blobs ever made. A call that may leave fewer changes to a crash returns how many fewer.
 #[derive(Drop)]
 pub struct Files {
     files: Vec<File>,
@@ -35,7 +35,7 @@ impl Model for Files {
 }
 
 impl Files {
-    /// No blobs.
+    /// Makes a list without blobs.
     pub fn new(alloc: Global) -> Files
         ensures { result ≡ [] }
     {
@@ -44,7 +44,7 @@ impl Files {
         }
     }
 
-    /// How many were made.
+    /// Returns how many blobs were made.
     pub fn len(&self) -> usize
         ensures value { result ≡ length self.now }
         ensures bound { result < 2 ^ 63 }
@@ -52,7 +52,7 @@ impl Files {
         self.files.len()
     }
 
-    /// The blob of a token that is live.
+    /// Returns the blob of a token, if the token is live.
     pub fn at(&self, blob: &Blob) -> Option<&File>
         ensures { option_copied result ≡ live self.now blob.now }
     {
@@ -68,7 +68,7 @@ impl Files {
         }
     }
 
-    /// The blob of a number that is there.
+    /// Returns the blob of a number that is there.
     pub fn get(&self, place: u64) -> &File
         requires { is_some (slice_get self.now place) ≡ true }
         ensures { Some result.now ≡ slice_get self.now place }
@@ -76,7 +76,7 @@ impl Files {
         &self.files[place as usize]
     }
 
-    /// The blob of a number, where it is there.
+    /// Returns the blob of a number, if it is there.
     pub fn find(&self, place: u64) -> Option<&File>
         ensures { option_copied result ≡ slice_get self.now place }
     {
@@ -118,7 +118,7 @@ impl Files {
         Ok(())
     }
 
-    /// Changes the blob of a token. It answers how many changes more a crash decides over.
+    /// Changes the blob of a token, and returns how many more changes a crash decides over.
     pub fn mutate<E: Env>(
         &mut self,
         env: &mut E,
@@ -145,7 +145,7 @@ impl Files {
         Ok(more)
     }
 
-    /// The base of the blob of a token becomes its content.
+    /// Makes the content of the blob of a token its base.
     pub fn sync(&mut self, blob: &Blob) -> usize
         ensures synced { self.new ≡ at_blob self.old blob.now.place synced (live self.old blob.now) }
         ensures later { count_later self.new + result ≡ count_later self.old }
@@ -156,7 +156,7 @@ impl Files {
         self.admit(blob.place)
     }
 
-    /// The base of the blob of a number becomes its content, where it is there.
+    /// Makes the content of the blob of a number its base, if it is there.
     pub fn admit(&mut self, place: u64) -> usize
         ensures synced { self.new ≡ at_place self.old place synced }
         ensures later { count_later self.new + result ≡ count_later self.old }
@@ -167,7 +167,7 @@ impl Files {
         self.files[place as usize].sync()
     }
 
-    /// A live token no longer is.
+    /// Ends a live token.
     pub fn close(&mut self, blob: &Blob)
         ensures later { count_later self.new ≡ count_later self.old }
         ensures closed { self.new ≡ at_blob self.old blob.now.place closed (live self.old blob.now) }
@@ -178,7 +178,7 @@ impl Files {
         self.files[blob.place as usize].close();
     }
 
-    /// The blob of a number is removed, where it is there.
+    /// Marks the blob of a number as removed, if it is there.
     pub fn detach(&mut self, place: u64) -> usize
         ensures detached { self.new ≡ at_place self.old place detached }
         ensures later { count_later self.new + result ≡ count_later self.old }
@@ -218,7 +218,7 @@ impl Files {
         self.files[place as usize].crash(env, faults, choices)
     }
 
-    /// What a crash leaves of the blobs of these names, in their order. It takes no memory.
+    /// Leaves what a crash leaves of the blobs of these names, in their order. It takes no memory.
     pub fn crash<E: Env>(
         &mut self,
         names: &Names,
@@ -241,7 +241,7 @@ impl Files {
         fewer
     }
 
-    /// The blobs of these names are removed.
+    /// Marks the blobs of these names as removed.
     pub fn detach_all(&mut self, names: &Names) -> usize
         requires { count_later self.old < 2 ^ 63 }
         ensures detached { self.new ≡ all_detached (numbers names.now) self.old }

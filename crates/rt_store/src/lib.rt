@@ -1,4 +1,4 @@
-//! Blobs in partitions, by what each call may answer and leave; and a store in memory that knows what a crash would
+//! Blobs in partitions, by what each call may return and leave; and a store in memory that knows what a crash would
 //! leave.
 #![tactic(auto)]
 

@@ -41,12 +41,26 @@ use rt_bufs::{IoBufMut, IoBufs, IoBufsMut};
 use std::alloc::Global;
 use std::marker::Model;
 
-/// The most changes that a crash may have to decide over; there is no memory for more.
+/// The most changes that a crash may have to decide over; a further one is out of memory.
 const MOST_CHANGES: usize = 4_611_686_018_427_387_904;
 
-/// Blobs in memory, with what a crash would leave of each.
+/// A store of blobs in memory, with what a crash would leave of each.
 ///
-/// Contracts see the whole store, the fault settings, and the counts of faults and of refusals.
+/// Contracts see the whole store, the fault settings, and the counts of faults and of refusals. Each name leads to a
+/// blob that is there, and no two to the same one.
+///
+/// Errors, in the order in which they are tested; after an error nothing has changed but the counts:
+/// - `open_versioned`, `open`: `PartitionNameInvalid`, `BlobAlreadyOpen`, `BlobVersionMismatch`, `Io`.
+/// - `remove`, `scan`: `PartitionNameInvalid`, `PartitionMissing`, for a name `BlobMissing`, then `Io`.
+/// - reads: `UnknownToken`, then for each range `OffsetOverflow` and `BlobInsufficientLength`, then `Io`.
+/// - `write_at`, `resize`: `UnknownToken`, `OffsetOverflow`, `Io`.
+/// - `sync`, `start_sync`: `UnknownToken`, `Io`, which `start_sync` leaves in the ticket.
+/// - `poll_sync`: `UnknownToken` for a ticket with a number, since this store makes none.
+/// - `NoMemory` from any of them; then nothing was drawn.
+///
+/// `Io` comes exactly where a number that is drawn is below the rate. A write with `SYNC` is durable at once where no
+/// earlier change is open; any other change is kept for a crash to decide. The bytes of a removed blob live on by its
+/// token.
 #[derive(Drop)]
 pub struct MemStore {
     directory: Directory,
@@ -75,7 +89,7 @@ impl Model for MemStore {
 impl MemStore {
     ghost use Rattle.rt_store.specs.Lent.{LendsFaults};
 
-    /// An empty store.
+    /// Makes an empty store with these fault settings.
     #[tactic(auto, using(crate::proofs::Leading::no_blobs))]
     pub fn new(alloc: Global, faults: FaultConfig) -> Result<MemStore, NoMemory>
         ensures { IfOk result (λ store. store ≡ empty_store faults) }
@@ -92,7 +106,7 @@ impl MemStore {
         })
     }
 
-    /// A store with the blobs of a snapshot. No token is live in it.
+    /// Makes a store with the blobs of a snapshot, in which no token is live and nothing was refused yet.
     pub fn from_snapshot(snapshot: Snapshot, faults: FaultConfig) -> MemStore
         ensures value { result ≡ store_of snapshot faults }
         ensures names { IsCoherent snapshot }
@@ -116,7 +130,8 @@ impl MemStore {
         }
     }
 
-    /// The blobs alone: a snapshot knows no live tokens. It takes no memory.
+    /// Takes the blobs and their names out of the store, with no live token. The number of the next token is kept, so
+    /// a token from before is never taken for one of a later store. It takes no memory.
     #[tactic(auto, using(crate::proofs::Counting::count_closed, crate::proofs::Leading::keeps_all_closed))]
     pub fn snapshot(self) -> Snapshot
         ensures value { result ≡ snapshot_of self.state }
@@ -142,14 +157,14 @@ impl MemStore {
         }
     }
 
-    /// The fault settings.
+    /// Returns the fault settings.
     pub fn config(&self) -> &FaultConfig
         ensures { result.now ≡ self.now.faults }
     {
         &self.faults
     }
 
-    /// The fault settings, to change them.
+    /// Returns the fault settings, to change them.
     pub fn config_mut(&mut self) -> &mut FaultConfig
         ensures* writes_back { sem 𝓛 (LendsFaults self.entry result) }
         ensures value { result.now ≡ self.old.faults }
@@ -157,8 +172,8 @@ impl MemStore {
         &mut self.faults
     }
 
-    /// How many numbers a crash draws at most: two for each change that it decides over. At any time each name leads to
-    /// a blob that is there, and no two names to the same one, so it decides over a change once.
+    /// Returns how many numbers a crash draws at most: two for each change that it decides over. The count is kept,
+    /// so nothing is walked.
     pub fn crash_draws(&self) -> usize
         ensures value { result ≡ 2 * count_later self.now.state.files }
         ensures names { IsCoherent self.now.state }
@@ -166,8 +181,9 @@ impl MemStore {
         2 * self.later
     }
 
-    /// What a crash leaves of the blobs that have a name: of each its base, and on it the later changes as far as they
-    /// are kept. It adds the choices, and takes no memory.
+    /// Leaves of each blob that has a name what a crash leaves: its durable bytes, and on them each later change as
+    /// far as it is kept. Partitions, names and changes are gone through in order, with one choice for each change.
+    /// It adds the choices to the list, and takes no memory.
     #[tactic(auto, using(crate::proofs::Leading::keeps_crashed))]
     pub fn crash<E: Env>(&mut self, env: &mut E, choices: &mut Vec<Choice>)
         requires draws { 2 * count_later self.old.state.files ≤ E.spare env.old }
@@ -182,7 +198,7 @@ impl MemStore {
         self.later -= fewer;
     }
 
-    /// Makes all changes of the blob of a name durable, where it is there. It takes no memory.
+    /// Makes all changes of the blob of a name durable, if there is one. It takes no memory.
     #[tactic(auto, using(crate::proofs::Leading::keeps_admitted))]
     pub fn admit(&mut self, partition: &str, name: &[u8])
         ensures { self.new ≡ moved_to self.old (after_admit self.old.state partition.now name.now) }
@@ -193,8 +209,8 @@ impl MemStore {
         }
     }
 
-    /// The digest of all blobs that weren't removed: the checksum of the fields partition, name, version and content of
-    /// each, in the order of partitions and names. At any time each of them has exactly one name.
+    /// Returns the digest of all blobs that weren't removed: the checksum of the fields partition, name, version as
+    /// two bytes and content of each, in the order of partitions and names.
     pub fn audit(&self) -> [u8; 4]
         ensures digest { result ≡ fields_digest (audit_fields self.now.state) }
         ensures names { IsCoherent self.now.state }
@@ -204,7 +220,7 @@ impl MemStore {
         hasher.finalize()
     }
 
-    /// How many faults were injected.
+    /// Returns how many faults were injected.
     pub fn injected(&self) -> u64
         ensures { result ≡ self.now.injected }
     {
@@ -297,7 +313,7 @@ impl MemStore {
         }
     }
 
-    // The same, each with its place.
+    // Reads several ranges, each with its place.
     fn read_placed<E: Env>(
         &self,
         env: &mut E,
@@ -386,7 +402,7 @@ impl MemStore {
         Ok(())
     }
 
-    // The base becomes the content.
+    // Syncs a blob: its base becomes its content.
     #[tactic(auto, using(crate::proofs::Leading::keeps_synced))]
     fn save<E: Env>(&mut self, env: &mut E, blob: &Blob) -> Result<(), Error>
         ensures gives { Notes (E.noted env.old) (Saves self.old blob.now result) (E.noted env.new) }
@@ -404,7 +420,7 @@ impl MemStore {
         Ok(())
     }
 
-    // The same, with the answer of a call that may wait.
+    // Syncs a blob, with the answer of a call that may wait.
     fn save_now<E: Env>(&mut self, env: &mut E, blob: &Blob) -> Result<Done, Error>
         ensures now { IfOk result IsNow }
         ensures gives { Notes (E.noted env.old) (Syncs self.old blob.now result) (E.noted env.new) }

@@ -20,7 +20,7 @@ pub enum Mutation {
 }
 
 impl Mutation {
-    /// The end of the bytes that it writes, or `usize::MAX` where they end past it.
+    /// Returns where the bytes that it writes end, or `usize::MAX` where they end past it.
     pub fn end(&self) -> usize
         ensures { result ≡ min (end_of self.now) (2 ^ 64 - 1) }
     {
@@ -34,7 +34,7 @@ impl Mutation {
         }
     }
 
-    /// Whether it ends past `usize::MAX`.
+    /// Returns whether it ends past `usize::MAX`.
     pub fn overflows(&self) -> bool
         ensures { result ≡ nat_lt (2 ^ 64 - 1) (end_of self.now) }
     {
@@ -48,7 +48,7 @@ impl Mutation {
         }
     }
 
-    /// Whether a crash keeps it.
+    /// Returns whether a crash keeps it.
     pub fn is_durable(&self) -> bool
         ensures { result ≡ is_durable self.now }
     {

@@ -30,7 +30,7 @@ impl Model for Names {
 }
 
 impl Names {
-    /// No names.
+    /// Makes a list without names.
     pub fn new(alloc: Global) -> Names
         ensures { result ≡ [] }
     {
@@ -39,7 +39,7 @@ impl Names {
         }
     }
 
-    /// The number of a name.
+    /// Returns the number of a name, if it is there.
     #[tactic(auto, using(crate::proofs::Named::lookup_shown))]
     pub fn get(&self, name: &[u8]) -> Option<u64>
         ensures { result ≡ at_name name.now self.now }
@@ -47,21 +47,21 @@ impl Names {
         self.numbers.get(name).copied()
     }
 
-    /// The numbers, in the order of the names.
+    /// Returns the numbers, in the order of the names.
     pub fn numbers(&self) -> Values<'_, Vec<u8>, u64>
         ensures { result ≡ numbers self.now }
     {
         self.numbers.values()
     }
 
-    /// The names with their numbers, in order.
+    /// Returns the names with their numbers, in order.
     pub fn entries(&self) -> Iter<'_, Vec<u8>, u64>
         ensures { map (λ e. (e.0.items, e.1)) result ≡ self.now }
     {
         self.numbers.iter()
     }
 
-    /// A copy of each name, in order.
+    /// Returns a copy of each name, in order.
     pub fn list(&self, alloc: Global) -> Result<Vec<Vec<u8>>, NoMemory>
         ensures ascend { Ascend (map (λ (e : List ℕ × ℕ). e.0) self.now) }
         ensures names { IfOk result (λ names. map (λ (n : Vec ℕ Global). n.items) names.items ≡ map (λ (e : List ℕ × ℕ). e.0) self.now) }
@@ -83,7 +83,7 @@ impl Names {
         self.numbers.clear();
     }
 
-    /// Gives a name a number, save where a fault is drawn.
+    /// Gives a name a number, except where a fault is drawn.
     #[tactic(auto, using(crate::proofs::Named::lookup_shown, crate::proofs::Named::put_shown))]
     pub fn put<E: Env>(
         &mut self,
@@ -147,7 +147,7 @@ fn copies(alloc: Global, numbers: &BTreeMap<Vec<u8>, u64>) -> Result<Vec<Vec<u8>
     Ok(names)
 }
 
-/// The same bytes.
+/// Returns a copy of the bytes.
 pub fn copy(alloc: Global, bytes: &[u8]) -> Result<Vec<u8>, NoMemory>
     ensures { IfOk result (λ copy. copy.items ≡ bytes.now) }
 {

@@ -11,7 +11,7 @@ use crate::store::draw;
 use rt_base::{BlobVersion, Env, Error, NoMemory, Text};
 use std::alloc::Global;
 
-/// Whether the name is letters, digits, dashes and underscores, and not empty.
+/// Returns whether the name is letters, digits, dashes and underscores, and not empty.
 pub fn is_partition_name(name: &[u8]) -> bool
     ensures { result ≡ is_partition_name name.now }
 {
@@ -25,7 +25,7 @@ fn are_name_bytes(name: &[u8]) -> bool
         .all(|b| b.is_ascii_alphanumeric() || *b == b'-' || *b == b'_')
 }
 
-/// The length and the version of the blob that is there, which is found by these names.
+/// Returns the length in bytes and the version of the blob that is there, which is found by these names.
 pub fn reopen<E: Env>(
     alloc: Global,
     env: &mut E,
@@ -55,14 +55,14 @@ pub fn reopen<E: Env>(
     Ok((file.content().len() as u64, found))
 }
 
-/// The same text.
+/// Returns a copy of the text.
 pub fn text_of(alloc: Global, text: &str) -> Result<Text, NoMemory>
     ensures { IfOk result (λ t. t ≡ text.now) }
 {
     Ok(Text::of(String::from_str(alloc, text)?))
 }
 
-/// The texts that name a blob in a refusal: its partition, and its name in hex.
+/// Returns the texts that name a blob in a refusal: its partition, and its name in hex.
 pub fn texts_of(alloc: Global, partition: &str, name: &[u8]) -> Result<(Text, Text), NoMemory>
     ensures { IfOk result (λ texts. (texts.0 ≡ partition.now) × (texts.1 ≡ encode_lower name.now)) }
 {

@@ -8,7 +8,7 @@ use rt_base::{Error, NoMemory};
 use rt_bufs::{IoBufMut, IoBufsMut};
 use std::alloc::Global;
 
-/// The bytes of each range, in their order.
+/// Returns the bytes of each range, in their order.
 pub fn read_ranges(
     alloc: Global,
     content: &[u8],
@@ -27,7 +27,7 @@ pub fn read_ranges(
     Ok(bufs)
 }
 
-/// Each with its place among them.
+/// Returns each buffer with its place among them.
 pub fn with_places(alloc: Global, bufs: Vec<IoBufsMut>) -> Result<Vec<(usize, IoBufsMut)>, NoMemory>
     ensures placed { IfOk result (λ reads. placed_bytes reads.items ≡ placed 0 (bytes_of bufs.items)) }
     ensures whole { IfOk result (λ reads. IsWhole (length bufs.items) reads.items) }

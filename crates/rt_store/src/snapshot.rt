@@ -4,7 +4,7 @@ use crate::files::Files;
 use std::alloc::Global;
 use std::marker::Model;
 
-/// The blobs of a `MemStore` and their names.
+/// The blobs of a `MemStore` and their names, with no live token.
 #[derive(Drop)]
 pub struct Snapshot {
     pub(crate) directory: Directory,

@@ -1,4 +1,4 @@
-// A store of blobs, by what each call may answer, leave and note.
+// A store of blobs, by what each call may return, leave and note.
 //
 // Code over any `S: Storage` is proved from this trait alone. There is one relation for each call, over the store
 // before it, the arguments, the answer, the store after it, and what the call noted in the environment. So a wrapper
@@ -24,11 +24,11 @@ use crate::ticket::{Done, Ticket};
 use rt_base::{BlobVersion, Env, Error, NoMemory, Poll, ReadOptions, WriteOptions};
 use rt_bufs::{IoBufs, IoBufsMut};
 
-/// The blob of a store.
+/// The type of a store's tokens of open blobs.
 pub type BlobOf<S> = <S as Storage>::Blob;
 
-/// Blobs in partitions, whose tokens must be spent. `task` is the number of the task that calls, which waits where the
-/// answer is pending. A range of versions is its least and its greatest.
+/// A store of blobs in partitions, whose tokens must be spent. `task` is the number of the task that calls, which
+/// waits where the answer is pending. A range of versions is its least and its greatest.
 pub trait Storage {
     type Blob;
 
@@ -70,7 +70,8 @@ pub trait Storage {
 
     ghost closes: { Self → Self.Blob → Self → Type 0 };
 
-    /// Takes the room in an environment of so many calls, with so many ranges in all, and of `more` entries beside them.
+    /// Takes the room in an environment for the entries of so many calls, with so many ranges in all, and for `more`
+    /// beside them.
     fn take_room<E: Env>(
         env: &mut E,
         calls: usize,
@@ -81,8 +82,8 @@ pub trait Storage {
         ensures kept { E.spare env.old ≤ E.spare env.new }
         ensures noted { E.noted env.new ≡ E.noted env.old };
 
-    /// Opens a blob, or makes it with the greatest version of the range. It answers the token, the length and the
-    /// version.
+    /// Opens a blob, or makes it with the greatest version of the range, and returns its token, its length in bytes
+    /// and its version.
     fn open_versioned<E: Env>(
         &mut self,
         env: &mut E,
@@ -95,7 +96,7 @@ pub trait Storage {
         ensures spent { E.spare env.old ≤ E.spare env.new + most }
         ensures counts { Counts (refusals self.old) (refusals self.new) result };
 
-    /// Opens a blob of the default version, or makes it. It answers the token and the length.
+    /// Opens a blob of the default version, or makes it, and returns its token and its length in bytes.
     fn open<E: Env>(
         &mut self,
         env: &mut E,
@@ -118,13 +119,13 @@ pub trait Storage {
         ensures spent { E.spare env.old ≤ E.spare env.new + most }
         ensures counts { Counts (refusals self.old) (refusals self.new) result };
 
-    /// The names of the blobs of a partition, in the order of their bytes.
+    /// Returns the names of the blobs of a partition, in the order of their bytes.
     fn scan<E: Env>(&mut self, env: &mut E, partition: &str) -> Result<Vec<Vec<u8>>, Error>
         ensures gives { Notes (E.noted env.old) (λ x. scans self.old partition.now result self.new x) (E.noted env.new) }
         ensures spent { E.spare env.old ≤ E.spare env.new + most }
         ensures counts { Counts (refusals self.old) (refusals self.new) result };
 
-    /// The `len` bytes from `offset` on.
+    /// Returns the `len` bytes of the blob from `offset` on.
     fn read_at<E: Env>(
         &mut self,
         env: &mut E,
@@ -138,7 +139,8 @@ pub trait Storage {
         ensures spent { E.spare env.old ≤ E.spare env.new + most }
         ensures counts { Counts (refusals self.old) (refusals self.new) result };
 
-    /// The `len` bytes from `offset` on, in the given buffers. A refusal gives them up.
+    /// Reads the `len` bytes of the blob from `offset` on into the given buffers, and returns these. A refusal drops
+    /// them.
     fn read_at_buf<E: Env>(
         &mut self,
         env: &mut E,
@@ -154,8 +156,8 @@ pub trait Storage {
         ensures spent { E.spare env.old ≤ E.spare env.new + most }
         ensures counts { Counts (refusals self.old) (refusals self.new) result };
 
-    /// The bytes of each range, an offset and a length, once, with its place among the ranges. `collect_reads` puts them into
-    /// their order.
+    /// Returns the bytes of each range, an offset and a length, once, with its place among the ranges, in any order.
+    /// `collect_reads` puts them into the order of the ranges.
     fn read_many<E: Env>(
         &mut self,
         env: &mut E,
@@ -170,7 +172,7 @@ pub trait Storage {
         ensures spent { E.spare env.old ≤ E.spare env.new + (most + per_range * length ranges.now) }
         ensures counts { Counts (refusals self.old) (refusals self.new) result };
 
-    /// The bytes of each range, in the order of the ranges.
+    /// Returns the bytes of each range, an offset and a length, in the order of the ranges.
     fn start_read_many<E: Env>(
         &mut self,
         env: &mut E,
@@ -183,7 +185,7 @@ pub trait Storage {
         ensures spent { E.spare env.old ≤ E.spare env.new + (most + per_range * length ranges.now) }
         ensures counts { Counts (refusals self.old) (refusals self.new) result };
 
-    /// Writes the bytes from `offset` on. With `SYNC` they are durable once this is done.
+    /// Writes the bytes to the blob from `offset` on. With `SYNC` they are durable once this is done.
     fn write_at<E: Env>(
         &mut self,
         env: &mut E,
@@ -202,22 +204,23 @@ pub trait Storage {
         ensures spent { E.spare env.old ≤ E.spare env.new + most }
         ensures counts { Counts (refusals self.old) (refusals self.new) result };
 
-    /// Makes all changes durable.
+    /// Makes all changes of the blob durable.
     fn sync<E: Env>(&mut self, env: &mut E, blob: &Self::Blob) -> Result<Done, Error>
         ensures gives { Notes (E.noted env.old) (λ x. syncs self.old blob.now result self.new x) (E.noted env.new) }
         ensures spent { E.spare env.old ≤ E.spare env.new + most }
         ensures counts { CountsDone (refusals self.old) (refusals self.new) result };
 
-    /// Starts a sync. An answer that is there at once stands in the ticket: so the call itself is refused only where memory lacks, or
-    /// because the token isn't live.
+    /// Starts a sync of the blob, and returns its ticket. Any answer that is there at once is in the ticket: the call
+    /// itself is refused with `NoMemory` or `UnknownToken` alone.
     fn start_sync<E: Env>(&mut self, env: &mut E, blob: &Self::Blob) -> Result<Ticket, Error>
         ensures gives { Notes (E.noted env.old) (λ x. starts_sync self.old blob.now result self.new x) (E.noted env.new) }
         ensures spent { E.spare env.old ≤ E.spare env.new + most }
         ensures refused { StartsOrLacks result }
         ensures counts { CountsStart (refusals self.old) (refusals self.new) result };
 
-    /// Polls a started sync. A `Ready` ticket answers a copy of what it holds, and the store stays as it was; a `Numbered` one that is
-    /// answered becomes ready.
+    /// Polls a started sync. A `Ready` ticket stays as it is, and so does the store: the poll returns a copy of what
+    /// it holds. A `Numbered` one stays as it is while the poll is pending, and is `Ready` from its answer on. Where
+    /// there is no memory for the copy the poll is refused with `NoMemory`, and the ticket holds the answer still.
     fn poll_sync<E: Env>(
         &mut self,
         env: &mut E,
@@ -230,13 +233,13 @@ pub trait Storage {
         ensures ready { is_numbered ticket.old ≡ false → self.new ≡ self.old }
         ensures counts { CountsPoll (refusals self.old) (refusals self.new) ticket.old ticket.new };
 
-    /// Gives a started sync up. It takes no memory. A ticket that is ready is none of the store's any more, which stays as it was.
+    /// Gives up a started sync, or a ticket that is ready, which leaves the store as it was. It takes no memory.
     fn give_up_sync(&mut self, ticket: Ticket)
         ensures gives { gives_sync_up self.old ticket self.new }
         ensures ready { is_numbered ticket ≡ false → self.new ≡ self.old }
         ensures counts { refusals self.old ≤ refusals self.new };
 
-    /// Closes the blob. It takes no memory.
+    /// Closes the blob, whose token is spent. It takes no memory.
     fn close(&mut self, blob: Self::Blob)
         ensures gives { closes self.old blob self.new }
         ensures counts { refusals self.old ≤ refusals self.new };

@@ -19,7 +19,7 @@ pub fn take_draw<E: Env>(env: &mut E, rate: u32) -> Result<(), NoMemory>
     Ok(())
 }
 
-/// The `len` bytes from `offset` on.
+/// Returns the `len` bytes from `offset` on.
 #[tactic(auto, using(crate::proofs::Ranged::range_len))]
 pub fn range_of(content: &[u8], offset: u64, len: usize) -> Result<&[u8], Error>
     ensures len { IfOk result (λ bytes. length bytes.now ≡ len) }

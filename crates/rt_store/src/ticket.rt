@@ -8,15 +8,15 @@ ghost use Rattle.rt_store.specs.declared.ticket.Ticket.{Ticket};
 use rt_base::Error;
 use std::mem;
 
-/// A sync that was started: its answer, or the number by which a store holds it. One with a number must be polled until it is ready,
-/// or be spent by `Storage::give_up_sync`; a ready one is no store's any more, and may be taken apart.
+/// A started sync: its answer, or the number by which a store holds it. One with a number must be polled until it is
+/// ready, or be spent by `Storage::give_up_sync`; a ready one belongs to no store any more, and may be taken apart.
 #[derive(Debug)]
 pub enum Ticket {
     Ready(Result<(), Error>),
     Numbered(u64),
 }
 
-/// A change is done, or waits for a gate behind which the ticket is held.
+/// Whether a change is done, or waits at a gate that holds its ticket.
 #[derive(Debug)]
 pub enum Done {
     Now,
@@ -24,7 +24,7 @@ pub enum Done {
 }
 
 impl Ticket {
-    /// The ticket of a sync that is answered is ready with that.
+    /// Makes a ticket with a number ready with this answer.
     pub fn settle(&mut self, answer: Result<(), Error>)
         requires { is_numbered self.old ≡ true }
         ensures { self.new ≡ Ticket.Ready answer }
@@ -36,7 +36,7 @@ impl Ticket {
     }
 }
 
-/// The same answer, where there is memory for a copy.
+/// Returns a copy of an answer, or `NoMemory` where there is no memory for one. A copy of `Ok` takes none.
 pub fn copy_of(held: &Result<(), Error>) -> Result<(), Error>
     ensures copy { IsCopy held.now (Poll.Ready result) }
     ensures counts { (old new : ℕ) → Counts old new held.now → Counts old new result }
