@@ -249,7 +249,7 @@ PollsStage c n task (Some stage.Out) s p t x = (p ≡ poll.Ready (Err UnknownTok
 PollsStage c n task (Some (stage.Held h)) s p t x = PollsHeld c n task h s p t x
 PollsStage c n task (Some (stage.Passed k)) s p t x = PollsInner c n task k s p t x
 
--- the ticket becomes ready with the answer, of which the poll answers a copy where there is memory for it
+-- the ticket becomes ready with the answer, of which the poll returns a copy where there is memory for it
 abbrev pub Settles : Ticket → Poll (Result Unit Error) → Poll (Result Unit Error) → Ticket → Type 0
 Settles old poll.Pending p new = (p ≡ poll.Pending) × (new ≡ old)
 Settles old (poll.Ready r) p new = IsCopy r p × (new ≡ Ready r)

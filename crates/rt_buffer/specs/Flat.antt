@@ -6,7 +6,7 @@ use Rattle.rt_base.specs.Noted.{Noted}
 use Rattle.rt_bufs.specs.WritableChunks.{WritableChunks}
 use Rattle.rt_buffer.specs.Reading.{Ahead}
 
--- `bytes` is what the blobs of a store have: a read answers these, and changes none of this blob
+-- `bytes` is what the blobs of a store have: a read returns these, and changes none of this blob
 pub record HasBytes {S B : Type 0} (reads : S → B → ℕ → ℕ → ReadOptions → Result WritableChunks Error → S → List Noted → Type 0) (bytes : S → B → List ℕ) : Type 0 where
   pub answers : (s : S) (b : B) (offset len : ℕ) (options : ReadOptions) (fetched : WritableChunks) (new : S) (x : List Noted) → reads s b offset len options (Ok fetched) new x → fetched.bytes ≡ take len (drop offset (bytes s b))
   pub keeps : (s : S) (b : B) (offset len : ℕ) (options : ReadOptions) (r : Result WritableChunks Error) (new : S) (x : List Noted) → reads s b offset len options r new x → bytes new b ≡ bytes s b

@@ -16,7 +16,7 @@ abbrev pub passed : ℕ → List (List ℕ) → Pieces
 passed at [] = pieces at []
 passed at (c ∷ cs) = pieces (at + length c) cs
 
--- bytes in pieces of these lengths, one behind the other
+-- bytes in pieces of these lengths, one after the other
 abbrev pub cut : List ℕ → List ℕ → List (List ℕ)
 cut [] bytes = []
 cut (n ∷ ns) bytes = take n bytes ∷ cut ns (drop n bytes)
@@ -26,7 +26,7 @@ abbrev pub with_bytes : ℕ → List ℕ → List ℕ → List ℕ
 with_bytes at [] old = old
 with_bytes at (b ∷ bs) old = written at (b ∷ bs) old
 
--- a content with each chunk written over it, one behind the other
+-- a content with each chunk written over it, one after the other
 abbrev pub chunks_written : ℕ → List (List ℕ) → List ℕ → List ℕ
 chunks_written at [] old = old
 chunks_written at (c ∷ cs) old = chunks_written (at + length c) cs (written at c old)

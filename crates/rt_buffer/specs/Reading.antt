@@ -1,4 +1,4 @@
--- What a reader holds of its blob, and what a read answers and leaves.
+-- What a reader holds of its blob, and what a read returns and leaves.
 use Rattle.std.specs.Prelude.{◌≡◌, ℕ, ◌+◌, ◌-◌, ◌*◌, min, nat_le, if◌then◌else◌, false, List, [], ◌++◌, length, take, drop, IfOk, Result, Ok, Err}
 use Rattle.std.specs.Int.{div_ceil}
 use Rattle.rt_base.specs.Counted.{Counts}
@@ -18,7 +18,7 @@ pub record Ahead : Type 0 where
   pub size : ℕ
   pub buffer : ℕ
 
--- the place behind the bytes that are held
+-- the place after the bytes that are held
 abbrev pub end_of : Ahead → ℕ
 end_of a = a.position + length a.held
 

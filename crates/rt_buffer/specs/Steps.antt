@@ -110,7 +110,7 @@ abbrev pub SettlesBehind : {S B : Type 0} → StoreCalls S B → ℕ → Result 
 SettlesBehind c task (Ok d) y mid r new x = (z : List Noted) × (x ≡ y ++ z) × Settles c task d mid r new z
 SettlesBehind c task (Err e) y mid r new x = (r ≡ Err e) × (new ≡ mid) × (x ≡ y)
 
--- a change that is durable once it is answered, with what its call may answer, leave and note
+-- a change that is durable once it is answered, with what its call may return, leave and note
 abbrev pub Keeps : {S B : Type 0} → StoreCalls S B → ℕ → (Result Done Error → S → List Noted → Type 0) → Act S
 Keeps {S} c task change old r new x =
     (d : Result Done Error) × (mid : S) × (y : List Noted) × change d mid y × CountsDone (c.refusals old.store) (c.refusals mid) d
@@ -173,7 +173,7 @@ ResizesBlob {S} c blob len old r new x =
     (a : Result Unit Error) × (mid : S) × c.resizes old.store blob len a mid x × Counts (c.refusals old.store) (c.refusals mid) a
     × (r ≡ progress_of a) × (new ≡ writer mid (with_state old.held Dirty))
 
--- the same behind a write of the bytes that the tip gave out for it
+-- the same after a write of the bytes that the tip gave out for it
 abbrev pub ResizesTaken : {S B : Type 0} → StoreCalls S B → B → ℕ → Result (Option (Chunked × ℕ)) Error → Act S
 ResizesTaken c blob len (Err e) old r new x = Lacks old r new x
 ResizesTaken c blob len (Ok None) old r new x = ResizesBlob c blob len (writer old.store (with_tip old.held (resized_tip old.held.tip len))) r new x
@@ -260,7 +260,7 @@ PutsFor c blob at chunk false old r new x = PutsBeyond c blob at chunk (is_in_th
 abbrev pub Puts : {S B : Type 0} → StoreCalls S B → B → ℕ → List ℕ → Act S
 Puts c blob at chunk old r new x = PutsFor c blob at chunk (is_within old.held.tip at (length chunk)) old r new x
 
--- chunk by chunk, each behind the one before it
+-- chunk by chunk, each after the one before it
 abbrev pub PutsChunks : {S B : Type 0} → StoreCalls S B → B → ℕ → List (List ℕ) → Act S
 PutsChunks c blob at [] old r new x = Rests old r new x
 PutsChunks c blob at (chunk ∷ chunks) old r new x = Then (Puts c blob at chunk) (PutsChunks c blob (at + length chunk) chunks) old r new x
@@ -294,7 +294,7 @@ seen_step writer waiting (step.Failed e) = step.Failed e
 abbrev pub IsLeft : {S B : Type 0} → B → Writer S → S → B × Held → Type 0
 IsLeft blob left store w = (w.0 ≡ blob) × (w.1 ≡ left.held) × (store ≡ left.store)
 
--- what a call answers: the writer where it is done, the writer and what is left to do where it waits, and else the error, and
+-- what a call returns: the writer where it is done, the writer and what is left to do where it waits, and else the error, and
 -- then the blob is closed
 abbrev pub Ends : {S B : Type 0} → StoreCalls S B → B → Rest → Progress → Writer S → S → Stepped (B × Held) ((B × Held) × Rest) → Type 0
 Ends c blob rest (Ok (poll.Ready u)) left store (step.Done w) = IsLeft blob left store w

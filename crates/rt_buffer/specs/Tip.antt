@@ -2,7 +2,7 @@
 use Rattle.std.specs.Prelude.{ℕ, ◌+◌, ◌-◌, ◌^◌, max, Bool, ◌&&◌, nat_le, nat_lt, if◌then◌else◌, List, [], ◌∷◌, length, take, Option, Some, None}
 use Rattle.rt_store.specs.Content.{written}
 
--- `capacity` is how far behind the offset a write may end that goes into the tip
+-- `capacity` is how far after the offset a write may end that goes into the tip
 pub record Tip : Type 0 where
   pub offset : ℕ
   pub bytes : List ℕ

@@ -40,7 +40,7 @@ ReadsTip t offset len (Err e) = e ≡ NoMemory
 abbrev pub before_tip : Tip → ℕ → ℕ → ℕ
 before_tip t offset len = min len (t.offset - offset)
 
--- a read behind that of the bytes before the tip
+-- a read after that of the bytes before the tip
 abbrev pub AddsTip : Tip → ℕ → Result WritableChunks Error → Result Chunked Error → Type 0
 AddsTip t more (Ok fetched) (Ok b) = b.bytes ≡ fetched.bytes ++ take more t.bytes
 AddsTip t more (Ok fetched) (Err e) = e ≡ NoMemory

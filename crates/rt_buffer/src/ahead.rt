@@ -41,7 +41,7 @@ fn nothing(alloc: Global) -> IoBuf
 }
 
 impl Ahead {
-    /// The start of a blob of this size. Nothing is held.
+    /// Makes the start of a blob of this size in bytes, of which nothing is held. Nothing is held.
     pub fn new(alloc: Global, size: u64, buffer: usize) -> Ahead
         requires { 0 < buffer }
         ensures position { result.position ≡ 0 }
@@ -70,7 +70,7 @@ impl Ahead {
         self.size
     }
 
-    /// How many bytes are held: no more than a buffer, and none past the size.
+    /// Returns how many bytes are held, which is no more than a buffer, and none past the size.
     pub fn held_len(&self) -> usize
         ensures held { result ≡ length self.now.held }
         ensures fits { result ≤ self.now.buffer }
@@ -79,7 +79,7 @@ impl Ahead {
         self.held.len()
     }
 
-    /// How many bytes are left in the blob.
+    /// Returns how many bytes are left in the blob.
     pub fn remaining(&self) -> u64
         ensures left { result ≡ remaining self.now }
         ensures held { length self.now.held ≤ result }
@@ -87,7 +87,7 @@ impl Ahead {
         self.size - self.position
     }
 
-    /// Hands out bytes that are held. After `NoMemory` nothing has changed.
+    /// Returns bytes that are held, which are held no more. After `NoMemory` nothing has changed.
     pub fn take(&mut self, len: usize) -> Result<IoBufs, Error>
         requires { len ≤ length self.old.held }
         ensures { TakesHeld self.old len result self.new }
@@ -99,7 +99,7 @@ impl Ahead {
         Ok(bufs)
     }
 
-    /// Hands out all that is held. The place is then behind it.
+    /// Returns all that is held. The place is then after it.
     pub fn take_all(&mut self) -> IoBuf
         ensures bytes { result ≡ self.old.held }
         ensures placed { self.new ≡ placed_at self.old (end_of self.old) }
@@ -108,7 +108,7 @@ impl Ahead {
         mem::replace(&mut self.held, nothing(self.alloc))
     }
 
-    /// How many bytes to fetch where so many are wanted beyond those held.
+    /// Returns how many bytes to fetch where so many are wanted beyond those held.
     pub fn fetch_len(&self, lacking: usize) -> usize
         requires { lacking ≤ self.now.size - end_of self.now }
         ensures len { result ≡ fetch_len self.now lacking }

@@ -1,7 +1,7 @@
 // The calls of a store that a writer makes, as one record.
 use rt_store::Storage;
 
-/// What contracts name the calls of a store by. Each store has it.
+/// The relations by which contracts name the calls of a store, as one record. Each store has it.
 pub trait Called: Storage {
     ghost use Rattle.rt_buffer.specs.Calls.{StoreCalls};
 

@@ -12,8 +12,8 @@ pub struct DeferredSync {
 }
 
 impl DeferredSync {
-    /// Lets the sync go on, or answer this error. It answers the number of the task that polled it last, which is to be woken.
-    /// It takes no memory.
+    /// Lets the sync go on, or end with this error, and returns the number of the task that polled it last, which is
+    /// to be woken. It takes no memory.
     pub fn release(self, pending: &mut PendingSyncs, answer: Result<(), Error>) -> Option<u64>
         ensures task { result ≡ task_at pending.old.parked self.number }
         ensures released { pending.new ≡ record pending.old { parked = changed pending.old.parked self.number (released answer) } }
@@ -22,7 +22,7 @@ impl DeferredSync {
         pending.release(number, answer)
     }
 
-    /// Whether a started sync was polled, or the call that the gate holds was made.
+    /// Returns whether a started sync was polled, or the call that the gate holds was made.
     pub fn is_blocked(&self, pending: &PendingSyncs) -> bool
         ensures { result ≡ is_blocked_of (slice_get pending.now.parked self.now.number) }
     {
@@ -30,7 +30,7 @@ impl DeferredSync {
     }
 }
 
-/// Takes the first one out of the queue.
+/// Takes the first sync or gate out of the queue.
 pub fn next_pending_sync(pending: &mut PendingSyncs) -> DeferredSync
     requires { 0 < length pending.old.queue }
     ensures first { pending.old.queue ≡ result.number ∷ pending.new.queue }
@@ -41,7 +41,8 @@ pub fn next_pending_sync(pending: &mut PendingSyncs) -> DeferredSync
     }
 }
 
-/// Releases the first so many with success. It answers the numbers of the tasks to wake.
+/// Releases the first so many of the queue with success, in the order of their starts, and returns the numbers of the
+/// tasks to wake. After `NoMemory` nothing has changed.
 pub fn release_next_pending_syncs(
     pending: &mut PendingSyncs,
     count: usize,
@@ -54,7 +55,8 @@ pub fn release_next_pending_syncs(
     pending.release_first(count, false)
 }
 
-/// Releases all with success. It answers the numbers of the tasks to wake.
+/// Releases all with success, in the order of their starts, and returns the numbers of the tasks to wake. After
+/// `NoMemory` nothing has changed.
 pub fn release_pending_syncs(pending: &mut PendingSyncs) -> Result<Vec<u64>, NoMemory>
     ensures tasks { IfOk result (λ tasks. tasks.items ≡ tasks_of pending.old.parked pending.old.queue) }
     ensures released { OnOk result (pending.new ≡ first_released (outcome false) (length pending.old.queue) pending.old) }
@@ -64,7 +66,8 @@ pub fn release_pending_syncs(pending: &mut PendingSyncs) -> Result<Vec<u64>, NoM
     pending.release_first(count, false)
 }
 
-/// Releases all with an injected failure. It answers the numbers of the tasks to wake.
+/// Releases all with an injected failure, in the order of their starts, and returns the numbers of the tasks to wake.
+/// After `NoMemory` nothing has changed.
 pub fn fail_pending_syncs(pending: &mut PendingSyncs) -> Result<Vec<u64>, NoMemory>
     ensures tasks { IfOk result (λ tasks. tasks.items ≡ tasks_of pending.old.parked pending.old.queue) }
     ensures released { OnOk result (pending.new ≡ first_released (outcome true) (length pending.old.queue) pending.old) }
@@ -74,7 +77,8 @@ pub fn fail_pending_syncs(pending: &mut PendingSyncs) -> Result<Vec<u64>, NoMemo
     pending.release_first(count, true)
 }
 
-/// Passes a poll's answer on, and where it is pending, releases all with success. The caller then queues itself to poll again.
+/// Passes on the answer of a poll, and where it is pending, releases all with success. The caller then queues itself
+/// to poll again.
 pub fn drive_pending_syncs<V>(
     pending: &mut PendingSyncs,
     polled: Poll<V>,

@@ -21,8 +21,14 @@ use rt_bufs::{IoBufs, IoBufsMut};
 use rt_store::{BlobOf, Done, Storage, Ticket, copy_of};
 use std::alloc::Global;
 
-/// A store that holds each started sync back until a test releases it, and once that is armed also the next sync of any
-/// kind. All else is passed on. It counts the calls that it refused itself, up to the type's end.
+/// A store that holds each started sync back until a test releases it, and once that is armed also the next sync of
+/// any kind. All other calls are passed on to the inner store. It counts the calls that it refused itself, up to the
+/// type's end.
+///
+/// The poll of a ticket is pending while its sync is held, and while a gated ticket of the inner store is. A sync
+/// that is released with an error ends with that, with no call of the inner store; any other is then one `sync` of
+/// the inner store. A ticket that was answered or given up is out: a further poll of its number is refused with
+/// `UnknownToken`. A ticket keeps its blob open: the last of the token and its tickets closes it.
 ///
 /// It must be spent by [`into_inner`](Self::into_inner), since a ticket keeps its blob open.
 pub struct DelayedSyncContext<S: Storage> {
@@ -33,7 +39,7 @@ pub struct DelayedSyncContext<S: Storage> {
     refusals: u64,
 }
 
-/// A blob of such a store. It must be spent by `Storage::close`.
+/// A token of an open blob of a store that holds syncs back. It must be spent by `Storage::close`.
 #[derive(Debug)]
 pub struct DelayedSyncBlob {
     number: u64,
@@ -61,8 +67,9 @@ impl<S: Storage> DelayedSyncContext<S> {
     ghost use Rattle.std.specs.Borrow.{sem};
     ghost use Rattle.rt_buffer.specs.Lent.{lends_inner, lends_pending};
 
-    /// Nothing is held back yet. Where the inner store keeps the bytes of its blobs, so does this one; and where the inner store's calls
-    /// leave the other blobs as they were, so do those of this one, and so of its opens and reads.
+    /// Makes a store over the inner one that holds nothing back yet. Where the inner store keeps the bytes of its
+    /// blobs, so does this one; and where the inner store's calls leave the other blobs as they were, so do those of
+    /// this one, and so of its opens and reads.
     pub fn new(alloc: Global, inner: S) -> DelayedSyncContext<S>
         ensures inner { result.inner ≡ inner }
         ensures pending { result.pending ≡ none_pending }
@@ -92,14 +99,14 @@ impl<S: Storage> DelayedSyncContext<S> {
         }
     }
 
-    /// What is held back.
+    /// Returns what is held back.
     pub fn pending(&self) -> &PendingSyncs
         ensures { result.now ≡ self.now.pending }
     {
         &self.pending
     }
 
-    /// What is held back, to release it.
+    /// Returns what is held back, to release it.
     pub fn pending_mut(&mut self) -> &mut PendingSyncs
         ensures* writes_back { sem 𝓛 (lends_pending S.row S.Blob.row self.entry result) }
         ensures value { result.now ≡ self.old.pending }
@@ -107,14 +114,14 @@ impl<S: Storage> DelayedSyncContext<S> {
         &mut self.pending
     }
 
-    /// The inner store.
+    /// Returns the inner store.
     pub fn inner(&self) -> &S
         ensures { result.now ≡ self.now.inner }
     {
         &self.inner
     }
 
-    /// The inner store, to change its settings.
+    /// Returns the inner store, to change its settings.
     pub fn inner_mut(&mut self) -> &mut S
         ensures* writes_back { sem 𝓛 (lends_inner S.row S.Blob.row self.entry result) }
         ensures value { result.now ≡ self.old.inner }
@@ -122,14 +129,14 @@ impl<S: Storage> DelayedSyncContext<S> {
         &mut self.inner
     }
 
-    /// How many calls it refused itself.
+    /// Returns how many calls the store refused itself.
     pub fn refusals(&self) -> u64
         ensures { result ≡ self.now.refusals }
     {
         self.refusals
     }
 
-    /// The inner store alone: what is still held is given up, and what is still open closed.
+    /// Returns the inner store alone: what is still held is given up, and what is still open closed, the last first.
     pub fn into_inner(self) -> S
         ensures { (given_up : S) × GivesUpAll ⟦<S as Called>⟧.calls self.tickets.items self.inner given_up × ClosesAll ⟦<S as Called>⟧.calls self.blobs.items given_up result }
     {
@@ -264,7 +271,7 @@ impl<S: Storage> DelayedSyncContext<S> {
         self.let_go(blob);
     }
 
-    // A ticket is answered, and leaves.
+    // Ends a ticket that was answered, which leaves.
     fn finish(&mut self, number: u64, blob: Option<u64>, counts: bool, answer: &Result<(), Error>)
         ensures finishes { Finishes ⟦<S as Called>⟧.calls number blob counts answer.now (delayed self.old.inner self.old.pending self.old.blobs.items self.old.tickets.items self.old.refusals) (delayed self.new.inner self.new.pending self.new.blobs.items self.new.tickets.items self.new.refusals) }
         ensures counts { S.refusals self.old.inner ≤ S.refusals self.new.inner }
@@ -276,7 +283,7 @@ impl<S: Storage> DelayedSyncContext<S> {
         self.leave(number, blob);
     }
 
-    // The same, with the answer of an inner ticket. Once that is ready it is none of the inner store's any more.
+    // Ends a ticket with the answer of an inner one. Once that is ready it is none of the inner store's any more.
     fn answer(
         &mut self,
         number: u64,
@@ -295,7 +302,8 @@ impl<S: Storage> DelayedSyncContext<S> {
 
 // Polls of tickets with a number.
 impl<S: Storage> DelayedSyncContext<S> {
-    // A poll of an inner ticket. Once that is ready its answer is taken out: the poll's own may be a copy that lacked memory.
+    // A poll of an inner ticket. Once that is ready its answer is taken out: the poll's own may be a copy that ran out of memory,
+    // and would then be in the outer ticket for good.
     fn poll_inner<E: Env>(
         &mut self,
         env: &mut E,
@@ -408,7 +416,7 @@ impl<S: Storage> DelayedSyncContext<S> {
     }
 }
 
-// The ticket becomes ready with the answer, of which a copy is answered.
+// Makes the ticket ready with the answer, of which it returns a copy.
 #[tactic(auto, using(crate::proofs::Holding::settled_ticket))]
 fn settle(ticket: &mut Ticket, polled: Poll<Result<(), Error>>) -> Poll<Result<(), Error>>
     requires { is_numbered ticket.old ≡ true }

@@ -17,7 +17,7 @@ pub struct Held {
 }
 
 impl Held {
-    /// No bytes, behind a blob of this size that counts as changed.
+    /// Makes a record of no bytes after a blob of this size, which counts as changed.
     pub fn new(alloc: Global, size: u64, capacity: usize) -> Held
         ensures tip { result.tip ≡ empty_tip size capacity }
         ensures dirty { result.state ≡ SyncState.Dirty }
@@ -30,7 +30,7 @@ impl Held {
         }
     }
 
-    /// Whether no change is open.
+    /// Returns whether no change is open.
     pub fn is_clean(&self) -> bool
         ensures { result ≡ is_clean self.now.state }
     {
@@ -40,14 +40,14 @@ impl Held {
         }
     }
 
-    /// Whether bytes are held back, or a change may not be durable.
+    /// Returns whether bytes are held back, or a change may not be durable.
     pub fn needs_sync(&self) -> bool
         ensures { result ≡ needs_sync self.now.tip self.now.state }
     {
         !self.tip.is_empty() || !self.is_clean()
     }
 
-    /// Changes what is known of durability, where no ticket is held.
+    /// Sets what is known of durability, where no ticket is held.
     pub fn set_state(&mut self, state: SyncState)
         requires { is_started self.old.state ≡ false }
         ensures { self.new ≡ record self.old { state = state } }

@@ -19,8 +19,9 @@ use rt_base::{Env, Error, Poll};
 use rt_store::MemStore;
 
 impl Write<MemStore> {
-    /// [`sync`](Self::sync), by what each crash of a store in memory leaves: once it is done, exactly the bytes that the writer stands
-    /// for. Such a store keeps bytes, so that what other calls of the writer say of that is so.
+    /// Does [`sync`](Self::sync) over a store in memory, after which each crash leaves exactly the bytes that the
+    /// writer stands for. Such a store keeps bytes, so what other calls of the writer say of stores that do holds
+    /// over it.
     pub fn sync_in_memory<E: Env>(
         self,
         store: &mut MemStore,
@@ -43,9 +44,9 @@ impl Write<MemStore> {
 }
 
 impl SyncHandle {
-    /// [`poll`](Self::poll), by what each crash of a store in memory leaves: once the sync that the writer holds answered Ok, exactly
-    /// the bytes that the writer stood for when it began, where nothing was changed since. Such a store keeps bytes, so that what the
-    /// start of the sync says of that is so.
+    /// Does [`poll`](Self::poll) over a store in memory: once the sync that the writer holds returned Ok, each crash
+    /// leaves exactly the bytes that the writer stood for when it began, where nothing was changed since. Such a
+    /// store keeps bytes, so what the start of the sync says of stores that do holds over it.
     pub fn poll_in_memory<E: Env>(
         &mut self,
         write: &mut Write<MemStore>,

@@ -8,11 +8,11 @@ use std::alloc::Global;
 use std::collections::VecDeque;
 use std::marker::Model;
 
-/// The syncs of a store that are held back, in the order of their starts, and counts of them, which stay at their type's
-/// end.
+/// The syncs of a store that are held back, in the order of their starts, and counts of them, which stay at their
+/// type's end.
 ///
-/// A started sync is held until a test releases it, or until that is unblocked for good. A gate holds the next durability call:
-/// that may also be a `sync` or a durable write.
+/// A started sync is held until a test releases it, or until that is unblocked for good. A gate holds the next
+/// durability call, which may also be a `sync` or a durable write.
 #[derive(Debug, Drop)]
 pub struct PendingSyncs {
     parked: Vec<Parked>,
@@ -36,7 +36,7 @@ impl Model for PendingSyncs {
 }
 
 impl PendingSyncs {
-    /// None, with all counts at 0.
+    /// Makes a queue of no syncs, with all counts at 0.
     pub(crate) fn new(alloc: Global) -> PendingSyncs
         ensures { result ≡ none_pending }
     {
@@ -54,7 +54,8 @@ impl PendingSyncs {
         }
     }
 
-    /// Counts durability calls from now on, and puts a gate into the queue that holds the next one.
+    /// Counts durability calls from now on, and puts a gate at the end of the queue that holds the next one. After
+    /// `NoMemory` nothing has changed.
     pub fn arm(&mut self) -> Result<(), NoMemory>
         requires { self.old.is_armed ≡ false }
         ensures armed { OnOk result (self.new ≡ armed self.old) }
@@ -67,49 +68,49 @@ impl PendingSyncs {
         Ok(())
     }
 
-    /// Whether durability calls are counted.
+    /// Returns whether durability calls are counted.
     pub fn is_armed(&self) -> bool
         ensures { result ≡ self.now.is_armed }
     {
         self.is_armed
     }
 
-    /// How many durability calls came since that was armed.
+    /// Returns how many durability calls came since they are counted.
     pub fn calls(&self) -> u64
         ensures { result ≡ self.now.calls }
     {
         self.calls
     }
 
-    /// How many syncs were started.
+    /// Returns how many syncs were started.
     pub fn starts(&self) -> u64
         ensures { result ≡ self.now.starts }
     {
         self.starts
     }
 
-    /// How many started syncs were polled.
+    /// Returns how many started syncs were polled.
     pub fn entered(&self) -> u64
         ensures { result ≡ self.now.entered }
     {
         self.entered
     }
 
-    /// How many started syncs are done, with success.
+    /// Returns how many started syncs are done, with success.
     pub fn completions(&self) -> u64
         ensures { result ≡ self.now.completions }
     {
         self.completions
     }
 
-    /// How many are in the queue, a gate among them.
+    /// Returns how many syncs are in the queue, a gate among them.
     pub fn len(&self) -> usize
         ensures { result ≡ length self.now.queue }
     {
         self.queue.len()
     }
 
-    /// Whether none is in the queue.
+    /// Returns whether no sync and no gate is in the queue.
     pub fn is_empty(&self) -> bool
         ensures { IsTrue result ↔ (length self.now.queue ≡ 0) }
     {
@@ -123,7 +124,8 @@ impl PendingSyncs {
         self.fails = true;
     }
 
-    /// Releases all, and holds no sync that is started from now on. It answers the numbers of the tasks to wake.
+    /// Releases all, in the order of their starts, holds no sync that is started from now on, and returns the numbers
+    /// of the tasks to wake. After `NoMemory` nothing has changed.
     pub fn unblock(&mut self) -> Result<Vec<u64>, NoMemory>
         ensures tasks { IfOk result (λ tasks. tasks.items ≡ tasks_of self.old.parked self.old.queue) }
         ensures released { OnOk result (self.new ≡ record (first_released (outcome self.old.fails) (length self.old.queue) self.old) { is_unblocked = true }) }
@@ -149,7 +151,7 @@ impl PendingSyncs {
         Ok(tasks)
     }
 
-    /// Releases all with success. It takes no memory, and answers no numbers.
+    /// Releases all with success. It takes no memory, and returns no numbers.
     pub(crate) fn release_all(&mut self)
         ensures { self.new ≡ first_released (outcome false) (length self.old.queue) self.old }
     {
@@ -169,7 +171,7 @@ impl PendingSyncs {
         }
     }
 
-    /// Releases one, and answers the task to wake.
+    /// Releases one, and returns the task to wake.
     pub(crate) fn release(&mut self, number: u64, answer: Result<(), Error>) -> Option<u64>
         ensures task { result ≡ task_at self.old.parked number }
         ensures released { self.new ≡ record self.old { parked = changed self.old.parked number (released answer) } }
@@ -187,7 +189,7 @@ impl PendingSyncs {
         }
     }
 
-    // Puts one more into the queue, and answers its number.
+    // Puts one more into the queue, and returns its number.
     fn park(&mut self) -> Result<u64, NoMemory>
         ensures number { IfOk result (λ number. number ≡ length self.old.parked) }
         ensures parked { OnOk result (self.new ≡ with_parked self.old) }
@@ -221,7 +223,7 @@ impl PendingSyncs {
         }
     }
 
-    /// Counts a started sync, and answers what holds it.
+    /// Counts a started sync, and returns what holds it.
     pub(crate) fn start(&mut self) -> Result<Option<u64>, NoMemory>
         ensures hold { IfOk result (λ hold. hold ≡ start_hold self.old) }
         ensures started { OnOk result (self.new ≡ started self.old) }
@@ -237,7 +239,7 @@ impl PendingSyncs {
         Ok(hold)
     }
 
-    /// Counts another durability call, and answers the gate that holds it.
+    /// Counts another durability call, and returns the gate that holds it.
     pub(crate) fn call(&mut self) -> Option<u64>
         ensures gate { result ≡ gate_of self.old }
         ensures called { self.new ≡ called self.old }
@@ -330,7 +332,7 @@ fn release_each(parked: &mut Vec<Parked>, queue: &mut VecDeque<u64>, count: usiz
     }
 }
 
-// Releases one, and answers the task to wake.
+// Releases one, and returns the task to wake.
 fn release_one(parked: &mut Vec<Parked>, number: u64, answer: Result<(), Error>) -> Option<u64>
     ensures task { result ≡ task_at parked.old.items number }
     ensures released { parked.new.items ≡ changed parked.old.items number (released answer) }

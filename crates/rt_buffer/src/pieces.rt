@@ -11,7 +11,7 @@ use std::alloc::Global;
 use std::collections::VecDeque;
 use std::marker::Model;
 
-/// Chunks that go to a blob one behind the other, and the place of the first. They end within numbers.
+/// Chunks that go to a blob one after the other, and the place of the first. They end within numbers.
 #[derive(Drop)]
 pub struct Pieces {
     at: u64,
@@ -31,7 +31,7 @@ impl Model for Pieces {
 }
 
 impl Pieces {
-    /// The chunks of these buffers, from a place on.
+    /// Takes buffers apart into their chunks, which go to a blob from a place on, with no copy of their bytes.
     ///
     /// Errors: `OffsetOverflow` where they end past a `u64`, `NoMemory`.
     #[tactic(auto, using(crate::proofs::Cut::cut_joined))]
@@ -50,21 +50,21 @@ impl Pieces {
         Ok(Pieces { at, chunks })
     }
 
-    /// The place of the first chunk.
+    /// Returns the place of the first chunk.
     pub fn at(&self) -> u64
         ensures { result ≡ self.now.at }
     {
         self.at
     }
 
-    /// Whether no chunk is left.
+    /// Returns whether no chunk is left.
     pub fn is_empty(&self) -> bool
         ensures { IsTrue result ↔ (self.now.chunks ≡ []) }
     {
         self.chunks.is_empty()
     }
 
-    /// The first chunk, or no bytes where there is none.
+    /// Returns the bytes of the first chunk, or none where no chunk is left.
     pub fn first(&self) -> &[u8]
         ensures { result.now ≡ unwrap_or (slice_get self.now.chunks 0) [] }
     {

@@ -66,7 +66,7 @@ impl<S: Storage> Write<S> {
         }
     }
 
-    // Puts a chunk into the tip, and answers whether it lies within its reach.
+    // Puts a chunk into the tip, and returns whether it lies within its reach.
     fn merge(&mut self, at: u64, chunk: &IoBuf) -> Result<bool, Error>
         ensures within { IfOk result (λ yes. yes ≡ is_within self.old.held.tip at (length chunk.now)) }
         ensures merged { OnOk result (self.new.held ≡ (if is_within self.old.held.tip at (length chunk.now) then with_tip self.old.held (merged self.old.held.tip chunk.now at) else self.old.held)) }

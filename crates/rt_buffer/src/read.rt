@@ -22,7 +22,7 @@ pub struct Read<S: Storage> {
 }
 
 impl<S: Storage> Read<S> {
-    /// A reader of so many bytes of a blob, that fetches `buffer_size` bytes or a multiple.
+    /// Makes a reader of so many bytes of a blob, that fetches `buffer_size` bytes or a multiple.
     pub fn new(alloc: Global, blob: BlobOf<S>, blob_size: u64, buffer_size: usize) -> Read<S>
         requires { 0 < buffer_size }
         ensures blob { result.blob ≡ blob }
@@ -39,7 +39,7 @@ impl<S: Storage> Read<S> {
         }
     }
 
-    /// How many bytes are held from the place on: at most the buffer's size.
+    /// Returns how many bytes are held from the place on, which is at most the buffer's size.
     pub fn buffer_remaining(&self) -> usize
         ensures held { result ≡ length self.now.ahead.held }
         ensures fits { result ≤ self.now.ahead.buffer }
@@ -47,35 +47,35 @@ impl<S: Storage> Read<S> {
         self.ahead.held_len()
     }
 
-    /// How many bytes are left from the place on.
+    /// Returns how many bytes are left from the place on.
     pub fn blob_remaining(&self) -> u64
         ensures { result ≡ remaining self.now.ahead }
     {
         self.ahead.remaining()
     }
 
-    /// The given size.
+    /// Returns the size in bytes that the reader was made with.
     pub fn blob_size(&self) -> u64
         ensures { result ≡ self.now.ahead.size }
     {
         self.ahead.size()
     }
 
-    /// The place of the next byte.
+    /// Returns the place of the next byte.
     pub fn position(&self) -> u64
         ensures { result ≡ self.now.ahead.position }
     {
         self.ahead.position()
     }
 
-    /// The next `len` bytes.
+    /// Returns the next `len` bytes.
     ///
-    /// Bytes that are held come from memory. Else the store is read once, for the bytes that lack and those up to the
-    /// end of a buffer.
+    /// Bytes that are held come from memory. Else the store is read once, for the bytes that are missing and those up
+    /// to the end of a buffer.
     ///
     /// Errors: `BlobInsufficientLength` where fewer are left, and then nothing has changed; the store's refusal;
-    /// `NoMemory`. After one of the last two that came behind the store's answer nothing is held, and the place is behind
-    /// what was held.
+    /// `NoMemory`. After one of the last two that came after the store's answer nothing is held, and the place is
+    /// after what was held.
     pub fn read<E: Env>(&mut self, store: &mut S, env: &mut E, len: usize) -> Result<IoBufs, Error>
         ensures insufficient { remaining self.old.ahead < len → (result ≡ Err Error.BlobInsufficientLength) × (self.new ≡ self.old) × (store.new ≡ store.old) × (env.new ≡ env.old) }
         ensures from_memory { len ≤ length self.old.ahead.held → TakesHeld self.old.ahead len result self.new.ahead × (store.new ≡ store.old) × (env.new ≡ env.old) }
@@ -145,7 +145,8 @@ impl<S: Storage> Read<S> {
         Ok(bufs)
     }
 
-    /// Goes to another place. One within the held bytes keeps those from there on, and any other gives them up.
+    /// Goes to another place in the blob. One within the held bytes keeps those from there on, and any other gives
+    /// them up.
     ///
     /// Error: `BlobInsufficientLength` where it is past the size, and then nothing has changed.
     pub fn seek_to(&mut self, position: u64) -> Result<(), Error>

@@ -12,7 +12,7 @@ pub struct SharedBlob<B> {
     pub(crate) others: u64,
 }
 
-/// The inner blob of a token that is open.
+/// Returns the inner blob of a token that is open.
 pub fn inner_of<B>(blobs: &[Option<SharedBlob<B>>], number: u64) -> Option<&B>
     ensures { option_copied result ≡ blob_at blobs.now number }
 {
@@ -33,7 +33,7 @@ pub fn add_blob<B>(blobs: &mut Vec<Option<SharedBlob<B>>>, inner: B) -> u64
     number
 }
 
-/// Whether one more can hold it.
+/// Returns whether one more can hold the blob.
 pub fn has_place<B>(blobs: &[Option<SharedBlob<B>>], number: u64) -> bool
     ensures { result ≡ has_place blobs.now number }
 {
@@ -43,7 +43,7 @@ pub fn has_place<B>(blobs: &[Option<SharedBlob<B>>], number: u64) -> bool
     }
 }
 
-/// One more holds it.
+/// Counts one more that holds the blob.
 pub fn hold<B>(blobs: &mut Vec<Option<SharedBlob<B>>>, number: u64)
     requires { has_place blobs.old.items number ≡ true }
     ensures { blobs.new.items ≡ with_holder blobs.old.items number }
@@ -58,7 +58,7 @@ pub fn hold<B>(blobs: &mut Vec<Option<SharedBlob<B>>>, number: u64)
     }
 }
 
-/// One holds it no more. It answers the inner blob that nothing holds then.
+/// Counts one less that holds the blob, and returns the inner blob if nothing holds it then.
 pub fn let_go<B>(blobs: &mut Vec<Option<SharedBlob<B>>>, number: u64) -> Option<B>
     ensures closed { result ≡ closed_by (slice_get blobs.old.items number) }
     ensures held { blobs.new.items ≡ without_holder blobs.old.items number }

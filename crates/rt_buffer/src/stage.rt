@@ -43,7 +43,7 @@ pub fn add_ticket(tickets: &mut Vec<Stage>, stage: Stage) -> Ticket
     Ticket::Numbered(number)
 }
 
-/// The same answer, where a ticket of the inner store that has a number gets one here.
+/// Returns the same answer, where a ticket of the inner store that has a number gets one here.
 pub fn pass_on(tickets: &mut Vec<Stage>, answer: Result<Done, Error>) -> Result<Done, Error>
     requires { vec_len tickets.old < vec_capacity tickets.old }
     ensures given { result ≡ given (length tickets.old.items) answer }
@@ -65,7 +65,7 @@ pub fn pass_on(tickets: &mut Vec<Stage>, answer: Result<Done, Error>) -> Result<
     }
 }
 
-/// What became of a ticket. One that isn't there is out.
+/// Returns what became of a ticket. One that isn't there is out.
 pub fn stage_at(tickets: &[Stage], number: u64) -> Stage
     ensures { result ≡ stage_of (slice_get tickets.now number) }
 {
@@ -75,7 +75,7 @@ pub fn stage_at(tickets: &[Stage], number: u64) -> Stage
     }
 }
 
-/// Changes what became of a ticket, where it is there.
+/// Sets what became of a ticket, where it is there.
 pub fn set_stage(tickets: &mut Vec<Stage>, number: u64, stage: Stage)
     ensures { tickets.new.items ≡ slice_set tickets.old.items number stage }
 {

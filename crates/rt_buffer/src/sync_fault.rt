@@ -12,8 +12,9 @@ use rt_base::{BlobVersion, Env, Error, IoKind, NoMemory, Poll, ReadOptions, Writ
 use rt_bufs::{IoBufs, IoBufsMut};
 use rt_store::{BlobOf, Done, Storage, Ticket};
 
-/// A store where each sync of a blob that was opened in this partition fails. All else is passed on. It counts the syncs that
-/// it refused, up to the type's end.
+/// A store where each sync of a blob that was opened in this partition fails: it is refused with
+/// `Io(InjectedPartitionSyncFault)`, or a started one returns a ticket that holds that, with no call of the inner
+/// store. All other calls are passed on. It counts the syncs that it refused, up to the type's end.
 #[derive(Drop)]
 pub struct SyncFaultContext<S: Storage> {
     pub inner: S,
@@ -21,15 +22,16 @@ pub struct SyncFaultContext<S: Storage> {
     pub refusals: u64,
 }
 
-/// A blob of such a store. It must be spent by `Storage::close`.
+/// A token of an open blob of a store whose syncs fail in one partition. It must be spent by `Storage::close`.
 pub struct SyncFaultBlob<S: Storage> {
     inner: BlobOf<S>,
     is_faulty: bool,
 }
 
 impl<S: Storage> SyncFaultContext<S> {
-    /// No sync was refused yet. Where the inner store keeps the bytes of its blobs, so does this one; and where the inner store's calls
-    /// leave the other blobs as they were, so do those of this one, and so of its opens and reads.
+    /// Makes a store over the inner one that refused no sync yet. Where the inner store keeps the bytes of its blobs,
+    /// so does this one; and where the inner store's calls leave the other blobs as they were, so do those of this
+    /// one, and so of its opens and reads.
     pub fn new(inner: S, fail_partition: String) -> SyncFaultContext<S>
         ensures inner { result.inner ≡ inner }
         ensures partition { result.fail_partition ≡ fail_partition }

@@ -23,14 +23,15 @@ pub enum Begun<W, P> {
 /// What a writer's start of a sync came to. Where it waited, a further start gives the handle.
 pub type Started<S> = Begun<Write<S>, WriteOp<S>>;
 
-/// One of the syncs of a writer.
+/// A handle of one sync of a writer, by its number. The numbers count up to the type's end, and the last one is then
+/// shared.
 #[derive(Clone, Copy, Debug, PartialEq, Eq)]
 pub struct SyncHandle {
     number: u64,
 }
 
 impl SyncHandle {
-    /// Polls the sync where the writer still holds it. A sync that it holds no longer is done. So once it answers Ok, and
+    /// Polls the sync where the writer still holds it. A sync that it holds no longer is done. So once the poll returns Ok, and
     /// nothing was changed since its start, each crash leaves the bytes that the writer had then. A writer knows its syncs by their
     /// numbers: a handle of another writer is taken for its own sync of that number.
     ///
@@ -62,7 +63,7 @@ impl SyncHandle {
     }
 }
 
-/// The same answer, with a handle of the sync that the writer holds.
+/// Returns what a call came to as a start of a sync, with a handle of the sync that the writer holds.
 pub fn handed<S: Storage>(step: Step<S>) -> Started<S>
     ensures { seen_start (λ w. (w.blob, w.held)) (λ p. ((p.write.blob, p.write.held), p.rest)) result ≡ with_handle (seen_step (λ w. (w.blob, w.held)) (λ p. ((p.write.blob, p.write.held), p.rest)) step) }
 {

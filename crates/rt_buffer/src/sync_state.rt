@@ -2,7 +2,8 @@
 
 use rt_store::Ticket;
 
-/// No change is open, some are, or a sync of all of them was started, whose ticket is held.
+/// What a writer knows of the durability of its blob: no change is open, some are, or a sync of all of them was
+/// started, whose ticket is held.
 #[derive(Debug)]
 pub enum SyncState {
     Clean,

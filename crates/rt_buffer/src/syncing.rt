@@ -1,4 +1,4 @@
-// Waits and syncs of a writer. Each answers whether it is done, and waits for a ticket else.
+// Waits and syncs of a writer. Each returns whether it is done, and waits for a ticket else.
 ghost use Rattle.std.specs.Prelude.{◌≡◌, ◌+◌, ◌*◌, ◌≤◌, Ok, false};
 ghost use Rattle.rt_base.specs.Counted.{Notes};
 ghost use Rattle.rt_buffer.specs.declared.sync_state.SyncState.{SyncState};

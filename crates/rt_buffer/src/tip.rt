@@ -11,8 +11,8 @@ use rt_bufs::{IoBuf, IoBufMut};
 use std::alloc::Global;
 use std::marker::Model;
 
-/// Bytes at the end of a blob that are not written to it yet. They begin at an offset, and new ones go in as long as
-/// they end within the capacity.
+/// The last bytes of a blob, which are not written to it yet. They begin at an offset, and new ones go in as long as
+/// they end within the capacity, which is the only limit: that of the store is met when they are written.
 ///
 /// Its room grows with its bytes, and stays once they are taken.
 #[derive(Drop)]
@@ -34,7 +34,7 @@ impl Model for Buffer {
 }
 
 impl Buffer {
-    /// No bytes, from `offset` on.
+    /// Makes a tip without bytes that begins at `offset`.
     pub fn new(alloc: Global, offset: u64, capacity: usize) -> Buffer
         ensures { result ≡ empty_tip offset capacity }
     {
@@ -45,7 +45,7 @@ impl Buffer {
         }
     }
 
-    /// Where its bytes begin.
+    /// Returns the offset in the blob at which its bytes begin.
     pub fn offset(&self) -> u64
         ensures offset { result ≡ self.now.offset }
         ensures fits { end_of self.now < 2 ^ 64 }
@@ -53,7 +53,7 @@ impl Buffer {
         self.offset
     }
 
-    /// The end of its bytes.
+    /// Returns the offset in the blob at which its bytes end.
     pub fn size(&self) -> u64
         ensures end { result ≡ end_of self.now }
         ensures fits { end_of self.now < 2 ^ 64 }
@@ -61,21 +61,21 @@ impl Buffer {
         self.offset + self.bytes.len() as u64
     }
 
-    /// Whether there are none.
+    /// Returns whether the tip has no bytes.
     pub fn is_empty(&self) -> bool
         ensures { IsTrue result ↔ (self.now.bytes ≡ []) }
     {
         self.bytes.is_empty()
     }
 
-    /// All bytes.
+    /// Returns all bytes of the tip.
     pub fn as_slice(&self) -> &[u8]
         ensures { result.now ≡ self.now.bytes }
     {
         self.bytes.as_slice()
     }
 
-    /// A copy of the bytes from the place `from` up to, not including, `to`.
+    /// Returns a copy of the bytes from the place `from` up to, not including, `to`.
     pub fn slice(&self, from: usize, to: usize) -> Result<IoBuf, NoMemory>
         requires ordered { from ≤ to }
         requires in_range { to ≤ length self.now.bytes }
@@ -84,8 +84,8 @@ impl Buffer {
         copy_of(*self.bytes.allocator(), &self.bytes[from..to])
     }
 
-    /// The bytes and their offset, where there are any. The tip is then empty, and begins at their end. After
-    /// `NoMemory` nothing has changed.
+    /// Takes the bytes and their offset out, where there are any. The tip is then empty, and begins at their end.
+    /// After `NoMemory` nothing has changed.
     ///
     /// They are copied, so that a refusal loses none.
     pub fn take(&mut self) -> Result<Option<(IoBuf, u64)>, NoMemory>
@@ -103,7 +103,7 @@ impl Buffer {
         Ok(Some((bytes, offset)))
     }
 
-    /// Follows a change of the blob's length, and answers what has to be written out before: the bytes and their
+    /// Follows a change of the blob's length, and returns what has to be written before it: the bytes and their
     /// offset, where there are any and none is cut. After `NoMemory` nothing has changed.
     pub fn resize(&mut self, len: u64) -> Result<Option<(IoBuf, u64)>, NoMemory>
         ensures taken { IfOk result (λ t. t ≡ bytes_before self.old len) }
@@ -130,7 +130,7 @@ impl Buffer {
         self.bytes.clear();
     }
 
-    /// Puts `bytes` in at `offset` of the blob, and answers whether they lie within its reach: not before its offset,
+    /// Puts `bytes` in at `offset` of the blob, and returns whether they lie within its reach: not before its offset,
     /// and ending within its capacity. A gap is filled with zeros. Else, and after `NoMemory`, nothing has changed.
     pub fn merge(&mut self, bytes: &[u8], offset: u64) -> Result<bool, NoMemory>
         ensures within { IfOk result (λ yes. yes ≡ is_within self.old offset (length bytes.now)) }
@@ -147,7 +147,7 @@ impl Buffer {
         }
     }
 
-    /// Puts chunks in one behind the other, up to the first that doesn't lie within its reach, and leaves the others. After
+    /// Puts chunks in one after the other, up to the first that doesn't lie within its reach, and leaves the others. After
     /// `NoMemory` some are in.
     pub(crate) fn merge_chunks(&mut self, left: &mut Pieces) -> Result<(), NoMemory>
         ensures tip { OnOk result (self.new ≡ (merged_chunks self.old left.old.at left.old.chunks).tip) }
@@ -225,7 +225,7 @@ fn lengthen(place: &mut Vec<u8>, len: usize) -> Result<(), NoMemory>
     Ok(())
 }
 
-// Writes `bytes` over those that stand from `at` on.
+// Writes `bytes` over those from `at` on.
 fn write_over(place: &mut Vec<u8>, at: usize, bytes: &[u8])
     requires { at + length bytes.now ≤ length place.old.items }
     ensures { place.new.items ≡ take at place.old.items ++ (bytes.now ++ drop (at + length bytes.now) place.old.items) }

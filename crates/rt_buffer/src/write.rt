@@ -25,9 +25,10 @@ use rt_bufs::IoBufs;
 use rt_store::{BlobOf, Storage};
 use std::alloc::Global;
 
-/// A writer of a blob. It must be spent by [`close`](Self::close).
+/// A writer of a blob that holds the last bytes back in a tip, so it stands for the blob's bytes with the tip laid
+/// over them.
 ///
-/// The last bytes are held back in a tip: so it stands for the blob's bytes with the tip laid over them.
+/// It must be spent by [`close`](Self::close).
 pub struct Write<S: Storage> {
     pub(crate) blob: BlobOf<S>,
     pub(crate) held: Held,
@@ -35,8 +36,8 @@ pub struct Write<S: Storage> {
 }
 
 impl<S: Storage> Write<S> {
-    /// A writer of a blob of this size, that holds up to `capacity` bytes back. The blob counts as changed. What a store in memory keeps
-    /// of its blobs is said here too, for each writer of one.
+    /// Makes a writer of a blob of this size in bytes, that holds up to `capacity` bytes back. The blob counts as
+    /// changed. What a store in memory keeps of its blobs is said here too, for each writer of one.
     pub fn new(alloc: Global, blob: BlobOf<S>, size: u64, capacity: usize) -> Write<S>
         requires { 0 < capacity }
         ensures blob { result.blob ≡ blob }
@@ -52,21 +53,21 @@ impl<S: Storage> Write<S> {
         }
     }
 
-    /// How long the blob is with the bytes that are held back.
+    /// Returns the length of the blob in bytes, with those that are held back.
     pub fn size(&self) -> u64
         ensures { result ≡ end_of self.now.held.tip }
     {
         self.held.tip.size()
     }
 
-    /// Whether bytes are held back, or a change may not be durable.
+    /// Returns whether bytes are held back, or a change may not be durable.
     pub fn needs_sync(&self) -> bool
         ensures { result ≡ needs_sync self.now.held.tip self.now.held.state }
     {
         self.held.needs_sync()
     }
 
-    /// The `len` bytes from `offset` on.
+    /// Returns the `len` bytes of the blob from `offset` on, as they are with the tip laid over them.
     ///
     /// Errors: `OffsetOverflow` where they end past a `u64`; `BlobInsufficientLength` where they end past the size;
     /// the store's refusal; `NoMemory`.
@@ -101,7 +102,7 @@ impl<S: Storage> Write<S> {
         }
     }
 
-    /// Puts bytes into the tip, and answers whether they lie within its reach. No bytes always do. Else, and after
+    /// Puts bytes into the tip, and returns whether they lie within its reach. No bytes always do. Else, and after
     /// `NoMemory`, nothing has changed.
     pub fn try_write_at(&mut self, offset: u64, bytes: &[u8]) -> Result<bool, NoMemory>
         ensures within { IfOk result (λ yes. yes ≡ (not (has_bytes bytes.now) || is_within self.old.held.tip offset (length bytes.now))) }
@@ -119,7 +120,7 @@ impl<S: Storage> Write<S> {
         self.held.tip.merge(bytes, offset)
     }
 
-    /// Closes the blob, and gives a started sync up. The bytes that are held back are lost. It takes no memory.
+    /// Closes the blob, and gives up a started sync. The bytes that are held back are lost. It takes no memory.
     pub fn close(self, store: &mut S)
         ensures closed { ClosesWriter S.gives_sync_up S.closes self.held.state self.blob store.old store.new }
         ensures others { OnOthers ⟦<S as Called>⟧.calls self.held.state self.blob store.old store.new (λ know. ⊤) }
@@ -142,7 +143,7 @@ impl<S: Storage> Write<S> {
     }
 
     /// Writes bytes from `offset` on, chunk by chunk. Those that lie within the tip's reach, one after the other, go into it
-    /// at once. The others wait for a started sync first; then each goes into the tip where it can, behind a write of the
+    /// at once. The others wait for a started sync first; then each goes into the tip where it can, after a write of the
     /// bytes that are held back where those begin before its end, and to the blob else.
     ///
     /// Errors: `OffsetOverflow` where they end past a `u64`, that of the started sync, the store's refusal, `NoMemory`. After
@@ -223,7 +224,7 @@ impl<S: Storage> Write<S> {
         self.run(store, env, Rest::Resize(len), task)
     }
 
-    /// Waits for a started sync.
+    /// Waits for a started sync, where one is held.
     ///
     /// Errors: that of the sync. After one the blob is closed.
     pub fn wait_for_sync<E: Env>(self, store: &mut S, env: &mut E, task: u64) -> Step<S>
@@ -281,7 +282,7 @@ impl<S: Storage> Write<S> {
         }
     }
 
-    // What a call answers that came to this, with what is left to do where it waits.
+    // What a call returns that came to this, with what is left to do where it waits.
     fn end(self, store: &mut S, progress: Result<Poll<()>, Error>, rest: Rest) -> Step<S>
         ensures { Ends ⟦<S as Called>⟧.calls self.blob rest progress (writer store.old self.held) store.new (seen_step (λ w. (w.blob, w.held)) (λ p. ((p.write.blob, p.write.held), p.rest)) result) }
     {

@@ -10,7 +10,8 @@ use rt_base::{BlobVersion, Env, Error, IoKind, NoMemory, Poll, ReadOptions, Writ
 use rt_bufs::{IoBufs, IoBufsMut};
 use rt_store::{BlobOf, Done, Storage, Ticket};
 
-/// Whether writes fail, how many succeeded, and how many it refused. A count stays at its type's end.
+/// The settings and counts of a store whose writes a test lets fail: whether writes fail, how many succeeded, and how
+/// many it refused. A count stays at its type's end.
 #[derive(Debug, Drop, Default)]
 pub struct WriteFaults {
     is_armed: bool,
@@ -33,7 +34,7 @@ impl WriteFaults {
         self.is_armed = false;
     }
 
-    /// How many writes succeeded.
+    /// Returns how many writes succeeded.
     pub fn writes(&self) -> u64
         ensures { result ≡ self.now.writes }
     {
@@ -48,7 +49,7 @@ impl WriteFaults {
         self.refusals = self.refusals.saturating_add(1);
     }
 
-    // Counts a write that is answered.
+    // Counts a write that succeeded.
     fn count<V>(&mut self, answer: &Result<V, Error>)
         ensures { self.new ≡ counted_write self.old answer.now }
     {
@@ -58,21 +59,23 @@ impl WriteFaults {
     }
 }
 
-/// A store whose writes fail while that is armed. All else is passed on.
+/// A store whose writes fail while that is armed: they are refused with `Io(InjectedWriteFailure)`, with no call of
+/// the inner store. All other calls are passed on. A refusal of the inner store is counted there alone.
 #[derive(Drop)]
 pub struct WriteFaultContext<S: Storage> {
     pub inner: S,
     pub faults: WriteFaults,
 }
 
-/// A blob of such a store. It must be spent by `Storage::close`.
+/// A token of an open blob of a store whose writes a test lets fail. It must be spent by `Storage::close`.
 pub struct WriteFaultBlob<S: Storage> {
     inner: BlobOf<S>,
 }
 
 impl<S: Storage> WriteFaultContext<S> {
-    /// No write fails yet, and none was counted. Where the inner store keeps the bytes of its blobs, so does this one; and where the inner
-    /// store's calls leave the other blobs as they were, so do those of this one, and so of its opens and reads.
+    /// Makes a store over the inner one in which no write fails yet, and none was counted. Where the inner store
+    /// keeps the bytes of its blobs, so does this one; and where the inner store's calls leave the other blobs as
+    /// they were, so do those of this one, and so of its opens and reads.
     pub fn new(inner: S) -> WriteFaultContext<S>
         ensures inner { result.inner ≡ inner }
         ensures faults { result.faults ≡ no_faults }

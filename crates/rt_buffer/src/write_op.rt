@@ -20,7 +20,7 @@ pub enum Stepped<W, P> {
     Failed(Error),
 }
 
-/// What a call of a writer came to.
+/// What a call of a writer came to, over its store.
 pub type Step<S> = Stepped<Write<S>, WriteOp<S>>;
 
 /// What is left to do once a started sync is done: nothing, a sync, a change of the length, a write of bytes that don't lie
@@ -34,14 +34,16 @@ pub enum Rest {
     Start,
 }
 
-/// A call of a writer that waits. It must be spent by [`poll`](Self::poll) or [`give_up`](Self::give_up).
+/// A call of a writer that waits for a started sync. It must be spent by [`poll`](Self::poll) or
+/// [`give_up`](Self::give_up).
 pub struct WriteOp<S: Storage> {
     pub(crate) write: Write<S>,
     pub(crate) rest: Rest,
 }
 
 impl<S: Storage> WriteOp<S> {
-    /// Goes on, where the started sync is done.
+    /// Goes on with the call where the started sync is done: it is the same call once more, and what was done before
+    /// the wait isn't done again.
     ///
     /// Errors: that of the started sync, the store's refusal, `NoMemory`. After one the blob is closed.
     pub fn poll<E: Env>(self, store: &mut S, env: &mut E, task: u64) -> Step<S>
@@ -56,7 +58,7 @@ impl<S: Storage> WriteOp<S> {
         write.run(store, env, rest, task)
     }
 
-    /// Gives the call up, and closes the blob. The bytes that are held back are lost. It takes no memory.
+    /// Gives up the call, and closes the blob. The bytes that are held back are lost. It takes no memory.
     pub fn give_up(self, store: &mut S)
         ensures closed { ClosesWriter S.gives_sync_up S.closes self.write.held.state self.write.blob store.old store.new }
         ensures others { OnOthers ⟦<S as Called>⟧.calls self.write.held.state self.write.blob store.old store.new (λ know. ⊤) }
