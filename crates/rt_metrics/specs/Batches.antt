@@ -2,7 +2,7 @@
 use Rattle.std.specs.Prelude.{ℕ, ◌+◌, ◌-◌, ◌^◌, ◌%◌, ℤ, ◌+ℤ◌, ◌-ℤ◌, Bool, not, nat_lt}
 use Rattle.std.specs.Int.{int_wrap, w64}
 
--- what a home is told
+-- what a home takes in
 pub data Change : Type 0 where
   Counts : ℕ → Change
   Levels : ℤ → Change

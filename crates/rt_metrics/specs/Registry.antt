@@ -133,7 +133,7 @@ lowered r id change = changed (with_less change) r id
 abbrev pub levelled_at : RegistryState → ℕ → ℤ → RegistryState
 levelled_at r id value = changed (with_level_at value) r id
 
--- a gauge is set to a converted value, and its value before is answered; the conversion's error is handed on
+-- a gauge is set to a converted value, and its value before is returned; the conversion's error is handed on
 abbrev pub Sets : {E : Type 0} → RegistryState → ℕ → Result ℤ E → Result ℤ E → RegistryState → Type 0
 Sets old id (Ok value) result new = (result ≡ Ok (level_of old id)) × (new ≡ levelled_at old id value)
 Sets old id (Err e) result new = (result ≡ Err e) × (new ≡ old)
@@ -151,7 +151,7 @@ altered change r id = record r {
   metrics = option_map_or (λ m. set_value (nat_eq id) r.metrics (change m)) (metric_of r id) r.metrics;
 }
 
--- one claim more; a count that has reached the end of a u64 stands still
+-- one claim more; a count that has reached the end of a u64 stays there
 abbrev pub claimed : RegistryState → ℕ → RegistryState
 claimed r id = altered (λ m. record m { claims = counted_up m.claims }) r id
 

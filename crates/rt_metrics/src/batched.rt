@@ -21,21 +21,26 @@ pub trait Batchable {
     // The change from one value to another, wrapping.
     ghost change: { Self.Value → Self.Value → Self.Value };
 
-    // What a home is told of a change.
+    // What a home takes in of a change.
     ghost told: { Self.Value → Change };
 
+    /// Returns the value 0.
     fn zero() -> Self::Value
         ensures { result ≡ zero };
 
+    /// Returns the value 1.
     fn one() -> Self::Value
         ensures { result ≡ one };
 
+    /// Returns a value raised by so much, wrapping.
     fn raised(value: Self::Value, by: Self::Value) -> Self::Value
         ensures { result ≡ raised value by };
 
+    /// Returns the change from one value to another, wrapping.
     fn change(from: Self::Value, to: Self::Value) -> Self::Value
         ensures { result ≡ change from to };
 
+    /// Adds a change to the metric of this number in a home.
     fn tell<H: Home>(home: &mut H, id: u64, by: Self::Value)
         ensures { Takes H.counts H.levels home.old id (told by) home.new };
 }
@@ -111,9 +116,9 @@ impl Batchable for raw::Gauge {
     }
 }
 
-/// One writer's total of a metric. Its change is published to the metric's home after every `size`
-/// updates, and when it is given up by [`release`](Self::release). Totals wrap. Each update counts
-/// toward a batch, also one that leaves the total as it was. No call takes memory.
+/// One writer's total of a metric, whose change is published to the metric's home after every `size` updates. It is
+/// also published when the total is given up by [`release`](Self::release). Totals wrap. Each update counts toward a
+/// batch, also one that leaves the total as it was. No call takes memory.
 #[derive(Debug)]
 pub struct Batched<M: Batchable> {
     /// The number of the metric.
@@ -128,7 +133,7 @@ pub struct Batched<M: Batchable> {
 }
 
 impl<M: Batchable> Batched<M> {
-    /// A total of 0, for the metric of this number, published after every `size` updates.
+    /// Makes a total of 0, for the metric of this number, published after every `size` updates.
     pub fn new(id: u64, size: u32) -> Self
         requires { 0 < size }
         ensures id { result.id ≡ id }
@@ -146,14 +151,14 @@ impl<M: Batchable> Batched<M> {
         }
     }
 
-    /// The writer's total, with what isn't published yet.
+    /// Returns the writer's total, with what isn't published yet.
     pub fn get(&self) -> M::Value
         ensures { result ≡ self.now.value }
     {
         self.value
     }
 
-    /// Raises the total by one.
+    /// Raises the total by one, and publishes the change where that completes a batch.
     pub fn inc<H: Home>(&mut self, home: &mut H)
         ensures id { self.new.id ≡ self.old.id }
         ensures size { self.new.size ≡ self.old.size }
@@ -165,7 +170,7 @@ impl<M: Batchable> Batched<M> {
         self.update(home, M::raised(self.value, M::one()));
     }
 
-    /// Raises the total.
+    /// Raises the total by so much, and publishes the change where that completes a batch.
     pub fn inc_by<H: Home>(&mut self, home: &mut H, by: M::Value)
         ensures id { self.new.id ≡ self.old.id }
         ensures size { self.new.size ≡ self.old.size }
@@ -177,7 +182,7 @@ impl<M: Batchable> Batched<M> {
         self.update(home, M::raised(self.value, by));
     }
 
-    /// Publishes what isn't published yet, and ends.
+    /// Publishes what isn't published yet, and spends the total.
     pub fn release<H: Home>(self, home: &mut H)
         ensures { Takes H.counts H.levels home.old self.id (M.told (M.change self.published self.value)) home.new }
     {
@@ -212,7 +217,7 @@ impl<M: Batchable> Batched<M> {
 }
 
 impl Batched<raw::Gauge> {
-    /// Lowers the total by one.
+    /// Lowers the total by one, and publishes the change where that completes a batch.
     pub fn dec<H: Home>(&mut self, home: &mut H)
         ensures id { self.new.id ≡ self.old.id }
         ensures size { self.new.size ≡ self.old.size }
@@ -224,7 +229,7 @@ impl Batched<raw::Gauge> {
         self.dec_by(home, 1);
     }
 
-    /// Lowers the total.
+    /// Lowers the total by so much, and publishes the change where that completes a batch.
     pub fn dec_by<H: Home>(&mut self, home: &mut H, by: i64)
         ensures id { self.new.id ≡ self.old.id }
         ensures size { self.new.size ≡ self.old.size }
@@ -236,7 +241,7 @@ impl Batched<raw::Gauge> {
         self.update(home, lowered(self.value, by));
     }
 
-    /// Sets the total.
+    /// Sets the total, and publishes the change where that completes a batch.
     pub fn set<H: Home>(&mut self, home: &mut H, value: i64)
         ensures id { self.new.id ≡ self.old.id }
         ensures size { self.new.size ≡ self.old.size }

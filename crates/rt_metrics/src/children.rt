@@ -19,7 +19,8 @@ pub type CounterFamily = Registered<raw::Family<raw::Counter>>;
 pub type GaugeFamily = Registered<raw::Family<raw::Gauge>>;
 
 impl<M: Metric> Registered<raw::Family<M>> {
-    /// The value of the child with these labels, where there is one.
+    /// Returns the value of the child with these labels, where there is one. Children are told apart by the text of
+    /// their labels.
     pub fn get_by<L: LabelSet>(
         &self,
         registry: &Registry,
@@ -31,9 +32,9 @@ impl<M: Metric> Registered<raw::Family<M>> {
         Ok(registry.child_value(self.id, &key))
     }
 
-    /// The number of the child with these labels, which is made where it is missing.
+    /// Returns the number of the child with these labels, which is made where it is missing.
     ///
-    /// Error: `NoMemory`, also where no number is left; then nothing has changed.
+    /// Error: `NoMemory`, also where no number is left. Nothing has changed after it.
     pub fn get_or_create_by<L: LabelSet>(
         &self,
         registry: &mut Registry,
@@ -48,9 +49,9 @@ impl<M: Metric> Registered<raw::Family<M>> {
         registry.child_or_new(self.id, key, M::kind())
     }
 
-    /// Removes the child with these labels, and answers whether there was one.
+    /// Removes the child with these labels, and returns whether there was one.
     ///
-    /// Error: `NoMemory`; then nothing has changed.
+    /// Error: `NoMemory`. Nothing has changed after it.
     pub fn remove_by<L: LabelSet>(
         &self,
         registry: &mut Registry,

@@ -11,7 +11,7 @@ use crate::registry::Registry;
 pub type Counter = Registered<raw::Counter>;
 
 impl Registered<raw::Counter> {
-    /// Raises the counter by one, wrapping, and answers its value before.
+    /// Raises the counter by one, wrapping, and returns its value before.
     pub fn inc(&self, registry: &mut Registry) -> u64
         requires held { IsTrue (is_held registry.old self.now.id) }
         ensures before { result ≡ count_of registry.old self.now.id }
@@ -20,7 +20,7 @@ impl Registered<raw::Counter> {
         self.inc_by(registry, 1)
     }
 
-    /// Raises the counter, wrapping, and answers its value before.
+    /// Raises the counter by so much, wrapping, and returns its value before.
     pub fn inc_by(&self, registry: &mut Registry, by: u64) -> u64
         requires held { IsTrue (is_held registry.old self.now.id) }
         ensures before { result ≡ count_of registry.old self.now.id }
@@ -31,7 +31,7 @@ impl Registered<raw::Counter> {
         before
     }
 
-    /// The value of the counter.
+    /// Returns the value of the counter.
     pub fn get(&self, registry: &Registry) -> u64
         requires held { IsTrue (is_held registry.now self.now.id) }
         ensures { result ≡ count_of registry.now self.now.id }

@@ -8,8 +8,8 @@ use crate::metric::Metric;
 use crate::sample::Sample;
 use std::marker::PhantomData;
 
-/// A metric that stands in no registry, with a guard that it hands back. It takes each number as
-/// its own.
+/// A metric that is in no registry, with a guard that it hands back. It takes each number as its own. A change of the
+/// other kind has no effect.
 #[derive(Debug)]
 pub struct Detached<M, R> {
     guard: R,
@@ -18,7 +18,7 @@ pub struct Detached<M, R> {
 }
 
 impl<M: Metric, R> Detached<M, R> {
-    /// A metric of value 0.
+    /// Makes a metric of value 0.
     pub fn new(guard: R) -> Self
         ensures guard { result.guard ≡ guard }
         ensures sample { result.sample ≡ first_sample M.kind }
@@ -30,7 +30,7 @@ impl<M: Metric, R> Detached<M, R> {
         }
     }
 
-    /// A metric of value 0, whose guard stands for a registration elsewhere.
+    /// Makes a metric of value 0, whose guard keeps a registration elsewhere.
     pub fn with_registration(guard: R) -> Self
         ensures guard { result.guard ≡ guard }
         ensures sample { result.sample ≡ first_sample M.kind }
@@ -40,7 +40,7 @@ impl<M: Metric, R> Detached<M, R> {
 }
 
 impl<M, R> Detached<M, R> {
-    /// The value of the counter or gauge. A family has none, and answers 0.
+    /// Returns the value of the counter or gauge, and 0 for a family, which has none.
     pub fn get(&self) -> i128
         ensures { result ≡ option_map_or number_in self.now.sample (pos 0) }
     {
@@ -50,7 +50,7 @@ impl<M, R> Detached<M, R> {
         }
     }
 
-    /// The guard again.
+    /// Spends the metric and returns its guard.
     pub fn release(self) -> R
         ensures { result ≡ self.guard }
     {

@@ -9,7 +9,7 @@ use crate::writing::{write_header, write_line, write_piece};
 use rt_base::{NoMemory, Text};
 
 impl Registry {
-    /// The metrics in the OpenMetrics text format.
+    /// Returns the text of all metrics in the OpenMetrics format.
     pub fn encode(&self) -> Result<String, NoMemory>
         ensures { IfOk result (λ text. string_bytes text ≡ registry_text self.now) }
     {
@@ -21,7 +21,7 @@ impl Registry {
         Ok(text)
     }
 
-    /// A family with its header, which is taken back where no line follows it.
+    /// Adds a family with its header, which is taken back where no line follows it.
     fn write_family(&self, text: &mut String, name: &str, family: &Family) -> Result<(), NoMemory>
         ensures { OnOk result (string_bytes text.new ≡ string_bytes text.old ++ family_text self.now name.now family.now) }
     {
@@ -37,7 +37,7 @@ impl Registry {
         Ok(())
     }
 
-    /// The sample of a metric, and those of its children.
+    /// Adds the sample of a metric, and those of its children.
     fn write_metric(
         &self,
         text: &mut String,
@@ -58,7 +58,7 @@ impl Registry {
         Ok(())
     }
 
-    /// The line of a sample, where there is one of this number.
+    /// Adds the line of a sample, where there is one of this number.
     fn write_value(
         &self,
         text: &mut String,

@@ -7,7 +7,7 @@ use indexmap::IndexMap;
 use rt_base::{Items, MetricError, Text};
 use std::marker::Model;
 
-/// Attributes of a metric: keys and values.
+/// Pairs of keys and values: the attributes of a metric.
 pub type Pairs = Items<(Text, Text)>;
 
 /// What the metrics of one name share, and the number of each by its attributes, in the order of
@@ -28,7 +28,7 @@ impl Model for Family {
 }
 
 impl Family {
-    /// Why a metric with this help and of this kind can't be one of these.
+    /// Returns why a metric with this help and of this kind can't be one of these, if it can't.
     pub fn refusal(&self, help: &str, kind: Kind) -> Option<MetricError>
         ensures { result ≡ own_refusal self.now help.now kind }
     {

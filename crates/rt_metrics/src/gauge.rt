@@ -14,7 +14,7 @@ pub type GaugeValue = i64;
 pub type Gauge = Registered<raw::Gauge>;
 
 impl Registered<raw::Gauge> {
-    /// Raises the gauge by one, wrapping, and answers its value before.
+    /// Raises the gauge by one, wrapping, and returns its value before.
     pub fn inc(&self, registry: &mut Registry) -> i64
         requires held { IsTrue (is_held registry.old self.now.id) }
         ensures before { result ≡ level_of registry.old self.now.id }
@@ -23,7 +23,7 @@ impl Registered<raw::Gauge> {
         self.inc_by(registry, 1)
     }
 
-    /// Lowers the gauge by one, wrapping, and answers its value before.
+    /// Lowers the gauge by one, wrapping, and returns its value before.
     pub fn dec(&self, registry: &mut Registry) -> i64
         requires held { IsTrue (is_held registry.old self.now.id) }
         ensures before { result ≡ level_of registry.old self.now.id }
@@ -32,7 +32,7 @@ impl Registered<raw::Gauge> {
         self.dec_by(registry, 1)
     }
 
-    /// Raises the gauge, wrapping, and answers its value before.
+    /// Raises the gauge by so much, wrapping, and returns its value before.
     pub fn inc_by(&self, registry: &mut Registry, by: i64) -> i64
         requires held { IsTrue (is_held registry.old self.now.id) }
         ensures before { result ≡ level_of registry.old self.now.id }
@@ -43,7 +43,7 @@ impl Registered<raw::Gauge> {
         before
     }
 
-    /// Lowers the gauge, wrapping, and answers its value before.
+    /// Lowers the gauge by so much, wrapping, and returns its value before.
     pub fn dec_by(&self, registry: &mut Registry, by: i64) -> i64
         requires held { IsTrue (is_held registry.old self.now.id) }
         ensures before { result ≡ level_of registry.old self.now.id }
@@ -54,7 +54,7 @@ impl Registered<raw::Gauge> {
         before
     }
 
-    /// Sets the gauge, and answers its value before.
+    /// Sets the gauge, and returns its value before.
     pub fn set(&self, registry: &mut Registry, value: i64) -> i64
         requires held { IsTrue (is_held registry.old self.now.id) }
         ensures before { result ≡ level_of registry.old self.now.id }
@@ -65,7 +65,7 @@ impl Registered<raw::Gauge> {
         before
     }
 
-    /// The value of the gauge.
+    /// Returns the value of the gauge.
     pub fn get(&self, registry: &Registry) -> i64
         requires held { IsTrue (is_held registry.now self.now.id) }
         ensures { result ≡ level_of registry.now self.now.id }

@@ -9,11 +9,11 @@ pub trait Home {
 
     ghost levels: { Self → ℕ → ℤ → Self → Type 0 };
 
-    /// Adds to the counter of this number, wrapping. It takes no memory.
+    /// Adds a change to the counter of this number, wrapping. It takes no memory.
     fn add_counter(&mut self, id: u64, change: u64)
         ensures { counts self.old id change self.new };
 
-    /// Adds to the gauge of this number, wrapping. It takes no memory.
+    /// Adds a change to the gauge of this number, wrapping. It takes no memory.
     fn add_gauge(&mut self, id: u64, change: i64)
         ensures { levels self.old id change self.new };
 }

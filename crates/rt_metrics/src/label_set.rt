@@ -5,11 +5,11 @@ ghost use Rattle.rt_metrics.specs.Registry.{Pairs};
 use rt_base::{NoMemory, Text};
 use std::alloc::Global;
 
-/// What tells the children of a family apart: by the text of these labels.
+/// The labels by whose text the children of a family are told apart.
 pub trait LabelSet {
     ghost pairs: { Self → Pairs };
 
-    /// The labels: keys and values.
+    /// Returns the labels as keys and values.
     fn labels(&self, alloc: Global) -> Result<Vec<(Text, Text)>, NoMemory>
         ensures { IfOk result (λ labels. labels.items ≡ pairs self.now) };
 }

@@ -4,7 +4,7 @@ ghost use Rattle.std.specs.Prelude.{◌≡◌, IfOk};
 use rt_base::{NoMemory, Text};
 use std::alloc::Global;
 
-/// A label of this key and this value.
+/// Returns a label of this key and this value.
 pub fn label(alloc: Global, key: &str, value: &str) -> Result<(Text, Text), NoMemory>
     ensures { IfOk result (λ label. label ≡ (key.now, value.now)) }
 {

@@ -4,11 +4,11 @@ ghost use Rattle.rt_metrics.specs.declared.kind.Kind.{Kind};
 
 use crate::kind::Kind;
 
-/// One of the four kinds, as a type. The types of [`raw`](crate::raw) alone are metrics.
+/// One of the four kinds of metrics, as a type. The types of [`raw`](crate::raw) alone are metrics.
 pub trait Metric {
     ghost kind: { Kind };
 
-    /// The kind.
+    /// Returns the kind.
     fn kind() -> Kind
         ensures { result ≡ kind };
 }

@@ -5,15 +5,15 @@ use crate::kind::Kind;
 use crate::metric::Metric;
 use std::marker::PhantomData;
 
-/// A number that rises from 0, of 64 bits, wrapping.
+/// The kind of a counter: a number of 64 bits that rises from 0, wrapping.
 #[derive(Debug, Drop)]
 pub struct Counter;
 
-/// A signed number of 64 bits, from 0, wrapping.
+/// The kind of a gauge: a signed number of 64 bits, from 0, wrapping.
 #[derive(Debug, Drop)]
 pub struct Gauge;
 
-/// One metric `M` for each set of labels.
+/// The kind of a family: one metric `M` for each set of labels.
 #[derive(Debug, Drop)]
 pub struct Family<M> {
     member: PhantomData<M>,

@@ -21,10 +21,10 @@ use std::alloc::Global;
 use std::collections::BTreeMap;
 use std::marker::Model;
 
-/// Metrics with their values.
+/// The metrics of a program, with their values.
 ///
-/// A metric is registered by its name and attributes, and lives while it is claimed. Each has a
-/// number, as each child of a family has; a number is never used again.
+/// A metric is registered by its name and attributes, and lives while it is claimed. Each has a number, as each child
+/// of a family has; a number is never used again.
 #[derive(Drop)]
 pub struct Registry {
     families: BTreeMap<Text, Family>,
@@ -47,7 +47,7 @@ impl Model for Registry {
 }
 
 impl Registry {
-    /// No metric.
+    /// Makes a registry without metrics.
     pub fn new(alloc: Global) -> Self
         ensures { result ≡ first_registry }
     {
@@ -60,7 +60,7 @@ impl Registry {
         }
     }
 
-    /// Whether a metric has this number. It has one exactly while it is claimed.
+    /// Returns whether a metric has this number, which it has exactly while it is claimed.
     pub fn holds(&self, id: u64) -> bool
         ensures held { result ≡ is_held self.now id }
         ensures claimed { result ≡ nat_lt 0 (claims_of self.now id) }
@@ -68,9 +68,10 @@ impl Registry {
         self.metrics.contains_key(&id)
     }
 
-    /// How many claims the metric of this number has. 0 where there is none.
+    /// Returns how many claims the metric of this number has, and 0 where there is none.
     ///
-    /// There are some exactly while a name with attributes is registered under this number.
+    /// There are some exactly while a name with attributes is registered under this number. Each name with attributes
+    /// leads to the metric that has them, and no metric has the next number.
     pub fn claims(&self, id: u64) -> u64
         ensures claims { result ≡ claims_of self.now id }
         ensures registered { (0 < result) ↔ ((name : List ℕ) × (attributes : Pairs) × (member_of self.now name attributes ≡ Some id)) }
@@ -116,11 +117,11 @@ impl Registry {
         }
     }
 
-    /// A claim on the metric with this name and these attributes, which is made where it is missing.
+    /// Returns a claim on the metric with this name and these attributes, which is made, at 0, where it is missing.
     ///
-    /// Errors: `Metric(BadLabel)` where the name isn't valid, then `Metric(OtherHelp)` where the name
-    /// is there with another help, and `Metric(OtherType)` where it is there as another kind;
-    /// `NoMemory`, also where no number is left. Nothing has changed after an error.
+    /// Errors: `Metric(BadLabel)` where the name isn't a label, then `Metric(OtherHelp)` where the name is there with
+    /// another help, and `Metric(OtherType)` where it is there as another kind; `NoMemory`, also where no number is
+    /// left. Nothing has changed after an error.
     pub fn register<M: Metric>(
         &mut self,
         name: &str,
@@ -147,7 +148,7 @@ impl Registry {
         Ok(Registered::of(id))
     }
 
-    /// The metric with this name and these attributes, where its family agrees.
+    /// Returns the metric with this name and these attributes, where its family agrees.
     fn find(
         &self,
         name: &Text,
@@ -167,7 +168,7 @@ impl Registry {
         }
     }
 
-    /// Adds a metric, and answers its number.
+    /// Adds a metric, and returns its number.
     fn add(
         &mut self,
         name: Text,
@@ -256,7 +257,7 @@ impl Registry {
         }
     }
 
-    /// Adds a child, and answers its number.
+    /// Adds a child, and returns its number.
     fn new_child(&mut self, id: u64, labels: Text, kind: Kind) -> Result<u64, NoMemory>
         requires absent { child_of self.old id labels ≡ None }
         ensures child { IfOk result (λ child. IsTrue (is_held self.old id) → child_of self.new id labels ≡ Some child) }
@@ -276,7 +277,7 @@ impl Registry {
         Ok(child)
     }
 
-    /// Removes a child, and answers whether there was one.
+    /// Removes a child, and returns whether there was one.
     pub(crate) fn remove_child(&mut self, id: u64, labels: &Text) -> bool
         ensures there { result ≡ has_child self.old id labels.now }
         ensures removed { self.new ≡ without_child self.old id labels.now }

@@ -9,7 +9,7 @@ use crate::registry::Registry;
 use rt_base::{Error, MetricError, Text, prefixed_name, validate_label};
 use std::alloc::Global;
 
-/// A prefix for the names of metrics. Each name under it is the prefix, an underscore and the name.
+/// A prefix for the names of metrics: each name under it is the prefix, an underscore and the name.
 #[derive(Debug, Drop)]
 pub struct Scope {
     prefix: Text,
@@ -17,7 +17,7 @@ pub struct Scope {
 }
 
 impl Registry {
-    /// A scope of this prefix.
+    /// Returns a scope of this prefix.
     ///
     /// Errors: `Metric(BadLabel)` where the prefix isn't a label; `NoMemory`.
     pub fn sub_registry(&mut self, prefix: &str) -> Result<Scope, Error>
@@ -31,10 +31,10 @@ impl Registry {
 }
 
 impl Scope {
-    /// A claim on the metric with this name under the prefix, without attributes.
+    /// Returns a claim on the metric with this name under the prefix, without attributes.
     ///
-    /// Errors: `Metric(BadLabel)` where the name isn't a label; then as
-    /// [`Registry::register`]. Nothing has changed after an error.
+    /// Errors: `Metric(BadLabel)` where the name isn't a label; then those of [`Registry::register`]. Nothing has
+    /// changed after an error.
     pub fn register<M: Metric>(
         &self,
         registry: &mut Registry,
@@ -52,7 +52,7 @@ impl Scope {
         registry.register(&full, help, &[])
     }
 
-    /// A scope of a further prefix under this one.
+    /// Returns a scope of a further prefix under this one.
     ///
     /// Errors: `Metric(BadLabel)` where the prefix isn't a label; `NoMemory`.
     pub fn sub_registry(&self, prefix: &str) -> Result<Scope, Error>
@@ -64,7 +64,7 @@ impl Scope {
     }
 }
 
-/// The scope of a prefix under another one, which may be empty.
+/// Returns the scope of a prefix under another one, which may be empty.
 fn scope_under(alloc: Global, outer: &str, prefix: &str) -> Result<Scope, Error>
     ensures prefix { IfOk result (λ scope. scope.prefix ≡ prefixed outer.now prefix.now) }
     ensures bad_label { (result ≡ Err (Error.Metric MetricError.BadLabel)) ↔ (is_label prefix.now ≡ false) }

@@ -15,7 +15,7 @@ use rt_base::{NoMemory, Text};
 use std::alloc::Global;
 use std::marker::Model;
 
-/// How something ended.
+/// How something ended, as counters by status count it.
 #[derive(Clone, Copy, Debug, PartialEq, Eq, Hash)]
 pub enum Status {
     /// It gave one of several valid results, but not what was asked for.
@@ -32,7 +32,7 @@ pub enum Status {
     Timeout,
 }
 
-/// The label of a status.
+/// The label of a status, by which the counter of a status is found.
 #[derive(Clone, Copy, Debug, PartialEq, Eq, Hash)]
 pub struct Label {
     pub status: Status,
@@ -126,15 +126,15 @@ impl Texts {
     }
 }
 
-/// The text of the label of a status.
+/// Returns the text of the label of a status.
 fn status_key(alloc: Global, status: Status) -> Result<Text, NoMemory>
     ensures { IfOk result (λ key. key ≡ status_text status) }
 {
     label_key(alloc, &Label { status })
 }
 
-/// Counts one more at a status when it is finished, whichever way that comes about. It must be
-/// spent by [`finish`](Self::finish).
+/// A guard that counts one more at a status when it is finished, whichever way that comes about. It must be spent by
+/// [`finish`](Self::finish).
 #[derive(Debug)]
 pub struct CounterGuard {
     counter: Counter,
@@ -144,7 +144,7 @@ pub struct CounterGuard {
 }
 
 impl CounterGuard {
-    /// Changes the status.
+    /// Changes the status at which the guard counts.
     pub fn set(&mut self, status: Status)
         ensures status { self.new.status ≡ status }
         ensures counter { self.new.counter ≡ self.old.counter }
@@ -152,8 +152,8 @@ impl CounterGuard {
         self.status = status;
     }
 
-    /// Raises the child of the status by one, wrapping, and gives the claim up. A child that was
-    /// removed and isn't there stays away. It takes no memory.
+    /// Raises the child of the guard's status by one, wrapping, and gives the claim up. A child that was removed and
+    /// isn't there stays away. It takes no memory.
     pub fn finish(self, registry: &mut Registry)
         ensures { registry.new ≡ released (child_raised registry.old self.counter.id (status_text self.status) 1) self.counter.id }
     {
@@ -182,11 +182,11 @@ fn make_children(registry: &mut Registry, id: u64, statuses: &[Status]) -> Resul
 }
 
 impl Registered<raw::Family<raw::Counter>> {
-    /// A guard that counts at this status, or another that is set later. The children of all
-    /// statuses are made where they are missing, and the guard has one claim.
+    /// Returns a guard that counts at this status, or another that is set later. The children of all six statuses are
+    /// made where they are missing, and the guard has one claim.
     ///
-    /// Error: `NoMemory`, also where no number is left; then the first of the children may have
-    /// been made, and nothing else has changed.
+    /// Error: `NoMemory`, also where no number is left; then the first of the children may have been made, and nothing
+    /// else has changed.
     pub fn guard(&self, registry: &mut Registry, status: Status) -> Result<CounterGuard, NoMemory>
         requires held { IsTrue (is_held registry.old self.now.id) }
         requires few { claims_of registry.old self.now.id < 2 ^ 64 - 1 }
@@ -207,7 +207,7 @@ impl Registered<raw::Family<raw::Counter>> {
 
     /// Raises the child of this status by one, wrapping; it is made where it is missing.
     ///
-    /// Error: `NoMemory`, also where no number is left; then nothing has changed.
+    /// Error: `NoMemory`, also where no number is left. Nothing has changed after it.
     pub fn inc(&self, registry: &mut Registry, status: Status) -> Result<(), NoMemory>
         requires held { IsTrue (is_held registry.old self.now.id) }
         ensures raised { OnOk result (registry.new ≡ raised_status registry.old self.now.id status 1) }
@@ -216,9 +216,9 @@ impl Registered<raw::Family<raw::Counter>> {
         self.inc_by(registry, status, 1)
     }
 
-    /// Raises the child of this status, wrapping; it is made where it is missing.
+    /// Raises the child of this status by so much, wrapping; it is made where it is missing.
     ///
-    /// Error: `NoMemory`, also where no number is left; then nothing has changed.
+    /// Error: `NoMemory`, also where no number is left. Nothing has changed after it.
     pub fn inc_by(&self, registry: &mut Registry, status: Status, n: u64) -> Result<(), NoMemory>
         requires held { IsTrue (is_held registry.old self.now.id) }
         ensures raised { OnOk result (registry.new ≡ raised_status registry.old self.now.id status n) }

@@ -57,7 +57,7 @@ impl Execution {
 }
 
 impl Label {
-    /// The label of the root, which has no name.
+    /// Returns the label of the root, which has no name.
     pub fn root(alloc: Global) -> Self
         ensures { task_pairs result ≡ (codes "name", []) ∷ (codes "kind", codes "Root") ∷ (codes "execution", codes "Shared") ∷ [] }
     {
@@ -68,7 +68,7 @@ impl Label {
         }
     }
 
-    /// The label of any other task.
+    /// Returns the label of any other task than the root.
     pub fn task(name: String, execution: rt_base::Execution) -> Self
         ensures { task_pairs result ≡ (codes "name", string_bytes name) ∷ (codes "kind", codes "Task") ∷ (codes "execution", execution_name (execution_of execution)) ∷ [] }
     {
@@ -79,14 +79,14 @@ impl Label {
         }
     }
 
-    /// The name of the task.
+    /// Returns the name of the task.
     pub fn name(&self) -> &str
         ensures { result.now ≡ self.now.name }
     {
         self.name.as_str()
     }
 
-    /// An equal label.
+    /// Returns an equal label.
     pub fn clone_value(&self) -> Result<Self, NoMemory>
         ensures { IfOk result (λ label. label ≡ self.now) }
     {

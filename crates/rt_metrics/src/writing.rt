@@ -9,7 +9,7 @@ use crate::sample::Sample;
 use itoa::Buffer;
 use rt_base::{NoMemory, Text};
 
-/// A piece as it is.
+/// Adds a piece as it is.
 pub fn write_piece(text: &mut String, piece: &str) -> Result<(), NoMemory>
     ensures { OnOk result (string_bytes text.new ≡ string_bytes text.old ++ piece.now) }
 {
@@ -30,7 +30,7 @@ fn write_char(text: &mut String, c: char) -> Result<(), NoMemory>
     Ok(())
 }
 
-/// The value of a label.
+/// Adds the value of a label.
 fn write_escaped(text: &mut String, value: &str) -> Result<(), NoMemory>
     ensures { OnOk result (string_bytes text.new ≡ string_bytes text.old ++ escaped value.now) }
 {
@@ -40,7 +40,7 @@ fn write_escaped(text: &mut String, value: &str) -> Result<(), NoMemory>
     Ok(())
 }
 
-/// A label.
+/// Adds a label.
 pub fn write_label(text: &mut String, key: &str, value: &str) -> Result<(), NoMemory>
     ensures { OnOk result (string_bytes text.new ≡ string_bytes text.old ++ label_text key.now value.now) }
 {
@@ -50,7 +50,7 @@ pub fn write_label(text: &mut String, key: &str, value: &str) -> Result<(), NoMe
     write_piece(text, "\"")
 }
 
-/// Labels, joined by commas.
+/// Adds labels, joined by commas.
 pub fn write_labels(text: &mut String, labels: &[(Text, Text)]) -> Result<(), NoMemory>
     ensures { OnOk result (string_bytes text.new ≡ string_bytes text.old ++ labels_text labels.now) }
 {
@@ -74,7 +74,7 @@ fn write_more_labels(text: &mut String, labels: &[(Text, Text)]) -> Result<(), N
     Ok(())
 }
 
-/// The attributes of a metric and the labels of a child, in braces where there are any.
+/// Adds the attributes of a metric and the labels of a child, in braces where there are any.
 fn write_braces(
     text: &mut String,
     attributes: &[(Text, Text)],
@@ -105,7 +105,7 @@ fn write_sample(text: &mut String, sample: Sample) -> Result<(), NoMemory>
     }
 }
 
-/// The line of a sample.
+/// Adds the line of a sample.
 pub fn write_line(
     text: &mut String,
     name: &str,
@@ -124,7 +124,7 @@ pub fn write_line(
     write_piece(text, "\n")
 }
 
-/// The two lines that a family has above its samples.
+/// Adds the two lines that a family has above its samples.
 pub fn write_header(text: &mut String, name: &str, family: &Family) -> Result<(), NoMemory>
     ensures { OnOk result (string_bytes text.new ≡ string_bytes text.old ++ header name.now family.now) }
 {
