@@ -15,7 +15,7 @@ use Rattle.rt_model.specs.Turns.{has_place}
 use Rattle.rt_model.specs.Effects.{stood_called, running_called, numbers_called, drawn_called}
 use Rattle.rt_machine.specs.Places.{Seen}
 
--- a call with its reply, and what stood when it was made
+-- a call with its reply, and what was there when it was made
 abbrev pub turn_in : State → Call → CallReply → Turn
 turn_in s call reply = record { call = call; reply = reply; stood = stood_in s }
 
@@ -35,19 +35,19 @@ pub record Noted (by : Option ℕ) (old new : Seen) (call : Call) (reply : CallR
   pub drawn : new.told.state.drawn ≡ drawn_called old.told.state.drawn call reply
   pub lacked : new.lacked ≡ old.lacked
 
--- the first call that lacked memory came after these turns
+-- the first call that ran out of memory came after these turns
 abbrev pub marked : Option (List Turn) → List Turn → Option (List Turn)
 marked lacked turns = or_else lacked (Some turns)
 
--- the call lacked memory
+-- the call ran out of memory
 abbrev pub lacking : Seen → Seen
 lacking s = record { told = s.told; lacked = marked s.lacked s.told.state.turns }
 
--- the call was refused: it lacked memory, or it was noted with this error
+-- the call was refused: it ran out of memory, or it was noted with this error
 abbrev pub IsRefused : Option ℕ → Seen → Seen → Call → Error → Type 0
 IsRefused by old new call error = ((error ≡ NoMemory) × (new ≡ lacking old)) ⊎ Noted by old new call (Refused error)
 
--- a poll of a slot was refused with the error that was sent, or it lacked memory
+-- a poll of a slot was refused with the error that was sent, or it ran out of memory
 abbrev pub Shown : Option ℕ → Seen → Seen → ℕ → Error → Error → Type 0
 Shown by old new slot sent answer =
     ((answer ≡ NoMemory) × (new ≡ lacking old)) ⊎ ((answer ≡ sent) × Noted by old new (SlotPoll slot) (Refused sent))
@@ -57,21 +57,21 @@ pub record Spent (by : Option ℕ) (old new : Seen) (call : Call) : Type 0 where
   pub there : has_place (stood_in old.told.state) call ≡ true → Noted by old new call Done
   pub gone : has_place (stood_in old.told.state) call ≡ false → new ≡ old
 
--- what a poll of a sleep was told
+-- the reply to a poll of a sleep
 abbrev pub sleep_reply : Option ℕ → CallReply
 sleep_reply None = Ready
 sleep_reply (Some alarm) = PendingAt alarm
 
--- the number that a sleep is told: none where it is over
+-- the number that a sleep receives: none where it is over
 abbrev pub slept_number : ℕ → AlarmList → ℕ → Option ℕ → Option ℕ
 slept_number time alarms due alarm = if leb due time then None else Some (alarm_of alarms due alarm)
 
--- what a spawn was told: the task and the node of its own context, or that the node had ended
+-- the reply to a spawn: the task and the node of its own context, or that the node had ended
 abbrev pub spawn_reply : Option (ℕ × ℕ) → CallReply
 spawn_reply None = Closed
 spawn_reply (Some at) = TaskAt at.0 at.1
 
--- what a poll of a result was told: whether it is there
+-- the reply to a poll of a result: whether it is there
 abbrev pub join_reply : Bool → CallReply
 join_reply true = Ready
 join_reply false = Pending

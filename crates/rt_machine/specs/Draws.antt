@@ -35,7 +35,7 @@ pub record Shuffles (from left : Stream) (old new : Journaled) (numbers order : 
   pub spare : new.spare + length orders.draws ≡ old.spare
   pub lacked : new.lacked ≡ old.lacked
 
--- the ready list was drained into a round of this order, and the draws that decided it stand before it
+-- the ready list was drained into a round of this order, and the draws that decided it are before it
 pub record Drains (from left : Stream) (old new : Told) (order : List ℕ) : Type 0 where
   pub orders : Orders from left old.state.ready order
   pub told : new ≡ pushed (pushed_all old (map Draw orders.draws)) (Round order)

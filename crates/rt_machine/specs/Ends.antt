@@ -62,7 +62,7 @@ ended_waiting None false r = []
 abbrev pub panic_wakes : State → Option Outcome → List ℕ
 panic_wakes s own = if s.root_left && not s.panicked && is_panic own && not s.clock.fixed.catch then those s.root else []
 
--- a task has left its visit, or its node is to end next: what stands, but for the tree and what is queued
+-- a task has left its visit, or its node is to end next: what is there, but for the tree and what is queued
 pub record Left (task : ℕ) (own : Option Outcome) (settles : Bool) (old new : Seen) : Type 0 where
   pub phase : new.told.state.phase ≡ leaves settles task own (left_of old.told.state.phase)
   pub begin : new.told.begin ≡ old.told.begin

@@ -21,7 +21,7 @@ abbrev pub IsThere : ℕ → NodeLabel → Type 0
 IsThere count (Short label) = Unit
 IsThere count (Long place) = place < count
 
--- a text too long to stand in place
+-- a text too long to be kept in place
 abbrev pub IsLong : List ℕ → Type 0
 IsLong text = 22 < length text
 

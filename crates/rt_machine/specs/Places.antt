@@ -19,12 +19,13 @@ use Rattle.rt_machine.specs.Told.{Told, Journaled}
 use Rattle.rt_machine.specs.Labels.{Labelled}
 use Rattle.rt_machine.specs.Groups.{Grouped}
 
--- what a journal tells, and the turns that were made before a call of the part under way lacked memory, if one did
+-- what a journal tells, and the turns that were made before a call of the part under way ran out of memory, if one did
 pub record Seen : Type 0 where
   pub told : Told
   pub lacked : Option (List Turn)
 
--- the entries that a run can still write without memory where it stands: the event and the answer of a visit, and the cleanup, the end of node 0, the crash and the finish
+-- the entries that a run can still write without memory from where it is: the event and the answer of a visit, and the cleanup,
+-- the end of node 0, the crash and the finish
 abbrev pub places : Phase → ℕ
 places Blank = 0
 places (Entered task left) = 6
@@ -105,7 +106,7 @@ abbrev pub AreBelow : ℕ → List ℕ → Type 0
 AreBelow bound [] = Unit {0}
 AreBelow bound (k ∷ ks) = (k < bound) × AreBelow bound ks
 
--- how the fields of a machine stand for the state that its journal tells
+-- how the fields of a machine are those of the state that its journal makes
 pub record Stands (journal : Journaled) (time next : ℕ) (root : Option ℕ) (root_left panicked closing : Bool) (tree : TreeRecord) (labels : Labelled) (ready : List ℕ) (ready_spare : ℕ) (alarms : AlarmList) (marks : Rows Mark) (results : Rows TaskResult) (slots : Rows TaskResult) (senders : Rows (Unit {0})) (groups : Grouped) (promised : ℕ) : Type 0 where
   pub clock_is : journal.told.state.clock ≡ record { time = time; fixed = journal.told.begin }
   pub numbers_are : journal.told.state.numbers ≡ record { first = journal.told.begin.first; next = next }

@@ -12,7 +12,7 @@ pub record IsCut (phase : Phase) : Type 0 where
   pub closes : MayClose phase
   pub made : phase ≡ Making → ⊥
 
--- the cleanup may begin, and the run has reached this cause, unless it lacked memory. A completed run has failed for none
+-- the cleanup may begin, and the run has reached this cause, unless it ran out of memory. A completed run has failed for none
 abbrev pub StandsFor : State → FinishCause → Type 0
 StandsFor s NoMemory = IsCut s.phase
 StandsFor s Completed = ⊥
@@ -31,12 +31,12 @@ pub record Turns (old new : Told) : Type 0 where
   pub results : new.state.results ≡ old.state.results
   pub slots : new.state.slots ≡ old.state.slots
 
--- where the run stands after a clock step: a round may begin, or the run ends
+-- where the run is after a clock step: a round may begin, or the run ends
 abbrev pub StepStands : State → Result (Unit {0}) FinishCause → Type 0
 StepStands s (Ok step) = (s.phase ≡ Turning) × MayRound Turning s
 StepStands s (Err cause) = StandsFor s cause
 
--- where it stands after a turn of one: whether somebody is ready
+-- where it is after a turn of one: whether somebody is ready
 abbrev pub TurnStands : State → Result Bool FinishCause → Type 0
 TurnStands s (Ok true) = (s.phase ≡ Turning) × MayRound Turning s
 TurnStands s (Ok false) = s.phase ≡ Turning

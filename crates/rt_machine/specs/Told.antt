@@ -1,4 +1,4 @@
--- What the journal of a run tells.
+-- What the journal of a run says.
 use Rattle.std.specs.Prelude.{◌≡◌, ◌≤◌, ℕ, List, [], ◌∷◌, ◌++◌, take, drop, length, Bool, true, false, Option, Some, None, option_map}
 use Rattle.rt_audit.specs.declared.entry.Entry.{Entry}
 use Rattle.rt_audit.specs.declared.entry.Entry.TheVariants.{Call, Event, Wake, Draw, Root, Answer, Cleanup, Crash}
@@ -17,7 +17,8 @@ pub record Told : Type 0 where
   pub calls : List Entry
   pub state : State
 
--- what is told, how many more entries have room, and the turns that were made before a call of the part under way lacked memory, if one did
+-- what is told, how many more entries have room, and the turns that were made before a call of the part under way ran out of
+-- memory, if one did
 pub record Journaled : Type 0 where
   pub told : Told
   pub spare : ℕ

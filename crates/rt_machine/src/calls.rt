@@ -22,14 +22,14 @@ use rt_super::{Alarms, NOBODY};
 
 #[tactic(auto, using(crate::proofs::Counts::count_laws, crate::proofs::Totals::place_laws, crate::proofs::Nodes::node_laws, crate::proofs::Refused::refused_laws, crate::proofs::Owed::owed_laws), unfolding(rt_model::specs::Effects::after))]
 impl Machine {
-    /// Marks that a call lacked memory.
+    /// Marks that a call ran out of memory. A mark that is there stays.
     pub fn lack(&mut self)
         ensures { self.new ≡ lacking self.old }
     {
         self.journal.mark_lack();
     }
 
-    /// Notes a call that is refused. Without memory it says so instead.
+    /// Notes a call that is refused, and returns its error, or `NoMemory` where there is no memory for that.
     pub(crate) fn refuse(&mut self, by: Option<u64>, call: Call, cause: Cause) -> Error
         requires calling { MayCall self.old.told.state by }
         requires cause { Answers self.old.told.state call (CallReply.Refused (error_of cause)) }
@@ -50,7 +50,8 @@ impl Machine {
         cause.error()
     }
 
-    /// Closes the context of a node. It takes no memory. Where the node isn't live it does nothing, and writes no entry.
+    /// Closes the context of a node, which isn't live then. It takes no memory. Where the node isn't live it does
+    /// nothing, and writes no entry.
     pub fn close_node(&mut self, by: Option<u64>, node: u64)
         requires { MayCall self.old.told.state by }
         ensures { Spent by self.old self.new (Call.CloseNode node) }
@@ -67,7 +68,7 @@ impl Machine {
         self.promised -= 1;
     }
 
-    /// The full label of a child of a node, or why there is none; without a cause memory was lacking.
+    /// Returns the full label of a child of a node, or why there is none; without a cause memory ran out.
     fn full_label(&self, node: u64, label: &str) -> Result<SmallText, Option<Cause>>
         ensures live { IfOk result (λ full. is_live self.now.told.state.nodes node ≡ true) }
         ensures fine { IfOk result (λ full. label_refusal (label_at self.now.told.state.labels node) label.now ≡ None) }
@@ -89,7 +90,9 @@ impl Machine {
         }
     }
 
-    /// Makes a child of a node. Answers its number and whether the node has ended. It takes memory.
+    /// Makes a child of a node, and returns its number and whether the node has ended. It takes memory.
+    ///
+    /// Errors: `UnknownToken` where the node isn't live, then `Metric(BadLabel)`, then `Metric(Reserved)`; `NoMemory`.
     pub fn child(&mut self, by: Option<u64>, node: u64, label: &str) -> Result<(u64, bool), Error>
         requires { MayCall self.old.told.state by }
         ensures ok { IfOk result (λ made. Noted by self.old self.new (Call.Child node label.now) (CallReply.NodeAt made.0 made.1)) }
@@ -147,7 +150,7 @@ impl Machine {
         Ok((number, ended))
     }
 
-    /// The call that makes a child.
+    /// Returns the call that makes a child.
     fn child_call(&self, node: u64, label: &str) -> Result<Call, NoMemory>
         ensures { IfOk result (λ call. call ≡ Call.Child node label.now) }
     {
@@ -157,6 +160,8 @@ impl Machine {
     }
 
     /// Queues a task. It takes memory.
+    ///
+    /// Errors: `UnknownToken` where no task of this run had the number, `NoMemory`.
     pub fn wake(&mut self, by: Option<u64>, task: u64) -> Result<(), Error>
         requires { MayCall self.old.told.state by }
         ensures ok { OnOk result (Noted by self.old self.new (Call.Wake task) CallReply.Done) }
@@ -185,8 +190,12 @@ impl Machine {
         Ok(())
     }
 
-    /// Polls a sleep that is over at `due`, which may have an alarm already. Answers the number of its alarm, or
-    /// none where it is over. It takes memory.
+    /// Polls a sleep that is over at `due`, in nanoseconds since the epoch, and returns the number of the alarm that it
+    /// waits for, or none where it is over. It takes memory.
+    ///
+    /// Its own alarm, if it has one, counts only where that is still set for this time; else it gets a new one.
+    ///
+    /// Error: `NoMemory`, also where no alarm number is left.
     pub fn sleep_poll(
         &mut self,
         by: Option<u64>,
@@ -232,7 +241,7 @@ impl Machine {
     }
 }
 
-/// Sets the alarm of a sleep, or changes whom its own wakes. Answers its number.
+/// Sets the alarm of a sleep, or changes whom its own wakes. Returns its number.
 #[tactic(auto, using(crate::proofs::Alarms::alarm_laws))]
 fn sleep(
     alarms: &mut Alarms,

@@ -5,7 +5,7 @@ ghost use Rattle.rt_machine.specs.Causes.{error_of};
 
 use rt_base::{Error, MetricError};
 
-/// The cause of a refusal.
+/// Why a call is refused.
 #[derive(Clone, Copy, Debug)]
 pub enum Cause {
     UnknownToken,
@@ -18,7 +18,7 @@ pub enum Cause {
 }
 
 impl Cause {
-    /// The error that the caller gets.
+    /// Returns the error that the caller gets for this cause.
     pub fn error(self) -> Error
         ensures { result ≡ error_of self }
     {

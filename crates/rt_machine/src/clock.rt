@@ -17,14 +17,14 @@ use rt_super::NOBODY;
 
 #[tactic(auto, using(crate::proofs::Counts::count_laws, crate::proofs::Turning::turn_laws), unfolding(rt_model::specs::Effects::after))]
 impl Machine {
-    /// Whether time would pass its last moment within a cycle.
+    /// Returns whether time would pass its last moment within a cycle.
     fn overflows(&self) -> bool
         ensures { result ≡ overflows self.now.told.state.clock }
     {
         self.time > MAX_TIME || MAX_TIME - self.time < self.journal.begin().cycle
     }
 
-    /// The moment that time skips to, if it skips.
+    /// Returns the moment that time skips to, if it skips.
     fn skip_to(&self) -> Option<Nanos>
         ensures { result ≡ skip_to self.now.told.state.ready self.now.told.state.alarms.alarms self.now.told.state.clock.time }
     {
@@ -67,7 +67,7 @@ impl Machine {
         Ok(())
     }
 
-    /// Sets the earliest alarm off if it is due, and queues its task. Answers whether one went off.
+    /// Sets the earliest alarm off if it is due, and queues its task. Returns whether one went off.
     fn fire(&mut self) -> bool
         requires phase { self.old.told.state.phase ≡ Turning }
         requires early { is_late self.old.told.state.clock ≡ false }
@@ -125,7 +125,7 @@ impl Machine {
         Ok(())
     }
 
-    /// One turn of a clock step: it skips, tests the deadline, and sets alarms off. Answers whether somebody is ready,
+    /// One turn of a clock step: it skips, tests the deadline, and sets alarms off. Returns whether somebody is ready,
     /// or the cause that the run has reached.
     fn take_turn(&mut self) -> Result<bool, FinishCause>
         requires phase { self.old.told.state.phase ≡ Turning }
@@ -150,8 +150,10 @@ impl Machine {
         Ok(false)
     }
 
-    /// Moves time on by a cycle after a round, and then to where somebody is ready. Answers the cause that the run has
-    /// reached, where it ends there: `TimeOverflow` exactly where a cycle more would pass the last moment.
+    /// Moves time on by a cycle after a round, and then to where somebody is ready.
+    ///
+    /// It returns the cause that the run has reached, where the run ends there: `TimeOverflow` exactly where a cycle
+    /// more would pass the last moment.
     pub fn clock_step(&mut self) -> Result<(), FinishCause>
         requires phase { self.old.told.state.phase ≡ Visiting (left_of self.old.told.state.phase) }
         requires round { from_running self.old.told.state.running (left_of self.old.told.state.phase) ≡ [] }

@@ -14,7 +14,7 @@ use rand_core::Rng;
 use rt_audit::{Auditor, Call, CallReply, Caller, Entry, Payload};
 use rt_base::NoMemory;
 
-/// The event of a call that draws, and room for both.
+/// Returns the event of a call that draws, and takes room for both.
 fn take_draw(
     journal: &mut RunJournal,
     ready: &mut Vec<u64>,
@@ -37,7 +37,8 @@ fn take_draw(
 
 #[tactic(auto, using(crate::proofs::Counts::count_laws, crate::proofs::Totals::place_laws, crate::proofs::Announced::event_laws), unfolding(rt_model::specs::Effects::after))]
 impl Machine {
-    /// Draws a number of 32 bits. It takes memory.
+    /// Draws a number of 32 bits, the next that the generator gives. It takes memory, before it draws: without memory
+    /// nothing was drawn.
     pub fn next_u32<G: Rng>(&mut self, by: Option<u64>, rng: &mut G) -> Result<u32, NoMemory>
         requires { MayCall self.old.told.state by }
         ensures ok { IfOk result (λ number. Noted by self.old self.new Call.NextU32 (CallReply.Number number)) }
@@ -66,7 +67,8 @@ impl Machine {
         Ok(number)
     }
 
-    /// Draws a number of 64 bits. It takes memory.
+    /// Draws a number of 64 bits, the next that the generator gives. It takes memory, before it draws: without memory
+    /// nothing was drawn.
     pub fn next_u64<G: Rng>(&mut self, by: Option<u64>, rng: &mut G) -> Result<u64, NoMemory>
         requires { MayCall self.old.told.state by }
         ensures ok { IfOk result (λ number. Noted by self.old self.new Call.NextU64 (CallReply.Number number)) }
@@ -93,7 +95,8 @@ impl Machine {
         Ok(number)
     }
 
-    /// Fills `dest` with bytes that are drawn. It takes memory, and without it `dest` is as before.
+    /// Fills `dest` with bytes that are drawn, the next that the generator gives. It takes memory, before it draws:
+    /// without memory nothing was drawn, and `dest` is as before.
     pub fn fill_bytes<G: Rng>(
         &mut self,
         by: Option<u64>,
@@ -133,7 +136,7 @@ impl Machine {
         Ok(())
     }
 
-    /// Asks for the digest of the events so far, of those of earlier runs too. It takes memory.
+    /// Returns the digest of the events so far, of those of earlier runs too. It takes memory.
     pub fn auditor(&mut self, by: Option<u64>) -> Result<Auditor, NoMemory>
         requires { MayCall self.old.told.state by }
         ensures ok { IfOk result (λ auditor. Noted by self.old self.new Call.Auditor (CallReply.Bytes auditor)) }

@@ -21,7 +21,7 @@ use rt_audit::{AnswerKind, Entry};
 use rt_model::{Mark, Outcome, Table};
 use rt_super::Tree;
 
-/// The node of a task is given up. The task's mark goes too, where nothing of it is left.
+/// Gives the node of a task up. The task's mark goes too, where nothing of it is left.
 #[tactic(auto, using(crate::proofs::Totals::place_laws, crate::proofs::Nodes::node_laws))]
 fn leave_node(tree: &mut Tree, marks: &mut Table<Mark>, task: u64, settles: bool)
     ensures tree { tree.new ≡ released (find task marks.old.items) tree.old }
@@ -39,7 +39,7 @@ fn leave_node(tree: &mut Tree, marks: &mut Table<Mark>, task: u64, settles: bool
 
 #[tactic(auto, using(crate::proofs::Counts::count_laws, crate::proofs::Totals::place_laws, crate::proofs::Nodes::node_laws, crate::proofs::Over::over_laws, crate::proofs::Visits::visit_laws), unfolding(rt_model::specs::Effects::after))]
 impl Machine {
-    /// Begins the cleanup: nobody is ready and no alarm is set from here on, and node 0 has ended.
+    /// Begins the cleanup: nobody is ready and no alarm is set from here on, and node 0 has ended. It takes no memory.
     pub fn cleanup(&mut self)
         requires { MayClose self.old.told.state.phase }
         ensures { self.new ≡ record { told = pushed_all self.old.told (cleanup_entries self.old.told.state.nodes); lacked = self.old.lacked } }
@@ -58,7 +58,7 @@ impl Machine {
         }
     }
 
-    /// Says that a task's state is ended, in the cleanup.
+    /// Writes that a task's state is ended, in the cleanup. It takes no memory.
     pub fn task_ended(&mut self, task: u64)
         requires phase { self.old.told.state.phase ≡ Closing (cause_of self.old.told.state.phase) }
         requires next { ends_next self.old.told.state.running self.old.told.state.root ≡ Some task }
@@ -73,7 +73,7 @@ impl Machine {
         let _before = settle(&mut self.results, task, Outcome::Closed);
     }
 
-    /// Whether no node ends behind the end of a task, since its own had ended.
+    /// Returns whether no node ends after the end of a task, since its own had ended.
     fn is_settled(&self, task: u64) -> bool
         ensures { result ≡ is_ended_at self.now.told.state.nodes (find task self.now.told.state.marks) }
     {
@@ -83,8 +83,10 @@ impl Machine {
         }
     }
 
-    /// Ends the visit of a task whose state is ended, where it has this result if it has finished: its result, its node
-    /// and those below it, and the wakes of all this.
+    /// Ends the visit of a task whose state is ended: its result, its node and those below it end, and who waits for
+    /// that is woken. It takes no memory.
+    ///
+    /// `own` is the result with which the task has finished, if it has; else its result is closed.
     pub fn end_visit(&mut self, task: u64, own: Option<Outcome>)
         requires phase { self.old.told.state.phase ≡ Ending task own (left_of self.old.told.state.phase) }
         requires runs { has_number task self.old.told.state.running ≡ true }
@@ -97,9 +99,9 @@ impl Machine {
         }
     }
 
-    /// Says that the state of a task is ended, in its own visit, where it has this result if it has finished. Its result
-    /// stands then, and who waits for it is woken; a task that hasn't finished has its result closed with its node,
-    /// where that is to end. Answers whether it isn't.
+    /// Writes that the state of a task is ended, in its own visit, where it has this result if it has finished. Its
+    /// result is there then, and who waits for it is woken; a task that hasn't finished has its result closed with its
+    /// node, where that is to end. It returns whether it isn't.
     fn finish_task(&mut self, task: u64, own: Option<Outcome>) -> bool
         requires phase { self.old.told.state.phase ≡ Ending task own (left_of self.old.told.state.phase) }
         requires runs { has_number task self.old.told.state.running ≡ true }
@@ -155,7 +157,7 @@ impl Machine {
         self.promised -= 1 + flags + place;
     }
 
-    /// Whether a panic is kept behind the end of a task that had this result.
+    /// Returns whether a panic is kept after the end of a task that had this result.
     fn keeps_panic(&self, own: Option<Outcome>) -> bool
         ensures { result ≡ (self.now.told.state.panicked || (is_panic own && not self.now.told.state.clock.fixed.catch)) }
     {
@@ -179,7 +181,7 @@ impl Machine {
     }
 }
 
-/// Whether a task hasn't finished.
+/// Returns whether a task hasn't finished.
 fn is_missing(own: Option<Outcome>) -> bool
     ensures { result ≡ is_none own }
 {
@@ -189,7 +191,7 @@ fn is_missing(own: Option<Outcome>) -> bool
     }
 }
 
-/// Whether a task reported a panic.
+/// Returns whether a task reported a panic.
 fn is_panic(own: Option<Outcome>) -> bool
     ensures { result ≡ is_panic own }
 {

@@ -8,7 +8,7 @@ use rt_audit::{Entry, EventFields, EventLabel};
 use rt_base::{Items, NoMemory};
 use std::alloc::Global;
 
-/// The event of a visit, of these fields.
+/// Makes the event of a visit, of these fields.
 #[inline(always)]
 pub fn task_event(fields: EventFields) -> Entry
     ensures { result ≡ Entry.Event process_task fields }
@@ -19,7 +19,7 @@ pub fn task_event(fields: EventFields) -> Entry
     }
 }
 
-/// The event of a `stop`: its value in four bytes, the highest first.
+/// Makes the event of a `stop`: its value in four bytes, the highest first.
 pub fn stop_event(alloc: Global, value: i32) -> Result<Entry, NoMemory>
     ensures { IfOk result (λ entry. entry ≡ Entry.Event (codes "stop") (to_be_bytes w32 (cast_unsigned w32 value) ∷ [])) }
 {
@@ -34,7 +34,7 @@ pub fn stop_event(alloc: Global, value: i32) -> Result<Entry, NoMemory>
     })
 }
 
-/// The event of a `stopped`.
+/// Makes the event of a `stopped`.
 pub fn stopped_event(alloc: Global) -> Result<Entry, NoMemory>
     ensures { IfOk result (λ entry. entry ≡ Entry.Event (codes "stopped") []) }
 {
@@ -43,7 +43,7 @@ pub fn stopped_event(alloc: Global) -> Result<Entry, NoMemory>
     Ok(Entry::Event { label, fields })
 }
 
-/// The event of a call that draws, by which call it is.
+/// Makes the event of a call that draws, by which call it is.
 pub fn draw_event(alloc: Global, name: &str) -> Result<Entry, NoMemory>
     ensures { IfOk result (λ entry. entry ≡ Entry.Event (codes "rand") (name.now ∷ [])) }
 {

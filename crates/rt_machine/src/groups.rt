@@ -32,7 +32,7 @@ impl Model for Groups {
 
 #[tactic(auto, using(crate::proofs::Grouped::group_laws))]
 impl Groups {
-    /// The shutdown's group alone, without a signal or a completion, which nobody stopped.
+    /// Makes the shutdown's group alone, without a signal or a completion, which nobody stopped.
     pub fn new(alloc: Global) -> Result<Groups, NoMemory>
         ensures { IfOk result (λ groups. groups ≡ grouped shutdown_alone no_stop []) }
     {
@@ -43,28 +43,28 @@ impl Groups {
         Ok(Groups { signals, stopper })
     }
 
-    /// Whether a signaler has this number that gave no value and wasn't given up.
+    /// Returns whether a signaler has this number that gave no value and wasn't given up.
     pub fn has_signaler(&self, signaler: u64) -> bool
         ensures { result ≡ has_signaler self.now.told self.now.stop signaler }
     {
         signaler != self.stopper.group() && self.signals.is_alive(signaler)
     }
 
-    /// Whether an open signal has this number.
+    /// Returns whether an open signal has this number.
     pub fn has_signal(&self, signal: u64) -> bool
         ensures { result ≡ is_some (find signal self.now.told.signals) }
     {
         self.signals.has_signal(signal)
     }
 
-    /// Whether a live completion has this number.
+    /// Returns whether a live completion has this number.
     pub fn has_completion(&self, completion: u64) -> bool
         ensures { result ≡ is_some (find completion self.now.told.completions) }
     {
         self.signals.has_completion(completion)
     }
 
-    /// What a signal shows.
+    /// Returns what a signal shows.
     pub fn shown(&self, signal: u64) -> Result<Poll<i32>, Error>
         ensures answer { result ≡ signal_answer self.now.told signal }
         ensures closed { is_some (find signal self.now.told.signals) ≡ true → IfErr result (λ e. e ≡ Error.Closed) }
@@ -72,7 +72,7 @@ impl Groups {
         self.signals.shown(signal)
     }
 
-    /// Whether a completion is met.
+    /// Returns whether a completion is met.
     pub fn met(&self, completion: u64) -> Result<Poll<()>, Error>
         ensures answer { result ≡ completion_answer self.now.told completion }
         ensures unknown { IfErr result (λ e. e ≡ Error.UnknownToken) }
@@ -80,7 +80,7 @@ impl Groups {
         self.signals.met(completion)
     }
 
-    /// Makes a group, and answers its number.
+    /// Makes a group, and returns its number.
     pub fn add(&mut self) -> Result<u64, NoMemory>
         ensures number { IfOk result (λ number. number ≡ self.old.told.count) }
         ensures told { OnOk result (self.new ≡ grouped (with_group self.old.told) self.old.stop []) }
@@ -90,7 +90,7 @@ impl Groups {
         self.signals.add()
     }
 
-    /// Makes a further signal of the group of an open one, and answers its number.
+    /// Makes a further signal of the group of an open one, and returns its number.
     pub fn clone_signal(&mut self, signal: u64) -> Result<u64, NoMemory>
         requires { is_some (find signal self.old.told.signals) ≡ true }
         ensures number { IfOk result (λ number. number ≡ self.old.told.count) }
@@ -116,7 +116,7 @@ impl Groups {
         self.signals.signal(signaler, value);
     }
 
-    /// Lets a task wait by a signal that shows nothing yet. Answers whether nobody waited by it.
+    /// Notes that a task waits by a signal that shows nothing yet, and returns whether nobody waited by it.
     pub fn poll_signal(&mut self, signal: u64, by: Option<u64>) -> bool
         requires pending { signal_answer self.old.told signal ≡ Ok Poll.Pending }
         requires fits { IfSome by (λ task. task < 2 ^ 64 - 1) }
@@ -129,7 +129,7 @@ impl Groups {
         !waited
     }
 
-    /// Gives an open signal up. Answers for how many entries it asked, but for the wakes of this.
+    /// Gives an open signal up, and returns for how many entries it asked, but for the wakes of this.
     pub fn close_signal(&mut self, signal: u64) -> usize
         requires { is_some (find signal self.old.told.signals) ≡ true }
         ensures told { self.new ≡ grouped (signal_closed self.old.told signal) self.old.stop (woken_by_last self.old.told signal) }
@@ -145,8 +145,8 @@ impl Groups {
         places
     }
 
-    /// Gives a signaler up without a value. Answers for how many entries it and its completion asked, but for the wakes of
-    /// this.
+    /// Gives a signaler up without a value, and returns for how many entries it and its completion asked, but for the
+    /// wakes of this.
     pub fn close_signaler(&mut self, signaler: u64) -> usize
         requires { has_signaler self.old.told self.old.stop signaler ≡ true }
         ensures told { self.new ≡ grouped (signaler_closed self.old.told signaler) self.old.stop (woken_by_closing self.old.told signaler) }
@@ -158,7 +158,7 @@ impl Groups {
         1 + own
     }
 
-    /// Lets a task wait by a completion that isn't met yet. Answers whether nobody waited by it.
+    /// Notes that a task waits by a completion that isn't met yet, and returns whether nobody waited by it.
     pub fn poll_completion(&mut self, completion: u64, by: Option<u64>) -> bool
         requires pending { completion_answer self.old.told completion ≡ Ok Poll.Pending }
         requires fits { IfSome by (λ task. task < 2 ^ 64 - 1) }
@@ -174,7 +174,7 @@ impl Groups {
         !waited
     }
 
-    /// For how many entries a completion asks: none where it isn't live.
+    /// Returns for how many entries a completion asks: none where it isn't live.
     fn completion_places(&self, completion: u64) -> usize
         ensures { result ≡ option_map_or token_places (find completion self.now.told.completions) 0 }
     {
@@ -188,7 +188,7 @@ impl Groups {
         }
     }
 
-    /// Gives a completion up. Answers for how many entries it asked.
+    /// Gives a completion up, and returns for how many entries it asked.
     pub fn close_completion(&mut self, completion: u64) -> usize
         requires { is_some (find completion self.old.told.completions) ≡ true }
         ensures told { self.new ≡ grouped (completion_closed self.old.told completion) self.old.stop [] }
@@ -200,7 +200,7 @@ impl Groups {
         places
     }
 
-    /// Begins the shutdown with a value, unless it began before; and answers the number of a completion.
+    /// Begins the shutdown with a value, unless it began before; and returns the number of a completion.
     pub fn stop(&mut self, value: i32) -> Result<u64, NoMemory>
         ensures number { IfOk result (λ number. number ≡ self.old.told.count) }
         ensures told { OnOk result (self.new ≡ grouped (stop_after self.old.told self.old.stop value) (with_stop self.old.stop value) (woken_by_stop self.old.told self.old.stop value)) }
@@ -210,7 +210,7 @@ impl Groups {
         self.stopper.stop(&mut self.signals, value)
     }
 
-    /// Makes a signal of the shutdown, or answers the value of the stop that came before.
+    /// Makes a signal of the shutdown, or returns the value of the stop that came before.
     pub fn stopped(&mut self) -> Result<Stopped, NoMemory>
         ensures answer { IfOk result (λ stopped. stopped ≡ stopped_answer self.old.told self.old.stop) }
         ensures told { OnOk result (self.new ≡ grouped (stopped_after self.old.told self.old.stop) self.old.stop []) }
@@ -220,7 +220,7 @@ impl Groups {
         self.stopper.stopped(&mut self.signals)
     }
 
-    /// The next of those whom the last call met.
+    /// Takes the next of those whom the last call met.
     pub fn next_woken(&mut self) -> Option<u64>
         ensures first { result ≡ slice_get self.old.woken 0 }
         ensures taken { self.new ≡ grouped self.old.told self.old.stop (drop 1 self.old.woken) }

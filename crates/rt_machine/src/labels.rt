@@ -9,7 +9,8 @@ use rt_base::{NoMemory, SmallText};
 use std::alloc::Global;
 use std::marker::Model;
 
-/// The label of a node, in place where it is short, since each visit reads one.
+/// The label of a node, in place where it is short: each visit reads one, in a shuffled order, and a label behind a
+/// place and a pointer would be three misses of the cache.
 #[derive(Drop)]
 pub enum NodeLabel {
     Short(ShortLabel),
@@ -38,7 +39,7 @@ impl Model for Labels {
 
 #[tactic(auto, using(crate::proofs::Numbered::label_laws))]
 impl Labels {
-    /// No labels.
+    /// Makes a list of no labels.
     pub fn new(alloc: Global) -> Self
         ensures items { result.items ≡ [] }
         ensures count { result.count ≡ 0 }
@@ -49,7 +50,7 @@ impl Labels {
         }
     }
 
-    /// Takes room for so many further ones.
+    /// Takes room for this many further labels.
     pub fn reserve(&mut self, places: usize) -> Result<(), NoMemory>
         ensures items { self.new.items ≡ self.old.items }
         ensures count { self.new.count ≡ self.old.count }
@@ -60,7 +61,7 @@ impl Labels {
         Ok(())
     }
 
-    /// The label of a node. That of a node that was never made is empty.
+    /// Returns the label of a node. That of a node that was never made is empty.
     pub fn get(&self, node: u64) -> &str
         ensures { result.now ≡ label_at self.now.items node }
     {
@@ -71,8 +72,8 @@ impl Labels {
         }
     }
 
-    /// The fields of the event of a task's visit, where the task has this node's label. One of at most 22 bytes takes no
-    /// memory.
+    /// Returns the fields of the event of a task's visit, where the task has this node's label. A label of at most 22
+    /// bytes takes no memory.
     #[inline(always)]
     pub fn visit_fields(&self, task: u64, node: u64) -> Result<EventFields, NoMemory>
         ensures fields { IfOk result (λ fields. fields ≡ task_fields task (label_at self.now.items node)) }

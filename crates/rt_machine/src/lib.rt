@@ -1,4 +1,4 @@
-//! The scheduling machine, without its tasks: a journal that is lawful by its type, and the state that it tells.
+//! The scheduling machine, without its tasks: a journal that is lawful by its type, and the state that it makes.
 #![tactic(auto)]
 
 mod calls;

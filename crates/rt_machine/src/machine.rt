@@ -1,4 +1,4 @@
-//! The state that a run's journal tells, kept beside it.
+//! The state that a run's journal makes, kept beside it.
 
 ghost use Rattle.std.specs.Prelude.{ℕ, ◌≡◌, ◌≢◌, ◌≤◌, ◌<◌, ◌+◌, ◌∷◌, ◌++◌, ◌^◌, ◌-◌, ◌&&◌, not, [], length, IfOk, IsOk, IfErr, OnErr, OnOk, IsTrue, drop, is_some, None, ◌↔◌};
 ghost use Rattle.rt_base.specs.declared.time.TheConstants.{MAX_TIME};
@@ -31,9 +31,14 @@ use rt_super::{Alarms, Tree};
 use std::alloc::Global;
 use std::marker::Model;
 
-/// A run under way, without the states of its tasks.
+/// A run under way, without the states of its tasks: its journal, and the state that the journal's entries make.
 ///
-/// Contracts see what its journal tells, and after which turns a call lacked memory, if one did.
+/// In a call of a task or of the maker, `by` is the task, or none for the maker. A call that is done or refused is
+/// noted in the journal with its reply. One that runs out of memory writes nothing, and leaves a mark that a call ran
+/// out of memory, where none is there. One that spends a token takes no memory, and does nothing where the token was
+/// spent before.
+///
+/// Contracts see the run that the journal's entries make, and after which turns a call ran out of memory, if one did.
 #[derive(Drop)]
 pub struct Machine {
     pub(crate) journal: RunJournal,
@@ -51,7 +56,7 @@ pub struct Machine {
     pub(crate) alarms: Alarms,
     pub(crate) marks: Table<Mark>,
     pub(crate) results: Table<TaskResult>,
-    /// How the slots stand whose receivers weren't spent.
+    /// The results of the slots whose receivers weren't spent.
     pub(crate) slots: Table<TaskResult>,
     /// The slots whose senders weren't spent.
     pub(crate) senders: Table<()>,
@@ -84,7 +89,7 @@ fn first_node(alloc: Global) -> Result<(Tree, Labels), NoMemory>
 
 #[tactic(auto, using(crate::proofs::Counts::count_laws, crate::proofs::Totals::place_laws), unfolding(rt_model::specs::Effects::after, rt_model::specs::State::begun))]
 impl Machine {
-    /// Begins a run after these entries. Without room it gives them back.
+    /// Begins a run after the entries of this journal. Without memory it hands the journal back.
     pub fn begin(alloc: Global, journal: Journal, begin: Begin) -> Result<Machine, Journal>
         requires { begin.start ≤ MAX_TIME }
         ensures ok { IfOk result (λ m. m ≡ record { told = pushed (fresh begin journal.entries) (Entry.Start begin.first begin.start begin.deadline begin.cycle); lacked = None }) }
@@ -128,7 +133,7 @@ impl Machine {
         })
     }
 
-    /// The time, in nanoseconds since the epoch.
+    /// Returns the time, in nanoseconds since the epoch.
     pub fn time(&self) -> Nanos
         ensures is { result ≡ self.now.told.state.clock.time }
         ensures within { result ≤ MAX_TIME }
@@ -137,14 +142,14 @@ impl Machine {
         self.time
     }
 
-    /// Whether a call lacked memory since the mark was last taken.
+    /// Returns whether a call ran out of memory since the mark of that was last taken off.
     pub fn is_short(&self) -> bool
         ensures { result ≡ is_some self.now.lacked }
     {
         self.journal.has_lacked()
     }
 
-    /// Takes the mark off. Answers whether it was there.
+    /// Takes off the mark that a call ran out of memory, and returns whether it was there.
     pub fn take_short(&mut self) -> bool
         ensures was { result ≡ is_some self.old.lacked }
         ensures gone { self.new ≡ record { told = self.old.told; lacked = None } }
@@ -154,7 +159,7 @@ impl Machine {
         short
     }
 
-    /// Whether the deadline is there.
+    /// Returns whether the deadline is reached.
     pub fn is_late(&self) -> bool
         ensures { result ≡ is_late self.now.told.state.clock }
     {
@@ -164,47 +169,48 @@ impl Machine {
         }
     }
 
-    /// Whether the root can still get a number.
+    /// Returns whether the root can still get a number.
     pub fn has_number_left(&self) -> bool
         ensures { IsTrue result ↔ (self.now.told.state.numbers.next < 2 ^ 64 - 1) }
     {
         self.next < u64::MAX
     }
 
-    /// The root's number, once it is taken in.
+    /// Returns the root's number, once the root is taken in.
     pub fn root(&self) -> Option<u64>
         ensures { result ≡ self.now.told.state.root }
     {
         self.root
     }
 
-    /// The allocator of the run.
+    /// Returns the allocator of the run.
     pub fn allocator(&self) -> Global {
         *self.ready.allocator()
     }
 
-    /// Whether the root is to be stopped at its visit, since a panic is kept.
+    /// Returns whether a task is the root and is to be stopped at its visit, since a panic is kept.
     pub fn is_stopped(&self, task: u64) -> bool
         ensures { result ≡ (is_some_number task self.now.told.state.root && self.now.told.state.panicked) }
     {
         self.panicked && self.root == Some(task)
     }
 
-    /// Whether a task is flagged, and so ends at its visit.
+    /// Returns whether a task is flagged, and so ends at its visit.
     pub fn is_flagged(&self, task: u64) -> bool
         ensures { result ≡ is_flagged (find task self.now.told.state.marks) }
     {
         is_flagged(&self.marks, task)
     }
 
-    /// Whether the panic that a spawned task reports now will be kept: none is caught, and none is kept yet.
+    /// Returns whether the panic that a spawned task reports now will be kept: panics aren't caught, and none is kept
+    /// yet.
     pub fn keeps_next_panic(&self) -> bool
         ensures { result ≡ (not self.now.told.state.panicked && not self.now.told.state.clock.fixed.catch) }
     {
         !self.panicked && !self.journal.begin().catch
     }
 
-    /// Gives the root its number, and queues it.
+    /// Gives the root the next number, which is returned, and queues it. Nothing has changed after `NoMemory`.
     pub fn register_root(&mut self) -> Result<u64, NoMemory>
         requires phase { self.old.told.state.phase ≡ Making }
         requires fits { self.old.told.state.numbers.next < 2 ^ 64 - 1 }
@@ -225,8 +231,10 @@ impl Machine {
         Ok(task)
     }
 
-    /// Drains the ready list into a round, whose order the generator's next draws decide, and puts its numbers into `order`.
-    /// The draws are written before it.
+    /// Drains the ready list into a round, whose order the generator's next draws decide, and puts its numbers into
+    /// `order`.
+    ///
+    /// The draws are written before the round. After `NoMemory` nothing has changed, and nothing was drawn.
     pub fn round<G: Rng>(&mut self, order: &mut Vec<u64>, rng: &mut G) -> Result<(), NoMemory>
         requires { MayRound self.old.told.state.phase self.old.told.state }
         ensures ok { OnOk result (Drains (G.stream rng.old) (G.stream rng.new) self.old.told self.new.told order.new.items) }
@@ -275,8 +283,10 @@ impl Machine {
         Ok(())
     }
 
-    /// Reads what a visit of a task reads, its mark and its label, and what its end needs, its node and its result: so they stand in
-    /// a cache then. What it answers is of no account.
+    /// Reads what a visit of a task reads, so that it is in a cache at the visit: its mark and its label, and what its
+    /// end needs, its node and its result.
+    ///
+    /// What it returns is of no account: it keeps a compiler from leaving the reads out.
     pub fn touch(&self, task: u64) -> usize {
         let Some(mark) = self.marks.get(task) else {
             return 0;
@@ -286,8 +296,8 @@ impl Machine {
         label ^ lives ^ usize::from(may_abort(&self.results, task))
     }
 
-    /// The event of a task's visit. It has the label of the task's node; the root's is empty. With one of at most 22 bytes it
-    /// takes no memory.
+    /// Returns the event of a task's visit. It has the label of the task's node; the root's is empty. With one of at
+    /// most 22 bytes it takes no memory.
     fn visit_event(&self, task: u64) -> Result<Entry, NoMemory>
         ensures short { length (task_label self.now.told.state task) ≤ 22 → IsOk result }
         ensures event { IfOk result (λ entry. entry ≡ Entry.Event process_task (task_fields task (task_label self.now.told.state task))) }
@@ -299,7 +309,7 @@ impl Machine {
         Ok(task_event(fields))
     }
 
-    /// Begins a visit of a number of the round.
+    /// Begins the visit of the next number of the round, with its event. Nothing has changed after `NoMemory`.
     pub fn visit(&mut self, task: u64) -> Result<(), NoMemory>
         requires phase { self.old.told.state.phase ≡ Visiting (left_of self.old.told.state.phase) }
         requires next { from_running self.old.told.state.running (left_of self.old.told.state.phase) ≡ task ∷ drop 1 (from_running self.old.told.state.running (left_of self.old.told.state.phase)) }
@@ -314,7 +324,7 @@ impl Machine {
         Ok(())
     }
 
-    /// Ends the poll of a visit, or the visit of a root that is stopped.
+    /// Writes how the poll of a visit went, or that the root was stopped at its visit. It takes no memory.
     pub fn answer(&mut self, task: u64, kind: AnswerKind)
         requires may { MayAnswer self.old.told.state task kind }
         requires kind { kind ≢ AnswerKind.Ended }
@@ -331,7 +341,7 @@ impl Machine {
         }
     }
 
-    /// Writes the crash of the store, which has nothing to choose yet.
+    /// Writes the crash of the store, which has nothing to choose yet. It takes no memory.
     pub fn crash(&mut self)
         requires { MayCrash self.old.told.state.phase self.old.told.state.running }
         ensures { self.new ≡ record { told = pushed self.old.told (Entry.Crash []); lacked = self.old.lacked } }
@@ -343,7 +353,7 @@ impl Machine {
         self.closing = false;
     }
 
-    /// Writes the cause, which ends the run.
+    /// Writes the cause of the end, which ends the run. It takes no memory.
     pub fn finish(&mut self, cause: FinishCause)
         requires { MayFinish self.old.told.state.phase cause }
         ensures { self.new ≡ record { told = pushed self.old.told (Entry.Finish cause); lacked = self.old.lacked } }
@@ -351,14 +361,14 @@ impl Machine {
         self.journal.push(Entry::Finish { cause });
     }
 
-    /// All entries, those that were given and the run's own.
+    /// Spends the machine and returns all entries, those that were given and the run's own.
     pub fn into_journal(self) -> Journal
         ensures entries { result.entries ≡ self.told.given ++ own self.told }
     {
         self.journal.into_inner()
     }
 
-    /// What is known of each machine.
+    /// States by its clauses what is known of each machine.
     pub fn facts(&self)
         ensures lawful { IsLawful (begun self.now.told.begin) (own self.now.told) }
         ensures drawn { AreDrawn (begun self.now.told.begin) (own self.now.told) }

@@ -9,7 +9,7 @@ ghost use Rattle.rt_machine.specs.Ends.{open_in, waiter_in, ended_results, ended
 
 use rt_model::{Outcome, Table, TaskResult};
 
-/// Whether the result of a task wasn't used to abort it.
+/// Returns whether the result of a task wasn't used to abort it.
 pub fn may_abort(results: &Table<TaskResult>, task: u64) -> bool
     ensures { result ≡ may_abort (find task results.now.items) }
 {
@@ -40,7 +40,7 @@ pub fn note_abort(results: &mut Table<TaskResult>, task: u64)
     }
 }
 
-/// Changes how the result of a task stands. Answers how it stood, where it wasn't given up.
+/// Changes what the result of a task is, and returns what it was, where it wasn't given up.
 #[tactic(auto, using(crate::proofs::Changed::change_laws, crate::proofs::Totals::place_laws))]
 pub fn settle(results: &mut Table<TaskResult>, task: u64, outcome: Outcome) -> Option<Outcome>
     ensures before { result ≡ option_map (λ r. r.outcome) (find task results.old.items) }
@@ -59,8 +59,8 @@ pub fn settle(results: &mut Table<TaskResult>, task: u64, outcome: Outcome) -> O
     }
 }
 
-/// The result of a task that ends: its own, or none where nothing of the task is left. Answers how it stood, where it
-/// changed.
+/// Sets the result of a task that ends: its own, or none where nothing of the task is left. It returns what it was,
+/// where it changed.
 pub fn end_result(
     results: &mut Table<TaskResult>,
     task: u64,
@@ -81,7 +81,7 @@ pub fn end_result(
     }
 }
 
-/// Who waits for a result that stood so, and how many entries that asks for.
+/// Returns who waits for a result that was so, and how many entries that asks for.
 pub fn waiter_of(outcome: Option<Outcome>) -> (Option<u64>, usize)
     ensures waiter { result.0 ≡ waiter_in outcome }
     ensures places { result.1 ≡ open_in outcome }
@@ -92,7 +92,8 @@ pub fn waiter_of(outcome: Option<Outcome>) -> (Option<u64>, usize)
     }
 }
 
-/// How many entries a result may still ask for: its giving up, the abort by it, and the wake of who waits for it.
+/// Returns how many entries a result may still ask for: its giving up, the abort by it, and the wake of who waits for
+/// it.
 pub fn places_of(found: TaskResult) -> usize
     ensures { result ≡ result_places found }
 {

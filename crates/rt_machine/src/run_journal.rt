@@ -1,4 +1,4 @@
-//! The journal of a run: each entry may come where it stands.
+//! The journal of a run: each entry may come at its place.
 
 ghost use Rattle.std.specs.Prelude.{◌≡◌, ◌≤◌, ◌<◌, ◌+◌, ◌∷◌, ◌++◌, [], length, OnErr, OnOk, true, None, is_some};
 ghost use Rattle.rt_model.specs.State.{begun};
@@ -14,10 +14,10 @@ use rt_base::NoMemory;
 use rt_model::Begin;
 use std::marker::Model;
 
-/// The entries of earlier runs, and of the one under way.
+/// The journal of a run, with the entries of earlier runs before: each entry of it may come at its place.
 ///
-/// Contracts see what the run's own entries tell, how many more entries have room, and after which turns a call of the
-/// part under way lacked memory first, if one did.
+/// Contracts see the run that its own entries make, how many more entries have room, and after which turns a call of
+/// the part under way first ran out of memory, if one did.
 #[derive(Drop)]
 pub struct RunJournal {
     journal: Journal,
@@ -38,7 +38,7 @@ impl Model for RunJournal {
 }
 
 impl RunJournal {
-    /// A journal that goes on after these entries with a run that begins so.
+    /// Makes a journal that goes on after these entries with a run that begins so.
     pub fn after(journal: Journal, begin: Begin) -> Self
         ensures told { result.told ≡ fresh begin journal.entries }
         ensures spare { result.spare ≡ journal.spare }
@@ -54,14 +54,14 @@ impl RunJournal {
         }
     }
 
-    /// How the run begins.
+    /// Returns what the start of the run fixes.
     pub fn begin(&self) -> Begin
         ensures { result ≡ self.now.told.begin }
     {
         self.begin
     }
 
-    /// Takes room for at least so many further entries.
+    /// Takes room for at least this many further entries, and adds none.
     pub fn reserve(&mut self, entries: usize) -> Result<(), NoMemory>
         ensures told { self.new.told ≡ self.old.told }
         ensures lacked { self.new.lacked ≡ self.old.lacked }
@@ -71,7 +71,7 @@ impl RunJournal {
         self.journal.reserve(entries)
     }
 
-    /// Adds an entry that ends the calls under way.
+    /// Adds an entry that ends the calls under way, and which may come here. It takes no memory, and uses one place.
     #[inline(always)]
     pub fn push(&mut self, entry: Entry)
         requires room { 0 < self.old.spare }
@@ -86,7 +86,7 @@ impl RunJournal {
         self.mark = self.journal.len();
     }
 
-    /// Adds a call, an event of one, or a wake.
+    /// Adds a call, an event of one, or a wake, which may come here. It takes no memory, and uses one place.
     #[inline(always)]
     pub fn note(&mut self, entry: Entry)
         requires room { 0 < self.old.spare }
@@ -100,7 +100,7 @@ impl RunJournal {
         self.journal.push(entry);
     }
 
-    /// Marks that a call lacked memory here. A mark that is there stays.
+    /// Marks that a call ran out of memory here. A mark that is there stays.
     pub fn mark_lack(&mut self)
         ensures told { self.new.told ≡ self.old.told }
         ensures spare { self.new.spare ≡ self.old.spare }
@@ -111,14 +111,14 @@ impl RunJournal {
         }
     }
 
-    /// Whether there is such a mark.
+    /// Returns whether there is a mark that a call ran out of memory.
     pub fn has_lacked(&self) -> bool
         ensures { result ≡ is_some self.now.lacked }
     {
         self.lacked.is_some()
     }
 
-    /// Takes the mark off.
+    /// Takes off the mark that a call ran out of memory.
     pub fn clear_lack(&mut self)
         ensures told { self.new.told ≡ self.old.told }
         ensures spare { self.new.spare ≡ self.old.spare }
@@ -127,7 +127,7 @@ impl RunJournal {
         self.lacked = None;
     }
 
-    /// What is known of each journal.
+    /// States by its clauses what is known of each journal.
     pub fn facts(&self)
         ensures lawful { IsLawful (begun self.now.told.begin) (own self.now.told) }
         ensures drawn { AreDrawn (begun self.now.told.begin) (own self.now.told) }
@@ -138,14 +138,14 @@ impl RunJournal {
         let _ = &self.start;
     }
 
-    /// The digest of the events so far, of those that were given too.
+    /// Returns the digest of the events so far, of those that were given too.
     pub fn auditor(&self) -> Auditor
         ensures { result ≡ digest_of (self.now.told.given ++ own self.now.told) }
     {
         self.journal.auditor()
     }
 
-    /// All entries, those that were given and the run's own.
+    /// Spends this and returns all entries, those that were given and the run's own.
     pub fn into_inner(self) -> Journal
         ensures entries { result.entries ≡ self.told.given ++ own self.told }
     {

@@ -18,7 +18,7 @@ use rt_super::Stopped;
 
 #[tactic(auto, using(crate::proofs::Counts::count_laws, crate::proofs::Totals::place_laws, crate::proofs::Owed::owed_laws), unfolding(rt_model::specs::Effects::after))]
 impl Machine {
-    /// Makes a group of signals, and answers the number of its signaler, its first signal and its completion. It takes
+    /// Makes a group of signals, and returns the number of its signaler, its first signal and its completion. It takes
     /// memory.
     pub fn signaler(&mut self, by: Option<u64>) -> Result<u64, NoMemory>
         requires { MayCall self.old.told.state by }
@@ -42,7 +42,9 @@ impl Machine {
         Ok(signal)
     }
 
-    /// Makes a further signal of the group of this one, and answers its number. It takes memory.
+    /// Makes a further signal of the group of this one, and returns its number. It takes memory.
+    ///
+    /// Errors: `UnknownToken` where no open signal has the number, `NoMemory`.
     pub fn clone_signal(&mut self, by: Option<u64>, signal: u64) -> Result<u64, Error>
         requires { MayCall self.old.told.state by }
         ensures ok { IfOk result (λ further. Noted by self.old self.new (Call.CloneSignal signal) (CallReply.SignalAt further)) }
@@ -94,7 +96,10 @@ impl Machine {
         );
     }
 
-    /// Polls a signal, for which the caller waits where it shows nothing yet. Answers its value. It takes memory.
+    /// Polls a signal, and returns its value; the caller waits where it shows nothing yet. It takes memory.
+    ///
+    /// Errors: `UnknownToken` where no open signal has the number, `Closed` where the signaler was given up without a
+    /// value; `NoMemory`.
     pub fn poll_signal(&mut self, by: Option<u64>, signal: u64) -> Result<Poll<i32>, Error>
         requires calling { MayCall self.old.told.state by }
         requires runs { IfSome by (λ task. has_number task self.old.told.state.running ≡ true) }
@@ -203,7 +208,9 @@ impl Machine {
         );
     }
 
-    /// Polls a completion, for which the caller waits where it isn't met. Answers whether it is. It takes memory.
+    /// Polls a completion, and returns whether it is met; the caller waits where it isn't. It takes memory.
+    ///
+    /// Errors: `UnknownToken` where no live completion has the number, `NoMemory`.
     pub fn poll_completion(&mut self, by: Option<u64>, completion: u64) -> Result<Poll<()>, Error>
         requires calling { MayCall self.old.told.state by }
         requires runs { IfSome by (λ task. has_number task self.old.told.state.running ≡ true) }
@@ -279,7 +286,7 @@ impl Machine {
         self.promised -= self.groups.close_completion(completion);
     }
 
-    /// Begins the shutdown with a value, unless it began before, and wakes who waits for that. Answers the number of a
+    /// Begins the shutdown with a value, unless it began before, wakes who waits for that, and returns the number of a
     /// completion. It takes memory.
     pub fn stop(&mut self, by: Option<u64>, value: i32) -> Result<u64, NoMemory>
         requires { MayCall self.old.told.state by }
@@ -314,7 +321,8 @@ impl Machine {
         Ok(completion)
     }
 
-    /// Makes a signal of the shutdown, or answers the value with which it began. It takes memory.
+    /// Makes a signal of the shutdown and returns its number, or returns the value with which the shutdown began. It
+    /// takes memory.
     pub fn stopped(&mut self, by: Option<u64>) -> Result<Stopped, NoMemory>
         requires { MayCall self.old.told.state by }
         ensures ok { IfOk result (λ stopped. Noted by self.old self.new Call.Stopped (stopped_reply stopped)) }

@@ -21,7 +21,7 @@ use std::alloc::Global;
 
 #[tactic(auto, using(crate::proofs::Counts::count_laws, crate::proofs::Totals::place_laws, crate::proofs::Owed::owed_laws), unfolding(rt_model::specs::Effects::after))]
 impl Machine {
-    /// Makes a slot, and answers its number. It takes memory.
+    /// Makes a slot, and returns its number, which is the next. It takes memory.
     pub fn slot(&mut self, by: Option<u64>) -> Result<u64, NoMemory>
         requires { MayCall self.old.told.state by }
         ensures ok { IfOk result (λ slot. Noted by self.old self.new Call.Slot (CallReply.SlotAt slot)) }
@@ -107,7 +107,8 @@ impl Machine {
         wake_waiter(&mut self.journal, &mut self.ready, self.closing, waiter);
     }
 
-    /// Whether what is sent into a slot now stands there: its sender wasn't spent, and nothing else stands there yet.
+    /// Returns whether what is sent into a slot now is kept there: its sender wasn't spent, and nothing else is there
+    /// yet.
     pub fn takes(&self, slot: u64) -> bool
         ensures { result ≡ (is_some (find slot self.now.told.state.slots.senders) && is_open (find slot self.now.told.state.slots.results)) }
     {
@@ -123,21 +124,22 @@ impl Machine {
         }
     }
 
-    /// Whether the wait for what comes by a slot can be aborted: its receiver wasn't spent, and it wasn't aborted before.
+    /// Returns whether the wait for what comes by a slot can be aborted: its receiver wasn't spent, and it wasn't
+    /// aborted before.
     pub fn may_abort_wait(&self, slot: u64) -> bool
         ensures { result ≡ may_abort (find slot self.now.told.state.slots.results) }
     {
         may_abort(&self.slots, slot)
     }
 
-    /// Whether the receiver of a slot wasn't spent.
+    /// Returns whether the receiver of a slot wasn't spent.
     pub fn has_slot(&self, slot: u64) -> bool
         ensures { result ≡ is_some (find slot self.now.told.state.slots.results) }
     {
         self.slots.get(slot).is_some()
     }
 
-    /// Whether a result was sent into a slot and wasn't taken.
+    /// Returns whether a result was sent into a slot and wasn't taken.
     pub fn has_sent(&self, slot: u64) -> bool
         ensures { result ≡ is_there (find slot self.now.told.state.slots.results) }
     {
@@ -170,6 +172,9 @@ impl Machine {
     }
 
     /// Polls a slot into which nothing was sent that is left, for which the caller waits then. It takes memory.
+    ///
+    /// Errors: `UnknownToken` where the receiver was spent, then `Aborted` where the wait was aborted, then `Closed`
+    /// where nothing comes any more; `NoMemory`.
     pub fn slot_poll(&mut self, by: Option<u64>, slot: u64) -> Result<(), Error>
         requires calling { MayCall self.old.told.state by }
         requires unsent { is_there (find slot self.old.told.state.slots.results) ≡ false }
@@ -231,8 +236,8 @@ impl Machine {
         Ok(())
     }
 
-    /// Refuses a poll of a slot with the error that was sent into it, which stays there. Answers a copy of that error, or
-    /// `NoMemory` where it lacked memory.
+    /// Refuses a poll of a slot with the error that was sent into it, which stays there, and returns a copy of that
+    /// error, or `NoMemory` where memory ran out.
     pub fn show_sent(&mut self, by: Option<u64>, slot: u64, sent: &Error) -> Error
         requires calling { MayCall self.old.told.state by }
         requires sent { is_there (find slot self.old.told.state.slots.results) ≡ true }
@@ -264,7 +269,7 @@ fn copies(alloc: Global, error: &Error) -> Result<(Refusal, Error), NoMemory>
     Ok((refusal, answer))
 }
 
-/// Takes room for a further slot, and answers its number.
+/// Takes room for a further slot, and returns its number.
 fn reserve_slot(slots: &mut Table<TaskResult>, senders: &mut Table<()>) -> Result<u64, NoMemory>
     ensures number { IfOk result (λ slot. slot ≡ slots.old.next) }
     ensures items { slots.new.items ≡ slots.old.items }
@@ -282,8 +287,8 @@ fn reserve_slot(slots: &mut Table<TaskResult>, senders: &mut Table<()>) -> Resul
     }
 }
 
-/// What was sent stands where the slot is open, or that nothing comes. Answers who waits for it, and how many entries that
-/// asks for.
+/// Notes what was sent where the slot is open, or that nothing comes. It returns who waits for it, and how many entries
+/// that asks for.
 #[tactic(auto, using(crate::proofs::Changed::change_laws, crate::proofs::Totals::place_laws))]
 fn settle_open(slots: &mut Table<TaskResult>, slot: u64, outcome: Outcome) -> (Option<u64>, usize)
     requires { open_places outcome ≡ 0 }
@@ -307,7 +312,7 @@ fn settle_open(slots: &mut Table<TaskResult>, slot: u64, outcome: Outcome) -> (O
     }
 }
 
-/// Nothing is waited for by a slot any more. Answers who waits, and how many entries that asks for.
+/// Notes that nothing is waited for by a slot any more. It returns who waits, and how many entries that asks for.
 #[tactic(auto, using(crate::proofs::Changed::change_laws, crate::proofs::Totals::place_laws))]
 fn abort_slot(slots: &mut Table<TaskResult>, slot: u64) -> (Option<u64>, usize)
     requires { may_abort (find slot slots.old.items) ≡ true }

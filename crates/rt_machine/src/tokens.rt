@@ -21,15 +21,18 @@ use rt_super::Tree;
 
 #[tactic(auto, using(crate::proofs::Counts::count_laws, crate::proofs::Totals::place_laws, crate::proofs::Nodes::node_laws, crate::proofs::Over::over_laws, crate::proofs::Owed::owed_laws), unfolding(rt_model::specs::Effects::after))]
 impl Machine {
-    /// Whether a task may be put on a node: it is live, and without one.
+    /// Returns whether a task may be put on a node: it is live, and without one.
     fn is_free(&self, node: u64) -> bool
         ensures { result ≡ is_free self.now.told.state.nodes node }
     {
         self.tree.lives(node) && self.tree.task_of(node).is_none()
     }
 
-    /// Spawns a task on a node. Answers its number and the node of its own context, or nothing where the node has ended;
-    /// that is closed then. It takes memory.
+    /// Spawns a task on a node, and returns its number and the node of its own context, or nothing where the node has
+    /// ended; that is closed then. It takes memory. In a cleanup no task is spawned.
+    ///
+    /// Errors: `UnknownToken` where the node isn't live or has a task, then `TooManyTasks` where no number is left;
+    /// `NoMemory`.
     pub fn spawn(&mut self, by: Option<u64>, node: u64) -> Result<Option<(u64, u64)>, Error>
         requires { MayCall self.old.told.state by }
         ensures ok { IfOk result (λ at. Noted by self.old self.new (Call.Spawn node) (spawn_reply at)) }
@@ -118,8 +121,8 @@ impl Machine {
         Ok(Some((task, number)))
     }
 
-    /// Aborts a task by its handle: flags it, and wakes it where it was left pending. It takes no memory. Where the
-    /// handle was used so before it does nothing, and writes no entry.
+    /// Aborts a task by its handle: it flags the task, and wakes it where it was left pending. It takes no memory.
+    /// Where the handle was used so before it does nothing, and writes no entry.
     pub fn abort(&mut self, by: Option<u64>, task: u64)
         requires { MayCall self.old.told.state by }
         ensures { Spent by self.old self.new (Call.Abort task) }
@@ -146,7 +149,9 @@ impl Machine {
         }
     }
 
-    /// Aborts a task by its number. It takes memory.
+    /// Aborts a task by its number: it flags the task, and wakes it where it was left pending. It takes memory.
+    ///
+    /// Errors: `UnknownToken` where no spawned task with this number runs, `NoMemory`.
     pub fn abort_task(&mut self, by: Option<u64>, task: u64) -> Result<(), Error>
         requires { MayCall self.old.told.state by }
         ensures ok { OnOk result (Noted by self.old self.new (Call.AbortTask task) CallReply.Done) }
@@ -179,7 +184,11 @@ impl Machine {
         Ok(())
     }
 
-    /// Polls the result of a task. Answers whether it is there; then it was taken. It takes memory.
+    /// Polls the result of a task, and returns whether it is there; then it was taken. Else the caller waits. It takes
+    /// memory.
+    ///
+    /// Errors: `UnknownToken` where the result was given up, `Exited` where the task reported a panic, `Closed` where
+    /// no result comes any more; `NoMemory`.
     pub fn join(&mut self, by: Option<u64>, task: u64) -> Result<bool, Error>
         requires { MayCall self.old.told.state by }
         ensures ok { IfOk result (λ there. Noted by self.old self.new (Call.Join task) (join_reply there)) }
@@ -237,7 +246,7 @@ impl Machine {
         Ok(true)
     }
 
-    /// Whether the result of a task wasn't given up.
+    /// Returns whether the result of a task wasn't given up.
     pub fn has_result(&self, task: u64) -> bool
         ensures { result ≡ is_some (find task self.now.told.state.results) }
     {
@@ -285,7 +294,7 @@ fn reserve_task(
     results.reserve(1)
 }
 
-/// Makes a child of a node, and puts a task on the node. Answers the child's number.
+/// Makes a child of a node, puts a task on the node, and returns the child's number.
 #[tactic(auto, using(crate::proofs::Seats::seat_laws))]
 fn seat(tree: &mut Tree, node: u64, task: u64) -> Result<u64, NoMemory>
     requires { is_free tree.old node ≡ true }

@@ -135,7 +135,7 @@ pub fn wake_waiter(
     }
 }
 
-/// Wakes those whom a call on signals has met, in their order, where no cleanup has begun. Answers how many they are.
+/// Wakes those whom a call on signals has met, in their order, where no cleanup has begun. Returns how many they are.
 pub fn wake_met(
     journal: &mut RunJournal,
     ready: &mut Vec<u64>,
@@ -166,7 +166,7 @@ pub fn wake_met(
     ready.len() - before
 }
 
-/// Lets those go whom a call on signals has met. Answers how many they are.
+/// Drops those whom a call on signals has met. Returns how many they are.
 fn forget_met(groups: &mut Groups) -> usize
     requires { length groups.old.woken < 2 ^ 64 }
     ensures count { result ≡ length groups.old.woken }
@@ -179,7 +179,7 @@ fn forget_met(groups: &mut Groups) -> usize
     count
 }
 
-/// Wakes a task behind a call that must wake it next.
+/// Wakes a task after a call that must wake it next.
 #[tactic(auto, using(crate::proofs::Calm::wake_laws), unfolding(rt_model::specs::Effects::after))]
 fn note_wake(journal: &mut RunJournal, ready: &mut Vec<u64>, task: u64)
     requires owed { journal.old.told.state.owed ≡ task ∷ drop 1 journal.old.told.state.owed }
@@ -198,7 +198,7 @@ fn note_wake(journal: &mut RunJournal, ready: &mut Vec<u64>, task: u64)
     ready.push_reserved(task);
 }
 
-/// Flags a task behind the call that aborts it, and wakes it where it was left pending and no cleanup has begun. Answers
+/// Flags a task after the call that aborts it, and wakes it where it was left pending and no cleanup has begun. Returns
 /// whether it was left pending.
 #[tactic(auto, using(crate::proofs::Totals::place_laws), unfolding(rt_model::specs::Effects::after))]
 pub fn wake_flagged(

@@ -200,7 +200,7 @@ registered r name help kind attributes = record {
   next = r.next + 1;
 }
 
--- what registering answers and leaves: one claim more on the metric that is there, or a new metric
+-- what registering returns and leaves: one claim more on the metric that is there, or a new metric
 
 abbrev pub claim_number : RegistryState → List ℕ → Pairs → ℕ
 claim_number r name attributes = unwrap_or (member_of r name attributes) r.next

@@ -172,7 +172,7 @@ MayEnd (Ending ended result left) next task = task ≡ ended
 MayEnd (Closing cause) next task = next ≡ Some task
 MayEnd _ next task = ⊥
 
--- a visit, or the end of a task, may be answered so
+-- a visit, or the end of a task, may have this answer
 abbrev pub MayAnswer : State → ℕ → AnswerKind → Type 0
 MayAnswer s task Pending = s.phase ≡ Polling task (left_of s.phase)
 MayAnswer s task Ready = s.phase ≡ Polling task (left_of s.phase)
