@@ -1,11 +1,11 @@
--- The first entry that may not come where it stands.
+-- The first entry that may not come where it is.
 use Rattle.std.specs.Prelude.{◌≡◌, ℕ, List, Option, Some, None, take}
 use Rattle.std.specs.List.{slice_get}
 use Rattle.rt_audit.specs.declared.entry.Entry.{Entry}
 use Rattle.rt_model.specs.Rules.{May}
 use Rattle.rt_model.specs.Runs.{Runs, renewed, runs_after, AreLawful}
 
--- from here on the entries before this place may come where they stand, and the one at it may not
+-- from here on the entries before this place may come where they are, and the one at it may not
 pub record BreaksAt (runs : Runs) (entries : List Entry) (place : ℕ) : Type 0 where
   pub entry : Entry
   pub there : slice_get entries place ≡ Some entry

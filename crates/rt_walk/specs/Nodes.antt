@@ -27,7 +27,7 @@ abbrev pub children_of : List (ℕ × Option ℕ) → ℕ → List ℕ
 children_of [] node = []
 children_of (x ∷ later) node = if is_child node x.1 then x.0 ∷ children_of later node else children_of later node
 
--- nobody's parent stands at its own place or behind it
+-- nobody's parent is at its own place or after it
 abbrev pub AreElders : List (ℕ × Option ℕ) → Type 0
 AreElders [] = Unit {0}
 AreElders (x ∷ later) = (list_any (λ y. is_child y.0 x.1) (x ∷ later) ≡ false) × AreElders later
@@ -35,7 +35,7 @@ AreElders (x ∷ later) = (list_any (λ y. is_child y.0 x.1) (x ∷ later) ≡ f
 abbrev pub numbers_of : List NodeState → List ℕ
 numbers_of nodes = map (λ x. x.number) nodes
 
--- and each node stands at the place of its number, which no other has, behind its parent, and its children are kept
+-- and each node is at the place of its number, which no other has, after its parent, and its children are kept
 pub record IsRight (t : Inside) : Type 0 where
   pub ended : AreEnded t.ended.numbers (record_of t)
   pub placed : t.places.numbers ≡ numbers_of t.rows.items

@@ -1,4 +1,4 @@
--- Where a walker stands, as the phase that it stands for.
+-- Where a walker is, as the phase that this means.
 use Rattle.rt_model.specs.State.{Phase, Blank, Making, Between, Visiting, Entered, Polling, Halted, Ending, Leaving, Turning, Over, Cleaning, Closing, Crashed, Finished}
 use Rattle.rt_walk.specs.declared.stage.Stage.{Stage}
 use Rattle.rt_walk.specs.declared.stage.Stage.TheVariants.{Blank as IsBlank, Making as IsMaking, Between as IsBetween, Visiting as IsVisiting, Entered as IsEntered, Polling as IsPolling, Halted as IsHalted, Ending as IsEnding, Leaving as IsLeaving, Turning as IsTurning, Over as IsOver, Cleaning as IsCleaning, Closing as IsClosing, Crashed as IsCrashed, Finished as IsFinished}

@@ -1,4 +1,4 @@
-//! The events that stand before a call.
+//! The events that come before a call.
 
 ghost use Rattle.std.specs.Prelude.{◌≡◌, ◌≢◌, ◌∷◌, [], ◌↔◌, ◌⊎◌, IfOk, IfNone, IfSome, IsTrue, codes, length, ℤ};
 ghost use Rattle.std.specs.Int.{cast_unsigned, to_be_bytes, w32};
@@ -9,7 +9,7 @@ use rt_base::{Items, NoMemory, Text};
 use std::alloc::Global;
 use std::marker::Model;
 
-/// An event that stands before its call.
+/// An event that comes before its call.
 #[derive(Drop)]
 pub struct Announced {
     label: Text,
@@ -105,7 +105,7 @@ fn is_draw(event: &Announced, name: &str) -> bool
     event.is_named("rand") && event.has_one(name.as_bytes())
 }
 
-/// Whether this event is the next of a call, behind these.
+/// Whether this event is the next of a call, after these.
 pub fn is_of_call(announced: &[Announced], label: &EventLabel, fields: &EventFields) -> bool
     ensures { IsTrue result ↔ IsOfCall announced.now label.now fields.now }
 {

@@ -1,4 +1,4 @@
-//! What stands below a node.
+//! What is below a node.
 
 ghost use Rattle.std.specs.Prelude.{◌≡◌, ◌++◌, IfOk, OnOk, reverse};
 ghost use Rattle.rt_super.specs.Ancestry.{links, subtree};
@@ -7,13 +7,13 @@ use crate::nodes::Nodes;
 use rt_base::NoMemory;
 use std::alloc::Global;
 
-/// A node, and then what stands below it: each child, the eldest first, and before the next child what stands below it.
-/// It takes no call of its own for each level.
+/// Returns a node, and then what is below it: each child, the eldest first, and before the next child what is below
+/// it. It takes no call of its own for each level.
 pub fn subtree(alloc: Global, nodes: &Nodes, node: u64) -> Result<Vec<u64>, NoMemory>
     ensures { IfOk result (λ numbers. numbers.items ≡ subtree (links nodes.now) node) }
 {
     let mut numbers = Vec::new(alloc);
-    // nodes that are to come, each with what stands below it, the next one last
+    // nodes that are to come, each with what is below it, the next one last
     let mut pending = vec![in alloc; node]?;
     while let Some(next) = pending.pop() {
         numbers.push(next)?;

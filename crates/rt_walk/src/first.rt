@@ -1,4 +1,4 @@
-//! The first entry that may not come where it stands.
+//! The first entry that may not come where it is.
 
 ghost use Rattle.std.specs.Prelude.{IfOk, OnOk, ◌↔◌, ◌≡◌, None, drop};
 ghost use Rattle.rt_model.specs.State.{begun};
@@ -13,10 +13,13 @@ use rt_model::Begin;
 use std::alloc::Global;
 use std::mem;
 
-/// The place of the first entry of a journal that may not come where it stands, if there is one. Its first run begins as
-/// `begin` says, and each further one, whose `Start` stands right behind a finished run, as the next of `later`. A
-/// beginning holds what the start of a run fixes, its first moment, cycle, deadline and task number, and its `Start`
-/// must say the same.
+/// Returns the place of the first entry of a journal that may not come where it is, or `None` where the entries are
+/// lawful.
+///
+/// The first run begins as `begin` says, and each further one, whose `Start` is right after a completed run, as the
+/// next of `later`. A beginning holds what the start of a run fixes, its first moment, cycle, deadline and task
+/// number, and its `Start` must say the same. Whether a round's order is that of its draws, a number the generator's,
+/// or four bytes the digest, is not decided here.
 pub fn first_unlawful(
     alloc: Global,
     begin: Begin,
@@ -32,7 +35,7 @@ pub fn first_unlawful(
     place
 }
 
-/// The place of the first entry that a walker refuses, if there is one.
+/// Returns the place of the first entry that a walker refuses, if there is one.
 fn first_refused(
     alloc: Global,
     walker: &mut Walker,

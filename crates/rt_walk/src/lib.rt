@@ -1,4 +1,4 @@
-//! Walks over the entries of a journal, and says whether each may come where it stands.
+//! Walks over the entries of a journal, and says whether each may come where it is.
 #![tactic(auto)]
 
 mod announced;

@@ -17,7 +17,8 @@ use rt_audit::{AnswerKind, Entry, EventFields, EventLabel, FinishCause};
 use rt_base::{Choice, Items, MAX_TIME, Nanos, NoMemory};
 
 impl Walker {
-    /// Whether the entry may come next. It takes memory where a round's order is compared with the ready list.
+    /// Returns whether the entry may come next. It takes memory only where a round's order is compared with the ready
+    /// list, and is refused with `NoMemory` there alone.
     #[tactic(auto, using(crate::proofs::Quiet::quiet_laws))]
     pub fn may(&self, entry: &Entry) -> Result<bool, NoMemory>
         ensures here { IfOk result (λ may. IsTrue may ↔ May self.now entry.now) }
@@ -97,7 +98,7 @@ impl Walker {
         }
     }
 
-    /// Whether this is whom a cleanup ends next: a task, or behind the last a root that was made and not taken in.
+    /// Whether this is whom a cleanup ends next: a task, or after the last a root that was made and not taken in.
     fn is_ended_next(&self, by: Option<u64>) -> bool
         ensures { IsTrue result ↔ IsEndedNext self.now.root (ends_next self.now.running self.now.root) by }
     {

@@ -32,8 +32,9 @@ impl Model for NodeRow {
     ghost view = { λ n. record { number = n.number; parent = n.parent; born_ended = n.born_ended; live = n.live; task = n.task } };
 }
 
-/// The nodes that were made, by the numbers that the journal tells. So the tree of a run, which numbers them itself, can't
-/// stand here.
+/// The nodes that were made, by the numbers that the journal tells. Those may be any fresh ones, and the tree of a
+/// run numbers its nodes itself, so it can't be used here. A map leads from a number to its place, so none is looked
+/// for in a list.
 #[derive(Drop)]
 pub struct Nodes {
     rows: Vec<NodeRow>,
@@ -130,7 +131,7 @@ impl Nodes {
         self.ended.has(node)
     }
 
-    /// A child was made. It answers `NoMemory` also where the number was told before, as a node's or as a parent's.
+    /// A child was made. It is refused with `NoMemory` also where the number was told before, as a node's or as a parent's.
     pub fn add_child(&mut self, number: u64, parent: u64) -> Result<(), NoMemory>
         ensures { OnOk result (self.new ≡ with_child self.old number parent) }
     {

@@ -6,7 +6,7 @@ ghost use Rattle.std.specs.List.Sorted.{IsPermutation};
 use rt_base::NoMemory;
 use std::alloc::Global;
 
-/// Whether one list has the numbers of the other, in any order.
+/// Returns whether one list has the numbers of the other, in any order.
 pub fn is_permutation(alloc: Global, numbers: &[u64], order: &[u64]) -> Result<bool, NoMemory>
     ensures { IfOk result (λ is. IsTrue is ↔ IsPermutation numbers.now order.now) }
 {

@@ -163,7 +163,7 @@ impl Walker {
     }
 }
 
-/// Whether a poll of a slot that stands so is told so.
+/// Whether a poll of a slot in this state may have this reply.
 fn receive_answers(found: Option<TaskResult>, reply: &CallReply) -> bool
     ensures { IsTrue result ↔ ReceiveAnswers found reply.now }
 {
@@ -177,7 +177,7 @@ fn receive_answers(found: Option<TaskResult>, reply: &CallReply) -> bool
     }
 }
 
-/// Whether a result that was sent may be told so: a value, or any error.
+/// Whether a result that was sent may have this reply: a value, or any error.
 fn is_sent(reply: &CallReply) -> bool
     ensures { IsTrue result ↔ IsSent reply.now }
 {
@@ -190,7 +190,7 @@ fn is_done(reply: &CallReply) -> bool
     matches!(reply, CallReply::Done)
 }
 
-/// Whether a result that stands so is told so.
+/// Whether a join of a result in this state has this reply.
 fn outcome_answers(outcome: Outcome, reply: &CallReply) -> bool
     ensures { IsTrue result ↔ OutcomeAnswers outcome reply.now }
 {
@@ -220,7 +220,7 @@ fn is_completion(reply: &CallReply, number: u64) -> bool
     }
 }
 
-/// Whether a poll of a signal that shows this is told so.
+/// Whether a poll of a signal that shows this has this reply.
 fn is_shown(shown: Result<Poll<i32>, Error>, reply: &CallReply) -> bool
     requires { IfErr shown (λ e. (e ≡ Error.UnknownToken) ⊎ (e ≡ Error.Closed)) }
     ensures { IsTrue result ↔ ShownAs shown_reply shown reply.now }
@@ -236,7 +236,7 @@ fn is_shown(shown: Result<Poll<i32>, Error>, reply: &CallReply) -> bool
     }
 }
 
-/// Whether a poll of a completion that is met so is told so.
+/// Whether a poll of a completion in this state has this reply.
 fn is_met(met: Result<Poll<()>, Error>, reply: &CallReply) -> bool
     requires { IfErr met (λ e. e ≡ Error.UnknownToken) }
     ensures { IsTrue result ↔ ShownAs met_reply met reply.now }
@@ -266,7 +266,7 @@ fn is_pending(reply: &CallReply) -> bool
     matches!(reply, CallReply::Pending)
 }
 
-/// Whether `stopped` is answered so.
+/// Whether `stopped` has this reply.
 fn is_stopped(stopped: &Stopped, reply: &CallReply) -> bool
     ensures { IsTrue result ↔ (reply.now ≡ stopped_reply stopped.now) }
 {
@@ -277,7 +277,7 @@ fn is_stopped(stopped: &Stopped, reply: &CallReply) -> bool
     }
 }
 
-/// Whether a number may be told so that is drawn and no higher than this.
+/// Whether a number that is drawn and no higher than this may have this reply.
 fn is_number(reply: &CallReply, last: u64) -> bool
     ensures short { (s : State) → last ≡ 2 ^ 32 - 1 → (IsTrue result ↔ Answers s NextU32 reply.now) }
     ensures long { (s : State) → last ≡ 2 ^ 64 - 1 → (IsTrue result ↔ Answers s NextU64 reply.now) }
@@ -288,7 +288,7 @@ fn is_number(reply: &CallReply, last: u64) -> bool
     }
 }
 
-/// Whether so many bytes may be told so: what is drawn, or a digest, which has four.
+/// Whether so many bytes may have this reply: what is drawn, or a digest, which has four.
 fn are_bytes(reply: &CallReply, len: u64) -> bool
     ensures filled { (s : State) → IsTrue result ↔ Answers s (FillBytes len) reply.now }
     ensures digest { (s : State) → len ≡ 4 → (IsTrue result ↔ Answers s Auditor reply.now) }

@@ -35,7 +35,7 @@ pub fn note_abort(results: &mut Table<TaskResult>, task: u64)
     }
 }
 
-/// Changes how a result stands.
+/// Changes the state of a result.
 #[tactic(auto, using(crate::proofs::Tables::table_laws))]
 pub fn set_outcome(results: &mut Table<TaskResult>, task: u64, outcome: Outcome)
     ensures { results.new ≡ with_outcome outcome task results.old }
@@ -62,7 +62,7 @@ pub fn add_waiting(
     Ok(())
 }
 
-/// A task ends: one that has finished leaves its result, and where no node ends behind it any other closes it.
+/// A task ends: one that has finished leaves its result, and where no node ends after it any other closes it.
 pub fn end_result(stage: &Stage, settles: bool, results: &mut Table<TaskResult>, task: u64)
     ensures { results.new ≡ results_ended (phase_of stage.now) settles task results.old }
 {

@@ -49,7 +49,7 @@ impl Running {
         self.numbers.binary_search(&task).is_ok()
     }
 
-    /// The place of a number behind those that aren't above it. Mostly that is the end.
+    /// The place of a number after those that aren't above it. Mostly that is the end.
     fn place_of(&self, task: u64) -> usize
         ensures within { result ≤ length self.now }
         ensures low { (j : ℕ) → j < result → get_or self.now j 0 ≤ task }
@@ -75,7 +75,7 @@ impl Running {
         Ok(())
     }
 
-    /// A task runs no more.
+    /// A task no longer runs.
     pub fn remove(&mut self, task: u64)
         ensures { self.new ≡ without_number task self.old }
     {

@@ -19,7 +19,7 @@ use std::marker::Model;
 pub struct Slots {
     results: Table<TaskResult>,
     senders: Table<()>,
-    // wide enough for the number behind the last one
+    // wide enough for the number after the last one
     count: u128,
 }
 
@@ -43,7 +43,7 @@ impl Slots {
         }
     }
 
-    /// How a slot stands, where its receiver wasn't spent.
+    /// The state of a slot, where its receiver wasn't spent.
     pub fn get(&self, slot: u64) -> Option<TaskResult>
         ensures { result ≡ find slot self.now.results }
     {
@@ -97,7 +97,7 @@ impl Slots {
         Ok(())
     }
 
-    /// Adds a slot. It answers `NoMemory` also for a number that was given before.
+    /// Adds a slot. It is refused with `NoMemory` also for a number that was given before.
     fn add(&mut self, slot: u64) -> Result<(), NoMemory>
         ensures { OnOk result (self.new ≡ with_slot slot self.old) }
     {
@@ -119,7 +119,7 @@ impl Slots {
         self.senders.remove(slot);
     }
 
-    /// The receiver polled, and the slot stands so.
+    /// The receiver polled, and the slot is in this state.
     fn poll(&mut self, slot: u64, outcome: Outcome)
         ensures { self.new ≡ with_polled outcome slot self.old }
     {
@@ -138,7 +138,7 @@ impl Slots {
     }
 }
 
-/// How a slot stands once its sender left this.
+/// The state of a slot once its sender left this.
 fn settled(outcome: Outcome, found: TaskResult) -> TaskResult
     ensures { result ≡ settled outcome found }
 {

@@ -1,4 +1,4 @@
-//! Where a run stands.
+//! Where a run is.
 
 ghost use Rattle.std.specs.Prelude.{◌≡◌, IfOk, ◌↔◌, IsTrue};
 ghost use Rattle.rt_model.specs.Effects.{left_of, entered_by, ended, ends_in_panic, finished, left_pending, leaving, node_ended, cleans, cause_of, is_closing};
@@ -10,7 +10,7 @@ use rt_audit::FinishCause;
 use rt_model::Outcome;
 use std::alloc::Global;
 
-/// Where a run stands, with what is left of a round under way, or the cause that it has reached.
+/// Where a run is, with what is left of a round under way, or the cause that it has reached.
 #[derive(Drop)]
 pub enum Stage {
     Blank,
@@ -73,7 +73,7 @@ impl Stage {
         }
     }
 
-    /// Behind the event of a visit: the root isn't polled where a panic is kept, and a task that is flagged ends unpolled.
+    /// After the event of a visit: the root isn't polled where a panic is kept, and a task that is flagged ends unpolled.
     pub fn after_event(halts: bool, flagged: bool, task: u64, left: Left) -> Stage
         ensures { phase_of result ≡ entered_by halts flagged task left }
     {
@@ -90,7 +90,7 @@ impl Stage {
         }
     }
 
-    /// Behind a pending answer: a task that was flagged ends.
+    /// After a pending answer: a task that was flagged ends.
     pub fn after_pending(flagged: bool, task: u64, left: Left) -> Stage
         ensures { phase_of result ≡ left_pending flagged task left }
     {
@@ -105,7 +105,7 @@ impl Stage {
         }
     }
 
-    /// Behind the last answer of a task: the root's ends the rounds for this cause, and another ends with this result.
+    /// After the last answer of a task: the root's ends the rounds for this cause, and another ends with this result.
     pub fn after_last(
         is_root: bool,
         cause: FinishCause,
@@ -126,7 +126,7 @@ impl Stage {
         }
     }
 
-    /// Behind an end, which leaves its visit where no node ends behind it, if it was within one.
+    /// After an end, which leaves its visit where no node ends after it, if it was within one.
     pub fn into_ended(self, settles: bool) -> Stage
         ensures { phase_of result ≡ ended settles (phase_of self) }
     {
@@ -137,7 +137,7 @@ impl Stage {
         }
     }
 
-    /// Behind the end of a node.
+    /// After the end of a node.
     pub fn into_node_ended(self) -> Stage
         ensures { phase_of result ≡ node_ended (phase_of self) }
     {
@@ -148,7 +148,7 @@ impl Stage {
         }
     }
 
-    /// Behind the beginning of a cleanup, which ends node 0 where that hasn't ended.
+    /// After the beginning of a cleanup, which ends node 0 where that hasn't ended.
     pub fn cleaned(ended: bool, cause: Option<FinishCause>) -> Stage
         ensures { phase_of result ≡ cleans ended cause }
     {

@@ -27,9 +27,9 @@ use std::mem;
 
 #[tactic(auto, unfolding(rt_model::specs::Effects::after))]
 impl Walker {
-    /// Takes an entry in. It answers `NoMemory` also where no number is left for a further alarm, for a sleep of the task
-    /// `u64::MAX`, which is no task's number, and for a task, a node or a slot whose number was given before. After that answer
-    /// nothing is known of the walker any more.
+    /// Takes in an entry, whether it may come or not. It is refused with `NoMemory` also where no number is left for
+    /// a further alarm, for a sleep of the task `u64::MAX`, which is no task's number, and for a task, a node or a
+    /// slot whose number was given before. After a refusal nothing is known of the walker any more.
     #[tactic(auto, using(crate::proofs::Quiet::quiet_laws), unfolding(rt_model::specs::Effects::after))]
     pub fn step(&mut self, entry: &Entry) -> Result<(), NoMemory>
         ensures here { OnOk result (self.new ≡ quiet (after self.old entry.now)) }
@@ -62,7 +62,7 @@ impl Walker {
         self.stand_at(Stage::Making);
     }
 
-    /// The run stands so from here on, and nobody is to be woken.
+    /// The run is here from now on, and nobody is to be woken.
     fn stand_at(&mut self, stage: Stage)
         ensures { self.new ≡ record self.old { phase = phase_of stage; owed = []; announced = []; drawn = []; turns = [] } }
     {
@@ -78,7 +78,7 @@ impl Walker {
         self.owe(nobody);
     }
 
-    /// These are to be woken, and no event stands before the next call.
+    /// These are to be woken, and no event is before the next call.
     fn owe(&mut self, owed: Left)
         ensures { self.new ≡ record self.old { owed = owed; announced = []; drawn = []; turns = [] } }
     {

@@ -49,7 +49,7 @@ impl<V: Drop> Table<V> {
         }
     }
 
-    /// Puts this in the place of what a number has. Nothing where it has nothing.
+    /// Puts this in the place of what a number has. Where it has nothing, nothing changes.
     #[tactic(auto, using(crate::proofs::Placed::replace_laws))]
     pub fn replace(&mut self, number: u64, value: V)
         ensures { self.new ≡ replaced (λ _. value) number self.old }
@@ -73,7 +73,7 @@ impl<V: Drop> Table<V> {
         }
     }
 
-    /// Adds what a number has. It answers `NoMemory` also for a number that was added before.
+    /// Adds what a number has. It is refused with `NoMemory` also for a number that was added before.
     #[tactic(auto, using(crate::proofs::Placed::push_laws))]
     pub fn push(&mut self, number: u64, value: V) -> Result<(), NoMemory>
         ensures { OnOk result (self.new ≡ self.old ++ (number, value) ∷ []) }

@@ -57,15 +57,15 @@ impl ToldAlarms {
         if time < due { Some(due) } else { None }
     }
 
-    /// Whether a sleep may be told this number: the next, or that of its own alarm.
+    /// Whether a sleep may receive this number: the next, or that of its own alarm.
     pub fn may_tell(&self, due: Nanos, number: u64) -> bool
         ensures { IsTrue result ↔ ((number ≡ self.now.count) ⊎ (is_set self.now.alarms due number ≡ true)) }
     {
         number == self.set.count() || self.set.due_of(number) == Some(due)
     }
 
-    /// A sleep was told this number: that of a new alarm, or of its own. It answers `NoMemory` also where no number is
-    /// left for a further alarm, and for `NOBODY`, which stands for no task in the alarms.
+    /// A sleep received this number: that of a new alarm, or of its own. It is refused with `NoMemory` also where no number is
+    /// left for a further alarm, and for `NOBODY`, which means no task in the alarms.
     pub fn sleep(&mut self, by: Option<u64>, due: Nanos, number: u64) -> Result<(), NoMemory>
         ensures { OnOk result (self.new ≡ slept self.old by due number) }
     {

@@ -92,7 +92,7 @@ impl ToldSignals {
         self.signals.met(completion)
     }
 
-    /// What `stopped` answers.
+    /// What `stopped` returns.
     pub fn stopped(&self) -> Stopped
         ensures { result ≡ stopped_answer self.now.signals self.now.stop }
     {
@@ -135,7 +135,7 @@ fn woken_of(alloc: Global, signals: &mut Signals) -> Result<Vec<u64>, NoMemory>
     Ok(woken)
 }
 
-/// Whom a poll by this lets wait. The task `u64::MAX` stands for nobody, and so is refused.
+/// Whom a poll by this lets wait. The task `u64::MAX` means nobody, and so is refused.
 fn waits_as(by: Option<u64>) -> Result<u64, NoMemory>
     ensures { IfOk result (λ task. waker_of task ≡ by) }
 {

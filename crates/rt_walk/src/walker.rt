@@ -27,14 +27,15 @@ use rt_model::{Begin, Mark, TaskResult};
 use std::alloc::Global;
 use std::marker::Model;
 
-/// What the entries of a journal tell so far. Contracts see the state of a run without its calls under way and
-/// without all that was drawn.
+/// What the entries of a journal tell so far, walked entry by entry. It rests on the definitions and on the alarms,
+/// signals and shutdown of `rt_super`, and not on the machine. Contracts see the state of a run without its calls
+/// under way and without all that was drawn, for which no rule asks.
 #[derive(Drop)]
 pub struct Walker {
     pub(crate) begin: Begin,
     pub(crate) time: Nanos,
     pub(crate) stage: Stage,
-    // wide enough for the number behind the last one
+    // wide enough for the number after the last one
     pub(crate) next: u128,
     pub(crate) root: Option<u64>,
     pub(crate) root_left: bool,
@@ -65,8 +66,8 @@ impl Model for Walker {
 
 #[tactic(auto, unfolding(rt_model::specs::Effects::after, rt_model::specs::State::begun))]
 impl Walker {
-    /// Before the first entry of a run. `begin` holds what the start of the run fixes, its first moment, cycle, deadline
-    /// and task number, and the `Start` entry must say the same.
+    /// Makes a walker before the first entry of a run. `begin` holds what the start of the run fixes, its first
+    /// moment, cycle, deadline and task number, and the `Start` entry must say the same.
     pub fn new(alloc: Global, begin: Begin) -> Result<Walker, NoMemory>
         ensures { IfOk result (λ walker. walker ≡ begun begin) }
     {
@@ -102,7 +103,7 @@ impl Walker {
         *self.ready.allocator()
     }
 
-    /// Whether the entry starts a further run, behind a completed one.
+    /// Whether the entry starts a further run, after a completed one.
     pub(crate) fn renews(&self, entry: &Entry) -> bool
         ensures { result ≡ renews entry.now self.now.phase }
     {
@@ -159,7 +160,7 @@ impl Walker {
         self.begin.first <= task && (task as u128) < self.next
     }
 
-    /// Whether no node ends behind the end of this task.
+    /// Whether no node ends after the end of this task.
     pub(crate) fn is_settled(&self, task: u64) -> bool
         ensures { result ≡ is_settled self.now task }
     {
