@@ -16,7 +16,7 @@ use Rattle.rt_model.specs.Rules.{Answers, MayCall}
 use Rattle.rt_machine.specs.Calls.{turn_in, marked}
 use Rattle.rt_world.specs.World.{World, Drew}
 
--- the mark of a call that lacked memory stays
+-- the mark of a call that ran out of memory stays
 unfoldable pub Stays : Option (List Turn) → Option (List Turn) → Type 0
 Stays old new = (made : List Turn) → old ≡ Some made → new ≡ Some made
 
@@ -55,11 +55,11 @@ pub record Made {A O G : Type 0} (old new : World A O G) (ask : Ask A O) (reply 
   pub stood : stood_in new.told.state ≡ stood_called (stood_in old.told.state) old.out (call_of ask) reply
   pub drawn : new.told.state.drawn ≡ drawn_called old.told.state.drawn (call_of ask) reply
 
--- the call lacked memory, and nothing else has changed
+-- the call ran out of memory, and nothing else has changed
 abbrev pub lacking : {A O G : Type 0} → World A O G → World A O G
 lacking w = record w { lacked = marked w.lacked w.told.state.turns }
 
--- the call was refused: it lacked memory, or it was made and answered with this error
+-- the call was refused: it ran out of memory, or it was made and refused with this error
 abbrev pub IsRefused : {A O G : Type 0} → World A O G → World A O G → Ask A O → Error → Type 0
 IsRefused old new ask error = ((error ≡ NoMemory) × (new ≡ lacking old)) ⊎ Made old new ask (Refused error)
 
@@ -78,12 +78,12 @@ pub record IsUnsent {A O G : Type 0} (w : World A O G) (slot : ℕ) : Type 0 whe
   pub held : find slot w.held.sent ≡ None
   pub there : is_there (find slot w.told.state.slots.results) ≡ false
 
--- a slot was polled: nothing stands there yet, or this value was handed out
+-- a slot was polled: nothing is there yet, or this value was handed out
 abbrev pub Received : {A O G : Type 0} → World A O G → World A O G → ℕ → Option O → Type 0
 Received old new slot None = IsUnsent old slot × Made old new (Plainly (SlotPoll slot)) Pending
 Received old new slot (Some value) = (find slot old.held.sent ≡ Some (Ok value)) × Made old new (Plainly (SlotPoll slot)) Ready
 
--- the poll of a slot was refused: it lacked memory, or it was answered with this error, which is the one that was sent, if one was
+-- the poll of a slot was refused: it ran out of memory, or with this error, which is the one that was sent, if one was
 abbrev pub IsUnreceived : {A O G : Type 0} → World A O G → World A O G → ℕ → Error → Type 0
 IsUnreceived old new slot error =
     ((error ≡ NoMemory) × (new ≡ lacking old))

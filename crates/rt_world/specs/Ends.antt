@@ -35,27 +35,27 @@ pub record Seals {A O G : Type 0} (stream : G → Stream) (old new : World A O G
   pub writes : Writes stream old new
   pub tasks : new.held.tasks ≡ []
 
--- the run has reached this cause, unless it lacked memory
+-- the run has reached this cause, unless it ran out of memory
 abbrev pub Reaches : State → FinishCause → Type 0
 Reaches s NoMemory = Unit {0}
 Reaches s cause = reached s ≡ Some cause
 
--- a maker that made no root lacked memory
+-- a maker that made no root ran out of memory
 abbrev pub Makes : {A : Type 0} → Option A → FinishCause → Type 0
 Makes None cause = cause ≡ NoMemory
 Makes (Some root) cause = Unit {0}
 
--- the run is finished with the cause that it reached, or as one that lacked memory
+-- the run is finished with the cause that it reached, or as one that ran out of memory
 abbrev pub IsFinal : FinishCause → FinishCause → Type 0
 IsFinal cause final = (final ≡ cause) ⊎ (final ≡ NoMemory)
 
--- the journal follows the steps to the end. Where a part lacked memory the run ends for that
+-- the journal follows the steps to the end. Where a part ran out of memory the run ends for that
 pub record EndsFor {A O G : Type 0} (p : Steps A O) (new : World A O G) (final : FinishCause) (output : Option O) (whole : Bool) : Type 0 where
   pub last : Bool
   pub agrees : AgreesWith p last new output None
   pub kept : (last ≡ whole) ⊎ (final ≡ NoMemory)
 
--- as before, unless the end of a task lacked memory
+-- as before, unless the end of a task ran out of memory
 abbrev pub unless : Option Bool → Bool → Bool
 unless None whole = whole
 unless (Some lacked) whole = still lacked whole

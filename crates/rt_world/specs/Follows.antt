@@ -24,11 +24,11 @@ AgreesWith p whole w output unmade = Follows p w.told (value_of w output unmade 
 abbrev pub Agrees : {A O G : Type 0} → Steps A O → Bool → World A O G → Option O → Type 0
 Agrees p whole w output = AgreesWith p whole w output None
 
--- a part may have lacked memory
+-- a part may have run out of memory
 abbrev pub AgreesAtLeast : {A O G : Type 0} → Steps A O → World A O G → Option O → Type 0
 AgreesAtLeast p w output = (whole : Bool) × Agrees p whole w output
 
--- as before, unless a part has lacked memory
+-- as before, unless a part has run out of memory
 abbrev pub still : (lacked : Bool) → Bool → Bool
 still true whole = false
 still false whole = whole
@@ -43,13 +43,13 @@ pub record IsMade {A O G : Type 0} (p : Steps A O) (w : World A O G) (root : A) 
   pub follows : Follows p w.told (unmade_of before)
   pub walks : Walks (p.first w.told.state.clock.time) before w.told.state.turns (stood_in w.told.state) tt root w.held
 
--- the maker has lacked memory, or said so itself
+-- the maker has run out of memory, or said so itself
 pub record IsUnmade {A O G : Type 0} (p : Steps A O) (w : World A O G) (unmade : Option A) : Type 0 where
   pub before : Held A O
   pub follows : Follows p w.told (unmade_of before)
   pub breaks : Breaks (p.first w.told.state.clock.time) before w.told.state.turns (stood_in w.told.state) w.held ⊎ (Fronts (p.first w.told.state.clock.time) before w.told.state.turns w.held × (unmade ≡ None))
 
--- the root of a maker that lacked memory is free
+-- the root of a maker that ran out of memory is free
 abbrev pub MakingAgrees : {A O G : Type 0} → Steps A O → Bool → World A O G → Option A → Type 0
 MakingAgrees p true w (Some root) = IsMade p w root
 MakingAgrees p true w None = ⊥

@@ -10,7 +10,7 @@ use Rattle.rt_audit.specs.declared.reply.CallReply.TheVariants.{Pending as Still
 use Rattle.rt_model.specs.Turns.{Plainly, Heard, Plain, Handed}
 use Rattle.rt_model.specs.Walk.{Step, Last, Does, Spends, Gives}
 
--- the answer of a poll, by what was told of the result
+-- the answer of a poll, by what was heard of the result
 abbrev pub polled : {O : Type 0} → Result (Option O) Error → Poll (Result O Error)
 polled (Ok None) = Pending
 polled (Ok (Some value)) = Ready (Ok value)

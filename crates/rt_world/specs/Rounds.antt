@@ -22,7 +22,7 @@ pub record Runs {A O G : Type 0} (stream : G → Stream) (old new : World A O G)
   pub root : new.told.state.root ≡ old.told.state.root
   pub out : new.out ≡ None
 
--- a round was drained in this order, and its visits came behind
+-- a round was drained in this order, and its visits came after it
 pub record Begins {A O G : Type 0} (stream : G → Stream) (old new : World A O G) (order : List ℕ) : Type 0 where
   pub drained : Told
   pub left : Stream
@@ -33,7 +33,7 @@ pub record Begins {A O G : Type 0} (stream : G → Stream) (old new : World A O 
 abbrev pub StandsBetween : State → Type 0
 StandsBetween s = (s.phase ≡ Between) ⊎ ((s.phase ≡ Turning) × MayRound Turning s)
 
--- where the run stands when its rounds have ended
+-- where the run is when its rounds have ended
 abbrev pub EndStands : {O : Type 0} → State → Result O FinishCause → Type 0
 EndStands s (Ok output) = s.phase ≡ Over Completed
 EndStands s (Err cause) = StandsFor s cause

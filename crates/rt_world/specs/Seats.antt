@@ -15,7 +15,7 @@ pub record Roomed (V : Type 0) : Type 0 where
   pub next : ℕ
   pub spare : ℕ
 
--- what stands in places, the first of which has this number
+-- what is in places, the first of which has this number
 abbrev pub seats_from : {A : Type 0} → ℕ → List (Option A) → List (ℕ × A)
 seats_from n [] = []
 seats_from n (None ∷ places) = seats_from (n + 1) places

@@ -29,7 +29,7 @@ pub record IsFresh {A O G : Type 0} (w : World A O G) : Type 0 where
   pub turns : w.told.state.turns ≡ []
   pub lacked : w.lacked ≡ None
 
--- where the run stands behind the poll of a task
+-- where the run is after the poll of a task
 abbrev pub TurnoutStands : {O : Type 0} → State → ℕ → List ℕ → Result (Turnout O) FinishCause → Type 0
 TurnoutStands s task left (Ok Stays) = s.phase ≡ Visiting left
 TurnoutStands s task left (Ok (Gave output)) = s.phase ≡ Over Completed
@@ -41,13 +41,13 @@ abbrev pub output_of : {O : Type 0} → Turnout O → Option O
 output_of (Gave output) = Some output
 output_of turnout = None
 
--- where the run stands after a visit: the round goes on, or the root gave its output, or the run ends
+-- where the run is after a visit: the round goes on, or the root gave its output, or the run ends
 abbrev pub StandsAfter : {O : Type 0} → State → List ℕ → Result (Option O) FinishCause → Type 0
 StandsAfter s left (Ok None) = s.phase ≡ Visiting left
 StandsAfter s left (Ok (Some output)) = s.phase ≡ Over Completed
 StandsAfter s left (Err cause) = StandsFor s cause
 
--- where it stands after the visits of a round
+-- where it is after the visits of a round
 abbrev pub RoundStands : {O : Type 0} → State → Result (Option O) FinishCause → Type 0
 RoundStands s (Ok None) = (s.phase ≡ Visiting (left_of s.phase)) × (from_running s.running (left_of s.phase) ≡ [])
 RoundStands s (Ok (Some output)) = s.phase ≡ Over Completed
@@ -58,7 +58,7 @@ abbrev pub CauseAgrees : {A O G : Type 0} → Steps A O → World A O G → Fini
 CauseAgrees p w NoMemory = AgreesAtLeast p w None
 CauseAgrees p w cause = Agrees p true w None
 
--- how far it follows them behind a visit
+-- how far it follows them after a visit
 abbrev pub AgreesAfter : {A O G : Type 0} → Steps A O → World A O G → Result (Option O) FinishCause → Type 0
 AgreesAfter p w (Ok output) = Agrees p true w output
 AgreesAfter p w (Err cause) = CauseAgrees p w cause
@@ -67,7 +67,7 @@ abbrev pub TurnoutAgrees : {A O G : Type 0} → Steps A O → World A O G → Re
 TurnoutAgrees p w (Ok turnout) = Agrees p true w (output_of turnout)
 TurnoutAgrees p w (Err cause) = CauseAgrees p w cause
 
--- behind the end of a task in its visit, which may have lacked memory
+-- after the end of a task in its visit, which may have run out of memory
 abbrev pub EndedAgrees : {A O G : Type 0} → Steps A O → World A O G → Result (Unit {0}) FinishCause → Type 0
 EndedAgrees p w (Ok done) = Agrees p true w None
 EndedAgrees p w (Err cause) = AgreesAtLeast p w None

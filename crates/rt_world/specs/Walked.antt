@@ -17,8 +17,8 @@ use Rattle.rt_machine.specs.Calls.{sleep_reply, spawn_reply}
 use Rattle.rt_world.specs.World.{World}
 use Rattle.rt_world.specs.Calls.{SpentBy}
 
--- a call lacked memory behind these turns: those among the further ones are a front of the walk, and what they made is held. What the
--- others made is free
+-- a call ran out of memory after these turns: those among the further ones are a front of the walk, and what they made is
+-- held. What the others made is free
 pub record Broke {A L O R : Type 0} (step : Step A L O R) (held : Held A O) (past made more : List Turn) (stood : Stood) (end : Held A O) : Type 0 where
   pub front : List Turn
   pub rest : List Turn
@@ -33,7 +33,7 @@ abbrev pub EndsWith : {A L O R : Type 0} → Step A L O R → Held A O → List 
 EndsWith step held turns stood None end = Fronts step held turns end
 EndsWith step held turns stood (Some given) end = Walks step held turns stood given.0 given.1 end
 
--- from the one world to the other these turns were made, which end so where no call lacked memory
+-- from the one world to the other these turns were made, which end so where no call ran out of memory
 pub record Turned {A L O R G : Type 0} (step : Step A L O R) (old new : World A O G) (given : Option (R × L)) : Type 0 where
   pub more : List Turn
   pub turns : new.told.state.turns ≡ old.told.state.turns ++ more
@@ -51,7 +51,7 @@ Walked step old new answer left = Turned step old new (Some (answer, left))
 unfoldable pub Spent : {A O G : Type 0} → Last A O → World A O G → World A O G → Type 0
 Spent step old new = Turned step old new (Some (tt, tt))
 
--- an answer that memory was lacking breaks off
+-- an answer of being out of memory breaks off
 abbrev pub answered_by : {A O : Type 0} → Answer O → A → Option (Answer O × A)
 answered_by NoMemory left = None
 answered_by answer left = Some (answer, left)
@@ -78,7 +78,7 @@ pub record Goes {A L O R G : Type 0} (step : Step A L O R) (old new : World A O 
   pub makes : (more : R → L → Step A A O (Unit {0})) (end : World A O G) (root : Result A OutOfMemory) → Rooted (more answer left) new end root → Rooted (then step more) old end root
 
 -- what a call leaves: whoever goes on from what was heard of it has made it and walked the rest, in a poll, an end or a maker. Where
--- it lacked memory, what follows is free
+-- it ran out of memory, what follows is free
 pub record Called {A O G : Type 0} (ask : Ask A O) (old new : World A O G) (heard : Heard O) : Type 0 where
   pub onward : (on : Heard O → Step A A O (Answer O)) (end : World A O G) (given : Answer O) (state : A) → Polled (on heard) new end given state → Polled (Does ask on) old end given state
   pub ends : (on : Heard O → Last A O) (end : World A O G) → Spent (on heard) new end → Spent (Does ask on) old end
@@ -88,7 +88,7 @@ pub record Called {A O G : Type 0} (ask : Ask A O) (old new : World A O G) (hear
 unfoldable pub tells : {A O V : Type 0} → Ask A O → (Heard O → V) → Step A (Unit {0}) O V
 tells ask read = Does ask (λ heard. Gives (read heard) tt)
 
--- what is told of the calls
+-- what is known of the calls
 abbrev pub wake_told : {O : Type 0} → Result (Unit {0}) Error → Heard O
 wake_told (Ok done) = Plain Done
 wake_told (Err error) = Plain (Refused error)
@@ -161,7 +161,7 @@ abbrev pub join_told : {O : Type 0} → Result (Option O) Error → Heard O
 join_told (Ok value) = value_told value
 join_told (Err error) = Plain (Refused error)
 
--- a poller that lacked memory itself answers so
+-- a poller that ran out of memory itself returns that
 abbrev pub SaysLack : {A O G V : Type 0} → World A O G → World A O G → Poll (Result V Error) → Type 0
 SaysLack old new answer = old.lacked ≡ None → is_some new.lacked ≡ true → answer ≡ IsReady (Err LacksMemory)
 

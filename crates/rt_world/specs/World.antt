@@ -7,8 +7,8 @@ use Rattle.rt_model.specs.Turns.{Held}
 use Rattle.rt_machine.specs.Told.{Told, own}
 use Rattle.rt_machine.specs.Draws.{Draws}
 
--- what its journal tells; the turns that were made before a call of the part under way lacked memory, if one did; the values that it
--- holds; the text of a panic that is kept; whose state is out; and its generator
+-- what its journal tells; the turns that were made before a call of the part under way ran out of memory, if one did; the
+-- values that it holds; the text of a panic that is kept; whose state is out; and its generator
 pub record World (A O G : Type 0) : Type 0 where
   pub told : Told
   pub lacked : Option (List Turn)
@@ -17,7 +17,7 @@ pub record World (A O G : Type 0) : Type 0 where
   pub out : Option ℕ
   pub rng : G
 
--- further entries stand behind these
+-- further entries come after these
 pub record Front (old new : List Entry) : Type 0 where
   pub more : List Entry
   pub are : new ≡ old ++ more
@@ -30,6 +30,6 @@ IsFront old new = Front (own old) (own new)
 unfoldable pub Drew : {A O G : Type 0} → (G → Stream) → World A O G → World A O G → Type 0
 Drew stream old new = Draws (stream old.rng) (stream new.rng) old.told.state.drawn new.told.state.drawn
 
--- further entries stand behind those so far, and the generator gave what was drawn in them
+-- further entries come after those so far, and the generator gave what was drawn in them
 unfoldable pub Writes : {A O G : Type 0} → (G → Stream) → World A O G → World A O G → Type 0
 Writes stream old new = IsFront old.told new.told × Drew stream old new

@@ -15,7 +15,7 @@ use rt_base::{Error, MAX_TIME, Nanos, NoMemory};
 
 #[tactic(auto, using(crate::proofs::Walked::call_laws, crate::proofs::Walked::stay_laws, crate::proofs::Calling::seated_laws, crate::proofs::Slotted::slotted_laws), unfolding(rt_model::specs::Effects::after))]
 impl<T, O, G: Rng> World<T, O, G> {
-    /// Marks that a call lacked memory, for one that takes memory of its own before it calls the world.
+    /// Marks that a call ran out of memory, for one that takes memory of its own before it calls the world.
     #[tactic(auto, using(crate::proofs::Drawing::lack_laws))]
     pub fn lack(&mut self)
         ensures state { self.new ≡ lacking self.old }
@@ -24,11 +24,11 @@ impl<T, O, G: Rng> World<T, O, G> {
         self.machine.lack();
     }
 
-    /// Makes a child of a node. Answers its number, and whether the node has ended: then the child is born ended. It
-    /// takes memory.
+    /// Makes a child of a node, and returns its number, and whether the node has ended: then the child is born ended.
+    /// It takes memory.
     ///
-    /// Errors: `NoMemory` at any time, or else the first that holds: `UnknownToken` where the node isn't live, `Metric` where
-    /// the label isn't valid or the full one is reserved.
+    /// Errors: `NoMemory` at any time, or else the first that holds: `UnknownToken` where the node isn't live,
+    /// `Metric` where the label isn't valid or the full one is reserved.
     pub fn child(&mut self, node: u64, label: &str) -> Result<(u64, bool), Error>
         requires { MayCall self.old.told.state self.old.out }
         ensures kept { Kept G.stream self.old self.new }
@@ -60,8 +60,8 @@ impl<T, O, G: Rng> World<T, O, G> {
         self.machine.abort(self.out, task)
     }
 
-    /// Aborts a task by its number. `UnknownToken` exactly where no task with this number runs that was spawned. It
-    /// takes memory.
+    /// Aborts a task by its number: it is flagged, and woken where it was left pending. It is refused with
+    /// `UnknownToken` exactly where no task with this number runs that was spawned. It takes memory.
     pub fn abort_task(&mut self, task: u64) -> Result<(), Error>
         requires { MayCall self.old.told.state self.old.out }
         ensures kept { Kept G.stream self.old self.new }
@@ -72,8 +72,8 @@ impl<T, O, G: Rng> World<T, O, G> {
         self.machine.abort_task(self.out, task)
     }
 
-    /// Queues a task without another test. `UnknownToken` exactly where the number was never given in this run. It
-    /// takes memory.
+    /// Queues a task without another test. It is refused with `UnknownToken` exactly where the number was never given
+    /// in this run. It takes memory.
     pub fn wake(&mut self, task: u64) -> Result<(), Error>
         requires { MayCall self.old.told.state self.old.out }
         ensures kept { Kept G.stream self.old self.new }
@@ -84,9 +84,9 @@ impl<T, O, G: Rng> World<T, O, G> {
         self.machine.wake(self.out, task)
     }
 
-    /// Polls a sleep that is over at `due`, in nanoseconds since the epoch. `alarm` is the number of this sleep's
-    /// alarm, and counts only where that alarm is still set for `due`. Answers the number of the alarm that will wake
-    /// the task, or none where the sleep is over. It takes memory.
+    /// Polls a sleep that is over at `due`, in nanoseconds since the epoch, and returns the number of the alarm that
+    /// will wake the task, or `None` where the sleep is over. `alarm` is the number of this sleep's alarm, and counts
+    /// only where that alarm is still set for `due`; else a new one is set. It takes memory.
     pub fn sleep_poll(&mut self, due: Nanos, alarm: Option<u64>) -> Result<Option<u64>, NoMemory>
         requires calling { MayCall self.old.told.state self.old.out }
         requires due { due ≤ MAX_TIME }
@@ -102,7 +102,7 @@ impl<T, O, G: Rng> World<T, O, G> {
 
 #[tactic(auto, using(crate::proofs::Walked::call_laws, crate::proofs::Walked::stay_laws, crate::proofs::Calling::seated_laws, crate::proofs::Slotted::slotted_laws), unfolding(rt_model::specs::Effects::after))]
 impl<T, O: Drop, G: Rng> World<T, O, G> {
-    /// Polls the result of a task. Answers the output where it is there, once. It takes memory.
+    /// Polls the result of a task, and returns the output where it is there, once. It takes memory.
     ///
     /// Errors: `Exited` where the task reported a panic, `Closed` where it ended without a result or the result was
     /// taken, `UnknownToken` where the result was given up, `NoMemory`.

@@ -2,21 +2,21 @@
 
 ghost use Rattle.std.specs.Prelude.{◌≡◌};
 
-/// What a poll is told of the task that is polled.
+/// What a poll receives of the task that is polled.
 #[derive(Clone, Copy, Debug)]
 pub struct Cx {
     task: u64,
 }
 
 impl Cx {
-    /// For a poll of this task.
+    /// Makes what a poll of this task receives.
     pub fn new(task: u64) -> Self
         ensures { result.task ≡ task }
     {
         Cx { task }
     }
 
-    /// The number of the task that is polled.
+    /// Returns the number of the task that is polled.
     pub fn task(&self) -> u64
         ensures { result ≡ self.now.task }
     {

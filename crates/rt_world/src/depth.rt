@@ -7,6 +7,6 @@ pub enum Depth {
     State,
     /// What the state leads to.
     Behind,
-    /// What lies behind that.
+    /// What that leads to.
     Further,
 }

@@ -18,7 +18,7 @@ use rt_base::NoMemory;
 
 #[tactic(auto, using(crate::proofs::Drawing::drawing_laws, crate::proofs::Walked::stay_laws), unfolding(rt_model::specs::Effects::after))]
 impl<T, O, G: Rng> World<T, O, G> {
-    /// The next number of 32 bits of the run's generator. It takes memory, and without it nothing is drawn.
+    /// Returns the next number of 32 bits of the run's generator. It takes memory, and without it nothing is drawn.
     pub fn next_u32(&mut self) -> Result<u32, NoMemory>
         requires { MayCall self.old.told.state self.old.out }
         ensures kept { Kept G.stream self.old self.new }
@@ -30,7 +30,7 @@ impl<T, O, G: Rng> World<T, O, G> {
         self.machine.next_u32(self.out, &mut self.rng)
     }
 
-    /// The next number of 64 bits of the run's generator. It takes memory, and without it nothing is drawn.
+    /// Returns the next number of 64 bits of the run's generator. It takes memory, and without it nothing is drawn.
     pub fn next_u64(&mut self) -> Result<u64, NoMemory>
         requires { MayCall self.old.told.state self.old.out }
         ensures kept { Kept G.stream self.old self.new }
@@ -56,7 +56,7 @@ impl<T, O, G: Rng> World<T, O, G> {
         self.machine.fill_bytes(self.out, &mut self.rng, dest)
     }
 
-    /// The digest of all events so far, of those of earlier runs too. It takes memory.
+    /// Returns the digest of all events so far, of those of earlier runs too. It takes memory.
     pub fn auditor(&mut self) -> Result<Auditor, NoMemory>
         requires { MayCall self.old.told.state self.old.out }
         ensures kept { Kept G.stream self.old self.new }

@@ -48,7 +48,7 @@ impl<T, O, G> World<T, O, G> {
         self.machine.crash();
     }
 
-    /// The cause, behind the crash.
+    /// The cause, after the crash.
     #[tactic(auto, using(crate::proofs::Coming::coming_laws), unfolding(rt_model::specs::Effects::after))]
     fn finish(&mut self, cause: FinishCause)
         requires { MayFinish self.old.told.state.phase cause }
@@ -75,7 +75,7 @@ impl<T, O, G> World<T, O, G> {
 }
 
 impl<T: Task, G: Rng> World<T, T::Output, G> {
-    /// Ends the state of the next task, if one is left. Answers whether its end lacked memory.
+    /// Ends the state of the next task, if one is left, and returns whether its end ran out of memory.
     #[tactic(auto, using(rt_machine::proofs::Counts::count_laws, crate::proofs::Seats::closing_laws, crate::proofs::Drawn::part_laws), unfolding(rt_model::specs::Effects::after))]
     fn end_task(&mut self) -> Option<bool>
         requires { IsClosing self.old }
@@ -101,7 +101,7 @@ impl<T: Task, G: Rng> World<T, T::Output, G> {
         Some(false)
     }
 
-    /// Ends the states of all tasks. Answers whether an end lacked memory.
+    /// Ends the states of all tasks, and returns whether an end ran out of memory.
     #[tactic(auto, using(crate::proofs::Drawn::part_laws))]
     fn end_all(&mut self) -> bool
         requires { IsClosing self.old }
@@ -117,8 +117,8 @@ impl<T: Task, G: Rng> World<T, T::Output, G> {
         lacked
     }
 
-    /// Ends a run whose root was taken in, for the cause that it has reached, or as one that lacked memory. Answers the
-    /// cause that the run's last entry has.
+    /// Ends a run whose root was taken in, for the cause that it has reached, or as one that ran out of memory, and
+    /// returns the cause that the run's last entry has.
     #[tactic(auto, unfolding(rt_model::specs::Effects::after))]
     pub fn cleanup(&mut self, cause: FinishCause) -> FinishCause
         requires stands { Reaches self.old.told.state cause }
@@ -139,7 +139,8 @@ impl<T: Task, G: Rng> World<T, T::Output, G> {
         cause
     }
 
-    /// Ends the state of a root that was not taken in, and writes the crash. Answers whether its end lacked memory.
+    /// Ends the state of a root that was not taken in, writes the crash, and returns whether its end ran out of
+    /// memory.
     #[tactic(auto, using(crate::proofs::Seats::closing_laws), unfolding(rt_model::specs::Effects::after))]
     fn crash_unmade(&mut self, unmade: T) -> bool
         requires closing { IsClosing self.old }
@@ -159,8 +160,8 @@ impl<T: Task, G: Rng> World<T, T::Output, G> {
         false
     }
 
-    /// Ends a run whose root was not taken in, for the cause that it has reached, or as one that lacked memory. The maker
-    /// may have made a root. Answers the cause that the run's last entry has.
+    /// Ends a run whose root was not taken in, for the cause that it has reached, or as one that ran out of memory,
+    /// and returns the cause that the run's last entry has. The maker may have made a root.
     #[tactic(auto, unfolding(rt_model::specs::Effects::after))]
     pub fn cleanup_unmade(&mut self, unmade: Option<T>, cause: FinishCause) -> FinishCause
         requires stands { Reaches self.old.told.state cause }

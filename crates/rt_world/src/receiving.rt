@@ -14,7 +14,8 @@ use rand_core::Rng;
 use rt_base::{Error, NoMemory, Poll};
 use std::marker::Model;
 
-/// The sender of a slot. It is a token: it must be spent by [`send`](Self::send) or [`give_up`](Self::give_up).
+/// The sender of a slot, by which one result is sent. It is a token: it must be spent by [`send`](Self::send) or
+/// [`give_up`](Self::give_up).
 ///
 /// Contracts see the number of its slot.
 #[derive(Debug)]
@@ -33,8 +34,8 @@ impl Model for ResultSender {
 /// The receiver of a slot: a poller of the result that is sent into it. It is a token: it must be spent by
 /// [`give_up`](Poller::give_up).
 ///
-/// A poll answers the value that was sent, once; the error that was sent, each time; `Closed` where the sender was given
-/// up and behind the value; and `Aborted` once the wait was aborted.
+/// A poll returns the value that was sent, once; the error that was sent, each time; `Closed` where the sender was
+/// given up and after the value; and `Aborted` once the wait was aborted.
 ///
 /// Contracts see the number of its slot.
 #[derive(Debug)]
@@ -52,7 +53,7 @@ impl Model for ResultReceiver {
 
 #[tactic(auto, using(crate::proofs::Walked::call_laws))]
 impl<T, O, G: Rng> World<T, O, G> {
-    /// Makes a slot, and hands out its two ends. Its only error is `NoMemory`.
+    /// Makes a slot, and returns its two ends. Its only error is `NoMemory`.
     pub fn result_slot(&mut self) -> Result<(ResultSender, ResultReceiver), Error>
         requires { MayCall self.old.told.state self.old.out }
         ensures kept { Kept G.stream self.old self.new }
@@ -69,7 +70,7 @@ impl<T, O, G: Rng> World<T, O, G> {
 }
 
 impl ResultSender {
-    /// Sends the result, which the receiver gets where it still waits for it. It takes no memory.
+    /// Sends the result, which the receiver gets if it still waits for it. It takes no memory.
     #[tactic(auto, using(crate::proofs::Walked::close_laws))]
     pub fn send<T, O: Drop, G: Rng>(self, world: &mut World<T, O, G>, answer: Result<O, Error>)
         requires { MayCall world.old.told.state world.old.out }
@@ -101,7 +102,7 @@ impl ResultSender {
 }
 
 impl ResultReceiver {
-    /// Aborts the wait: from then on a poll answers `Aborted`. Later calls do nothing. It takes no memory.
+    /// Aborts the wait: from then on a poll returns `Aborted`. Later calls do nothing. It takes no memory.
     #[tactic(auto, using(crate::proofs::Walked::close_laws))]
     pub fn abort<T, O: Drop, G: Rng>(&mut self, world: &mut World<T, O, G>)
         requires { MayCall world.old.told.state world.old.out }
@@ -143,7 +144,7 @@ impl<T: Outcome> Poller<T, T::Output> for ResultReceiver {
     }
 }
 
-/// The answer of a poll, by what was told of the result.
+/// Returns the answer of a poll, by what was heard of the result.
 pub fn polled<O>(told: Result<Option<O>, Error>) -> Poll<Result<O, Error>>
     ensures { result ≡ polled told }
 {

@@ -18,8 +18,8 @@ use rt_audit::FinishCause;
 use rt_base::{MAX_TIME, NoMemory};
 
 impl<T, O, G> World<T, O, G> {
-    /// Moves time on by a cycle after a round, and then to where somebody is ready. Answers the cause that the run has
-    /// reached, where it ends there.
+    /// Moves time on by a cycle after a round, and then to where somebody is ready. It is refused with the cause that
+    /// the run has reached, where it ends there. It draws nothing.
     #[tactic(auto, using(crate::proofs::Running::run_laws))]
     pub fn clock_step(&mut self) -> Result<(), FinishCause>
         requires phase { self.old.told.state.phase ≡ Visiting (left_of self.old.told.state.phase) }
@@ -50,8 +50,9 @@ impl<T, O, G: Rng> World<T, O, G> {
 }
 
 impl<T: Task, G: Rng> World<T, T::Output, G> {
-    /// A round: the ready list is drained, and its numbers are visited in the order of the round's entry, which the next draws
-    /// of the generator decide, and which is put into `order`. Answers the root's output, once it has one.
+    /// Does a round, and returns the root's output, once it has one: the ready list is drained, and its numbers are
+    /// visited in the order of the round's entry, which the next draws of the generator decide, and which is put into
+    /// `order`.
     #[tactic(auto, using(crate::proofs::Running::run_laws), unfolding(rt_model::specs::Effects::after))]
     pub fn round(&mut self, order: &mut Vec<u64>) -> Result<Option<T::Output>, FinishCause>
         requires between { StandsBetween self.old.told.state }
@@ -71,8 +72,8 @@ impl<T: Task, G: Rng> World<T, T::Output, G> {
         self.visit_all(order.as_slice())
     }
 
-    /// Rounds and clock steps by turns, until the run has reached a cause to end. Answers the root's output, or that
-    /// cause.
+    /// Does rounds and clock steps by turns, until the run has reached a cause to end, and returns the root's output,
+    /// or that cause.
     #[tactic(auto, using(crate::proofs::Running::run_laws))]
     pub fn run_rounds(&mut self) -> Result<T::Output, FinishCause>
         requires phase { self.old.told.state.phase ≡ Between }

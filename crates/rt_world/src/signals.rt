@@ -16,8 +16,8 @@ use rt_super::Stopped;
 
 #[tactic(auto, using(crate::proofs::Signaled::signal_laws, crate::proofs::Walked::stay_laws), unfolding(rt_model::specs::Effects::after))]
 impl<T, O, G: Rng> World<T, O, G> {
-    /// Makes a group of signals, and answers the number that its signaler, its first signal and its completion have. It
-    /// takes memory.
+    /// Makes a group of signals, and returns the number that its signaler, its first signal and its completion have.
+    /// It takes memory.
     pub fn signaler(&mut self) -> Result<u64, NoMemory>
         requires { MayCall self.old.told.state self.old.out }
         ensures kept { Kept G.stream self.old self.new }
@@ -28,7 +28,7 @@ impl<T, O, G: Rng> World<T, O, G> {
         self.machine.signaler(self.out)
     }
 
-    /// Makes a further signal of the group of this one, and answers its number. It takes memory.
+    /// Makes a further signal of the group of this one, and returns its number. It takes memory.
     ///
     /// Errors: `UnknownToken` exactly where no open signal has the number, `NoMemory`.
     pub fn clone_signal(&mut self, signal: u64) -> Result<u64, Error>
@@ -52,10 +52,10 @@ impl<T, O, G: Rng> World<T, O, G> {
         self.machine.signal(self.out, signaler, value)
     }
 
-    /// Polls a signal. Answers the value of its group, each time. It takes memory.
+    /// Polls a signal, and returns the value of its group once it has one, each time. It takes memory.
     ///
-    /// Errors: `Closed` where the signaler was given up without a value, `UnknownToken` where the signal was given up,
-    /// `NoMemory`.
+    /// Errors: `Closed` where the signaler was given up without a value, `UnknownToken` where the signal was given
+    /// up, `NoMemory`.
     pub fn poll_signal(&mut self, signal: u64) -> Result<Poll<i32>, Error>
         requires { MayCall self.old.told.state self.old.out }
         ensures kept { Kept G.stream self.old self.new }
@@ -111,9 +111,9 @@ impl<T, O, G: Rng> World<T, O, G> {
         self.machine.close_completion(self.out, completion)
     }
 
-    /// Begins the shutdown with this value, which the signals of [`stopped`](Self::stopped) show from then on; where it began
-    /// before, its value stays. Answers the number of a completion, which is met once each of those signals was given up. It
-    /// takes memory.
+    /// Begins the shutdown with this value, and returns the number of a completion, which is met once each signal of
+    /// [`stopped`](Self::stopped) was given up. These signals show the value from then on; where the shutdown began
+    /// before, its value stays. It takes memory.
     pub fn stop(&mut self, value: i32) -> Result<u64, NoMemory>
         requires { MayCall self.old.told.state self.old.out }
         ensures kept { Kept G.stream self.old self.new }
@@ -124,7 +124,7 @@ impl<T, O, G: Rng> World<T, O, G> {
         self.begin_stop(value)
     }
 
-    /// The same, by what it writes alone.
+    /// Begins the shutdown, by what it writes alone.
     fn begin_stop(&mut self, value: i32) -> Result<u64, NoMemory>
         requires { MayCall self.old.told.state self.old.out }
         ensures kept { Kept G.stream self.old self.new }
@@ -134,7 +134,7 @@ impl<T, O, G: Rng> World<T, O, G> {
         self.machine.stop(self.out, value)
     }
 
-    /// Makes a signal of the shutdown, or answers the value with which that began. It takes memory.
+    /// Makes a signal of the shutdown, or returns the value with which that began. It takes memory.
     pub fn stopped(&mut self) -> Result<Stopped, NoMemory>
         requires { MayCall self.old.told.state self.old.out }
         ensures kept { Kept G.stream self.old self.new }

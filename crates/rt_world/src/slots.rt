@@ -14,7 +14,7 @@ use rt_base::{Error, NoMemory};
 
 #[tactic(auto, using(crate::proofs::Walked::call_laws, crate::proofs::Walked::stay_laws, crate::proofs::Calling::seated_laws, crate::proofs::Slotted::slotted_laws), unfolding(rt_model::specs::Effects::after))]
 impl<T, O, G: Rng> World<T, O, G> {
-    /// Makes a slot, into which one result is sent by hand and from which it is received, and answers its number. It
+    /// Makes a slot, into which one result is sent by hand and from which it is received, and returns its number. It
     /// takes memory.
     pub fn slot(&mut self) -> Result<u64, NoMemory>
         requires { MayCall self.old.told.state self.old.out }
@@ -47,8 +47,9 @@ impl<T, O, G: Rng> World<T, O, G> {
 
 #[tactic(auto, using(crate::proofs::Walked::call_laws, crate::proofs::Walked::stay_laws, crate::proofs::Calling::seated_laws, crate::proofs::Slotted::slotted_laws), unfolding(rt_model::specs::Effects::after))]
 impl<T, O: Drop, G: Rng> World<T, O, G> {
-    /// Sends a result into a slot, and spends its sender. What is sent is let go where the receiver was spent or doesn't
-    /// wait for it any more. It takes no memory. Where the sender was spent before it does nothing, and writes no entry.
+    /// Sends a result into a slot, and spends its sender. What is sent is dropped where the receiver was spent or no
+    /// longer waits for it. It takes no memory. Where the sender was spent before it does nothing, and writes no
+    /// entry.
     pub fn slot_send(&mut self, slot: u64, sent: Result<O, Error>)
         requires { MayCall self.old.told.state self.old.out }
         ensures kept { Kept G.stream self.old self.new }
@@ -65,10 +66,10 @@ impl<T, O: Drop, G: Rng> World<T, O, G> {
         }
     }
 
-    /// Polls a slot. Answers the value that was sent, once. It takes memory.
+    /// Polls a slot, and returns the value that was sent, once. It takes memory.
     ///
-    /// Errors: the error that was sent, each time; `Closed` where the slot was closed or the value was taken, `Aborted`
-    /// where the wait was aborted, `UnknownToken` where the receiver was spent, `NoMemory`.
+    /// Errors: the error that was sent, each time; `Closed` where the slot was closed or the value was taken,
+    /// `Aborted` where the wait was aborted, `UnknownToken` where the receiver was spent, `NoMemory`.
     pub fn slot_poll(&mut self, slot: u64) -> Result<Option<O>, Error>
         requires { MayCall self.old.told.state self.old.out }
         ensures kept { Kept G.stream self.old self.new }

@@ -16,12 +16,12 @@ use std::alloc::Global;
 
 #[tactic(auto, using(crate::proofs::Walked::call_laws, crate::proofs::Walked::stay_laws, crate::proofs::Calling::seated_laws, crate::proofs::Slotted::slotted_laws))]
 impl<T, O, G: Rng> World<T, O, G> {
-    /// Spawns a task on a node, which asks to run there: its state is made of what is given and of the number of the fresh
-    /// node on which its own context stands. Answers the task's number and that node's, or nothing where the node has
-    /// ended; it is closed then. A refusal hands back what was given. It takes memory.
+    /// Spawns a task on a node, which asks to run there, and returns the task's number and that of the fresh node on
+    /// which its own context is, or `None` where the node has ended; it is closed then. The state of the task is made
+    /// of what is given and of the fresh node's number. A refusal hands back what was given. It takes memory.
     ///
-    /// Errors: `NoMemory` at any time, or else the first that holds: `UnknownToken` where the node isn't live or has a task,
-    /// `TooManyTasks` exactly where the next number is `u64::MAX`.
+    /// Errors: `NoMemory` at any time, or else the first that holds: `UnknownToken` where the node isn't live or has
+    /// a task, `TooManyTasks` exactly where the next number is `u64::MAX`.
     pub fn spawn<C: Drop, F: FnOnce((C, u64)) -> T + Drop>(
         &mut self,
         node: u64,
@@ -69,7 +69,7 @@ impl<T, O, G: Rng> World<T, O, G> {
     }
 }
 
-/// Takes room for a further task, its output and where it asked to run. Answers the block of its state.
+/// Takes room for a further task, its output and where it asked to run, and returns the block of its state.
 pub(crate) fn reserve_places<T, O>(
     alloc: Global,
     tasks: &mut States<T>,

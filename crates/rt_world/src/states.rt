@@ -12,8 +12,8 @@ use rt_base::NoMemory;
 use std::alloc::Global;
 use std::marker::Model;
 
-/// The states of the tasks, by number. Each stands in a block of its own, since a state is taken out for each visit and put back
-/// then: so no more moves than where its block is.
+/// The states of the tasks, by number, each in a block of its own. A state is taken out for each visit and put back
+/// then, so no more moves than where its block is, however large the state. A small state pays for a block once.
 pub(crate) struct States<T> {
     blocks: Tasks<Vec<T>>,
 }

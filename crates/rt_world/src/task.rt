@@ -6,9 +6,9 @@ use rt_model::Answer;
 
 /// A type whose values run as tasks.
 ///
-/// It is lawful: `steps` says what a poll and an end do next, by the state, the time and the number, and `poll` and `end`
-/// make exactly these calls, in this order, and give this answer. Where a call lacks memory, those before it are the first
-/// of these; what comes after it is free, since the run ends.
+/// It is lawful: `steps` says what a poll and an end do next, by the state, the time and the number, and `poll` and
+/// `end` make exactly these calls, in this order, and give this answer. Where a call runs out of memory, those before
+/// it are the first of these; what comes after it is free, since the run ends.
 pub trait Task: Outcome + Sized {
     ghost use Rattle.std.specs.Prelude.{◌≡◌, ℕ, List, [], true, false, Some, None};
     ghost use Rattle.rt_model.specs.declared.answer.Answer.{Answer};
@@ -21,7 +21,7 @@ pub trait Task: Outcome + Sized {
     // what polls and ends do next
     ghost steps: { TaskSteps Self Self.Output };
 
-    /// Goes on with the task.
+    /// Goes on with the task, and returns whether it is pending, has finished or has panicked.
     fn poll<G: Rng>(
         &mut self,
         world: &mut World<Self, Self::Output, G>,
@@ -41,9 +41,9 @@ pub trait Task: Outcome + Sized {
         ensures kept { Kept G.stream world.old world.new }
         ensures steps { Spent (steps.last self world.old.told.state.clock.time (number_of world.old.out)) world.old world.new };
 
-    /// Reads what the next poll reads, so that it stands in a cache then. A round calls it for some tasks before it visits
-    /// them, for all of them at one depth and then at the next. What it answers is of no account, but it must come of what was
-    /// read, since a load for nothing is left out. By default it reads nothing.
+    /// Reads what the next poll reads, so that it is in a cache then. A round calls it for some tasks before it
+    /// visits them, for all of them at one depth and then at the next. What it returns is of no account, but it must
+    /// come of what was read, since a load for nothing is left out. By default it reads nothing.
     fn touch(&self, _depth: Depth) -> usize {
         0
     }

@@ -12,7 +12,8 @@ use std::alloc::Global;
 use std::marker::Model;
 use std::mem;
 
-/// The states of the tasks. The one with the number `first + i` has place `i`, also while it is out.
+/// Values in places by number, each of which is there or not. The one with the number `first + i` has place `i`, also
+/// while it is out.
 #[derive(Drop)]
 pub struct Tasks<T> {
     first: u64,
@@ -35,7 +36,7 @@ impl<T> Model for Tasks<T> {
 
 #[tactic(auto, using(crate::proofs::Places::place_laws))]
 impl<T> Tasks<T> {
-    /// No task, up to this number.
+    /// Makes a list without values, whose first number is this one.
     pub fn new(alloc: Global, first: u64) -> Self
         ensures items { result.items ≡ [] }
         ensures first { result.first ≡ first }
@@ -49,7 +50,7 @@ impl<T> Tasks<T> {
         }
     }
 
-    /// Takes room for so many more.
+    /// Takes room for so many more values, and changes none.
     pub fn reserve(&mut self, places: usize) -> Result<(), NoMemory>
         ensures items { self.new.items ≡ self.old.items }
         ensures first { self.new.first ≡ self.old.first }
@@ -61,7 +62,7 @@ impl<T> Tasks<T> {
         Ok(())
     }
 
-    /// Takes in the state of a task, under the next number.
+    /// Puts a value at the next number.
     pub fn add(&mut self, state: T)
         requires room { 0 < self.old.spare }
         requires number { self.old.next < 2 ^ 64 }
@@ -73,7 +74,7 @@ impl<T> Tasks<T> {
         self.places.push_reserved(Some(state));
     }
 
-    /// Passes the next number over.
+    /// Passes over the next number, which has no value.
     pub fn skip(&mut self)
         requires room { 0 < self.old.spare }
         requires number { self.old.next < 2 ^ 64 }
@@ -85,7 +86,7 @@ impl<T> Tasks<T> {
         self.places.push_reserved(None);
     }
 
-    /// The next number that gets a place. The greatest number has none.
+    /// Returns the next number that gets a place, or `None` after the greatest one. The greatest number has none.
     pub fn next(&self) -> Option<u64>
         ensures next { IfSome result (λ next. next ≡ self.now.next) }
         ensures none { IfNone result (self.now.next ≡ 2 ^ 64) }
@@ -93,7 +94,7 @@ impl<T> Tasks<T> {
         self.first.checked_add(self.places.len() as u64)
     }
 
-    /// Whether the state of a task is in.
+    /// Returns whether the value of a number is there.
     pub fn has(&self, task: u64) -> bool
         ensures { result ≡ is_some (find task self.now.items) }
     {
@@ -103,7 +104,7 @@ impl<T> Tasks<T> {
         matches!(self.places.get(place as usize), Some(Some(_)))
     }
 
-    /// The state of a task that is in.
+    /// Returns the value of a number, if it is there.
     pub fn get(&self, task: u64) -> Option<&T>
         ensures { option_copied result ≡ find task self.now.items }
     {
@@ -111,7 +112,7 @@ impl<T> Tasks<T> {
         self.places.get(place as usize)?.as_ref()
     }
 
-    /// Takes the state of a task out.
+    /// Takes the value of a number out, and returns it, if it is there.
     pub fn take(&mut self, task: u64) -> Option<T>
         ensures state { result ≡ find task self.old.items }
         ensures place { IfSome result (λ state. (self.old.first ≤ task) × (task < self.old.next)) }
@@ -125,7 +126,7 @@ impl<T> Tasks<T> {
         self.places.get_mut(place as usize)?.take()
     }
 
-    /// Lets the state of a task go, if it is in.
+    /// Drops the value of a number, if it is there.
     pub fn remove(&mut self, task: u64)
     where
         T: Drop,
@@ -138,7 +139,7 @@ impl<T> Tasks<T> {
         let _state = self.take(task);
     }
 
-    /// Puts the state of a task back into its place.
+    /// Puts a value back into the place of its number.
     pub fn put(&mut self, task: u64, state: T)
         requires first { self.old.first ≤ task }
         requires next { task < self.old.next }
@@ -156,7 +157,7 @@ impl<T> Tasks<T> {
         self.ended = self.ended.min(place);
     }
 
-    /// Lets the state of a task go, if it is in, and puts another in its place.
+    /// Drops the value of a number, if it is there, and puts another in its place.
     pub fn replace(&mut self, task: u64, state: T)
     where
         T: Drop,
@@ -171,7 +172,7 @@ impl<T> Tasks<T> {
         self.put(task, state);
     }
 
-    /// The number of the task that a cleanup ends next: the first, the root last.
+    /// Returns the first number whose value is there, the root's last: the task that a cleanup ends next.
     pub fn ends_next(&mut self, root: Option<u64>) -> Option<u64>
         ensures next { result ≡ ends_next (numbers_of self.old.items) root }
         ensures same { self.new ≡ self.old }
@@ -193,7 +194,7 @@ impl<T> Tasks<T> {
         }
     }
 
-    /// Gives the memory back, where no task is in.
+    /// Gives the memory back, where no value is there.
     pub fn destroy_empty(self)
         requires { self.items ≡ [] }
     {

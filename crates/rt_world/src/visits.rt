@@ -113,8 +113,9 @@ impl<T, O: Drop, G: Rng> World<T, O, G> {
 }
 
 impl<T: Task, G: Rng> World<T, T::Output, G> {
-    /// Visits a task that runs: the root is stopped where a panic is kept, a flagged task ends unpolled, and any other is
-    /// polled, and then makes the calls of its own steps and answers so. Answers the root's output, once it has one.
+    /// Visits a task that runs, and returns the root's output, once it has one. The root is stopped where a panic is
+    /// kept, a flagged task ends unpolled, and any other is polled, and then makes the calls of its own steps and
+    /// gives their answer.
     #[tactic(auto, using(crate::proofs::Running::pass_laws))]
     pub fn visit(&mut self, task: u64) -> Result<Option<T::Output>, FinishCause>
         requires phase { self.old.told.state.phase ≡ Visiting (left_of self.old.told.state.phase) }
@@ -164,7 +165,7 @@ impl<T: Task, G: Rng> World<T, T::Output, G> {
         self.poll_task(task)
     }
 
-    /// Polls a task, which makes the calls of its own steps and answers so.
+    /// Polls a task, which makes the calls of its own steps and gives their answer.
     #[tactic(auto, unfolding(rt_model::specs::Effects::after))]
     fn poll_task(&mut self, task: u64) -> Result<Turnout<T::Output>, FinishCause>
         requires phase { self.old.told.state.phase ≡ Polling task (left_of self.old.told.state.phase) }
@@ -246,8 +247,8 @@ impl<T: Task, G: Rng> World<T, T::Output, G> {
         Ok(())
     }
 
-    /// Reads what the visits of these numbers read. In many short loops, in each of which loads wait mostly for those of an earlier
-    /// loop alone: so a processor has more of them under way.
+    /// Reads what the visits of these numbers read. Each depth has a short loop of its own, whose loads wait mostly for those
+    /// of an earlier loop alone: so a processor has more of them under way.
     fn touch(&self, numbers: &[u64]) -> usize {
         let mut touched = 0;
         for task in numbers {
@@ -277,7 +278,7 @@ impl<T: Task, G: Rng> World<T, T::Output, G> {
         self.touched ^= self.touch(numbers);
     }
 
-    /// Visits the numbers of a round that run, until the run ends. Answers the root's output, if it has one.
+    /// Visits the numbers of a round that run, until the run ends, and returns the root's output, if it has one.
     #[tactic(auto, using(crate::proofs::Running::pass_laws))]
     pub(crate) fn visit_all(&mut self, order: &[u64]) -> Result<Option<T::Output>, FinishCause>
         requires phase { self.old.told.state.phase ≡ Visiting order.now }

@@ -27,19 +27,20 @@ use rt_model::Begin;
 use std::alloc::Global;
 use std::marker::Model;
 
-/// The world of tasks of this type.
+/// The world of the tasks of a type.
 pub type WorldOf<T, G> = World<T, <T as Outcome>::Output, G>;
 
 /// A run under way, with its tasks.
 ///
-/// Contracts see what its journal tells, after which turns a call lacked memory, if one did, the values that it holds,
-/// the text of a panic that is kept, whose state is out because it is polled or ended, and its generator.
+/// Contracts see what its journal tells, after which turns a call ran out of memory, if one did, the values that it
+/// holds, the text of a panic that is kept, whose state is out because it is polled or ended, and its generator.
 pub struct World<T, O, G> {
     pub(crate) machine: Machine,
     pub(crate) tasks: States<T>,
     pub(crate) outputs: Tasks<O>,
     /// What was sent into slots and wasn't taken, by the slots' numbers.
     pub(crate) sent: Tasks<Result<O, Error>>,
+    /// Where each spawned task asked to run. A pair stays after the end of its task, so that an end takes no search.
     pub(crate) executions: Vec<(u64, Execution)>,
     pub(crate) panic: Option<Text>,
     pub(crate) out: Option<u64>,
@@ -61,7 +62,8 @@ impl<T, O, G> Model for World<T, O, G> {
 
 #[tactic(auto, using(crate::proofs::Seats::seat_laws, crate::proofs::Coming::coming_laws, rt_machine::proofs::Counts::count_laws), unfolding(rt_model::specs::Effects::after))]
 impl<T, O, G> World<T, O, G> {
-    /// The time, in nanoseconds since the epoch. It is fixed for a whole visit.
+    /// Returns the time, in nanoseconds since the epoch, which is at most the last moment. It is fixed for a whole
+    /// visit.
     pub fn now(&self) -> Nanos
         ensures time { result ≡ self.now.told.state.clock.time }
         ensures within { result ≤ MAX_TIME }
@@ -69,7 +71,8 @@ impl<T, O, G> World<T, O, G> {
         self.machine.time()
     }
 
-    /// Begins a run after the entries of earlier ones. Without room for its start it gives all back.
+    /// Makes the world of a run that begins after the entries of earlier ones, before its root is made. Without room
+    /// for its start it gives all back.
     pub fn begin(
         alloc: Global,
         journal: Journal,
@@ -97,14 +100,14 @@ impl<T, O, G> World<T, O, G> {
         }
     }
 
-    /// Whether a call of the part under way lacked memory.
+    /// Returns whether a call of the part under way ran out of memory.
     pub fn is_short(&self) -> bool
         ensures { result ≡ is_some self.now.lacked }
     {
         self.machine.is_short()
     }
 
-    /// Takes the mark of a call that lacked memory off. Answers whether it was there.
+    /// Takes the mark of a call that ran out of memory off, and returns whether it was there.
     pub(crate) fn take_short(&mut self) -> bool
         ensures was { result ≡ is_some self.old.lacked }
         ensures gone { self.new ≡ record self.old { lacked = None } }
@@ -112,14 +115,14 @@ impl<T, O, G> World<T, O, G> {
         self.machine.take_short()
     }
 
-    /// Whether the deadline is there.
+    /// Returns whether the deadline has come.
     pub(crate) fn is_late(&self) -> bool
         ensures { result ≡ is_late self.now.told.state.clock }
     {
         self.machine.is_late()
     }
 
-    /// Whether the root can still get a number.
+    /// Returns whether the root can still get a number.
     pub fn has_number_left(&self) -> bool
         ensures { IsTrue result ↔ (self.now.told.state.numbers.next < 2 ^ 64 - 1) }
     {
@@ -134,7 +137,7 @@ impl<T, O, G> World<T, O, G> {
         self.tasks.has(task)
     }
 
-    /// Takes the root in, under the next number. Without room it gives the root back.
+    /// Takes the root in, and returns its number, which is the next. Without room it gives the root back.
     pub fn register_root(&mut self, root: T) -> Result<u64, T>
         requires phase { self.old.told.state.phase ≡ Making }
         requires fits { self.old.told.state.numbers.next < 2 ^ 64 - 1 }
@@ -150,7 +153,7 @@ impl<T, O, G> World<T, O, G> {
         }
     }
 
-    /// The same, by what it writes alone.
+    /// Takes the root in, by what it writes alone.
     fn seat_root(&mut self, root: T) -> Result<u64, T>
         requires phase { self.old.told.state.phase ≡ Making }
         requires fits { self.old.told.state.numbers.next < 2 ^ 64 - 1 }
@@ -270,16 +273,17 @@ impl<T, O, G> World<T, O, G> {
         self.out = None;
     }
 
-    /// Where each spawned task asked to run, by its number, in the order in which they were spawned. It changes nothing
-    /// under virtual time.
+    /// Returns where each spawned task asked to run, by its number, in the order in which they were spawned. It
+    /// changes nothing under virtual time.
     pub fn executions(&self) -> &[(u64, Execution)]
         ensures { result.now ≡ self.now.held.executions }
     {
         self.executions.as_slice()
     }
 
-    /// What is known of each world: its entries are lawful, each round's order is the ready list as its draws shuffle it, each
-    /// auditor's answer is the digest so far, and its state is what they tell.
+    /// Does nothing: its clauses say what is known of each world, that its entries are lawful, each round's order is
+    /// the ready list as its draws shuffle it, each auditor's answer is the digest so far, and its state is what they
+    /// tell.
     pub fn facts(&self)
         ensures lawful { IsLawful (begun self.now.told.begin) (own self.now.told) }
         ensures drawn { AreDrawn (begun self.now.told.begin) (own self.now.told) }
@@ -295,7 +299,7 @@ impl<T, O, G> World<T, O, G> {
 }
 
 impl<T, O: Drop, G> World<T, O, G> {
-    /// The journal of a finished run, its generator, and the text of a panic that is kept.
+    /// Returns the journal of a run in which no task is left, its generator, and the text of a panic that is kept.
     pub fn into_parts(self) -> (Journal, G, Option<Text>)
         requires { self.held.tasks ≡ [] }
         ensures entries { result.0.entries ≡ self.told.given ++ own self.told }
