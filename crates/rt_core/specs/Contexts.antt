@@ -18,7 +18,7 @@ use Rattle.rt_world.specs.Calls.{Made}
 use Rattle.rt_world.specs.Walked.{tells}
 use Rattle.rt_core.specs.Handles.{TaskHandle, task_handle, held_handle}
 
--- the node on which a context stands, its name, and where a task spawned on it runs
+-- the node on which a context is, its name, and where a task spawned on it runs
 pub record Context : Type 0 where
   pub node : ℕ
   pub name : Name

@@ -102,7 +102,7 @@ joins polls spends turns convert outputs (h ∷ handles) =
     then (handle_polls polls h)
     (λ answer h. joined polls spends turns convert outputs h handles (λ value. joins polls spends turns convert (outputs ++ value ∷ []) handles) answer)
 
--- it joins, or waits for the ends behind a failure
+-- it joins, or waits for the ends after a failure
 abbrev pub goes_on : {A O P V F : Type 0} → Polls A O P O → (P → Last A O) → (F → O → Result V Error) → Joins O P V F → Option Error → Joining A O P V F
 goes_on polls spends converted j None = joins polls spends (converted j.convert) j.convert j.outputs j.handles
 goes_on polls spends converted j (Some failure) = drains polls spends j.convert failure [] j.handles

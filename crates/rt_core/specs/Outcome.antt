@@ -53,7 +53,7 @@ pub record Fails {A O G : Type 0} (p : Steps A O) (s : Starting G) (journal : Li
   pub extends : journal ≡ s.given ++ entries
   pub failed : FailedFor p s.begin entries error
 
--- each round of the entries behind the given ones visits the ready list as the draws before it shuffle it, and these, and what the
+-- each round of the entries after the given ones visits the ready list as the draws before it shuffle it, and these, and what the
 -- maker and the tasks drew, are the next that the generator gives
 pub record AreShuffled {G : Type 0} (stream : G → Stream) (s : Starting G) (journal : List Entry) : Type 0 where
   pub entries : List Entry
@@ -62,13 +62,13 @@ pub record AreShuffled {G : Type 0} (stream : G → Stream) (s : Starting G) (jo
   pub left : Stream
   pub draws : Gave (stream s.rng) (after_all (begun s.begin) entries).drawn left
 
--- each auditor's answer in the entries behind the given ones is the digest of all events before it
+-- each auditor's answer in the entries after the given ones is the digest of all events before it
 pub record AreAudited {G : Type 0} (s : Starting G) (journal : List Entry) : Type 0 where
   pub entries : List Entry
   pub extends : journal ≡ s.given ++ entries
   pub digested : AreDigested (digest_of s.given) entries
 
--- a world that can go on: no task is out of it, no call has lacked memory, no panic is kept, and a cycle takes time
+-- a world that can go on: no task is out of it, no call has run out of memory, no panic is kept, and a cycle takes time
 pub record IsReady {A O G : Type 0} (w : World A O G) : Type 0 where
   pub none_out : w.out ≡ None
   pub unmarked : w.lacked ≡ None

@@ -15,7 +15,7 @@ use Rattle.rt_world.specs.Walked.{tells}
 use Rattle.rt_core.specs.declared.signals.SignalKind.{SignalKind}
 use Rattle.rt_core.specs.declared.signals.SignalKind.TheVariants.{Open, Resolved}
 
--- the answer of a poll, by what was told of it
+-- the answer of a poll, by what was heard of it
 abbrev pub polled : {V : Type 0} → Result (Poll V) Error → Poll (Result V Error)
 polled (Ok Pending) = Pending
 polled (Ok (Ready value)) = Ready (Ok value)

@@ -10,7 +10,7 @@ use Rattle.rt_model.specs.declared.begin.Begin.{Begin}
 use Rattle.rt_core.specs.declared.config.ConfigError.{ConfigError}
 use Rattle.rt_core.specs.declared.config.ConfigError.TheVariants.{ZeroCycle, StartTooLate, DeadlineTooLate}
 
--- the moment that lies so far behind the start, where there is one
+-- the moment that lies so far after the start, where there is one
 abbrev pub deadline_of : ℕ → Option ℕ → Option ℕ
 deadline_of start None = None
 deadline_of start (Some timeout) = Some (start + timeout)
@@ -73,7 +73,7 @@ pub record Kept (G : Type 0) : Type 0 where
 abbrev pub first_begin : ℕ → ℕ → Option ℕ → Bool → ℕ → Begin
 first_begin cycle start timeout catch next = record { start = start; cycle = cycle; deadline = deadline_of start timeout; first = next; catch = catch }
 
--- the beginning of a run that goes on behind another: at its last moment, with the same deadline, and with task numbers from 0 on
+-- the beginning of a run that goes on after another: at its last moment, with the same deadline, and with task numbers from 0 on
 abbrev pub resumed : {G : Type 0} → Kept G → Starting G
 resumed kept = record {
   begin = record { start = kept.time; cycle = kept.cycle; deadline = kept.deadline; first = 0; catch = kept.catch };

@@ -12,17 +12,18 @@ use crate::handle::HandleOf;
 use rand_core::Rng;
 use rt_world::{Outcome, Poller, World};
 
-/// A guard over the handle of a task of this type.
+/// A guard over the handle of a task of this type, which aborts the task if nobody waits for it.
 pub type AbortOnDrop<T, P = NoPoller> = AbortOnDropOf<<T as Outcome>::Output, P>;
 
-/// A guard over the handle of a task with this output. It is a token: it must be spent by [`join`](Self::join), by
-/// [`abort`](Self::abort), by [`join_all`](Self::join_all), or by [`give_up`](Self::give_up), which aborts the task first.
+/// A guard over the handle of a task with this output, which aborts the task if nobody waits for it. It is a token,
+/// since nothing is dropped unseen here: it must be spent by [`join`](Self::join), by [`abort`](Self::abort), by
+/// [`join_all`](Self::join_all), or by [`give_up`](Self::give_up), which aborts the task first.
 pub struct AbortOnDropOf<O, P> {
     pub(crate) handle: HandleOf<O, P>,
 }
 
 impl<O, P> AbortOnDropOf<O, P> {
-    /// The handle again, by which the task is waited for.
+    /// Returns the handle, by which the task is waited for.
     pub fn join(self) -> HandleOf<O, P>
         ensures { result ≡ self.handle }
     {
@@ -30,7 +31,7 @@ impl<O, P> AbortOnDropOf<O, P> {
         handle
     }
 
-    /// The handle again, whose task is aborted. It is then polled to the task's end. It takes no memory.
+    /// Aborts the task, and returns the handle, which is then polled to the task's end. It takes no memory.
     pub fn abort<T, G: Rng>(self, world: &mut World<T, O, G>) -> HandleOf<O, P>
     where
         O: Drop,

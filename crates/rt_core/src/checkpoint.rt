@@ -33,21 +33,21 @@ impl<G> Model for Checkpoint<G> {
 }
 
 impl<G> Checkpoint<G> {
-    /// The digest of the events of all runs so far.
+    /// Returns the digest of the events of all runs so far.
     pub fn auditor(&self) -> Auditor
         ensures { result ≡ digest_of self.now.journal }
     {
         self.journal.auditor()
     }
 
-    /// The journal of all runs so far.
+    /// Returns the journal of all runs so far.
     pub fn journal(&self) -> &Journal
         ensures { result.now.entries ≡ self.now.journal }
     {
         &self.journal
     }
 
-    /// The same, handed out.
+    /// Takes the journal of all runs so far out of the checkpoint.
     pub fn into_journal(self) -> Journal
     where
         G: Drop,
@@ -56,7 +56,7 @@ impl<G> Checkpoint<G> {
         self.journal
     }
 
-    /// The last moment of the run, in nanoseconds since the epoch.
+    /// Returns the last moment of the run, in nanoseconds since the epoch.
     pub fn time(&self) -> Nanos
         ensures { result ≡ self.now.time }
     {

@@ -21,13 +21,14 @@ pub enum Source<O, P> {
 pub enum Stage {
     /// It is waited for.
     Open,
-    /// Its poller has answered.
+    /// Its poller has given its value.
     Answered,
     /// It was aborted.
     Aborted,
 }
 
-/// A value that comes once, from somewhere else than a task.
+/// A value that comes once, from somewhere else than a task. Once it was given or an abort came, it keeps that in
+/// itself, and its poller is polled no more.
 #[derive(Debug)]
 pub struct Completion<O, P> {
     pub source: Source<O, P>,
@@ -44,7 +45,7 @@ impl<O, P> Completion<O, P> {
     }
 }
 
-/// It gives the handle that it is held by its answers.
+/// A poll gives its answer to the handle that holds it.
 #[tactic(auto, using(rt_world::proofs::Walked::poller_laws))]
 impl<T: Outcome, P: Poller<T, T::Output>> Poller<T, T::Output> for Completion<T::Output, P> {
     ghost use Rattle.rt_core.specs.Completions.{completion_polls, completion_spends};

@@ -35,7 +35,8 @@ pub struct Config<G> {
 }
 
 impl Config<ChaCha12Rng> {
-    /// A generator of seed 42, a cycle of 1,000,000 ns, start 0, no timeout, panics not caught, and task numbers from 0 on.
+    /// Makes the default settings: a generator of seed 42, a cycle of 1,000,000 ns, start 0, no timeout, panics not
+    /// caught, and task numbers from 0 on.
     pub fn new() -> Self
         ensures rng { result.rng ≡ seeded default_seed }
         ensures cycle { result.cycle ≡ 1000000 }
@@ -56,6 +57,7 @@ impl Config<ChaCha12Rng> {
 }
 
 impl Default for Config<ChaCha12Rng> {
+    /// Makes the settings of [`Config::new`].
     fn default() -> Self
         ensures rng { result.rng ≡ seeded default_seed }
         ensures cycle { result.cycle ≡ 1000000 }
@@ -100,14 +102,14 @@ impl<G: Drop> Config<G> {
 }
 
 impl<G> Config<G> {
-    /// Sets the cycle, by which time moves on after each round.
+    /// Sets the cycle in nanoseconds, by which time moves on after each round.
     pub fn with_cycle(self, cycle: Nanos) -> Self
         ensures { result ≡ record self { cycle = cycle } }
     {
         Config { cycle, ..self }
     }
 
-    /// Sets the start.
+    /// Sets the start, in nanoseconds since the epoch.
     pub fn with_start_time(self, start: Nanos) -> Self
         ensures { result ≡ record self { start_time = start } }
     {
@@ -117,7 +119,7 @@ impl<G> Config<G> {
         }
     }
 
-    /// Sets the timeout, counted from the start, or none.
+    /// Sets the timeout in nanoseconds, counted from the start, or none.
     pub fn with_timeout(self, timeout: Option<Nanos>) -> Self
         ensures { result ≡ record self { timeout = timeout } }
     {
@@ -134,7 +136,7 @@ impl<G> Config<G> {
         }
     }
 
-    /// Sets the number of the first task of the first run. A run that goes on behind another begins with 0 again.
+    /// Sets the number of the first task of the first run. A run that goes on after another begins with 0 again.
     pub fn with_next_task(self, next: u64) -> Self
         ensures { result ≡ record self { next_task = next } }
     {
@@ -144,35 +146,35 @@ impl<G> Config<G> {
         }
     }
 
-    /// The cycle.
+    /// Returns the cycle in nanoseconds.
     pub fn cycle(&self) -> Nanos
         ensures { result ≡ self.now.cycle }
     {
         self.cycle
     }
 
-    /// The start.
+    /// Returns the start, in nanoseconds since the epoch.
     pub fn start_time(&self) -> Nanos
         ensures { result ≡ self.now.start_time }
     {
         self.start_time
     }
 
-    /// The timeout.
+    /// Returns the timeout in nanoseconds, if there is one.
     pub fn timeout(&self) -> Option<Nanos>
         ensures { result ≡ self.now.timeout }
     {
         self.timeout
     }
 
-    /// Whether panics of tasks are caught.
+    /// Returns whether panics of tasks are caught.
     pub fn catch_panics(&self) -> bool
         ensures { result ≡ self.now.catch_panics }
     {
         self.catch_panics
     }
 
-    /// Tests the settings: in this order `ZeroCycle` exactly where the cycle is 0, `StartTooLate` exactly where the
+    /// Tests the settings, in this order: `ZeroCycle` exactly where the cycle is 0, `StartTooLate` exactly where the
     /// start is past `MAX_TIME`, `DeadlineTooLate` exactly where the start plus the timeout is.
     pub fn assert(&self) -> Result<(), ConfigError>
         ensures { result ≡ assert_of self.now.cycle self.now.start_time self.now.timeout }

@@ -1,4 +1,4 @@
-//! Contexts: where a task stands in the tree of its run.
+//! Contexts: where a task is in the tree of its run.
 
 ghost use Rattle.std.specs.Prelude.{◌≡◌, ◌≤◌, ◌++◌, Bool, true, None, length, IfOk, IfErr, OnOk, Result};
 ghost use Rattle.rand_core.specs.Stream.{next_u32, next_u64, fill_bytes};
@@ -75,7 +75,7 @@ impl Context {
         Context::on(alloc, 0, SmallName::empty(alloc))
     }
 
-    /// A copy of its label and attributes. `NoMemory` alone is refused.
+    /// Returns a copy of the context's name, its label and attributes. It is refused with `NoMemory` alone.
     pub fn name(&self) -> Result<Name, Error>
         ensures ok { IfOk result (λ name. name ≡ self.now.name) }
         ensures err { IfErr result (λ error. error ≡ Error.NoMemory) }
@@ -83,7 +83,8 @@ impl Context {
         Ok(self.name.to_name(self.alloc)?)
     }
 
-    /// The context with this attribute; a key that is there gets this value. A refusal hands the context back as it was.
+    /// Returns the context with this attribute; a key that is there gets this value. A refusal hands the context back
+    /// as it was.
     ///
     /// Errors: `Metric(BadLabel)` exactly where the key isn't valid, or else `NoMemory`.
     pub fn with_attribute(self, key: &str, value: &str) -> Result<Context, Refused<Context>>
@@ -118,7 +119,7 @@ impl Context {
         }
     }
 
-    /// The context with the hint that a task spawned on it runs among the others, and whether it may block.
+    /// Returns the context with the hint that a task spawned on it runs among the others, and whether it may block.
     pub fn shared(mut self, blocking: bool) -> Context
         ensures { result ≡ record self { execution = Shared blocking } }
     {
@@ -126,7 +127,7 @@ impl Context {
         self
     }
 
-    /// The context with the hint that a task spawned on it runs on a thread of its own.
+    /// Returns the context with the hint that a task spawned on it runs on a thread of its own.
     pub fn dedicated(mut self) -> Context
         ensures { result ≡ record self { execution = IsDedicated } }
     {
@@ -134,11 +135,11 @@ impl Context {
         self
     }
 
-    /// A context on a fresh child of its node, with the same attributes. The label is the parent's, `_` and this one. The
-    /// child of a node that has ended is born ended. It takes memory.
+    /// Makes a context on a fresh child of its node, with the same attributes and no hint. The label is the parent's,
+    /// where it has one, then `_`, and this one. The child of a node that has ended is born ended. It takes memory.
     ///
-    /// Errors: `NoMemory` at any time, or else the first that holds: `UnknownToken`, `Metric` with `BadLabel` where the label
-    /// isn't valid, or `Reserved` where the full one begins with `runtime`.
+    /// Errors: `NoMemory` at any time, or else the first that holds: `UnknownToken`, `Metric` with `BadLabel` where
+    /// the label isn't valid, or `Reserved` where the full one begins with `runtime`.
     #[tactic(auto, using(rt_world::proofs::Walked::tell_laws), unfolding(crate::specs::Contexts::childs))]
     pub fn child<T, O, G: Rng>(
         &self,
@@ -162,11 +163,12 @@ impl Context {
         }
     }
 
-    /// Spawns a task, on its node. The task is made of a context on a fresh child of that, with the same label and
-    /// attributes. On a node that has ended nothing is made, and the handle holds `Closed`. It takes memory.
+    /// Spawns a task on the context's node, and returns its handle. The task is made of a context on a fresh child of
+    /// that node, with the same label and attributes and no hint. On a node that has ended nothing is made, and the
+    /// handle holds `Closed`. It takes memory.
     ///
-    /// Errors, each of which hands the context back: `NoMemory` at any time, or else the first that holds: `UnknownToken`,
-    /// `TooManyTasks` exactly where the next number is `u64::MAX`.
+    /// Errors, each of which hands the context back: `NoMemory` at any time, or else the first that holds:
+    /// `UnknownToken`, `TooManyTasks` exactly where the next number is `u64::MAX`.
     #[tactic(auto, using(rt_world::proofs::Walked::tell_laws), unfolding(crate::specs::Contexts::spawns))]
     pub fn spawn<T, O, G: Rng, F: FnOnce(Context) -> T + Drop>(
         self,
@@ -209,7 +211,8 @@ impl Context {
         }
     }
 
-    /// Closes the context. Its node isn't live from then on, and isn't ended by it. It takes no memory.
+    /// Closes the context, whose node isn't live from then on, and isn't ended by it. Where the node isn't live it
+    /// does nothing, and writes no entry. It takes no memory.
     #[tactic(auto, using(rt_world::proofs::Walked::close_laws))]
     pub fn close<T, O, G: Rng>(self, world: &mut World<T, O, G>)
         requires { MayCall world.old.told.state world.old.out }
@@ -225,7 +228,7 @@ impl Context {
         world.close_node(node);
     }
 
-    /// The world's time, in nanoseconds since the epoch. It is fixed for a whole visit.
+    /// Returns the world's time, in nanoseconds since the epoch. It is fixed for a whole visit.
     pub fn current<T, O, G>(&self, world: &World<T, O, G>) -> Nanos
         ensures time { result ≡ world.now.told.state.clock.time }
         ensures within { result ≤ MAX_TIME }
@@ -234,14 +237,16 @@ impl Context {
         world.now()
     }
 
-    /// A sleep for so many nanoseconds from now on. `ClockOverflow` exactly where it would end past `MAX_TIME`.
+    /// Makes a sleep for so many nanoseconds from now on. It is refused with `ClockOverflow` exactly where the sleep
+    /// would end past `MAX_TIME`.
     pub fn sleep<T, O, G>(&self, world: &World<T, O, G>, duration: Nanos) -> Result<Sleep, Error>
         ensures { result ≡ sleep_for world.now.told.state.clock.time duration }
     {
         Sleep::lasting(self.current(world), duration)
     }
 
-    /// A sleep until this moment, in nanoseconds since the epoch. `ClockOverflow` exactly where it is past `MAX_TIME`.
+    /// Makes a sleep until this moment, in nanoseconds since the epoch. It is refused with `ClockOverflow` exactly
+    /// where that is past `MAX_TIME`.
     #[tactic(auto, unfolding(crate::specs::Pollers::sleep_until))]
     pub fn sleep_until(&self, deadline: Nanos) -> Result<Sleep, Error>
         ensures { result ≡ sleep_until deadline }
@@ -253,7 +258,7 @@ impl Context {
         Ok(Sleep::until(deadline))
     }
 
-    /// What polls this state for at most so many nanoseconds from its first poll on.
+    /// Makes a poller that polls this state for at most so many nanoseconds from its first poll on.
     pub fn timeout<P>(&self, duration: Nanos, state: P) -> Timeout<P>
         ensures { result ≡ record { state = state; duration = duration; sleep = None } }
     {
@@ -265,8 +270,8 @@ impl Context {
         }
     }
 
-    /// A signal of the run's shutdown, which shows its value from when it begins. Where it began before, the signal holds that
-    /// value already. It takes memory, and its only error is `NoMemory`.
+    /// Makes a signal of the run's shutdown, which shows its value from when it begins. Where it began before, the
+    /// signal holds that value already. It takes memory, and its only error is `NoMemory`.
     #[tactic(auto, using(rt_world::proofs::Signaled::signal_tell_laws), unfolding(crate::specs::Signals::asks_stopped))]
     pub fn stopped<T, O, G: Rng>(&self, world: &mut World<T, O, G>) -> Result<Signal, Error>
         requires { MayCall world.old.told.state world.old.out }
@@ -283,8 +288,8 @@ impl Context {
         }
     }
 
-    /// The next number of 32 bits of the run's generator. It takes memory, and its only error is `NoMemory`: then nothing is
-    /// drawn.
+    /// Returns the next number of 32 bits of the run's generator. It takes memory, and its only error is `NoMemory`:
+    /// then nothing is drawn.
     #[tactic(auto, using(rt_world::proofs::Drawing::drawing_tell_laws), unfolding(crate::specs::Drawing::asks_u32))]
     pub fn next_u32<T, O, G: Rng>(&self, world: &mut World<T, O, G>) -> Result<u32, Error>
         requires { MayCall world.old.told.state world.old.out }
@@ -301,8 +306,8 @@ impl Context {
         }
     }
 
-    /// The next number of 64 bits of the run's generator. It takes memory, and its only error is `NoMemory`: then nothing is
-    /// drawn.
+    /// Returns the next number of 64 bits of the run's generator. It takes memory, and its only error is `NoMemory`:
+    /// then nothing is drawn.
     #[tactic(auto, using(rt_world::proofs::Drawing::drawing_tell_laws), unfolding(crate::specs::Drawing::asks_u64))]
     pub fn next_u64<T, O, G: Rng>(&self, world: &mut World<T, O, G>) -> Result<u64, Error>
         requires { MayCall world.old.told.state world.old.out }
@@ -341,7 +346,8 @@ impl Context {
         }
     }
 
-    /// The digest of all events so far, of those of earlier runs too. It takes memory, and its only error is `NoMemory`.
+    /// Returns the digest of all events so far, of those of earlier runs too. It takes memory, and its only error is
+    /// `NoMemory`.
     #[tactic(auto, using(rt_world::proofs::Drawing::drawing_tell_laws), unfolding(crate::specs::Drawing::asks_auditor))]
     pub fn auditor<T, O, G: Rng>(&self, world: &mut World<T, O, G>) -> Result<Auditor, Error>
         requires { MayCall world.old.told.state world.old.out }
@@ -358,8 +364,8 @@ impl Context {
         }
     }
 
-    /// What stops the run with this value at its first poll, and is then ready once each signal of the shutdown was given up;
-    /// where a limit is given, for at most so many nanoseconds.
+    /// Makes a poller that stops the run with this value at its first poll, and is then ready once each signal of the
+    /// shutdown was given up; where a limit is given, for at most so many nanoseconds.
     pub fn stop(self, value: i32, timeout: Option<Nanos>) -> Stop
         ensures { result ≡ record { context = self; value = value; timeout = timeout; stage = Begins } }
     {

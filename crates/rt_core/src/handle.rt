@@ -14,7 +14,8 @@ use rt_base::{Error, Poll};
 use rt_world::{Cx, Outcome, Poller, ResultReceiver, World, polled};
 use std::marker::Model;
 
-/// The poller of a handle that has none of its own. Nothing makes one; it would be closed.
+/// The poller of a handle that has none of its own. It has a field that nobody outside sees, so nothing makes one; it
+/// would be closed.
 #[derive(Debug, Drop)]
 pub struct NoPoller(());
 
@@ -49,11 +50,15 @@ pub type Handle<T, P = NoPoller> = HandleOf<<T as Outcome>::Output, P>;
 /// A handle of a task with this output, or of a completion. It is a token: it must be spent by
 /// [`give_up`](Poller::give_up).
 ///
-/// A poll of a task's handle answers the output once, `Exited` where the task reported a panic, and `Closed` where it ended
-/// without a result and where the output was handed out before. A poll of a receiver's handle answers as its receiver does,
-/// and `Aborted` once it was aborted. A poll of any other completion answers what it holds or what its
-/// poller answers, once and `Closed` from then on, and `Aborted` once it was aborted, even where its result was ready. A
-/// task that was spawned on a node that had ended has a completion that holds `Closed`.
+/// A poll of a task's handle returns the output once, `Exited` where the task reported a panic, and `Closed` where it
+/// ended without a result and where the output was handed out before. A poll of a receiver's handle returns what its
+/// receiver's does, and `Aborted` once it was aborted. A poll of any other completion returns what it holds or what
+/// its poller gives, once and `Closed` from then on, and `Aborted` once it was aborted, even where its result was
+/// ready: its poller isn't polled then. A task that was spawned on a node that had ended has a completion that holds
+/// `Closed`.
+///
+/// A task's handle keeps the task's number and whether it aborted the task, and nothing else: the output is in the
+/// world until it is handed out or given up.
 pub struct HandleOf<O, P> {
     kind: Kind<O, P>,
 }
@@ -79,7 +84,7 @@ impl<O, P> HandleOf<O, P> {
         }
     }
 
-    /// A handle of what comes by a slot.
+    /// Makes a handle of what comes by a slot.
     pub fn from_receiver(receiver: ResultReceiver) -> Self
         ensures { result ≡ received_handle receiver }
     {
@@ -91,7 +96,7 @@ impl<O, P> HandleOf<O, P> {
         }
     }
 
-    /// A handle that holds its result.
+    /// Makes a handle that holds its result.
     pub fn ready(answer: Result<O, Error>) -> Self
         ensures { result ≡ held_handle answer }
     {
@@ -103,7 +108,7 @@ impl<O, P> HandleOf<O, P> {
         }
     }
 
-    /// A handle of what a poller gives.
+    /// Makes a handle of what a poller gives.
     pub fn from_future(state: P) -> Self
         ensures { result ≡ polled_handle state }
     {
@@ -115,15 +120,15 @@ impl<O, P> HandleOf<O, P> {
         }
     }
 
-    /// A guard that aborts the task where nobody waits for it.
+    /// Makes a guard over the handle, which aborts the task if nobody waits for it.
     pub fn abort_on_drop(self) -> AbortOnDropOf<O, P>
         ensures { result.handle ≡ self }
     {
         AbortOnDropOf { handle: self }
     }
 
-    /// Aborts the task: it is flagged, and woken where it was left pending. A completion is waited for no more. Later calls
-    /// do nothing and write no entry. It takes no memory.
+    /// Aborts the task: it is flagged, and woken where it was left pending. A completion is no longer waited for.
+    /// Later calls do nothing and write no entry. It takes no memory.
     #[tactic(auto, using(rt_world::proofs::Walked::close_laws))]
     pub fn abort<T, G: Rng>(&mut self, world: &mut World<T, O, G>)
     where

@@ -20,9 +20,9 @@ use std::collections::VecDeque;
 use std::marker::Model;
 use std::mem;
 
-/// What turns the output of each joined task into a `V`.
+/// A function that turns the output of each joined task into a `V`, as a value of a type of its own.
 ///
-/// It is a function: what it answers goes by itself and by the output alone, so it takes no memory.
+/// What it returns goes by itself and by the output alone, so it takes no memory.
 pub trait Convert<O, V> {
     ghost use Rattle.std.specs.Prelude.{◌≡◌, Result};
     ghost use Rattle.rt_base.specs.declared.error.Error.{Error};
@@ -30,24 +30,28 @@ pub trait Convert<O, V> {
     // what an output is turned into
     ghost converted: { Self → O → Result V Error };
 
-    /// Turns an output, or refuses it.
+    /// Returns what an output is turned into, or refuses it.
     fn convert(&self, output: O) -> Result<V, Error>
         ensures { result ≡ converted self.now output };
 }
 
-/// A group of handles of tasks of this type.
+/// A group of handles of tasks of this type, that are joined together.
 pub type JoinAll<T, P, V, F> = JoinAllOf<<T as Outcome>::Output, P, V, F>;
 
-/// A poller of what the outputs of its handles are turned into, in the order of the handles. It is a token: it must be
-/// spent by [`give_up`](Poller::give_up), which aborts all handles that are left and then gives all up.
+/// A poller of what the outputs of its handles are turned into, in the order of the handles. It is a token: it must
+/// be spent by [`give_up`](Poller::give_up), which aborts all handles that are left and then gives all up.
 ///
-/// A poll joins the handles in order, up to the first that is pending; each is given up once it has answered. A handle that
-/// answers an error, or an output that is refused, is the failure: all handles that are left are aborted, in order and this
-/// one first, which is given up then. The outputs are discarded. From then on each poll polls all handles that are left, in
-/// order, and those that answer are given up, their answers discarded. Once none is left the answer is the failure.
+/// A poll joins the handles in order, up to the first that is pending; each is given up once it has answered. The
+/// answer is the list of all that came of them, and of no handles the empty one. It has no capacity, so a `Vec` is
+/// made of it without memory.
 ///
-/// `NoMemory` ends it at once: where it is the failure, or where a handle answers it later, all handles are given up, and it
-/// is the answer. Once it has answered it answers `Closed`.
+/// A handle that returns an error, or an output that is refused, is the failure: all handles that are left are
+/// aborted, in order and this one first, which is given up then. The outputs are discarded. From then on each poll
+/// polls all handles that are left, in order, and those that are ready are given up, their answers discarded. Once none
+/// is left the answer is the failure.
+///
+/// `NoMemory` ends it at once: where it is the failure, or where a handle returns it later, all handles are given up,
+/// and it is the answer. Once it has answered it returns `Closed`.
 pub struct JoinAllOf<O, P, V, F> {
     handles: VecDeque<HandleOf<O, P>>,
     outputs: Vec<V>,
@@ -68,7 +72,8 @@ impl<O, P, V, F> Model for JoinAllOf<O, P, V, F> {
 }
 
 impl<O, P> AbortOnDropOf<O, P> {
-    /// A poller that joins these tasks in order, and turns each output. It takes the room that it needs for good.
+    /// Makes a poller that joins these tasks in order, and turns each output. It takes the room for all handles and
+    /// outputs, so that a poll takes none but that of the calls on the world.
     ///
     /// Errors: `NoMemory`, with the guards.
     pub fn join_all<V: Drop, F: Convert<O, V> + Drop>(

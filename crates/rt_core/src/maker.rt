@@ -5,10 +5,11 @@ use rand_core::Rng;
 use rt_base::NoMemory;
 use rt_world::{Task, World};
 
-/// What makes the root of a run.
+/// A type whose values make the root of a run.
 ///
-/// It is lawful as a task is: `first` says what it does next, by the time, and `make` makes exactly these calls and then
-/// this root. The context that it is handed stands on node 0, with an empty label.
+/// It is lawful as a task is: `first` says what it does next, by the time, and `make` makes exactly these calls and
+/// then this root. The context that it is handed is on node 0, with an empty label. It must be `Drop` for `start`:
+/// where there is no room for the run's first entry it is never called.
 pub trait RootMaker<T: Task>: Sized {
     ghost use Rattle.std.specs.Prelude.{◌≡◌, [], None};
     ghost use Rattle.rt_model.specs.Tied.{First};
@@ -20,7 +21,7 @@ pub trait RootMaker<T: Task>: Sized {
     // what it does next
     ghost first: { Self → First T T.Output };
 
-    /// Makes the root. It refuses only where it is out of memory.
+    /// Makes the root. It is refused only where it runs out of memory.
     fn make<G: Rng>(
         self,
         context: Context,

@@ -7,7 +7,7 @@ use rt_audit::FinishCause;
 use rt_base::Text;
 use thiserror::Error;
 
-/// The cause of a run that gave no output.
+/// Why a run gave no output.
 #[derive(Debug, Drop, PartialEq, Eq, Error)]
 pub enum RunError {
     /// A deadline is set and was there, before a round or in a clock step before its alarms went off.
@@ -25,13 +25,13 @@ pub enum RunError {
     /// No task number was left for the root.
     #[error("too many tasks")]
     TooManyTasks,
-    /// Memory was lacking. It may be answered at any time.
+    /// The run was out of memory, which may come at any time.
     #[error("no memory")]
     NoMemory,
 }
 
 impl RunError {
-    /// The cause that the run's last entry keeps.
+    /// Returns the cause that the run's last entry keeps.
     pub fn cause(&self) -> FinishCause
         ensures { result ≡ finish_of self.now }
     {

@@ -17,10 +17,11 @@ use rt_world::{Begin, Task, World};
 use std::alloc::Global;
 use std::marker::Model;
 
-/// A run that is to begin.
+/// A run that is to begin, with its settings and the journal of the runs before it.
 ///
-/// Contracts see how it begins, the entries of the runs before it, and its generator. By its type its cycle is at least
-/// 1, and its start and its deadline are at most `MAX_TIME`.
+/// Contracts see how it begins, the entries of the runs before it, and its generator. By its type its cycle is at
+/// least 1, and its start and its deadline are at most `MAX_TIME`. A runner is made without memory: a run without one
+/// before it makes its own journal.
 #[derive(Drop)]
 pub struct Runner<G> {
     rng: G,
@@ -40,8 +41,8 @@ impl<G> Model for Runner<G> {
 }
 
 impl<G: Rng + Drop> Runner<G> {
-    /// A runner with these settings, and with no run before it. It is refused exactly as [`Config::assert`] refuses
-    /// the settings.
+    /// Makes a runner with these settings, and with no run before it. It is refused exactly as [`Config::assert`]
+    /// refuses the settings.
     pub fn new(config: Config<G>) -> Result<Runner<G>, ConfigError>
         ensures accepted { IsOk result ↔ (assert_of config.cycle config.start_time config.timeout ≡ Ok tt) }
         ensures ok { IfOk result (λ r. r ≡ record { begin = first_begin config.cycle config.start_time config.timeout config.catch_panics config.next_task; given = []; rng = config.rng }) }
@@ -73,10 +74,10 @@ impl<G: Rng + Drop> Runner<G> {
         }
     }
 
-    /// Runs the root that the maker makes, to the end of the run, and hands back its output and a checkpoint.
+    /// Runs the root that the maker makes, to the end of the run, and returns its output and a checkpoint.
     ///
-    /// A failure carries the journal of all entries so far; out of memory, it may carry none of this run. Every cause but
-    /// `NoMemory` comes exactly at its place of the run.
+    /// A failure carries the journal of all entries so far; out of memory, it may carry none of this run. Every cause
+    /// but `NoMemory` comes exactly at its place of the run.
     #[tactic(auto, unfolding(rt_model::specs::Effects::after))]
     pub fn start_and_recover<T: Task, M: RootMaker<T> + Drop>(
         self,
@@ -129,7 +130,7 @@ impl<G: Rng + Drop> Runner<G> {
 }
 
 impl<G: Drop> Runner<G> {
-    /// The entries of the runs before, where none is to follow.
+    /// Returns the entries of the runs before, where no run is to follow; without any, an empty journal.
     pub fn into_journal(self, alloc: Global) -> Journal
         ensures { result.entries ≡ self.given }
     {
@@ -138,7 +139,8 @@ impl<G: Drop> Runner<G> {
 }
 
 impl<G: Rng + Drop> Runner<G> {
-    /// The output of [`start_and_recover`](Self::start_and_recover), or its failure.
+    /// Runs the root that the maker makes, and returns the output of [`start_and_recover`](Self::start_and_recover),
+    /// or its failure.
     pub fn start<T: Task, M: RootMaker<T> + Drop>(
         self,
         alloc: Global,
@@ -162,8 +164,9 @@ impl<G: Rng + Drop> Runner<G> {
 }
 
 impl<G> Runner<G> {
-    /// A runner that goes on behind the run that left this checkpoint: from its last moment on, with its deadline, cycle,
-    /// generator and journal. Tasks, nodes, alarms and all else begin anew.
+    /// Makes a runner that goes on after the run that left this checkpoint: from its last moment on, with its
+    /// deadline, cycle, generator and journal, and with task numbers from 0 on. Tasks, nodes, alarms and all else
+    /// begin anew. It is never refused.
     pub fn from(checkpoint: Checkpoint<G>) -> Runner<G>
         ensures { result ≡ resumed checkpoint }
     {
@@ -190,7 +193,7 @@ impl<G> Runner<G> {
 }
 
 impl Runner<ChaCha12Rng> {
-    /// A runner with the settings of [`Config::new`] and the generator of this seed.
+    /// Makes a runner with the settings of [`Config::new`] and the generator of this seed.
     pub fn seeded(seed: u64) -> Runner<ChaCha12Rng>
         ensures { result ≡ record { begin = first_begin 1000000 0 None false 0; given = []; rng = seeded seed } }
     {
@@ -200,7 +203,7 @@ impl Runner<ChaCha12Rng> {
         }
     }
 
-    /// A runner with the settings of [`Config::new`] and this timeout in nanoseconds. It is refused exactly as
+    /// Makes a runner with the settings of [`Config::new`] and this timeout in nanoseconds. It is refused exactly as
     /// [`Config::assert`] refuses these settings.
     pub fn timed(timeout: Nanos) -> Result<Runner<ChaCha12Rng>, ConfigError>
         ensures accepted { IsOk result ↔ (assert_of 1000000 0 (Some timeout) ≡ Ok tt) }
@@ -212,7 +215,7 @@ impl Runner<ChaCha12Rng> {
 }
 
 impl Default for Runner<ChaCha12Rng> {
-    /// A runner with the settings of [`Config::new`].
+    /// Makes a runner with the settings of [`Config::new`].
     fn default() -> Self
         ensures { result ≡ record { begin = first_begin 1000000 0 None false 0; given = []; rng = seeded default_seed } }
     {
@@ -230,7 +233,7 @@ fn given_journal(alloc: Global, journal: Option<Journal>) -> Journal
     }
 }
 
-/// The moment that lies so far behind the start, where there is one.
+/// The moment that is so far after the start, where there is one.
 fn deadline_after(start: Nanos, timeout: Option<Nanos>) -> Option<Nanos>
     requires within { IsWithin (deadline_of start timeout) }
     ensures { result ≡ deadline_of start timeout }

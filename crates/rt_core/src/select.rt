@@ -15,14 +15,14 @@ use rt_world::{Cx, Outcome, Poller, World};
 use std::marker::Model;
 use std::mem;
 
-/// A choice between handles of tasks of this type.
+/// A choice between handles of tasks of this type: a poller of the first ready one.
 pub type Select<T, P = NoPoller> = SelectOf<<T as Outcome>::Output, P>;
 
-/// A poller of what the first ready one of its handles answers. It is a token: it must be spent by
+/// A poller of what the first ready one of its handles returns. It is a token: it must be spent by
 /// [`give_up`](Poller::give_up), which aborts all handles and then gives all up.
 ///
-/// A poll polls the handles in order, up to the first that is ready. Then all are aborted and all given up. Without
-/// handles, and once it has answered, it answers `Closed`.
+/// A poll polls the handles in order, up to the first that is ready. Then all are aborted in order, that one too, and
+/// all given up. Without handles, and once it has answered, it returns `Closed`.
 pub struct SelectOf<O, P> {
     handles: Vec<HandleOf<O, P>>,
 }
@@ -37,7 +37,7 @@ impl<O, P> Model for SelectOf<O, P> {
 }
 
 impl<O, P> HandleOf<O, P> {
-    /// What answers as the first ready one of these handles does.
+    /// Makes a poller of what the first ready one of these handles returns.
     pub fn select(handles: Vec<HandleOf<O, P>>) -> SelectOf<O, P>
         ensures { result ≡ handles.items }
     {

@@ -12,7 +12,7 @@ use rt_model::Begin;
 use std::alloc::Global;
 use std::test::Fail;
 
-/// Gives a signal up. Answers whether it was made.
+/// Gives a signal up. Returns whether it was made.
 #[tactic(auto, using(rt_world::proofs::Walked::close_laws))]
 fn lets_go<G: Rng>(signal: Result<Signal, Error>, world: &mut Making<G>) -> bool
     requires { MayCall world.old.told.state world.old.out }
@@ -27,7 +27,7 @@ fn lets_go<G: Rng>(signal: Result<Signal, Error>, world: &mut Making<G>) -> bool
     }
 }
 
-/// Gives two signals up. Answers whether the second was made.
+/// Gives two signals up. Returns whether the second was made.
 #[tactic(auto, using(rt_world::proofs::Walked::close_laws))]
 fn lets_both_go<G: Rng>(first: Signal, second: Result<Signal, Error>, world: &mut Making<G>) -> bool
     requires { MayCall world.old.told.state world.old.out }
@@ -37,7 +37,7 @@ fn lets_both_go<G: Rng>(first: Signal, second: Result<Signal, Error>, world: &mu
     lets_go(second, world)
 }
 
-/// Gives two signals and their completion up. Answers whether the second was made.
+/// Gives two signals and their completion up. Returns whether the second was made.
 #[tactic(auto, using(rt_world::proofs::Walked::close_laws))]
 fn lets_all_go<G: Rng>(
     first: Signal,
@@ -53,7 +53,7 @@ fn lets_all_go<G: Rng>(
     made
 }
 
-/// Makes a further signal, gives the group its value, and gives all up. Answers whether the signal was made.
+/// Makes a further signal, gives the group its value, and gives all up. Returns whether the signal was made.
 #[tactic(auto, using(rt_world::proofs::Walked::close_laws))]
 fn gives<G: Rng>(signaler: Signaler, first: Signal, world: &mut Making<G>) -> bool
     requires { MayCall world.old.told.state world.old.out }
@@ -64,7 +64,7 @@ fn gives<G: Rng>(signaler: Signaler, first: Signal, world: &mut Making<G>) -> bo
     lets_all_go(first, second, completion, world)
 }
 
-/// Makes a group, gives its value, and gives up its two signals and its completion. Answers whether all were made.
+/// Makes a group, gives its value, and gives up its two signals and its completion. Returns whether all were made.
 #[tactic(auto, using(rt_world::proofs::Walked::close_laws))]
 fn gives_a_value<G: Rng>(world: &mut Making<G>) -> bool
     requires { MayCall world.old.told.state world.old.out }
@@ -76,7 +76,7 @@ fn gives_a_value<G: Rng>(world: &mut Making<G>) -> bool
     }
 }
 
-/// Makes a group, and gives its signaler up. Answers whether it was made.
+/// Makes a group, and gives its signaler up. Returns whether it was made.
 #[tactic(auto, using(rt_world::proofs::Walked::close_laws))]
 fn gives_none<G: Rng>(world: &mut Making<G>) -> bool
     requires { MayCall world.old.told.state world.old.out }
@@ -90,7 +90,7 @@ fn gives_none<G: Rng>(world: &mut Making<G>) -> bool
     true
 }
 
-/// Stops the run. Answers whether it was stopped.
+/// Stops the run. Returns whether it was stopped.
 #[tactic(auto, using(rt_world::proofs::Walked::close_laws))]
 fn stops<G: Rng>(world: &mut Making<G>) -> bool
     requires { MayCall world.old.told.state world.old.out }
@@ -105,7 +105,7 @@ fn stops<G: Rng>(world: &mut Making<G>) -> bool
     }
 }
 
-/// Gives up a copy of a signal, and then the signal. Answers whether both were made.
+/// Gives up a copy of a signal, and then the signal. Returns whether both were made.
 #[tactic(auto, using(rt_world::proofs::Walked::close_laws))]
 fn copies<G: Rng>(signal: Result<Signal, Error>, world: &mut Making<G>) -> bool
     requires { MayCall world.old.told.state world.old.out }
@@ -121,7 +121,7 @@ fn copies<G: Rng>(signal: Result<Signal, Error>, world: &mut Making<G>) -> bool
     }
 }
 
-/// Makes a signal of the shutdown, and gives it up. Answers whether it was made.
+/// Makes a signal of the shutdown, and gives it up. Returns whether it was made.
 #[tactic(auto, using(rt_world::proofs::Walked::close_laws))]
 fn opens<G: Rng>(context: &Context, world: &mut Making<G>) -> bool
     requires { MayCall world.old.told.state world.old.out }
@@ -131,7 +131,7 @@ fn opens<G: Rng>(context: &Context, world: &mut Making<G>) -> bool
     lets_go(before, world)
 }
 
-/// Makes a signal of the shutdown that began, and gives it and a copy up. Answers whether both were made.
+/// Makes a signal of the shutdown that began, and gives it and a copy up. Returns whether both were made.
 #[tactic(auto, using(rt_world::proofs::Walked::close_laws))]
 fn holds<G: Rng>(context: &Context, world: &mut Making<G>) -> bool
     requires { MayCall world.old.told.state world.old.out }
@@ -141,7 +141,7 @@ fn holds<G: Rng>(context: &Context, world: &mut Making<G>) -> bool
     copies(behind, world)
 }
 
-/// Makes signals of the shutdown before it begins and behind that. Answers whether all were made.
+/// Makes signals of the shutdown before it begins and after that. Returns whether all were made.
 #[tactic(auto, using(rt_world::proofs::Walked::close_laws))]
 fn begins_the_shutdown<G: Rng>(context: &Context, world: &mut Making<G>) -> bool
     requires { MayCall world.old.told.state world.old.out }

@@ -39,8 +39,9 @@ pub enum SignalKind {
     Resolved(i32),
 }
 
-/// A signal of a group: a poller of its value, which each poll shows from when it came. `Closed` where the signaler was given
-/// up without a value. It is a token: it must be spent by [`give_up`](Poller::give_up).
+/// A signal of a group: a poller of its value, which each poll shows from when it came. A poll is refused with
+/// `Closed` where the signaler was given up without a value. It is a token: it must be spent by
+/// [`give_up`](Poller::give_up).
 ///
 /// Contracts see how it is kept.
 #[derive(Debug)]
@@ -74,7 +75,7 @@ impl Model for CompletionWait {
 }
 
 impl Signaler {
-    /// Makes a group of signals, and hands out its signaler and its first signal. Its only error is `NoMemory`.
+    /// Makes a group of signals, and returns its signaler and its first signal. Its only error is `NoMemory`.
     #[tactic(auto, using(rt_world::proofs::Signaled::signal_tell_laws), unfolding(crate::specs::Signals::makes_group))]
     pub fn new<T, O, G: Rng>(world: &mut World<T, O, G>) -> Result<(Signaler, Signal), Error>
         requires { MayCall world.old.told.state world.old.out }
@@ -90,8 +91,8 @@ impl Signaler {
         }
     }
 
-    /// Gives the value, which each signal of the group shows from then on, and answers the group's completion. It takes no
-    /// memory.
+    /// Gives the value, which each signal of the group shows from then on, and returns the group's completion. It
+    /// takes no memory.
     #[tactic(auto, using(rt_world::proofs::Walked::close_laws))]
     pub fn signal<T, O, G: Rng>(self, world: &mut World<T, O, G>, value: i32) -> CompletionWait
         requires { MayCall world.old.told.state world.old.out }
@@ -105,7 +106,7 @@ impl Signaler {
         CompletionWait { number }
     }
 
-    /// Gives the signaler up without a value: its signals answer `Closed` from then on. It takes no memory.
+    /// Gives the signaler up without a value: its signals return `Closed` from then on. It takes no memory.
     #[tactic(auto, using(rt_world::proofs::Walked::close_laws))]
     pub fn give_up<T, O, G: Rng>(self, world: &mut World<T, O, G>)
         requires { MayCall world.old.told.state world.old.out }
@@ -143,7 +144,7 @@ impl Signal {
         kind
     }
 
-    /// A further signal of the same group. It takes memory, but for a signal that holds its value.
+    /// Makes a further signal of the same group. It takes memory, except for a signal that holds its value.
     ///
     /// Errors: `UnknownToken` where the signal was given up, `NoMemory`.
     #[tactic(auto, using(rt_world::proofs::Signaled::signal_tell_laws, rt_world::proofs::Walked::poller_laws), unfolding(crate::specs::Signals::clones))]
@@ -229,7 +230,7 @@ impl<T: Outcome> Poller<T, ()> for CompletionWait {
     }
 }
 
-/// The answer of a poll, by what was told of it.
+/// Returns the answer of a poll, by what was heard of it.
 fn polled<V>(told: Result<Poll<V>, Error>) -> Poll<Result<V, Error>>
     ensures { result ≡ polled told }
 {

@@ -42,7 +42,8 @@ impl Sleep {
         }
     }
 
-    /// A sleep for so many nanoseconds from this time on. `ClockOverflow` exactly where it would end past `MAX_TIME`.
+    /// A sleep for so many nanoseconds from this time on. It is refused with `ClockOverflow` exactly where it would end past
+    /// `MAX_TIME`.
     #[tactic(auto, unfolding(crate::specs::Pollers::sleep_for))]
     pub(crate) fn lasting(now: Nanos, duration: Nanos) -> Result<Sleep, Error>
         requires { now ≤ MAX_TIME }

@@ -8,7 +8,8 @@ use rt_base::{Items, Name, NoMemory, SmallText, Text, add_attribute, clone_attri
 use std::alloc::Global;
 use std::marker::Model;
 
-/// A name whose label takes no memory where it is short, since each task has one. Contracts see the name.
+/// The name of a context. Each task has one, so its label takes no memory where it has at most 22 bytes. Contracts
+/// see the name.
 #[derive(Drop)]
 pub struct SmallName {
     label: SmallText,

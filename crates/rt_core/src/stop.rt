@@ -23,12 +23,12 @@ pub enum Stopping {
     Limited(Timeout<CompletionWait>),
 }
 
-/// A poller of the end of a run's shutdown. It is a token: it must be spent by [`give_up`](Poller::give_up), which closes its
-/// completion, where it has one, and then its context.
+/// A poller of the end of a run's shutdown. It is a token: it must be spent by [`give_up`](Poller::give_up), which
+/// closes its completion, where it has one, and then its context.
 ///
-/// Its first poll stops the run with its value, and from then on it is ready where each signal of the shutdown was given up.
-/// `Timeout` where they weren't, so many nanoseconds after that poll. `ClockOverflow` at the first poll where that would be
-/// past `MAX_TIME`: the run isn't stopped then.
+/// Its first poll stops the run with its value, and from then on it is ready where each signal of the shutdown was
+/// given up. It returns `Timeout` where they weren't, so many nanoseconds after that poll. It returns `ClockOverflow`
+/// at the first poll where that would be past `MAX_TIME`: the run isn't stopped then, and the next poll begins anew.
 pub struct Stop {
     pub(crate) context: Context,
     pub(crate) value: i32,

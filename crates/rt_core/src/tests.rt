@@ -228,7 +228,7 @@ fn probing(calls: bool) -> RootProbe {
     RootProbe { makes: true, calls }
 }
 
-/// Whether a run that lacks memory has these lines.
+/// Whether a run that runs out of memory has these lines.
 fn breaks_off(alloc: Global, maker: RootProbe, expected: &str) -> Result<bool, NoMemory> {
     let Err(failure) = Runner::default().start::<Probe, RootProbe>(alloc, maker) else {
         return Ok(false);
@@ -453,7 +453,7 @@ fn has_name(alloc: Global, context: &Context, expected: &str) -> bool {
     }
 }
 
-/// Spawns a probe on the context of a cell, and aborts it twice before its handle is given up. Answers whether it was spawned.
+/// Spawns a probe on the context of a cell, and aborts it twice before its handle is given up. Returns whether it was spawned.
 #[tactic(auto, using(rt_world::proofs::Walked::close_laws))]
 fn spawns_aborted<G: Rng>(context: Context, world: &mut Making<G>) -> bool
     requires { MayCall world.old.told.state world.old.out }
@@ -525,7 +525,7 @@ fn spawns_on_a_child<G: Rng>(alloc: Global, context: &Context, world: &mut Makin
     named && spawned
 }
 
-/// Gives up a stop that wasn't polled, and a choice among no handles. Answers whether the stop had a context.
+/// Gives up a stop that wasn't polled, and a choice among no handles. Returns whether the stop had a context.
 #[tactic(auto, using(rt_world::proofs::Walked::close_laws))]
 fn gives_pollers_up<G: Rng>(alloc: Global, context: &Context, world: &mut Making<G>) -> bool
     requires { MayCall world.old.told.state world.old.out }

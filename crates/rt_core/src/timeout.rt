@@ -9,11 +9,11 @@ use rt_base::{Error, MAX_TIME, Nanos, Poll};
 use rt_world::{Cx, Outcome, Poller, World};
 use std::mem;
 
-/// A poller of what its state gives, or of [`Error::Timeout`] where the state isn't ready so many nanoseconds after the
-/// first poll. It is a token: it must be spent by [`give_up`](Poller::give_up).
+/// A poller of what its state gives, or of [`Error::Timeout`] where the state isn't ready so many nanoseconds after
+/// the first poll. It is a token: it must be spent by [`give_up`](Poller::give_up).
 ///
-/// The state is polled first, and what it answers is the answer, its errors too. `ClockOverflow` where the time would end
-/// past `MAX_TIME`: the state isn't polled then.
+/// The state is polled first, and what it returns is the answer, its errors too. It returns `ClockOverflow` at the
+/// first poll where the time would end past `MAX_TIME`: the state isn't polled then.
 #[derive(Debug)]
 pub struct Timeout<P> {
     pub(crate) state: P,
@@ -75,7 +75,7 @@ impl<T: Outcome, V, P: Poller<T, V>> Poller<T, V> for Timeout<P> {
     }
 }
 
-/// The answer where the state isn't ready, by what its sleep answered.
+/// The answer where the state isn't ready, by what its sleep returned.
 fn over<V>(slept: Poll<Result<(), Error>>) -> Poll<Result<V, Error>>
     ensures { result ≡ over slept }
 {

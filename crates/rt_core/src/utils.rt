@@ -5,7 +5,7 @@ ghost use Rattle.rt_core.specs.Pollers.{unqueued};
 
 use crate::Reschedule;
 
-/// Gives way to the other tasks once: a poller that is pending at its first poll, and then ready.
+/// Makes a poller that gives way to the other tasks once: it is pending at its first poll, and then ready.
 pub fn reschedule() -> Reschedule
     ensures { result ≡ unqueued }
 {
