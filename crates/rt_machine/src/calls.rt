@@ -159,7 +159,7 @@ impl Machine {
         Ok(Call::Child { node, label })
     }
 
-    /// Queues a task. It takes memory.
+    /// Queues a task by its number. It takes memory.
     ///
     /// Errors: `UnknownToken` where no task of this run had the number, `NoMemory`.
     pub fn wake(&mut self, by: Option<u64>, task: u64) -> Result<(), Error>

@@ -14,7 +14,7 @@ use std::marker::Model;
 #[derive(Drop)]
 pub enum NodeLabel {
     Short(ShortLabel),
-    /// The place of a long one.
+    /// The place of a long one among the long texts. The node of a spawned task shares that of its context.
     Long(usize),
 }
 

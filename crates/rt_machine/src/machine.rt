@@ -89,7 +89,8 @@ fn first_node(alloc: Global) -> Result<(Tree, Labels), NoMemory>
 
 #[tactic(auto, using(crate::proofs::Counts::count_laws, crate::proofs::Totals::place_laws), unfolding(rt_model::specs::Effects::after, rt_model::specs::State::begun))]
 impl Machine {
-    /// Begins a run after the entries of this journal. Without memory it hands the journal back.
+    /// Begins a run after the entries of this journal, and returns its machine, or hands the journal back where there
+    /// is no memory.
     pub fn begin(alloc: Global, journal: Journal, begin: Begin) -> Result<Machine, Journal>
         requires { begin.start ≤ MAX_TIME }
         ensures ok { IfOk result (λ m. m ≡ record { told = pushed (fresh begin journal.entries) (Entry.Start begin.first begin.start begin.deadline begin.cycle); lacked = None }) }
@@ -234,7 +235,8 @@ impl Machine {
     /// Drains the ready list into a round, whose order the generator's next draws decide, and puts its numbers into
     /// `order`.
     ///
-    /// The draws are written before the round. After `NoMemory` nothing has changed, and nothing was drawn.
+    /// The draws are written before the round, and the journal keeps a copy of the numbers. After `NoMemory` nothing has
+    /// changed, and nothing was drawn.
     pub fn round<G: Rng>(&mut self, order: &mut Vec<u64>, rng: &mut G) -> Result<(), NoMemory>
         requires { MayRound self.old.told.state.phase self.old.told.state }
         ensures ok { OnOk result (Drains (G.stream rng.old) (G.stream rng.new) self.old.told self.new.told order.new.items) }

@@ -21,7 +21,7 @@ pub fn is_flagged(marks: &Table<Mark>, task: u64) -> bool
     }
 }
 
-/// Flags a task. Returns whether it was left pending.
+/// Flags a task, and returns whether it was left pending.
 #[tactic(auto, using(crate::proofs::Changed::change_laws, crate::proofs::Totals::place_laws))]
 pub fn flag(marks: &mut Table<Mark>, task: u64) -> bool
     ensures left { result ≡ is_left (find task marks.old.items) }
@@ -44,7 +44,7 @@ pub fn flag(marks: &mut Table<Mark>, task: u64) -> bool
     mark.left
 }
 
-/// Notes that a task is left pending. Returns whether it wasn't before.
+/// Notes that a task is left pending, and returns whether it wasn't before.
 #[tactic(auto, using(crate::proofs::Changed::change_laws, crate::proofs::Totals::place_laws))]
 pub fn leave(marks: &mut Table<Mark>, task: u64) -> bool
     ensures fresh { result ≡ is_new (find task marks.old.items) }
