@@ -69,12 +69,12 @@ IsBare o before after = ((o.status ≡ 4) ⊎ (o.status ≡ 7)) × (o.runs ≡ [
 abbrev pub EndsAs : (Outcome → Type 0) → List ℕ → Outcome → Option (List ℕ) → Option (List ℕ) → Type 0
 EndsAs is text o before after = IsDone is text o before after ⊎ (IsCut is text o before after ⊎ IsBare o before after)
 
--- behind these runs of what was asked one lacked memory, and these are all entries
+-- after these runs of what was asked one ran out of memory, and these are all entries
 abbrev pub Lacks : Asked → List RunReport → List Entry → Type 0
 Lacks (Reads (Whole s)) runs entries = Chain false s.scripts (starting s.settings) s.runs runs entries
 Lacks asked runs entries = ⊥
 
--- a run lacked memory: its entries stand in the journal behind those of the runs before it, and nothing was written
+-- a run ran out of memory: its entries are in the journal after those of the runs before it, and nothing was written
 abbrev pub IsHalted : Asked → Outcome → Option (List ℕ) → Option (List ℕ) → Type 0
 IsHalted asked o before after = (o.status ≡ 7) × Lacks asked o.runs o.journal.entries × (after ≡ before)
 

@@ -55,7 +55,7 @@ Comes m s entries time (Failed error) None =
     (error ≢ NoMemory) × (last_time (s.given ++ entries) ≡ time) × Fails (root_steps m) s (s.given ++ entries) error
 Comes m s entries time result kept = ⊥
 
--- these entries are those of a run that lacked memory
+-- these entries are those of a run that ran out of memory
 pub record Halts (scripts : List ScriptText) (line : RunLine) (from : Starting ChaCha) (entries : List Entry) : Type 0 where
   pub script : ScriptText
   pub maker : Maker
@@ -64,7 +64,7 @@ pub record Halts (scripts : List ScriptText) (line : RunLine) (from : Starting C
   pub drawn : AreShuffled chacha_stream from (from.given ++ entries)
   pub audited : AreAudited from (from.given ++ entries)
 
--- the report of a run of these entries, which stand in the journal behind those that were given
+-- the report of a run of these entries, which are in the journal after those that were given
 abbrev pub report_of : List ℕ → RunResult → ℕ → List Entry → List Entry → RunReport
 report_of root result time given entries = record {
   root = root;
@@ -92,12 +92,12 @@ CameOf scripts line from (Completed run kept) = (own : List Entry) × (kept.jour
 CameOf scripts line from (HasFailed run journal) = (own : List Entry) × (journal.entries ≡ from.given ++ own) × IsReported scripts line from own run None
 CameOf scripts line from (Lacked journal) = (own : List Entry) × (journal.entries ≡ from.given ++ own) × Halts scripts line from own
 
--- behind a run that gave an output this is so of the next one's beginning, and behind one that failed that
+-- after a run that gave an output this is so of the next one's beginning, and after one that failed that
 abbrev pub Behind : (Starting ChaCha → Type 0) → Type 0 → Option (Kept ChaCha) → Type 0
 Behind next none (Some kept) = next (resumed kept)
 Behind next none None = none
 
--- what stands behind the runs that are reported: no line and no entry, or the entries of a run that lacked memory
+-- what comes after the runs that are reported: no line and no entry, or the entries of a run that ran out of memory
 abbrev pub Tail : Bool → List ScriptText → Starting ChaCha → List RunLine → List Entry → Type 0
 Tail true scripts from lines entries = (lines ≡ []) × (entries ≡ [])
 Tail false scripts from (line ∷ lines) entries = Halts scripts line from entries
@@ -115,7 +115,7 @@ abbrev pub status_of : RunResult → ℕ
 status_of (Ok output) = 0
 status_of (Failed error) = 6
 
--- the status behind these reports: the last one's
+-- the status after these reports: the last one's
 abbrev pub last_status : List RunReport → ℕ
 last_status [] = 0
 last_status (run ∷ []) = status_of run.result

@@ -21,7 +21,7 @@ word_of TimeOverflow = codes "overflow"
 word_of TooManyTasks = codes "tasks"
 word_of NoMemory = codes "nomemory"
 
--- behind the word a panic has its text
+-- after the word a panic has its text
 abbrev pub detail_of : RunError → List ℕ
 detail_of (TaskPanicked text) = codes " " ++ text
 detail_of error = []

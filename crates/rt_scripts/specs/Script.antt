@@ -172,7 +172,7 @@ spawns s on at script =
     followed_by (releases (find at s.held))
     (then (childs s.context (name_at s.text at)) (λ made u. placed (roomed (loosed s at) at) on at script made))
 
--- what a join of this handle was told
+-- what a join of this handle received
 abbrev pub joined : Script → (Script → Next) → ℕ → Poll (Result ℤ Error) → TaskHandle ℤ → Next
 joined s on at IsPending handle = Gives Pending (bound s at (Handle handle))
 joined s on at (IsReady (Ok value)) handle = followed_by (task_spends handle) (on (passed (loosed s at) value))
@@ -192,7 +192,7 @@ timed s on at handle IsPending sleep = Gives Pending (waiting (put_back s at (Ha
 timed s on at handle (IsReady (Ok over)) sleep = followed_by (task_spends handle) (refused s on Timeout)
 timed s on at handle (IsReady (Err error)) sleep = Gives NoMemory (put_back s at (Handle handle))
 
--- what it was told of its handle. Its sleep is polled where the handle isn't ready
+-- what it received of its handle. Its sleep is polled where the handle isn't ready
 abbrev pub limited : Script → (Script → Next) → ℕ → Sleeper → Poll (Result ℤ Error) → TaskHandle ℤ → Next
 limited s on at sleep IsPending handle = then (sleep_polls sleep) (timed s on at handle)
 limited s on at sleep (IsReady (Ok value)) handle = followed_by (task_spends handle) (on (passed s value))
@@ -272,7 +272,7 @@ awaits_held s on at (Some signal) = then (signal_polls signal) (shown s on at)
 unfoldable pub awaits : Script → (Script → Next) → ℕ → Next
 awaits s on at = awaits_held s on at (signal_at s at)
 
--- what its stop answered. It is given up then
+-- what its stop returned. It is given up then
 abbrev pub stopped : Script → (Script → Next) → Polled → Stop → Next
 stopped s on IsPending stop = Gives Pending (record s { stop = Some stop })
 stopped s on (IsReady (Ok over)) stop = followed_by (stop_spends stop) (on (passed s (pos 0)))
@@ -297,7 +297,8 @@ stops_by s on value limit time task (Some stop) = stop_goes s on time task stop
 unfoldable pub stops : Script → (Script → Next) → ℤ → Option ℕ → ℕ → ℕ → Next
 stops s on value limit time task = stops_by (record s { stop = None }) on value limit time task s.stop
 
--- whether these names all hold handles, and what they hold once each was taken out and put back. A name that stands twice holds none
+-- whether these names all hold handles, and what they hold once each was taken out and put back. A name that is there twice
+-- holds none
 -- at its second place
 abbrev pub tried_by : ℕ → Option (TaskHandle ℤ) → List (ℕ × Held) → Bool × List (ℕ × Held) → Bool × List (ℕ × Held)
 tried_by at None held more = (false, held)

@@ -14,7 +14,7 @@ use rt_core::{Answer, Cx, Error, Poll, Poller, Rng, World};
 
 #[tactic(auto, using(rt_world::proofs::Walked::task_laws))]
 impl Script {
-    /// Goes on with the choice under way, or begins one among these names. Answers none where the script goes on.
+    /// Goes on with the choice under way, or begins one among these names. `None`: continue with the next line.
     #[tactic(auto, using(rt_world::proofs::Walked::task_laws), unfolding(crate::specs::Script::chooses))]
     pub(crate) fn select<G: Rng>(
         &mut self,
@@ -40,7 +40,7 @@ impl Script {
         self.choose(world, cx, first, past)
     }
 
-    /// Goes on with a choice. Answers none where the script goes on.
+    /// Goes on with a choice. `None`: continue with the next line.
     #[tactic(auto, using(rt_world::proofs::Walked::task_laws), unfolding(crate::specs::Script::goes_choosing))]
     fn choose<G: Rng>(
         &mut self,

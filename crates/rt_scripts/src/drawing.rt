@@ -9,12 +9,12 @@ ghost use Rattle.rt_scripts.specs.Script.{Next, Script, draws};
 use crate::Script;
 use rt_core::{Answer, Rng, World};
 
-/// A script's numbers have a sign: of what is drawn it keeps the rest by this.
+/// What is drawn is divided by this, and a script keeps the remainder, since its numbers have a sign.
 const HALF: u64 = 1 << 63;
 
 #[tactic(auto, using(rt_world::proofs::Walked::task_laws))]
 impl Script {
-    /// Draws a number. Answers none where the script goes on.
+    /// Draws a number. `None`: continue with the next line.
     #[tactic(auto, using(rt_world::proofs::Walked::task_laws), unfolding(crate::specs::Script::draws))]
     pub(crate) fn draw<G: Rng>(&mut self, world: &mut World<Script, i64, G>) -> Option<Answer<i64>>
         requires room { self.old.place < length self.old.text.lines }

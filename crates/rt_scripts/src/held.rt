@@ -19,7 +19,7 @@ pub enum Held {
 
 #[tactic(auto, using(rt_world::proofs::Walked::close_laws))]
 impl Held {
-    /// Gives it up. It takes no memory.
+    /// Gives up what the name holds. It takes no memory.
     pub fn give_up<G: Rng>(self, world: &mut World<Script, i64, G>)
         requires { MayCall world.old.told.state world.old.out }
         ensures kept { Kept G.stream world.old world.new }

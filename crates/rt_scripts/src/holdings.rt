@@ -14,7 +14,8 @@ use std::alloc::Global;
 use std::marker::Model;
 use std::mem;
 
-/// What names hold, by their places. It is behind a pointer, which the first place makes, since most scripts have no names.
+/// What the names of a script hold, by their places. It is behind a pointer, which the first place makes, since most
+/// scripts have no names.
 pub struct Holdings {
     tasks: Option<Box<Tasks<Held>>>,
     alloc: Global,
@@ -34,7 +35,7 @@ impl Model for Holdings {
 }
 
 impl Holdings {
-    /// Nothing, in no place.
+    /// Makes a list of no places.
     pub fn new(alloc: Global) -> Holdings
         ensures items { result.items ≡ [] }
         ensures first { result.first ≡ 0 }
@@ -75,7 +76,7 @@ impl Holdings {
         }
     }
 
-    /// The next place. The greatest number is none.
+    /// Returns the next place. The greatest number is none.
     pub fn next(&self) -> Option<u64>
         ensures next { IfSome result (λ next. next ≡ self.now.next) }
         ensures none { IfNone result (self.now.next ≡ 2 ^ 64) }
@@ -86,7 +87,7 @@ impl Holdings {
         }
     }
 
-    /// What a place holds.
+    /// Returns what a place holds, if anything.
     pub fn get(&self, place: u64) -> Option<&Held>
         ensures { option_copied result ≡ find place self.now.items }
     {
@@ -125,7 +126,7 @@ impl Holdings {
         }
     }
 
-    /// The first place that holds anything.
+    /// Returns the first place that holds anything.
     pub fn ends_next(&mut self) -> Option<u64>
         ensures next { result ≡ ends_next (numbers_of self.old.items) None }
         ensures same { self.new ≡ self.old }

@@ -14,8 +14,8 @@ ghost use Rattle.rt_scripts.specs.declared.outcome.RunReport.{RunReport};
 ghost use Rattle.rt_scripts.specs.declared.outcome.RunResult.TheVariants.{Failed};
 ghost use Rattle.rt_scripts.specs.Ran.{Chain, last_status};
 
-/// Each line has its report where the last status is 0. Nothing is reported without a line or behind a run that failed. The
-/// entries of a run begin where those of the one before end, and those of the last one end the journal.
+/// Each line has its report where the last status is 0. Nothing is reported without a line or after a run that
+/// failed. The entries of a run begin where those of the one before end, and those of the last one end the journal.
 pub fn reports_tell_the_runs_of_all_lines()
     ensures each_line { (scripts : List ScriptText) (from : Starting ChaCha) (lines : List RunLine) (runs : List RunReport) (entries : List Entry) → last_status runs ≡ 0 → Chain true scripts from lines runs entries → length runs ≡ length lines }
     ensures without_a_line { (scripts : List ScriptText) (from : Starting ChaCha) (whole : Bool) (run : RunReport) (runs : List RunReport) (entries : List Entry) → Chain whole scripts from [] (run ∷ runs) entries → ⊥ }
@@ -24,7 +24,7 @@ pub fn reports_tell_the_runs_of_all_lines()
     ensures to_the_end { (scripts : List ScriptText) (from : Starting ChaCha) (lines : List RunLine) (runs : List RunReport) (run : RunReport) (entries : List Entry) → Chain true scripts from lines (runs ++ run ∷ []) entries → run.to ≡ length from.given + length entries }
 {}
 
-/// The journal of a completed run decides what is kept of it, but for how a generator that gives the same is kept.
+/// The journal of a completed run decides what is kept of it, except for how a generator that gives the same is kept.
 pub fn a_journal_decides_its_checkpoint<A, O, G>()
     ensures { (stream : G → Stream) (p : Steps A O) (s : Starting G) (one two : O) (kept other : Kept G) → Completes stream p s one kept → Completes stream p s two other → kept.journal ≡ other.journal → (other ≡ record kept { rng = other.rng }) × (stream other.rng ≡ stream kept.rng) }
 {}

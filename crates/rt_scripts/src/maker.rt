@@ -12,10 +12,10 @@ use rt_base::Items;
 use rt_core::{Context, Error, NoMemory, Poller, Refused, Rng, RootMaker, World};
 use std::marker::Model;
 
-/// Makes a script of a program the root, and spawns others beside it, in order.
+/// A maker of a run's root: it makes a script of a program the root, and spawns others beside it, in order.
 ///
-/// Each is spawned on a child that has the script's name as its label, and its handle is given up at once. One that is
-/// refused is passed over.
+/// Each is spawned on a child that has the script's name as its label, and its handle is given up at once. One that
+/// is refused is skipped.
 #[derive(Drop)]
 pub struct RootScript {
     program: Program,
@@ -36,7 +36,7 @@ impl Model for RootScript {
 }
 
 impl RootScript {
-    /// For the script at this place, with those at these places beside it.
+    /// Makes a maker for the script at this place, with those at these places beside it.
     pub fn new(program: Program, root: usize, with: Items<usize>) -> RootScript
         requires root { root < length program }
         requires with { All (λ place. place < length program) with }
@@ -135,7 +135,7 @@ fn start_beside<G: Rng>(
     }
 }
 
-/// Passes a refusal over. Out of memory the context is closed.
+/// Skips one that was refused. Out of memory the context is closed.
 #[tactic(auto, using(rt_world::proofs::Walked::maker_laws))]
 fn pass_over<G: Rng>(
     world: &mut World<Script, i64, G>,

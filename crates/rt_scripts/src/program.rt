@@ -11,7 +11,9 @@ use std::alloc::Global;
 use std::marker::Model;
 use std::rc::Rc;
 
-/// The scripts of a scenario, in order. The places that their lines hold lie within their lists.
+/// The scripts of a scenario, in order, shared by all its tasks. The places that their lines hold are within their
+/// lists. All lines are in one block, apart from names and words: most polls read lines alone, and short ones are
+/// side by side in the cache.
 #[derive(Drop)]
 pub struct Program {
     scripts: Rc<ScriptTexts>,
@@ -31,7 +33,7 @@ impl Model for Program {
 }
 
 impl Program {
-    /// A program of these scripts.
+    /// Makes a program of these scripts.
     pub fn new(alloc: Global, scripts: ScriptTexts) -> Result<Program, NoMemory>
         requires { HavePlaces scripts }
         ensures { IfOk result (λ program. program ≡ scripts) }
@@ -42,7 +44,7 @@ impl Program {
         })
     }
 
-    /// The same program, for another task.
+    /// Returns the same program, for another task.
     pub fn share(&self) -> Result<Program, NoMemory>
         ensures { IfOk result (λ program. program ≡ self.now) }
     {
@@ -52,7 +54,7 @@ impl Program {
         })
     }
 
-    /// The allocator of the program.
+    /// Returns the allocator of the program.
     pub fn allocator(&self) -> Global {
         self.alloc
     }
@@ -66,7 +68,7 @@ impl Program {
         self.scripts.as_ref().lines(script)
     }
 
-    /// The name of a script.
+    /// Returns the name of a script.
     pub fn script_name(&self, script: usize) -> &str
         requires { script < length self.now }
         ensures { result.now ≡ (text_at self.now script).name }
@@ -74,7 +76,7 @@ impl Program {
         self.scripts.as_ref().name(script)
     }
 
-    /// How many lines a script has.
+    /// Returns how many lines a script has.
     pub fn line_count(&self, script: usize) -> usize
         requires { script < length self.now }
         ensures { result ≡ length (text_at self.now script).lines }
@@ -82,7 +84,7 @@ impl Program {
         self.lines_of(script).len()
     }
 
-    /// The line at a place of a script.
+    /// Returns the line at a place of a script, if there is one.
     pub fn line(&self, script: usize, place: usize) -> Option<Line>
         requires { script < length self.now }
         ensures line { result ≡ line_at (text_at self.now script) place }
@@ -96,7 +98,7 @@ impl Program {
         }
     }
 
-    /// The name of a handle of a script.
+    /// Returns the name of a handle of a script.
     pub fn handle_name(&self, script: usize, handle: usize) -> &str
         requires script { script < length self.now }
         requires handle { handle < length (text_at self.now script).handles }
@@ -105,7 +107,7 @@ impl Program {
         self.scripts.as_ref().handles(script)[handle].as_str()
     }
 
-    /// The place of a name that the choices of a script take; of one past the last it is 0.
+    /// Returns the place of a name that the choices of a script take, or 0 for one past the last.
     pub fn choice(&self, script: usize, at: usize) -> usize
         requires { script < length self.now }
         ensures { result ≡ choice_at (text_at self.now script) at }
@@ -114,7 +116,7 @@ impl Program {
         choices.get(at).copied().unwrap_or(0)
     }
 
-    /// A copy of a word of a script's panics.
+    /// Returns a copy of a word of a script's panics.
     pub fn word(&self, script: usize, at: usize) -> Result<Text, NoMemory>
         requires script { script < length self.now }
         requires word { at < length (text_at self.now script).words }

@@ -12,7 +12,7 @@ use rt_base::{Failed, NoMemory, Sink8, write_whole};
 use rt_core::RunError;
 use std::alloc::{AllocError, Global};
 
-/// From so many bytes on the buffer is written out.
+/// The number of bytes from which on the buffer is written out.
 const BUFFER: usize = 65536;
 
 /// The buffer begins with room for them and for the end of a line, so that it seldom grows.
@@ -59,9 +59,8 @@ impl From<Failed> for Unwritten {
     }
 }
 
-/// Writes the reports of runs, one after another, each with its own of these entries.
-///
-/// Where they aren't written whole, the first bytes have been.
+/// Writes the reports of runs, one after another, each with its own of these entries. Where they aren't written
+/// whole, the first bytes have been.
 pub fn write_reports<K: Sink8>(
     alloc: Global,
     sink: &mut K,
@@ -167,7 +166,7 @@ fn add_result(text: &mut String, ended: &RunResult) -> Result<(), NoMemory>
     Ok(())
 }
 
-/// Behind the word of a panic stands its text.
+/// Adds the text of a panic, which comes after its word.
 fn add_detail(text: &mut String, error: &RunError) -> Result<(), NoMemory>
     ensures { OnOk result (string_bytes text.new ≡ string_bytes text.old ++ detail_of error.now) }
 {

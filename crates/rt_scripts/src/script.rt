@@ -44,18 +44,19 @@ pub enum Waits {
     Chooses(usize, usize),
 }
 
-/// A script that runs.
+/// A script that runs as a task: it does its lines, one after another, and its end closes its context.
 ///
 /// Contracts see all scripts of its scenario, its own text, the place of the line that it is at, the value of the one
-/// before, what it waits for, the stop of its run that is under way, what it holds by the places of the names, and its context.
+/// before, what it waits for, the stop of its run that is under way, what it holds by the places of the names, and
+/// its context.
 pub struct Script {
     program: Program,
     script: usize,
     place: usize,
     last: i64,
     waits: Waits,
-    // None or one. A token, and so apart from `waits`, which each line lets go; and in a block of its own, since a script is moved at
-    // each visit.
+    // None or one. A token, and so apart from `waits`, which each line drops; and in a block of its own, since a script is moved
+    // at each visit.
     stop: Vec<Stop>,
     held: Holdings,
     pub(crate) context: Context,
@@ -78,7 +79,7 @@ impl Outcome for Script {
 }
 
 impl Script {
-    /// The script at this place, at its first line.
+    /// Makes the script at this place of a program, at its first line.
     pub fn new(program: Program, script: usize, context: Context) -> Script
         requires { script < length program }
         ensures { result ≡ started program script context }
@@ -134,7 +135,7 @@ impl Script {
         None
     }
 
-    /// Sleeps, or begins this sleep. Answers none where the script goes on.
+    /// Sleeps, or begins this sleep. `None`: continue with the next line.
     #[tactic(auto, using(rt_world::proofs::Walked::task_laws), unfolding(crate::specs::Script::sleeps))]
     fn sleep<G: Rng>(
         &mut self,
@@ -167,7 +168,7 @@ impl Script {
         }
     }
 
-    /// Gives way once. Answers none where the script goes on.
+    /// Gives way once. `None`: continue with the next line.
     #[tactic(auto, using(rt_world::proofs::Walked::task_laws), unfolding(crate::specs::Script::yields))]
     fn give_way<G: Rng>(
         &mut self,
@@ -340,7 +341,7 @@ impl Script {
         self.program.share()
     }
 
-    /// Spawns the script of a place, under this name. Answers none where the script goes on.
+    /// Spawns the script of a place, under this name. `None`: continue with the next line.
     #[tactic(auto, using(rt_world::proofs::Walked::task_laws), unfolding(crate::specs::Script::spawns))]
     fn spawn<G: Rng>(
         &mut self,
@@ -371,7 +372,7 @@ impl Script {
         }
     }
 
-    /// Spawns the script of a place on a fresh context, under this name. Answers none where the script goes on.
+    /// Spawns the script of a place on a fresh context, under this name. `None`: continue with the next line.
     fn start<G: Rng>(
         &mut self,
         world: &mut World<Script, i64, G>,
@@ -411,7 +412,7 @@ impl Script {
         }
     }
 
-    /// Polls the handle that a name holds. Answers none where the script goes on.
+    /// Polls the handle that a name holds. `None`: continue with the next line.
     #[tactic(auto, using(rt_world::proofs::Walked::task_laws), unfolding(crate::specs::Script::joins))]
     fn join<G: Rng>(
         &mut self,
@@ -447,7 +448,7 @@ impl Script {
         }
     }
 
-    /// Polls the handle that a name holds for at most so long. Answers none where the script goes on.
+    /// Polls the handle that a name holds for at most so long. `None`: continue with the next line.
     #[tactic(auto, using(rt_world::proofs::Walked::task_laws), unfolding(crate::specs::Script::joins_within))]
     fn join_within<G: Rng>(
         &mut self,
@@ -476,7 +477,7 @@ impl Script {
         }
     }
 
-    /// Polls a handle of this name, and then the limit. Answers none where the script goes on.
+    /// Polls a handle of this name, and then the limit. `None`: continue with the next line.
     #[tactic(auto, using(rt_world::proofs::Walked::task_laws), unfolding(crate::specs::Script::limits))]
     fn poll_within<G: Rng>(
         &mut self,
@@ -510,7 +511,7 @@ impl Script {
         }
     }
 
-    /// Polls the limit of a wait for this handle. Answers none where the script goes on.
+    /// Polls the limit of a wait for this handle. `None`: continue with the next line.
     #[tactic(auto, using(rt_world::proofs::Walked::task_laws))]
     fn poll_limit<G: Rng>(
         &mut self,
@@ -582,7 +583,7 @@ impl Script {
         self.pass(0);
     }
 
-    /// Aborts its own task. Answers none where the script goes on.
+    /// Aborts its own task. `None`: continue with the next line.
     #[tactic(auto, using(rt_world::proofs::Walked::task_laws), unfolding(crate::specs::Script::aborts_itself))]
     fn abort_itself<G: Rng>(
         &mut self,
@@ -610,7 +611,7 @@ impl Script {
         matches!(self.program.line(self.script, place), Some(Line::Yield))
     }
 
-    /// Does the line that the script is at. Answers none where the script goes on.
+    /// Does the line that the script is at. `None`: continue with the next line.
     #[tactic(auto, using(rt_world::proofs::Walked::task_laws), unfolding(crate::specs::Script::goes_on))]
     fn take_line<G: Rng>(
         &mut self,
@@ -707,8 +708,8 @@ impl Task for Script {
         context.close(world);
     }
 
-    /// Its place, its wait and its stop, which stand in several lines of the cache; where its lines stand; and the line that comes
-    /// next with the one behind it, since a poll may do both, and the next line's duration may stand beside the one behind it.
+    /// Reads its place, its wait and its stop, which are in several lines of the cache; where its lines are; and the
+    /// line that comes next with the one after it, since a poll may do both.
     fn touch(&self, depth: Depth) -> usize {
         match depth {
             Depth::State => {
@@ -754,7 +755,7 @@ fn turn_in(waits: Waits) -> Reschedule
     }
 }
 
-/// Takes out the stop that stands in its room.
+/// Takes out the stop that is in its room.
 pub(crate) fn only_one(room: &mut Vec<Stop>) -> Option<Stop>
     requires { vec_len room.old ≤ 1 }
     ensures stop { result ≡ slice_get room.old.items 0 }
@@ -777,7 +778,7 @@ fn give_stop_up<G: Rng>(world: &mut World<Script, i64, G>, stop: Option<Stop>)
     }
 }
 
-/// Gives up what it waits for. Answers what is left of what the names hold.
+/// Gives up what it waits for. Returns what is left of what the names hold.
 #[tactic(auto, using(rt_world::proofs::Walked::task_laws))]
 fn stop_waiting<G: Rng>(world: &mut World<Script, i64, G>, waits: Waits, held: Holdings) -> Holdings
     requires { MayCall world.old.told.state world.old.out }

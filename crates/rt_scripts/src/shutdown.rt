@@ -13,7 +13,7 @@ use rt_core::{Answer, Cx, Nanos, Poll, Poller, Rng, Stop, World};
 
 #[tactic(auto, using(rt_world::proofs::Walked::task_laws))]
 impl Script {
-    /// Keeps a signal of the shutdown under a name. Answers none where the script goes on.
+    /// Keeps a signal of the shutdown under a name. `None`: continue with the next line.
     #[tactic(auto, using(rt_world::proofs::Walked::task_laws), unfolding(crate::specs::Script::asks))]
     pub(crate) fn ask_stopped<G: Rng>(
         &mut self,
@@ -42,7 +42,7 @@ impl Script {
         }
     }
 
-    /// Polls the signal that a name holds, which stays. Answers none where the script goes on.
+    /// Polls the signal that a name holds, which stays. `None`: continue with the next line.
     #[tactic(auto, using(rt_world::proofs::Walked::task_laws), unfolding(crate::specs::Script::awaits))]
     pub(crate) fn wait<G: Rng>(
         &mut self,
@@ -73,7 +73,7 @@ impl Script {
         }
     }
 
-    /// Goes on with the stop under way, or begins one. Answers none where the script goes on.
+    /// Goes on with the stop under way, or begins one. `None`: continue with the next line.
     #[tactic(auto, using(rt_world::proofs::Walked::task_laws), unfolding(crate::specs::Script::stops))]
     pub(crate) fn stop<G: Rng>(
         &mut self,
@@ -107,7 +107,7 @@ impl Script {
         }
     }
 
-    /// Polls a stop, which stays in this room where it is pending. Answers none where the script goes on.
+    /// Polls a stop, which stays in this room where it is pending. `None`: continue with the next line.
     #[tactic(auto, using(rt_world::proofs::Walked::task_laws), unfolding(crate::specs::Script::stop_goes))]
     fn poll_stop<G: Rng>(
         &mut self,

@@ -31,10 +31,13 @@ const USAGE: &str = "usage: rt_sim run | gen N | load N | workers N\n";
 /// report of each run to the sink.
 ///
 /// The status is 0 where each run gave an output, 2 where the words are no command, 3 where the input is no scenario,
-/// 4 where a read failed, 5 where a write failed, 6 where a run failed, which is then the last, and 7 where it was out of memory.
-/// Time never goes back in the journal, also from one run to the next (`rises`).
-/// After a failed write the outcome is as without it but for the status, and the first bytes of the text were written.
-/// Each call keeps the memory of its scenario's scripts, and of the reader's large tables, until the process ends.
+/// 4 where a read failed, 5 where a write failed, 6 where a run failed, which is then the last, and 7 where it was
+/// out of memory. A scenario has at most 1,048,576 bytes. Time never goes back in the journal, also from one run to
+/// the next (`rises`). After a failed write the outcome differs from that without it in the status alone, and the
+/// first bytes of the text were written. Of bytes that were written each clause speaks where the sink tells what it
+/// holds, and of bytes that were read where the source tells them; standard input and output tell none. Each call
+/// keeps the memory of its scenario's scripts, and of the reader's large tables, until the process ends, since giving
+/// it back piece by piece takes time.
 pub fn simulate_alone<S: Source, K: Sink8>(
     alloc: Global,
     words: &[String],
@@ -81,7 +84,7 @@ fn nothing(alloc: Global, status: u8) -> Outcome
     }
 }
 
-/// Writes a line, and answers a status.
+/// Writes a line, and returns a status.
 fn refuse<K: Sink8>(alloc: Global, sink: &mut K, status: u8, line: &str) -> Outcome
     requires { status < 4 }
     ensures ends { EndsAs (Refuses status) line.now result (K.held sink.old) (K.held sink.new) }
@@ -176,7 +179,7 @@ fn first_runner(settings: Settings) -> Runner<ChaCha12Rng>
     }
 }
 
-/// What the lines of a scenario have come to: the runs that are reported, all entries, and whether a run lacked memory.
+/// What the lines of a scenario have come to: the runs that are reported, all entries, and whether a run ran out of memory.
 #[derive(Drop)]
 struct Ran {
     runs: Vec<RunReport>,
@@ -248,7 +251,7 @@ pub enum Came {
         run: RunReport,
         journal: Journal,
     },
-    /// It lacked memory. These are all entries.
+    /// It ran out of memory. These are all entries.
     Lacked(Journal),
 }
 
@@ -316,7 +319,7 @@ fn run_line(
     }
 }
 
-/// The report of a run whose entries stand from a place of the journal on, behind so many rounds.
+/// The report of a run whose entries are from a place of the journal on, after so many rounds.
 #[tactic(auto, using(crate::proofs::Runs::rounds_behind))]
 fn report_of(
     root: Text,
@@ -365,7 +368,7 @@ fn report_runs<K: Sink8>(
     }
 }
 
-/// The status behind these reports: that of the last one.
+/// The status after these reports: that of the last one.
 #[tactic(auto, using(crate::proofs::Runs::last_laws))]
 fn last_status(runs: &[RunReport]) -> u8
     ensures is { result ≡ last_status runs.now }
