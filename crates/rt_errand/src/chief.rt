@@ -308,7 +308,7 @@ impl Task for Chief {
     }
 }
 
-/// Makes a chief that waits so.
+/// Makes a chief that waits by this plan.
 #[derive(Clone, Copy, Debug)]
 pub struct RootChief {
     pub plan: Plan,

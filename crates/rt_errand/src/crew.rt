@@ -231,7 +231,7 @@ impl RootMaker<Crew> for RootPair {
     }
 }
 
-/// The first of a crew, whose worker has this number.
+/// Makes the first of a crew, whose worker has this number.
 fn first(context: Context, number: u64) -> Crew
     ensures { result ≡ record { context = context; work = Work.Hires number } }
 {

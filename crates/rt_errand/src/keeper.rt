@@ -90,7 +90,7 @@ impl Keeper {
         }
     }
 
-    /// Lets its closer go, and serves.
+    /// Gives up its closer's handle, and serves.
     fn settle<G: Rng>(
         &mut self,
         world: &mut World<Keeper, Result<i32, Error>, G>,

@@ -18,7 +18,7 @@ pub(crate) enum Stage {
     Third(Sleep),
 }
 
-/// A task that tries three times what never succeeds. Behind each try it pauses, longer each time: 10, 20 and 40 ms. Its
+/// A task that tries three times what never succeeds. After each try it pauses, longer each time: 10, 20 and 40 ms. Its
 /// output is the number of tries.
 pub struct Retry {
     pub(crate) context: Context,
