@@ -58,12 +58,14 @@ impl Ahead {
         }
     }
 
+    /// Returns the place of the next byte.
     pub fn position(&self) -> u64
         ensures { result ≡ self.now.position }
     {
         self.position
     }
 
+    /// Returns the size of the blob in bytes.
     pub fn size(&self) -> u64
         ensures { result ≡ self.now.size }
     {

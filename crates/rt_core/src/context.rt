@@ -68,7 +68,7 @@ impl Context {
         }
     }
 
-    /// The context of a run's root.
+    /// Returns the context of a run's root.
     pub(crate) fn root(alloc: Global) -> Self
         ensures { result ≡ root_context }
     {

@@ -193,7 +193,7 @@ impl<T: Outcome> Poller<T, i32> for Signal {
 }
 
 impl CompletionWait {
-    /// The completion of this number.
+    /// Returns the completion of this number.
     pub(crate) fn of(number: u64) -> CompletionWait
         ensures { result ≡ number }
     {

@@ -25,7 +25,7 @@ impl Model for SmallName {
 }
 
 impl SmallName {
-    /// That of a run's root.
+    /// Makes the name of a run's root.
     pub fn empty(alloc: Global) -> SmallName
         ensures { result ≡ record { label = []; attributes = [] } }
     {
@@ -35,7 +35,7 @@ impl SmallName {
         }
     }
 
-    /// The name of a child with this label.
+    /// Returns the name of a child with this label.
     pub fn child_name(&self, alloc: Global, label: &str) -> Result<SmallName, NoMemory>
         ensures { IfOk result (λ name. name ≡ child_name self.now label.now) }
     {
@@ -45,7 +45,7 @@ impl SmallName {
         })
     }
 
-    /// A copy.
+    /// Returns a copy of the name.
     pub fn to_name(&self, alloc: Global) -> Result<Name, NoMemory>
         ensures { IfOk result (λ name. name ≡ self.now) }
     {
@@ -55,7 +55,7 @@ impl SmallName {
         })
     }
 
-    /// The name with this attribute. `NoMemory` alone is refused, and then it is as it was.
+    /// Returns the name with this attribute. It is refused with `NoMemory` alone, and then it is as it was.
     pub fn with_attribute(
         self,
         alloc: Global,

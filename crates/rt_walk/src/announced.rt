@@ -25,7 +25,7 @@ impl Model for Announced {
 }
 
 impl Announced {
-    /// A copy of an event.
+    /// Makes a copy of an event.
     pub fn of(
         alloc: Global,
         label: &EventLabel,
@@ -105,7 +105,7 @@ fn is_draw(event: &Announced, name: &str) -> bool
     event.is_named("rand") && event.has_one(name.as_bytes())
 }
 
-/// Whether this event is the next of a call, after these.
+/// Returns whether this event is the next of a call, after these.
 pub fn is_of_call(announced: &[Announced], label: &EventLabel, fields: &EventFields) -> bool
     ensures { IsTrue result ↔ IsOfCall announced.now label.now fields.now }
 {
@@ -158,7 +158,7 @@ fn value_of(field: &[u8]) -> Option<i32>
     }
 }
 
-/// Whether these are the events of a call with this reply.
+/// Returns whether these are the events of a call with this reply.
 pub fn are_of(announced: &[Announced], call: &Call, reply: &CallReply) -> bool
     ensures { IsTrue result ↔ (announced.now ≡ announced_by call.now reply.now) }
 {

@@ -16,7 +16,7 @@ use rt_base::{NoMemory, Packed, Text, prefixed_name};
 use rt_model::{Mark, Outcome, TaskResult};
 use std::alloc::Global;
 
-/// The tasks that run.
+/// Takes a call with its reply into the tasks that run.
 pub fn call_running(running: &mut Running, call: &Call, reply: &CallReply) -> Result<(), NoMemory>
     ensures { OnOk result (running.new ≡ running_called running.old call.now reply.now) }
 {
@@ -26,7 +26,7 @@ pub fn call_running(running: &mut Running, call: &Call, reply: &CallReply) -> Re
     }
 }
 
-/// The ready list.
+/// Takes a call with its reply into the ready list.
 pub fn call_ready(ready: &mut Vec<u64>, call: &Call, reply: &CallReply) -> Result<(), NoMemory>
     ensures { OnOk result (ready.new.items ≡ ready_called ready.old.items call.now reply.now) }
 {
@@ -37,7 +37,7 @@ pub fn call_ready(ready: &mut Vec<u64>, call: &Call, reply: &CallReply) -> Resul
     Ok(())
 }
 
-/// The alarms.
+/// Takes a call with its reply into the alarms.
 pub fn call_alarms(
     alarms: &mut ToldAlarms,
     by: Option<u64>,
@@ -54,7 +54,8 @@ pub fn call_alarms(
     }
 }
 
-/// The nodes. The spawned task's own context stands on a child of its node, which is made first.
+/// Takes a call with its reply into the nodes. The spawned task's own context stands on a child of its node, which is
+/// made first.
 pub fn call_nodes(nodes: &mut Nodes, call: &Call, reply: &CallReply) -> Result<(), NoMemory>
     ensures { OnOk result (nodes.new ≡ nodes_called nodes.old call.now reply.now) }
 {
@@ -73,7 +74,7 @@ pub fn call_nodes(nodes: &mut Nodes, call: &Call, reply: &CallReply) -> Result<(
     Ok(())
 }
 
-/// The labels.
+/// Takes a call with its reply into the labels.
 pub fn call_labels(
     alloc: Global,
     labels: &mut Table<Text>,
@@ -95,7 +96,7 @@ pub fn call_labels(
     }
 }
 
-/// The label of a node.
+/// Returns the label of a node.
 pub fn label_at(labels: &Table<Text>, node: u64) -> &str
     ensures { result.now ≡ label_at labels.now node }
 {
@@ -105,7 +106,7 @@ pub fn label_at(labels: &Table<Text>, node: u64) -> &str
     }
 }
 
-/// The marks.
+/// Takes a call with its reply into the marks.
 pub fn call_marks(marks: &mut Table<Mark>, call: &Call, reply: &CallReply) -> Result<(), NoMemory>
     ensures { OnOk result (marks.new ≡ marks_called marks.old call.now reply.now) }
 {
@@ -125,7 +126,7 @@ pub fn call_marks(marks: &mut Table<Mark>, call: &Call, reply: &CallReply) -> Re
     Ok(())
 }
 
-/// The results.
+/// Takes a call with its reply into the results.
 pub fn call_results(
     results: &mut Table<TaskResult>,
     by: Option<u64>,

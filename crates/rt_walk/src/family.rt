@@ -17,7 +17,7 @@ pub struct Family {
 impl Family {
     ghost use Rattle.rt_walk.specs.Family.{children_in};
 
-    /// Nobody has a child.
+    /// Makes a record in which nobody has a child.
     pub fn new(alloc: Global) -> Family
         ensures { (node : ℕ) → children_in result node ≡ [] }
     {
@@ -26,7 +26,7 @@ impl Family {
         }
     }
 
-    /// The children of a node.
+    /// Returns the children of a node.
     pub fn children(&self, node: u64) -> &[u64]
         ensures { result.now ≡ children_in self.now node }
     {
@@ -36,7 +36,7 @@ impl Family {
         }
     }
 
-    /// Whether the child is another node than its parent, and has no children yet.
+    /// Returns whether the child is another node than its parent, and has no children yet.
     pub fn may_add(&self, parent: u64, child: u64) -> bool
         ensures childless { result ≡ true → children_in self.now child ≡ [] }
         ensures apart { result ≡ true → is_child child (Some parent) ≡ false }
@@ -48,7 +48,7 @@ impl Family {
         self.children(child).is_empty()
     }
 
-    /// A node has a child more, the youngest.
+    /// Adds a child to a node, the youngest.
     pub fn add(&mut self, alloc: Global, parent: u64, child: u64) -> Result<(), NoMemory>
         ensures added { OnOk result ((node : ℕ) → children_in self.new node ≡ children_in self.old node ++ children_of ((child, Some parent) ∷ []) node) }
         ensures refused { OnErr result ((node : ℕ) → children_in self.new node ≡ children_in self.old node) }

@@ -27,7 +27,7 @@ impl Model for Left {
 }
 
 impl Left {
-    /// No number.
+    /// Makes an empty list of numbers.
     pub fn new(alloc: Global) -> Left
         ensures { result ≡ [] }
     {
@@ -37,7 +37,7 @@ impl Left {
         }
     }
 
-    /// All numbers of a round.
+    /// Makes a list of all numbers of a round.
     pub fn of(alloc: Global, order: &[u64]) -> Result<Left, NoMemory>
         ensures { IfOk result (λ left. left ≡ order.now) }
     {
@@ -47,14 +47,14 @@ impl Left {
         })
     }
 
-    /// These numbers.
+    /// Makes a list of these numbers.
     pub fn from_vec(numbers: Vec<u64>) -> Left
         ensures { result ≡ numbers.items }
     {
         Left { numbers, passed: 0 }
     }
 
-    /// One number, or none.
+    /// Makes a list of one number, or of none.
     pub fn of_one(alloc: Global, number: Option<u64>) -> Result<Left, NoMemory>
         ensures { IfOk result (λ left. left ≡ those number) }
     {
@@ -65,7 +65,7 @@ impl Left {
         Ok(Left::from_vec(numbers))
     }
 
-    /// The first number.
+    /// Returns the first number.
     #[tactic(auto, using(crate::proofs::Members::number_laws))]
     pub fn first(&self) -> Option<u64>
         ensures { those result ≡ take 1 self.now }
@@ -83,7 +83,7 @@ impl Left {
         }
     }
 
-    /// The numbers, borrowed.
+    /// Returns the numbers, borrowed.
     pub fn as_slice(&self) -> &[u64]
         ensures { result.now ≡ self.now }
     {

@@ -10,7 +10,7 @@ use crate::table::Table;
 use rt_base::NoMemory;
 use rt_model::Mark;
 
-/// Whether a task is flagged.
+/// Returns whether a task is flagged.
 pub fn is_flagged(marks: &Table<Mark>, task: u64) -> bool
     ensures { result ≡ is_flagged (find task marks.now) }
 {
@@ -30,7 +30,7 @@ fn is_left(marks: &Table<Mark>, task: u64) -> bool
     }
 }
 
-/// Whether the node of a task has ended. The root has none of its own.
+/// Returns whether the node of a task has ended. The root has none of its own.
 pub fn is_ended_at(nodes: &Nodes, marks: &Table<Mark>, task: u64) -> bool
     ensures { result ≡ is_ended_at nodes.now (find task marks.now) }
 {

@@ -58,7 +58,7 @@ impl Model for Nodes {
 }
 
 impl Nodes {
-    /// Node 0 alone, which isn't ended.
+    /// Makes a record of node 0 alone, which isn't ended.
     pub fn new(alloc: Global) -> Result<Nodes, NoMemory>
         ensures { IfOk result (λ nodes. nodes ≡ first_record) }
     {
@@ -93,14 +93,14 @@ impl Nodes {
         }
     }
 
-    /// Whether the node was made.
+    /// Returns whether the node was made.
     pub fn is_known(&self, node: u64) -> bool
         ensures { result ≡ is_known self.now node }
     {
         self.at(node).is_some()
     }
 
-    /// Whether the node was made and not given up.
+    /// Returns whether the node was made and not given up.
     pub fn is_live(&self, node: u64) -> bool
         ensures { result ≡ is_live self.now node }
     {
@@ -117,21 +117,22 @@ impl Nodes {
         self.at(node)?.task
     }
 
-    /// Whether a task can be put on the node.
+    /// Returns whether a task can be put on the node.
     pub fn is_free(&self, node: u64) -> bool
         ensures { result ≡ is_free self.now node }
     {
         self.is_live(node) && self.task_on(node).is_none()
     }
 
-    /// Whether the node has ended, by an end of its own or of an ancestor's, or at its birth.
+    /// Returns whether the node has ended, by an end of its own or of an ancestor's, or at its birth.
     pub fn is_ended(&self, node: u64) -> bool
         ensures { result ≡ is_ended self.now node }
     {
         self.ended.has(node)
     }
 
-    /// A child was made. It is refused with `NoMemory` also where the number was told before, as a node's or as a parent's.
+    /// Adds a child that was made. It is refused with `NoMemory` also where the number was told before, as a node's
+    /// or as a parent's.
     pub fn add_child(&mut self, number: u64, parent: u64) -> Result<(), NoMemory>
         ensures { OnOk result (self.new ≡ with_child self.old number parent) }
     {
@@ -158,7 +159,7 @@ impl Nodes {
         Ok(())
     }
 
-    /// A task was put on a node.
+    /// Puts a task on a node.
     #[tactic(auto, using(crate::proofs::Rows::at_laws))]
     pub fn put_task(&mut self, node: u64, task: u64)
         ensures { self.new ≡ with_task self.old node task }
@@ -169,7 +170,7 @@ impl Nodes {
         }
     }
 
-    /// A node was given up.
+    /// Gives up a node.
     #[tactic(auto, using(crate::proofs::Rows::at_laws))]
     pub fn release(&mut self, node: u64)
         ensures { self.new ≡ with_release self.old node }
@@ -180,7 +181,7 @@ impl Nodes {
         }
     }
 
-    /// The children of a node, the eldest first.
+    /// Returns the children of a node, the eldest first.
     pub fn children(&self, node: u64) -> &[u64]
         ensures { nodes_below node (links self.now) ≡ flat_map (subtree (links self.now)) result.now }
     {

@@ -30,7 +30,7 @@ impl Model for Places {
 
 #[tactic(auto, using(crate::proofs::Placed::place_laws))]
 impl Places {
-    /// No number.
+    /// Makes an empty list of numbers.
     pub fn new(alloc: Global) -> Places
         ensures { result.numbers ≡ [] }
     {
@@ -40,14 +40,14 @@ impl Places {
         }
     }
 
-    /// Where a number came first.
+    /// Returns where a number came first, if it did.
     pub fn place(&self, number: u64) -> Option<usize>
         ensures { result ≡ first_place number self.now.numbers }
     {
         self.places.get(&number).copied()
     }
 
-    /// Whether a number came.
+    /// Returns whether a number came.
     pub fn has(&self, number: u64) -> bool
         ensures { result ≡ has_number number self.now.numbers }
     {
@@ -65,7 +65,7 @@ impl Places {
         Ok(())
     }
 
-    /// A number comes, for which there is room.
+    /// Adds a number, for which there is room.
     pub fn push(&mut self, number: u64)
         requires room { 0 < self.old.room }
         requires spare { 0 < self.old.spare }
@@ -84,7 +84,7 @@ impl Places {
         self.numbers.push_reserved(number);
     }
 
-    /// These numbers come, one after another.
+    /// Adds these numbers, one after another.
     pub fn push_all(&mut self, numbers: &[u64])
         requires room { length numbers.now ≤ self.old.room }
         requires spare { length numbers.now ≤ self.old.spare }

@@ -16,7 +16,7 @@ use rt_model::{Outcome, TaskResult};
 use rt_super::Stopped;
 
 impl Walker {
-    /// Whether the call may have this reply.
+    /// Returns whether the call may have this reply.
     pub(crate) fn answers(&self, call: &Call, reply: &CallReply) -> bool
         ensures { IsTrue result ↔ Answers self.now call.now reply.now }
     {

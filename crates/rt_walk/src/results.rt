@@ -11,7 +11,7 @@ use crate::table::Table;
 use rt_base::NoMemory;
 use rt_model::{Outcome, TaskResult};
 
-/// Whether a result is there and wasn't used to abort its task.
+/// Returns whether a result is there and wasn't used to abort its task.
 pub fn may_abort(results: &Table<TaskResult>, task: u64) -> bool
     ensures { result ≡ may_abort (find task results.now) }
 {
@@ -62,7 +62,8 @@ pub fn add_waiting(
     Ok(())
 }
 
-/// A task ends: one that has finished leaves its result, and where no node ends after it any other closes it.
+/// Takes in the end of a task: one that has finished leaves its result, and where no node ends after it any other
+/// closes it.
 pub fn end_result(stage: &Stage, settles: bool, results: &mut Table<TaskResult>, task: u64)
     ensures { results.new ≡ results_ended (phase_of stage.now) settles task results.old }
 {
@@ -94,7 +95,7 @@ pub fn add_due_ended(
     }
 }
 
-/// The node of a task ends: where the task hasn't finished its result closes.
+/// Takes in the end of a task's node: where the task hasn't finished its result closes.
 pub fn leave_result(stage: &Stage, results: &mut Table<TaskResult>)
     ensures { results.new ≡ results_left (phase_of stage.now) results.old }
 {

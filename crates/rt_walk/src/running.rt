@@ -26,7 +26,7 @@ impl Model for Running {
 }
 
 impl Running {
-    /// No task.
+    /// Makes a list of no tasks.
     pub fn new(alloc: Global) -> Running
         ensures { result ≡ [] }
     {
@@ -35,14 +35,14 @@ impl Running {
         }
     }
 
-    /// Whether no task runs.
+    /// Returns whether no task runs.
     pub fn is_empty(&self) -> bool
         ensures { result ≡ is_nil self.now }
     {
         self.numbers.is_empty()
     }
 
-    /// Whether this task runs.
+    /// Returns whether this task runs.
     pub fn has(&self, task: u64) -> bool
         ensures { result ≡ has_number task self.now }
     {
@@ -62,7 +62,7 @@ impl Running {
         place
     }
 
-    /// A task runs from now on.
+    /// Adds a task, which runs from now on.
     pub fn add(&mut self, task: u64) -> Result<(), NoMemory>
         ensures { OnOk result (self.new ≡ with_number task self.old) }
     {
@@ -75,7 +75,7 @@ impl Running {
         Ok(())
     }
 
-    /// A task no longer runs.
+    /// Takes out a task, which no longer runs.
     pub fn remove(&mut self, task: u64)
         ensures { self.new ≡ without_number task self.old }
     {
@@ -87,7 +87,7 @@ impl Running {
         }
     }
 
-    /// The task that a cleanup ends next: the first, the root last.
+    /// Returns the task that a cleanup ends next: the first, the root last.
     pub fn ends_next(&self, root: Option<u64>) -> Option<u64>
         ensures { result ≡ ends_next self.now root }
     {
@@ -103,7 +103,7 @@ impl Running {
         last
     }
 
-    /// How many numbers of a round come before the first that runs.
+    /// Returns how many numbers of a round come before the first that runs.
     pub fn idle_front(&self, left: &[u64]) -> usize
         ensures within { result ≤ length left.now }
         ensures rest { drop result left.now ≡ from_running self.now left.now }
@@ -115,7 +115,7 @@ impl Running {
         index
     }
 
-    /// The first number of a round that runs.
+    /// Returns the first number of a round that runs.
     #[tactic(auto, using(crate::proofs::Members::number_laws))]
     pub fn first_of(&self, left: &[u64]) -> Option<u64>
         ensures { those result ≡ take 1 (from_running self.now left.now) }

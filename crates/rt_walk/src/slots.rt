@@ -32,7 +32,7 @@ impl Model for Slots {
 }
 
 impl Slots {
-    /// No slot.
+    /// Makes a list of no slots.
     pub fn new(alloc: Global) -> Slots
         ensures { result ≡ no_slots }
     {
@@ -43,28 +43,28 @@ impl Slots {
         }
     }
 
-    /// The state of a slot, where its receiver wasn't spent.
+    /// Returns the state of a slot, where its receiver wasn't spent.
     pub fn get(&self, slot: u64) -> Option<TaskResult>
         ensures { result ≡ find slot self.now.results }
     {
         self.results.get(slot)
     }
 
-    /// Whether the sender of a slot wasn't spent.
+    /// Returns whether the sender of a slot wasn't spent.
     pub fn has_sender(&self, slot: u64) -> bool
         ensures { result ≡ is_some (find slot self.now.senders) }
     {
         self.senders.get(slot).is_some()
     }
 
-    /// Whether the wait for what comes by a slot may be aborted.
+    /// Returns whether the wait for what comes by a slot may be aborted.
     pub fn may_abort(&self, slot: u64) -> bool
         ensures { result ≡ may_abort (find slot self.now.results) }
     {
         may_abort(&self.results, slot)
     }
 
-    /// Whether this is the number of the next slot.
+    /// Returns whether this is the number of the next slot.
     pub fn is_next(&self, slot: u64) -> bool
         ensures { result ≡ eqb slot self.now.count }
     {

@@ -59,7 +59,7 @@ pub enum Stage {
 }
 
 impl Stage {
-    /// What is left of the round under way.
+    /// Returns what is left of the round under way.
     pub fn into_left(self, alloc: Global) -> Left
         ensures { result ≡ left_of (phase_of self) }
     {
@@ -73,7 +73,8 @@ impl Stage {
         }
     }
 
-    /// After the event of a visit: the root isn't polled where a panic is kept, and a task that is flagged ends unpolled.
+    /// Returns where a run is after the event of a visit: the root isn't polled where a panic is kept, and a task
+    /// that is flagged ends unpolled.
     pub fn after_event(halts: bool, flagged: bool, task: u64, left: Left) -> Stage
         ensures { phase_of result ≡ entered_by halts flagged task left }
     {
@@ -90,7 +91,7 @@ impl Stage {
         }
     }
 
-    /// After a pending answer: a task that was flagged ends.
+    /// Returns where a run is after a pending answer: a task that was flagged ends.
     pub fn after_pending(flagged: bool, task: u64, left: Left) -> Stage
         ensures { phase_of result ≡ left_pending flagged task left }
     {
@@ -105,7 +106,8 @@ impl Stage {
         }
     }
 
-    /// After the last answer of a task: the root's ends the rounds for this cause, and another ends with this result.
+    /// Returns where a run is after the last answer of a task: the root's ends the rounds for this cause, and another
+    /// ends with this result.
     pub fn after_last(
         is_root: bool,
         cause: FinishCause,
@@ -126,7 +128,7 @@ impl Stage {
         }
     }
 
-    /// After an end, which leaves its visit where no node ends after it, if it was within one.
+    /// Returns where a run is after an end, which leaves its visit where no node ends after it, if it was within one.
     pub fn into_ended(self, settles: bool) -> Stage
         ensures { phase_of result ≡ ended settles (phase_of self) }
     {
@@ -137,7 +139,7 @@ impl Stage {
         }
     }
 
-    /// After the end of a node.
+    /// Returns where a run is after the end of a node.
     pub fn into_node_ended(self) -> Stage
         ensures { phase_of result ≡ node_ended (phase_of self) }
     {
@@ -148,7 +150,7 @@ impl Stage {
         }
     }
 
-    /// After the beginning of a cleanup, which ends node 0 where that hasn't ended.
+    /// Returns where a run is after the beginning of a cleanup, which ends node 0 where that hasn't ended.
     pub fn cleaned(ended: bool, cause: Option<FinishCause>) -> Stage
         ensures { phase_of result ≡ cleans ended cause }
     {
@@ -159,7 +161,7 @@ impl Stage {
         }
     }
 
-    /// Who leaves the run with the end of its node.
+    /// Returns who leaves the run with the end of its node.
     pub fn leaving(&self) -> Option<u64>
         ensures { result ≡ leaving (phase_of self.now) }
     {
@@ -169,7 +171,7 @@ impl Stage {
         }
     }
 
-    /// Whether a task ends that reported a panic.
+    /// Returns whether a task ends that reported a panic.
     pub fn ends_in_panic(&self) -> bool
         ensures { result ≡ ends_in_panic (phase_of self.now) }
     {
@@ -182,7 +184,7 @@ impl Stage {
         )
     }
 
-    /// The cause that a cleanup keeps.
+    /// Returns the cause that a cleanup keeps.
     pub fn kept_cause(&self) -> Option<FinishCause>
         ensures { result ≡ cause_of (phase_of self.now) }
     {
@@ -193,14 +195,14 @@ impl Stage {
         }
     }
 
-    /// Whether a cleanup has begun and the store hasn't crashed.
+    /// Returns whether a cleanup has begun and the store hasn't crashed.
     pub fn is_closing(&self) -> bool
         ensures { result ≡ is_closing (phase_of self.now) }
     {
         matches!(self, Stage::Cleaning { .. } | Stage::Closing { .. })
     }
 
-    /// Whether a cleanup may begin.
+    /// Returns whether a cleanup may begin.
     pub fn may_close(&self) -> bool
         ensures { IsTrue result ↔ MayClose (phase_of self.now) }
     {

@@ -28,7 +28,7 @@ impl<V> Model for Table<V> {
 }
 
 impl<V: Drop> Table<V> {
-    /// Nothing.
+    /// Makes an empty table.
     pub fn new(alloc: Global) -> Self
         ensures { result ≡ [] }
     {
@@ -38,7 +38,7 @@ impl<V: Drop> Table<V> {
         }
     }
 
-    /// What a number has.
+    /// Returns what a number has.
     #[tactic(auto, using(crate::proofs::Placed::find_laws))]
     pub fn find(&self, number: u64) -> Option<&V>
         ensures { option_copied result ≡ find number self.now }
@@ -91,7 +91,7 @@ impl<V: Drop> Table<V> {
 
 #[tactic(auto, using(crate::proofs::Placed::find_laws))]
 impl<V: Copy> Table<V> {
-    /// A copy of what a number has.
+    /// Returns a copy of what a number has.
     pub fn get(&self, number: u64) -> Option<V>
         ensures { result ≡ find number self.now }
     {

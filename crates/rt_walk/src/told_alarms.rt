@@ -26,7 +26,7 @@ impl Model for ToldAlarms {
 }
 
 impl ToldAlarms {
-    /// No alarm.
+    /// Makes a record of no alarms.
     pub fn new(alloc: Global) -> ToldAlarms
         ensures { result ≡ no_alarms }
     {
@@ -35,21 +35,21 @@ impl ToldAlarms {
         }
     }
 
-    /// Whether no alarm is set.
+    /// Returns whether no alarm is set.
     pub fn is_empty(&self) -> bool
         ensures { result ≡ is_nil self.now.alarms }
     {
         self.set.is_empty()
     }
 
-    /// The number of the alarm that goes off now.
+    /// Returns the number of the alarm that goes off now.
     pub fn fires(&self, time: Nanos) -> Option<u64>
         ensures { result ≡ fires self.now.alarms time }
     {
         self.set.due(time)
     }
 
-    /// The due time of the earliest alarm, where it lies ahead.
+    /// Returns the due time of the earliest alarm, where it lies ahead.
     pub fn ahead(&self, time: Nanos) -> Option<Nanos>
         ensures { result ≡ ahead self.now.alarms time }
     {
@@ -57,15 +57,15 @@ impl ToldAlarms {
         if time < due { Some(due) } else { None }
     }
 
-    /// Whether a sleep may receive this number: the next, or that of its own alarm.
+    /// Returns whether a sleep may receive this number: the next, or that of its own alarm.
     pub fn may_tell(&self, due: Nanos, number: u64) -> bool
         ensures { IsTrue result ↔ ((number ≡ self.now.count) ⊎ (is_set self.now.alarms due number ≡ true)) }
     {
         number == self.set.count() || self.set.due_of(number) == Some(due)
     }
 
-    /// A sleep received this number: that of a new alarm, or of its own. It is refused with `NoMemory` also where no number is
-    /// left for a further alarm, and for `NOBODY`, which means no task in the alarms.
+    /// Takes in that a sleep received this number: that of a new alarm, or of its own. It is refused with `NoMemory`
+    /// also where no number is left for a further alarm, and for `NOBODY`, which means no task in the alarms.
     pub fn sleep(&mut self, by: Option<u64>, due: Nanos, number: u64) -> Result<(), NoMemory>
         ensures { OnOk result (self.new ≡ slept self.old by due number) }
     {

@@ -30,7 +30,7 @@ impl Model for ToldSignals {
 }
 
 impl ToldSignals {
-    /// The shutdown alone, which nobody began.
+    /// Makes a record of the shutdown alone, which nobody began.
     pub fn new(alloc: Global) -> Result<ToldSignals, NoMemory>
         ensures { IfOk result (λ told. told ≡ nobody_signaled) }
     {
@@ -48,35 +48,35 @@ impl ToldSignals {
         }
     }
 
-    /// The number that the next signal or completion gets.
+    /// Returns the number that the next signal or completion gets.
     pub fn count(&self) -> u64
         ensures { result ≡ self.now.signals.count }
     {
         self.signals.count()
     }
 
-    /// Whether a signaler has this number that gave no value and wasn't given up.
+    /// Returns whether a signaler has this number that gave no value and wasn't given up.
     pub fn has_signaler(&self, signaler: u64) -> bool
         ensures { result ≡ has_signaler self.now.signals self.now.stop signaler }
     {
         signaler != self.stopper.group() && self.signals.is_alive(signaler)
     }
 
-    /// Whether an open signal has this number.
+    /// Returns whether an open signal has this number.
     pub fn has_signal(&self, signal: u64) -> bool
         ensures { result ≡ is_some (find signal self.now.signals.signals) }
     {
         self.signals.has_signal(signal)
     }
 
-    /// Whether a live completion has this number.
+    /// Returns whether a live completion has this number.
     pub fn has_completion(&self, completion: u64) -> bool
         ensures { result ≡ is_some (find completion self.now.signals.completions) }
     {
         self.signals.has_completion(completion)
     }
 
-    /// What a signal shows.
+    /// Returns what a signal shows.
     pub fn shown(&self, signal: u64) -> Result<Poll<i32>, Error>
         ensures answer { result ≡ signal_answer self.now.signals signal }
         ensures causes { IfErr result (λ e. (e ≡ Error.UnknownToken) ⊎ (e ≡ Error.Closed)) }
@@ -84,7 +84,7 @@ impl ToldSignals {
         self.signals.shown(signal)
     }
 
-    /// Whether a completion is met.
+    /// Returns whether a completion is met.
     pub fn met(&self, completion: u64) -> Result<Poll<()>, Error>
         ensures answer { result ≡ completion_answer self.now.signals completion }
         ensures causes { IfErr result (λ e. e ≡ Error.UnknownToken) }
@@ -92,7 +92,7 @@ impl ToldSignals {
         self.signals.met(completion)
     }
 
-    /// What `stopped` returns.
+    /// Returns what `stopped` returns.
     pub fn stopped(&self) -> Stopped
         ensures { result ≡ stopped_answer self.now.signals self.now.stop }
     {

@@ -98,12 +98,12 @@ impl Walker {
         })
     }
 
-    /// The allocator that the lists keep.
+    /// Returns the allocator that the lists keep.
     pub(crate) fn allocator(&self) -> Global {
         *self.ready.allocator()
     }
 
-    /// Whether the entry starts a further run, after a completed one.
+    /// Returns whether the entry starts a further run, after a completed one.
     pub(crate) fn renews(&self, entry: &Entry) -> bool
         ensures { result ≡ renews entry.now self.now.phase }
     {
@@ -118,7 +118,7 @@ impl Walker {
         )
     }
 
-    /// Whether the deadline is there.
+    /// Returns whether the deadline is there.
     pub(crate) fn is_late(&self) -> bool
         ensures { result ≡ is_late self.now.clock }
     {
@@ -128,14 +128,14 @@ impl Walker {
         }
     }
 
-    /// Whether a cycle more would pass the last moment.
+    /// Returns whether a cycle more would pass the last moment.
     pub(crate) fn overflows(&self) -> bool
         ensures { result ≡ overflows self.now.clock }
     {
         self.time > MAX_TIME || MAX_TIME - self.time < self.begin.cycle
     }
 
-    /// The moment that time skips to, if it skips.
+    /// Returns the moment that time skips to, if it skips.
     pub(crate) fn skip_to(&self) -> Option<Nanos>
         ensures { result ≡ skip_to self.now.ready self.now.alarms.alarms self.now.clock.time }
     {
@@ -146,35 +146,35 @@ impl Walker {
         }
     }
 
-    /// The number of the alarm that goes off now.
+    /// Returns the number of the alarm that goes off now.
     pub(crate) fn fires(&self) -> Option<u64>
         ensures { result ≡ fires self.now.alarms.alarms self.now.clock.time }
     {
         self.alarms.fires(self.time)
     }
 
-    /// Whether the number was given to a task of this run.
+    /// Returns whether the number was given to a task of this run.
     pub(crate) fn was_given(&self, task: u64) -> bool
         ensures { IsTrue result ↔ WasGiven self.now.numbers task }
     {
         self.begin.first <= task && (task as u128) < self.next
     }
 
-    /// Whether no node ends after the end of this task.
+    /// Returns whether no node ends after the end of this task.
     pub(crate) fn is_settled(&self, task: u64) -> bool
         ensures { result ≡ is_settled self.now task }
     {
         self.stage.is_closing() || is_ended_at(&self.nodes, &self.marks, task)
     }
 
-    /// The label of a node.
+    /// Returns the label of a node.
     pub(crate) fn label_at(&self, node: u64) -> &str
         ensures { result.now ≡ label_at self.now.labels node }
     {
         label_at(&self.labels, node)
     }
 
-    /// The label of a task, which is its node's. The root's is empty.
+    /// Returns the label of a task, which is its node's. The root's is empty.
     pub(crate) fn task_label(&self, task: u64) -> &str
         ensures { result.now ≡ task_label self.now task }
     {
@@ -212,7 +212,7 @@ impl Walker {
         }
     }
 
-    /// The cause that the run has reached, if it has.
+    /// Returns the cause that the run has reached, if it has.
     pub(crate) fn reached(&self) -> Option<FinishCause>
         ensures { result ≡ reached self.now }
     {

@@ -42,7 +42,7 @@ pub(crate) fn block_of<T>(alloc: Global) -> Result<Vec<T>, NoMemory>
 
 #[tactic(auto, using(crate::proofs::Blocks::block_laws))]
 impl<T> States<T> {
-    /// No task, up to this number.
+    /// Makes a list of no tasks, whose first number is this one.
     #[tactic(auto, unfolding(crate::specs::Seats::held_in, crate::specs::Seats::AreFull))]
     pub fn new(alloc: Global, first: u64) -> Self
         ensures items { result.items ≡ [] }
@@ -79,7 +79,7 @@ impl<T> States<T> {
         self.blocks.add(block);
     }
 
-    /// Whether the state of a task is in.
+    /// Returns whether the state of a task is in.
     pub fn has(&self, task: u64) -> bool
         ensures { result ≡ is_some (find task self.now.items) }
     {
@@ -112,7 +112,7 @@ impl<T> States<T> {
         self.blocks.put(task, block);
     }
 
-    /// The number of the task that a cleanup ends next: the first, the root last.
+    /// Returns the number of the task that a cleanup ends next: the first, the root last.
     pub fn ends_next(&mut self, root: Option<u64>) -> Option<u64>
         ensures next { result ≡ ends_next (numbers_of self.old.items) root }
         ensures same { self.new ≡ self.old }

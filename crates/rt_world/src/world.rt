@@ -129,7 +129,7 @@ impl<T, O, G> World<T, O, G> {
         self.machine.has_number_left()
     }
 
-    /// Whether a task runs.
+    /// Returns whether a task runs.
     pub(crate) fn runs(&self, task: u64) -> bool
         requires { self.now.out ≡ None }
         ensures { result ≡ has_number task self.now.told.state.running }
@@ -194,21 +194,21 @@ impl<T, O, G> World<T, O, G> {
         self.machine.visit(task)
     }
 
-    /// Whether the root is to be stopped at its visit, since a panic is kept.
+    /// Returns whether the root is to be stopped at its visit, since a panic is kept.
     pub(crate) fn is_stopped(&self, task: u64) -> bool
         ensures { result ≡ (is_some_number task self.now.told.state.root && self.now.told.state.panicked) }
     {
         self.machine.is_stopped(task)
     }
 
-    /// Whether a task is flagged, and so ends at its visit.
+    /// Returns whether a task is flagged, and so ends at its visit.
     pub(crate) fn is_flagged(&self, task: u64) -> bool
         ensures { result ≡ is_flagged (find task self.now.told.state.marks) }
     {
         self.machine.is_flagged(task)
     }
 
-    /// Whether a task is the root.
+    /// Returns whether a task is the root.
     pub(crate) fn is_root(&self, task: u64) -> bool
         ensures { result ≡ is_some_number task self.now.told.state.root }
     {
@@ -246,12 +246,12 @@ impl<T, O, G> World<T, O, G> {
         self.out = None;
     }
 
-    /// The allocator of the run.
+    /// Returns the allocator of the run.
     pub(crate) fn allocator(&self) -> Global {
         self.machine.allocator()
     }
 
-    /// The task that the cleanup ends next: the first, the root last.
+    /// Returns the task that the cleanup ends next: the first, the root last.
     pub(crate) fn ends_next(&mut self) -> Option<u64>
         requires { self.old.out ≡ None }
         ensures next { result ≡ ends_next self.old.told.state.running self.old.told.state.root }
