@@ -41,7 +41,7 @@ fn nothing(alloc: Global) -> IoBuf
 }
 
 impl Ahead {
-    /// Makes the start of a blob of this size in bytes, of which nothing is held. Nothing is held.
+    /// Makes the start of a blob of this size in bytes, of which nothing is held.
     pub fn new(alloc: Global, size: u64, buffer: usize) -> Ahead
         requires { 0 < buffer }
         ensures position { result.position ≡ 0 }

@@ -47,7 +47,7 @@ impl<G> Checkpoint<G> {
         &self.journal
     }
 
-    /// Takes the journal of all runs so far out of the checkpoint.
+    /// Returns the journal of all runs so far, which the checkpoint gives away.
     pub fn into_journal(self) -> Journal
     where
         G: Drop,

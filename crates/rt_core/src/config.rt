@@ -119,7 +119,7 @@ impl<G> Config<G> {
         }
     }
 
-    /// Sets the timeout in nanoseconds, counted from the start, or none.
+    /// Sets the timeout in nanoseconds, counted from the start, or takes it away.
     pub fn with_timeout(self, timeout: Option<Nanos>) -> Self
         ensures { result ≡ record self { timeout = timeout } }
     {

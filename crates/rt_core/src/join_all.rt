@@ -47,8 +47,8 @@ pub type JoinAll<T, P, V, F> = JoinAllOf<<T as Outcome>::Output, P, V, F>;
 ///
 /// A handle that returns an error, or an output that is refused, is the failure: all handles that are left are
 /// aborted, in order and this one first, which is given up then. The outputs are discarded. From then on each poll
-/// polls all handles that are left, in order, and those that are ready are given up, their answers discarded. Once none
-/// is left the answer is the failure.
+/// polls all handles that are left, in order, and those that are ready are given up, their answers discarded. Once
+/// none is left the answer is the failure.
 ///
 /// `NoMemory` ends it at once: where it is the failure, or where a handle returns it later, all handles are given up,
 /// and it is the answer. Once it has answered it returns `Closed`.

@@ -77,7 +77,7 @@ impl<G: Rng + Drop> Runner<G> {
     /// Runs the root that the maker makes, to the end of the run, and returns its output and a checkpoint.
     ///
     /// A failure carries the journal of all entries so far; out of memory, it may carry none of this run. Every cause
-    /// but `NoMemory` comes exactly at its place of the run.
+    /// except `NoMemory` comes exactly at its place of the run.
     #[tactic(auto, unfolding(rt_model::specs::Effects::after))]
     pub fn start_and_recover<T: Task, M: RootMaker<T> + Drop>(
         self,

@@ -21,7 +21,8 @@ pub trait Task: Outcome + Sized {
     // what polls and ends do next
     ghost steps: { TaskSteps Self Self.Output };
 
-    /// Goes on with the task, and returns whether it is pending, has finished or has panicked.
+    /// Goes on with the task, and returns that it is pending, its output, the text of its panic, or that a call ran out of
+    /// memory.
     fn poll<G: Rng>(
         &mut self,
         world: &mut World<Self, Self::Output, G>,
