@@ -11,7 +11,8 @@ use std::alloc::Global;
 use std::collections::VecDeque;
 use std::marker::Model;
 
-/// Chunks that go to a blob one after the other, and the place of the first. They end within numbers.
+/// Chunks that go to a blob one after the other, and the place of the first. A write takes memory for as many buffers as
+/// it has chunks, before anything goes into the tip. They end within numbers.
 #[derive(Drop)]
 pub struct Pieces {
     at: u64,

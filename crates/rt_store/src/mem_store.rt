@@ -183,7 +183,7 @@ impl MemStore {
 
     /// Leaves of each blob that has a name what a crash leaves: its durable bytes, and on them each later change as
     /// far as it is kept. Partitions, names and changes are gone through in order, with one choice for each change.
-    /// It adds the choices to the list, and takes no memory.
+    /// It adds the choices to the list, and takes no memory: its caller took the room for draws and choices.
     #[tactic(auto, using(crate::proofs::Leading::keeps_crashed))]
     pub fn crash<E: Env>(&mut self, env: &mut E, choices: &mut Vec<Choice>)
         requires draws { 2 * count_later self.old.state.files ≤ E.spare env.old }

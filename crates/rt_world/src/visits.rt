@@ -265,8 +265,9 @@ impl<T: Task, G: Rng> World<T, T::Output, G> {
         touched
     }
 
-    /// At every `AHEAD`th place of a round, reads what the visits from there on read: loads from memory beside one another cost
-    /// little more than one. A task alone has nobody's loads beside its own.
+    /// At every `AHEAD`th place of a round, reads what the visits from there on read: loads from memory beside one
+    /// another cost little more than one. A task alone has nobody's loads beside its own. No clause can tell a body
+    /// that reads from one that doesn't.
     fn touch_ahead(&mut self, order: &[u64], place: usize)
         ensures { self.new ≡ self.old }
     {

@@ -45,7 +45,8 @@ pub struct World<T, O, G> {
     pub(crate) panic: Option<Text>,
     pub(crate) out: Option<u64>,
     pub(crate) rng: G,
-    /// The exclusive or of what was read ahead, which nobody reads: kept so that a compiler doesn't leave the loads out.
+    /// The exclusive or of what was read ahead, which nobody reads: there is no call for a prefetch, so this is kept lest a
+    /// compiler leaves the loads out.
     pub(crate) touched: usize,
 }
 
