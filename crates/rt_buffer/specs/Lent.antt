@@ -1,5 +1,5 @@
--- Used in proofs alone: no public clause names these definitions. They say how a store lends the syncs that it holds back, and
--- its inner store.
+-- Named by the clauses `writes_back` of `DelayedSyncContext::pending_mut` and `inner_mut` alone: how a store lends the syncs
+-- that it holds back, and its inner store.
 use Rattle.std.specs.Borrow.{Lends, RattleType, MutBor, Fml}
 use Rattle.rt_buffer.specs.contracts.delayed_sync.DelayedSyncContext as store
 use Rattle.rt_buffer.specs.contracts.pending_syncs.PendingSyncs as pending
