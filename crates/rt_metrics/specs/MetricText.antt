@@ -1,4 +1,4 @@
--- The text of a registry: the OpenMetrics text format, without units.
+-- The text of a registry, in the form of OpenMetrics without units. Names and helps stand in it as they are.
 use Rattle.std.specs.Prelude.{ℕ, ◌==◌, if◌then◌else◌, List, [], ◌∷◌, ◌++◌, codes}
 use Rattle.std.specs.List.{flat_map}
 use Rattle.std.specs.Option.{option_map_or}

@@ -9,7 +9,10 @@ use crate::writing::{write_header, write_line, write_piece};
 use rt_base::{NoMemory, Text};
 
 impl Registry {
-    /// Returns the text of all metrics in the OpenMetrics format.
+    /// Returns the text of all metrics, in the form of OpenMetrics.
+    ///
+    /// It is no OpenMetrics where names or helps clash: a counter `foo` beside a metric `foo_total`, a family's own label
+    /// among the attributes of a name, or a help with a newline or a backslash, none of which is escaped or refused.
     pub fn encode(&self) -> Result<String, NoMemory>
         ensures { IfOk result (λ text. string_bytes text ≡ registry_text self.now) }
     {

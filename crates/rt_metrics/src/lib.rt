@@ -1,5 +1,5 @@
 //! Metrics: counters, gauges and families of them, registered by name and attributes and kept while
-//! they are claimed, and their text in the OpenMetrics format.
+//! they are claimed, and their text in the form of OpenMetrics.
 #![tactic(auto)]
 
 mod batched;
