@@ -8,21 +8,15 @@ mod config;
 mod context;
 mod handle;
 mod join_all;
-#[cfg(test)]
-mod join_all_tests;
 mod maker;
 mod run_error;
 mod runner;
 mod running;
 mod select;
-#[cfg(test)]
-mod signal_tests;
 mod signals;
 mod sleep;
 mod small_name;
 mod stop;
-#[cfg(test)]
-mod tests;
 mod timeout;
 pub mod utils;
 mod yields;

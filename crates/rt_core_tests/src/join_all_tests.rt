@@ -4,12 +4,12 @@ ghost use Rattle.std.specs.Prelude.{◌≡◌, ◌∷◌, []};
 ghost use Rattle.rt_core.specs.Handles.{held_handle};
 ghost use Rattle.rt_core.specs.Joins.{joining};
 
-use crate::tests::lines;
-use crate::{
-    AbortOnDrop, AbortOnDropOf, Answer, Context, Convert, Cx, Error, Failure, HandleOf, Items,
-    JoinAll, NoMemory, NoPoller, Outcome, Poll, Poller, Rng, RootMaker, Runner, Task, World,
-};
+use crate::told::{fails, has_lines, holds};
 use rt_audit::FinishCause;
+use rt_core::{
+    AbortOnDrop, AbortOnDropOf, Answer, Context, Convert, Cx, Error, HandleOf, Items, JoinAll,
+    NoMemory, NoPoller, Outcome, Poll, Poller, Rng, RootMaker, Runner, Task, World,
+};
 use std::alloc::Global;
 use std::process::Abort;
 use std::test::Fail;
@@ -29,7 +29,7 @@ struct Takes;
 impl Convert<Gathered, u64> for Takes {
     ghost use Rattle.std.specs.Prelude.{Ok, Err};
     ghost use Rattle.rt_base.specs.declared.error.Error.TheVariants.{Exited};
-    ghost use Rattle.rt_core.specs.declared.join_all_tests.Gathered.TheVariants.{Number, Numbers, Failed};
+    ghost use Rattle.rt_core_tests.specs.declared.join_all_tests.Gathered.TheVariants.{Number, Numbers, Failed};
 
     ghost converted = { λ takes. elim [ Number number ↦ Ok number | Numbers numbers ↦ Err Exited | Failed error ↦ Err Exited ] };
 
@@ -66,7 +66,7 @@ impl Task for Gatherer {
     ghost use Rattle.rt_core.specs.Handles.{no_polls, no_spends};
     ghost use Rattle.rt_core.specs.Joins.{join_all_polls, join_all_spends};
     ghost use Rattle.rt_core.specs.Pollers.{closes};
-    ghost use Rattle.rt_core.specs.declared.join_all_tests.Gathered.TheVariants.{Numbers, Failed};
+    ghost use Rattle.rt_core_tests.specs.declared.join_all_tests.Gathered.TheVariants.{Numbers, Failed};
 
     ghost steps = { record { next = λ g now task. elim g.group [ None ↦ Gives Pending g | Some group ↦ then (join_all_polls no_polls no_spends ⟦<Takes as Convert<Gathered, u64>>⟧.converted group) (λ answer left. elim answer [ IsPending ↦ Gives Pending (record g { group = Some left }) | IsReady given ↦ elim given [ Ok numbers ↦ Gives (Ready (Numbers numbers)) (record g { group = Some left }) | Err error ↦ Gives (Ready (Failed error)) (record g { group = Some left }) ] ]) ]; last = λ g now task. elim g.group [ None ↦ closes g.context.node | Some group ↦ followed_by (join_all_spends no_spends group) (closes g.context.node) ] } };
 
@@ -137,7 +137,7 @@ impl<R: Abort + Drop> RootMaker<Gatherer> for RootNumbers<R> {
     ghost use Rattle.rt_core.specs.Contexts.{root_context};
     ghost use Rattle.rt_core.specs.Handles.{held_handle};
     ghost use Rattle.rt_core.specs.Joins.{joining};
-    ghost use Rattle.rt_core.specs.declared.join_all_tests.Gathered.TheVariants.{Number};
+    ghost use Rattle.rt_core_tests.specs.declared.join_all_tests.Gathered.TheVariants.{Number};
 
     ghost first = { λ maker now. Gives tt (record { context = root_context; group = Some (joining (held_handle (Ok (Number 1)) ∷ held_handle (Ok (Number 2)) ∷ held_handle (Ok (Number 3)) ∷ []) maker.takes) }) };
 
@@ -178,7 +178,7 @@ impl<R: Abort + Drop> RootMaker<Gatherer> for RootParent<R> {
     ghost use Rattle.rt_core.specs.Contexts.{root_context, childs, spawns};
     ghost use Rattle.rt_core.specs.Handles.{held_handle};
     ghost use Rattle.rt_core.specs.Joins.{joining};
-    ghost use Rattle.rt_core.specs.declared.join_all_tests.Gathered.TheVariants.{Number};
+    ghost use Rattle.rt_core_tests.specs.declared.join_all_tests.Gathered.TheVariants.{Number};
 
     ghost first = { λ maker now. (then) (childs root_context (codes "left")) (λ child told. elim child [ Ok context ↦ (then) (spawns context (λ context. record { context = context; group = None })) (λ spawned told. elim spawned [ Ok third ↦ Gives tt (record { context = root_context; group = Some (joining (held_handle (Ok (Number 1)) ∷ held_handle (if maker.fails then Err Closed else Ok (Number 2)) ∷ third ∷ []) maker.takes) }) | Err error ↦ Gives tt (record { context = root_context; group = None }) ]) | Err error ↦ Gives tt (record { context = root_context; group = None }) ]) };
 
@@ -220,9 +220,8 @@ impl<R: Abort + Drop> RootMaker<Gatherer> for RootParent<R> {
     }
 }
 
-/// Whether a group of two numbers and a third gives them in their order, without a call.
-fn joins_numbers<R: Abort + Drop>(rt: R, alloc: Global) -> Result<bool, NoMemory> {
-    let expected = "\
+/// A group of three numbers gives them in their order, without a call.
+const IN_ORDER: &str = "\
 start 0 - 1000000 0
 root 0
 round 0
@@ -236,27 +235,9 @@ answer 0 ended
 crash
 finish ok
 ";
-    let maker = RootNumbers {
-        rt,
-        alloc,
-        takes: Takes,
-    };
-    let run = Runner::seeded(3).start_and_recover::<Gatherer, RootNumbers<R>>(alloc, maker);
-    let Ok(finished) = run else {
-        return Ok(false);
-    };
-    let text = lines(alloc, finished.checkpoint.journal())?;
-    match &finished.output {
-        Gathered::Numbers(numbers) => {
-            Ok(numbers.as_slice() == [1, 2, 3].as_slice() && text.as_str() == expected)
-        }
-        Gathered::Number(_) | Gathered::Failed(_) => Ok(false),
-    }
-}
 
-/// Whether the first failure aborts the task that is left, and is the answer once that has ended.
-fn aborts_a_child<R: Abort + Drop>(rt: R, alloc: Global) -> Result<bool, NoMemory> {
-    let expected = "\
+/// The first failure aborts the task that is left, and is the answer once that has ended.
+const ABORTED: &str = "\
 start 0 - 1000000 0
 call - child 0 left -> node 1
 call - spawn 1 -> task 0 node 2
@@ -294,24 +275,9 @@ answer 1 ended
 crash
 finish ok
 ";
-    let maker = RootParent {
-        rt,
-        alloc,
-        takes: Takes,
-        fails: true,
-    };
-    let Ok(finished) = Runner::seeded(1).start_and_recover::<Gatherer, RootParent<R>>(alloc, maker)
-    else {
-        return Ok(false);
-    };
-    let text = lines(alloc, finished.checkpoint.journal())?;
-    let closed = matches!(&finished.output, Gathered::Failed(Error::Closed));
-    Ok(closed && text.as_str() == expected)
-}
 
-/// Whether a group that waits is aborted and given up at its task's end.
-fn gives_a_group_up<R: Abort + Drop>(rt: R, alloc: Global) -> Result<bool, NoMemory> {
-    let expected = "\
+/// A group that waits is aborted and given up at its task's end.
+const GIVEN_UP: &str = "\
 start 0 - 1000000 0
 call - child 0 left -> node 1
 call - spawn 1 -> task 0 node 2
@@ -337,29 +303,81 @@ answer 1 ended
 crash
 finish stalled
 ";
-    let maker = RootParent {
+
+/// What a run gives.
+#[derive(Clone, Copy)]
+enum Wanted {
+    /// The numbers from 1 to 3.
+    Three,
+    /// The failure of the second handle.
+    Closed,
+}
+
+/// Whether the run of this root gives this, and has these lines.
+fn gathers<M: RootMaker<Gatherer> + Drop>(
+    alloc: Global,
+    seed: u64,
+    maker: M,
+    wanted: Wanted,
+    expected: &str,
+) -> bool {
+    match Runner::seeded(seed).start_and_recover::<Gatherer, M>(alloc, maker) {
+        Ok(finished) => {
+            is_wanted(&finished.output, wanted)
+                && has_lines(alloc, finished.checkpoint.journal(), expected)
+        }
+        Err(_failure) => false,
+    }
+}
+
+fn is_wanted(output: &Gathered, wanted: Wanted) -> bool {
+    match (output, wanted) {
+        (Gathered::Numbers(numbers), Wanted::Three) => {
+            numbers.as_slice() == [1, 2, 3].as_slice()
+        }
+        (Gathered::Failed(Error::Closed), Wanted::Closed) => true,
+        _ => false,
+    }
+}
+
+/// Whether a group that waits is given up at its task's end.
+fn gives_up<R: Abort + Drop>(alloc: Global, maker: RootParent<R>) -> bool {
+    let cause = FinishCause::Stalled;
+    fails::<Gatherer, RootParent<R>>(alloc, Runner::seeded(1), maker, cause, GIVEN_UP)
+}
+
+/// Makes the root whose second handle fails, or is ready.
+fn parent<R>(rt: R, alloc: Global, fails: bool) -> RootParent<R> {
+    RootParent {
         rt,
         alloc,
         takes: Takes,
-        fails: false,
-    };
-    let Err(failure) = Runner::seeded(1).start::<Gatherer, RootParent<R>>(alloc, maker) else {
-        return Ok(false);
-    };
-    let Failure { cause, journal } = failure;
-    let text = lines(alloc, &journal)?;
-    Ok(cause.cause() == FinishCause::Stalled && text.as_str() == expected)
+        fails,
+    }
+}
+
+/// Makes the root of three numbers.
+fn numbers<R>(rt: R, alloc: Global) -> RootNumbers<R> {
+    RootNumbers {
+        rt,
+        alloc,
+        takes: Takes,
+    }
 }
 
 #[test]
 fn join_all_in_order(rt: HostRuntime) -> Result<(), Fail> {
-    assert!(rt; joins_numbers(rt.clone()?, rt.alloc())?);
+    let maker = numbers(rt.clone()?, rt.alloc());
+    assert!(rt; gathers(rt.alloc(), 3, maker, Wanted::Three, IN_ORDER));
     Ok(())
 }
 
 #[test]
 fn join_all_aborts_the_rest(rt: HostRuntime) -> Result<(), Fail> {
-    assert!(rt; aborts_a_child(rt.clone()?, rt.alloc())?);
-    assert!(rt; gives_a_group_up(rt.clone()?, rt.alloc())?);
+    let failing = parent(rt.clone()?, rt.alloc(), true);
+    let failed = gathers(rt.alloc(), 1, failing, Wanted::Closed, ABORTED);
+    holds(&rt, "a failure", failed);
+    let waiting = parent(rt.clone()?, rt.alloc(), false);
+    holds(&rt, "a group that waits", gives_up(rt.alloc(), waiting));
     Ok(())
 }

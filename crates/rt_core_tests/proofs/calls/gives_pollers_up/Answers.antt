@@ -1,5 +1,5 @@
 use Rattle.rt_world.proofs.Walked.{kept-kept}
-use Rattle.rt_core.proofs.tests.gives_pollers_up.Goals as goal
+use Rattle.rt_core_tests.proofs.calls.gives_pollers_up.Goals as goal
 
 pub returns-in-Ok : goal.returns-in-Ok
 returns-in-Ok g c =

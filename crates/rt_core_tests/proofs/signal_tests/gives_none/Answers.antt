@@ -1,5 +1,5 @@
 use Rattle.rt_world.proofs.Walked.{kept-kept}
-use Rattle.rt_core.proofs.signal_tests.gives_none.Goals as goal
+use Rattle.rt_core_tests.proofs.signal_tests.gives_none.Goals as goal
 
 pub returns : goal.returns
 returns g c =

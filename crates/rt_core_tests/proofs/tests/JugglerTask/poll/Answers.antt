@@ -1,6 +1,6 @@
 use Rattle.std.proofs.Common.{refl}
 use Rattle.rt_world.proofs.Walked.{kept-kept, polled-gives}
-use Rattle.rt_core.proofs.tests.JugglerTask.poll.Goals as goal
+use Rattle.rt_core_tests.proofs.tests.JugglerTask.poll.Goals as goal
 
 pub returns-clause-steps : goal.returns-clause-steps
 returns-clause-steps g c =

@@ -1,7 +1,7 @@
 use Rattle.std.proofs.Common.{◌≡◌, ◌∙◌, refl, sym, true, Ok}
 use Rattle.rt_core.specs.Pollers.{sleep_until, until}
 use Rattle.rt_world.proofs.Walked.{kept-kept, polled-gives}
-use Rattle.rt_core.proofs.tests.ProbeTask.poll.Goals as goal
+use Rattle.rt_core_tests.proofs.tests.ProbeTask.poll.Goals as goal
 
 pub returns-clause-kept : goal.returns-clause-kept
 returns-clause-kept g c =

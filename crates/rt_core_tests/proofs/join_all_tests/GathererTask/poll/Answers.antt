@@ -1,6 +1,6 @@
 use Rattle.std.proofs.Common.{refl}
 use Rattle.rt_world.proofs.Walked.{polled-gives}
-use Rattle.rt_core.proofs.join_all_tests.GathererTask.poll.Goals as goal
+use Rattle.rt_core_tests.proofs.join_all_tests.GathererTask.poll.Goals as goal
 
 pub returns-in-Pending-clause-steps : goal.returns-in-Pending-clause-steps
 returns-in-Pending-clause-steps g c =

@@ -1,15 +1,11 @@
-// Calls on signals and on the shutdown in a maker, and the lines that they write.
+// Calls on signals and on the shutdown.
 
 ghost use Rattle.rt_model.specs.Rules.{MayCall};
 ghost use Rattle.rt_world.specs.Calls.{Kept};
 
-use crate::tests::{Making, lines};
-use crate::{CompletionWait, Context, Error, NoMemory, Poller, Signal, Signaler};
-use rand_chacha::ChaCha12Rng;
-use rand_core::{Rng, SeedableRng};
-use rt_audit::{FinishCause, Journal};
-use rt_model::Begin;
-use std::alloc::Global;
+use crate::calls::{Making, Part, are_made, refused};
+use rand_core::Rng;
+use rt_core::{CompletionWait, Context, Error, NoMemory, Poller, Signal, Signaler};
 use std::test::Fail;
 
 /// Gives a signal up. Returns whether it was made.
@@ -23,7 +19,7 @@ fn lets_go<G: Rng>(signal: Result<Signal, Error>, world: &mut Making<G>) -> bool
             signal.give_up(world);
             true
         }
-        Err(_error) => false,
+        Err(error) => refused(error),
     }
 }
 
@@ -72,7 +68,7 @@ fn gives_a_value<G: Rng>(world: &mut Making<G>) -> bool
 {
     match Signaler::new(world) {
         Ok((signaler, first)) => gives(signaler, first, world),
-        Err(_error) => false,
+        Err(error) => refused(error),
     }
 }
 
@@ -117,7 +113,7 @@ fn copies<G: Rng>(signal: Result<Signal, Error>, world: &mut Making<G>) -> bool
             signal.give_up(world);
             lets_go(copy, world)
         }
-        Err(_error) => false,
+        Err(error) => refused(error),
     }
 }
 
@@ -155,73 +151,39 @@ fn begins_the_shutdown<G: Rng>(context: &Context, world: &mut Making<G>) -> bool
 
 /// The same, on a context that is closed then.
 #[tactic(auto, using(rt_world::proofs::Walked::close_laws))]
-fn shuts_down<G: Rng>(alloc: Global, world: &mut Making<G>) -> bool
+fn shuts_down<G: Rng>(context: Context, world: &mut Making<G>) -> bool
     requires { MayCall world.old.told.state world.old.out }
     ensures { Kept G.stream world.old world.new }
 {
-    let context = Context::root(alloc);
     let began = begins_the_shutdown(&context, world);
     context.close(world);
     began
 }
 
-/// Whether the calls are answered and written as they should be.
-#[tactic(auto, unfolding(rt_model::specs::Effects::after, rt_model::specs::State::begun))]
-fn writes_signals(alloc: Global) -> Result<bool, NoMemory> {
-    let expected = "\
-start 3 - 1000000 0
-call - signaler -> signal 1
-call - clone-signal 1 -> signal 2
-call - signal 1 5 -> ok
-call - signal-close 1 -> ok
-call - signal-close 2 -> ok
-call - completion-close 1 -> ok
-call - signaler -> signal 3
-call - signaler-close 3 -> ok
-call - signal-close 3 -> ok
-event stopped
-call - stopped -> signal 4
-call - signal-close 4 -> ok
-event stop 00000009
-call - stop 9 -> completion 5
-call - completion-close 5 -> ok
-event stopped
-call - stopped -> closed 9
-call - close-node 0 -> ok
-cleanup
-nodeend 0
-crash
-finish nomemory
-";
-    let begin = Begin {
-        start: 3,
-        cycle: 1_000_000,
-        deadline: None,
-        first: 0,
-        catch: false,
-    };
-    let rng = ChaCha12Rng::seed_from_u64(1);
-    let Ok(mut world) = Making::<ChaCha12Rng>::begin(alloc, Journal::new(alloc), begin, rng) else {
-        return Err(NoMemory);
-    };
-    let given = gives_a_value(&mut world);
-    let closed = gives_none(&mut world);
-    let shutdown = shuts_down(alloc, &mut world);
-    let cause = world.cleanup_unmade(None, FinishCause::NoMemory);
-    let (journal, _, panic) = world.into_parts();
-    let text = lines(alloc, &journal)?;
-    Ok(
-        given
-            && closed
-            && shutdown
-            && cause == FinishCause::NoMemory
-            && panic.is_none()
-            && text.as_str() == expected,
-    )
+/// Makes a group that is given a value, and one that is given none. Returns whether both were made.
+#[tactic(auto, using(rt_world::proofs::Walked::close_laws))]
+fn makes_groups<G: Rng>(world: &mut Making<G>) -> bool
+    requires { MayCall world.old.told.state world.old.out }
+    ensures { Kept G.stream world.old world.new }
+{
+    let given = gives_a_value(world);
+    let closed = gives_none(world);
+    given & closed
+}
+
+/// Makes each call once, and closes the context. Returns whether all were made.
+#[tactic(auto, using(rt_world::proofs::Walked::close_laws))]
+pub fn answers_signals<G: Rng>(context: Context, world: &mut Making<G>) -> bool
+    requires { MayCall world.old.told.state world.old.out }
+    ensures { Kept G.stream world.old world.new }
+{
+    let groups = makes_groups(world);
+    let shutdown = shuts_down(context, world);
+    groups & shutdown
 }
 
 #[test]
 fn signals(rt: HostRuntime) -> Result<(), Fail> {
-    assert!(rt; writes_signals(rt.alloc())?);
+    assert!(rt; are_made(rt.clone()?, rt.alloc(), Part::Signals));
     Ok(())
 }
