@@ -1,9 +1,9 @@
 // A channel that tests send numbered bytes through, step by step.
 
-use crate::ending::{Ending, seen, seen_error};
 use rt_base::{Env, Error, Poll};
 use rt_bufs::{IoBuf, IoBufs};
 use rt_net::{Network, Receiving, Sending};
+use rt_noting::{Ending, seen, seen_error};
 use std::alloc::Global;
 use std::process::Abort;
 

@@ -1,12 +1,12 @@
 // Worked examples on the network in memory. Each body is over any network, so it is proved from the trait alone.
 
-use crate::ending::{Ending, got, seen, seen_error};
 use crate::line::{Line, Step, Taken, poll_put, takes};
-use crate::notebook::Notebook;
-use crate::noting::{Noting, NotingSink, NotingStream, take_room_of_calls};
 use rt_base::{Addr, Env, Error, Ip, NoEnv, Poll};
 use rt_bufs::{IoBuf, IoBufs};
 use rt_net::{Channel, Net, Network, Receiving, Reply, Sending, Sink, Stream};
+use rt_noting::{
+    Ending, Notebook, Noting, NotingSink, NotingStream, got, seen, seen_error, take_room_of_calls,
+};
 use std::alloc::Global;
 use std::process::Abort;
 

@@ -1,4 +1,4 @@
-// How a call on a network ended, as tests compare it.
+//! How a call on a network ended, as tests compare it.
 
 use rt_base::{Error, Poll};
 use rt_bufs::IoBufs;

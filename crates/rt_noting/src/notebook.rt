@@ -1,4 +1,4 @@
-// An environment that keeps the events that it is told.
+//! An environment that keeps the events that it is told.
 
 use rt_base::{Env, Event, NoMemory};
 use std::alloc::Global;
@@ -16,7 +16,7 @@ impl Notebook {
         }
     }
 
-    // The labels and the lengths of the fields in order, each with a space after it.
+    /// The labels and the lengths of the fields in order, each with a space after it.
     pub fn text(&self, alloc: Global) -> Result<String, NoMemory> {
         let mut text = String::new(alloc);
         for event in self.events.as_slice() {
@@ -26,7 +26,7 @@ impl Notebook {
     }
 }
 
-// The label and the lengths of the fields.
+/// The label and the lengths of the fields.
 fn add_event(text: &mut String, event: &Event) -> Result<(), NoMemory> {
     text.push_str(event.label.as_str())?;
     for field in event.fields.as_slice() {

@@ -1,10 +1,11 @@
-// A network over any other. It notes an event where a `bind`, `dial`, `accept`, `send` or `recv` starts and where it ends,
-// though none where it was out of memory, counts bytes, and has tokens of its own, which know the other end's address. The event of a receive has
-// the bytes that came. All room is taken before the inner call. It is proved from the trait alone.
+//! A network over any other. It notes an event where a `bind`, `dial`, `accept`, `send` or `recv` starts and where it ends,
+//! though none where it was out of memory, counts bytes, and has tokens of its own, which know the other end's address. The
+//! event of a receive has the bytes that came. All room is taken before the inner call. It is proved from the trait alone.
+
 ghost use Rattle.std.specs.Prelude.{◌≡◌, ◌+◌, ◌*◌, ◌≤◌, ◌<◌, IfOk, OnOk, OnErr, ◌∷◌, ◌++◌, [], length, vec_capacity};
 ghost use Rattle.rt_base.specs.Noted.{Adds, Happened};
 ghost use Rattle.rt_net.specs.Asked.{HasLength};
-ghost use Rattle.rt_net_tests.specs.Noting.{named, refusal, ending, closing_event, receipt, count_if_ok, bytes_in, with_taken, KnowDialer};
+ghost use Rattle.rt_noting.specs.Noting.{named, refusal, ending, closing_event, receipt, count_if_ok, bytes_in, with_taken, KnowDialer};
 
 use rt_base::{Addr, Env, Error, Event, Items, NoMemory, Poll, Text};
 use rt_bufs::{IoBuf, IoBufs};
@@ -49,21 +50,21 @@ impl<S: Receiving> Receiving for NotingStream<S> {
     }
 }
 
-// The events that a call may note at its end.
+/// The events that a call may note at its end.
 #[derive(Drop)]
 struct Endings {
     success: Event,
     failure: Event,
 }
 
-// The room for the bytes that an event will have.
+/// The room for the bytes that an event will have.
 #[derive(Drop)]
 struct Room {
     bytes: Vec<u8>,
     fields: Vec<Items<u8>>,
 }
 
-// An event without fields.
+/// An event without fields.
 fn event_of(alloc: Global, label: &str) -> Result<Event, NoMemory>
     ensures { IfOk result (λ e. e ≡ named label.now) }
 {
@@ -73,7 +74,7 @@ fn event_of(alloc: Global, label: &str) -> Result<Event, NoMemory>
     })
 }
 
-// The events of an end.
+/// The events of an end.
 fn endings_of(alloc: Global, success: &str, failure: &str) -> Result<Endings, NoMemory>
     ensures { IfOk result (λ e. (e.success ≡ named success.now) × (e.failure ≡ named failure.now)) }
 {
@@ -83,7 +84,7 @@ fn endings_of(alloc: Global, success: &str, failure: &str) -> Result<Endings, No
     })
 }
 
-// Notes how the call ended, where it did.
+/// Notes how the call ended, where it did.
 fn note_end<E: Env>(env: &mut E, endings: Endings, ended: Option<bool>)
     requires { 0 < E.spare env.old }
     ensures noted { Adds (E.noted env.old) (closing_event endings.success endings.failure ended) (E.noted env.new) }
@@ -96,7 +97,7 @@ fn note_end<E: Env>(env: &mut E, endings: Endings, ended: Option<bool>)
     }
 }
 
-// Room for so many bytes.
+/// Room for so many bytes.
 fn room_for(alloc: Global, len: usize) -> Result<Room, NoMemory>
     ensures empty { IfOk result (λ r. (r.bytes.items ≡ []) × (r.fields.items ≡ [])) }
     ensures room { IfOk result (λ r. (vec_capacity r.bytes ≡ len) × (vec_capacity r.fields ≡ 1)) }
@@ -107,7 +108,7 @@ fn room_for(alloc: Global, len: usize) -> Result<Room, NoMemory>
     })
 }
 
-// Adds the bytes of all chunks, in the room that was taken.
+/// Adds the bytes of all chunks, in the room that was taken.
 fn fill(bytes: &mut Vec<u8>, bufs: &IoBufs)
     requires { length bytes.old.items + length bufs.now.bytes ≤ vec_capacity bytes.old }
     ensures { bytes.new.items ≡ bytes.old.items ++ bufs.now.bytes }
@@ -120,7 +121,7 @@ fn fill(bytes: &mut Vec<u8>, bufs: &IoBufs)
     }
 }
 
-// Notes the bytes that came, where they did, in the room that was taken.
+/// Notes the bytes that came, where they did, in the room that was taken.
 fn note_bytes<E: Env>(env: &mut E, success: Event, room: Room, answer: &Poll<IoBufs>)
     requires spare { 0 < E.spare env.old }
     requires empty { (room.bytes.items ≡ []) × (room.fields.items ≡ []) }
@@ -142,7 +143,7 @@ fn note_bytes<E: Env>(env: &mut E, success: Event, room: Room, answer: &Poll<IoB
     }
 }
 
-// A call that was refused has failed, save where it was out of memory.
+/// A call that was refused has failed, save where it was out of memory.
 fn refusal(error: &Error) -> Option<bool>
     ensures { result ≡ refusal error.now }
 {
@@ -152,7 +153,7 @@ fn refusal(error: &Error) -> Option<bool>
     }
 }
 
-// Whether the call succeeded, and nothing where it waits or was out of memory.
+/// Whether the call succeeded, and nothing where it waits or was out of memory.
 fn ending<V>(answer: &Result<Poll<V>, Error>) -> Option<bool>
     ensures { result ≡ ending answer.now }
 {
@@ -163,7 +164,7 @@ fn ending<V>(answer: &Result<Poll<V>, Error>) -> Option<bool>
     }
 }
 
-// The count of a call that was not refused.
+/// The count of a call that was not refused.
 fn count_if_ok<V>(answer: &Result<V, Error>, count: u64) -> u64
     ensures { result ≡ count_if_ok answer.now count }
 {
@@ -173,7 +174,7 @@ fn count_if_ok<V>(answer: &Result<V, Error>, count: u64) -> u64
     }
 }
 
-// How many bytes an answer has.
+/// How many bytes an answer has.
 fn count_of(answer: &Poll<IoBufs>) -> u64
     ensures { result ≡ bytes_in answer.now }
 {
@@ -184,7 +185,7 @@ fn count_of(answer: &Poll<IoBufs>) -> u64
 }
 
 impl<N: Network> Noting<N> {
-    // A wrapper that counted nothing yet.
+    /// A wrapper that counted nothing yet.
     pub fn new(alloc: Global, inner: N) -> Noting<N> {
         Noting {
             inner,
@@ -194,7 +195,7 @@ impl<N: Network> Noting<N> {
         }
     }
 
-    // What it wraps, and how many bytes were sent and received.
+    /// What it wraps, and how many bytes were sent and received.
     pub fn into_parts(self) -> (N, u64, u64) {
         let Noting {
             inner,
@@ -205,7 +206,7 @@ impl<N: Network> Noting<N> {
         (inner, sent, received)
     }
 
-    // Takes the room of a call, makes its events and notes the first.
+    /// Takes the room of a call, makes its events and notes the first.
     fn begin<E: Env>(
         &self,
         env: &mut E,
@@ -226,7 +227,7 @@ impl<N: Network> Noting<N> {
         Ok(endings)
     }
 
-    // Takes the room of a poll, and makes its events.
+    /// Takes the room of a poll, and makes its events.
     fn go_on<E: Env>(&self, env: &mut E, success: &str, failure: &str) -> Result<Endings, NoMemory>
         ensures room { OnOk result (N.most + 1 ≤ E.spare env.new) }
         ensures kept { E.spare env.old ≤ E.spare env.new }
@@ -239,7 +240,7 @@ impl<N: Network> Noting<N> {
     }
 }
 
-// Takes the room of so many calls, as a network over another needs that tries again.
+/// Takes the room of so many calls, as a network over another needs that tries again.
 pub fn take_room_of_calls<N: Network, E: Env>(env: &mut E, calls: usize) -> Result<(), NoMemory>
     ensures room { OnOk result (calls * N.most ≤ E.spare env.new) }
     ensures noted { E.noted env.new ≡ E.noted env.old }
@@ -263,7 +264,7 @@ impl<N: Network> Network for Noting<N> {
     ghost use Rattle.std.specs.Prelude.{◌≡◌, ◌+◌, ◌⊎◌, codes, List, [], ◌∷◌, ◌++◌, Err, None, IfOk, length};
     ghost use Rattle.rt_base.specs.declared.error.Error.TheVariants.{NoMemory};
     ghost use Rattle.rt_base.specs.Noted.{Noted, Happened};
-    ghost use Rattle.rt_net_tests.specs.Noting.{around, followed, ending, outcome, counted_bytes, count_if_ok, receipt_of, receipt_of_reply, count_with, count_with_reply, with_listener, with_halves, with_taken, KnowDialer};
+    ghost use Rattle.rt_noting.specs.Noting.{around, followed, ending, outcome, counted_bytes, count_if_ok, receipt_of, receipt_of_reply, count_with, count_with_reply, with_listener, with_halves, with_taken, KnowDialer};
 
     ghost refusals = { λ s. N.refusals s.inner };
 
@@ -521,7 +522,7 @@ impl<N: Network> Network for Noting<N> {
     }
 }
 
-// The halves of a new connection, which know the address that was dialed.
+/// The halves of a new connection, which know the address that was dialed.
 fn with_remote<S, T>(reply: Reply<(S, T)>, remote: Addr) -> Reply<(NotingSink<S>, NotingStream<T>)>
     ensures { result ≡ record { value = (record { inner = reply.value.0; remote = remote }, record { inner = reply.value.1; remote = remote }); wake = reply.wake; link = reply.link } }
 {
@@ -543,7 +544,7 @@ fn with_remote<S, T>(reply: Reply<(S, T)>, remote: Addr) -> Reply<(NotingSink<S>
     }
 }
 
-// A connection that was taken, whose halves know the dialer's address.
+/// A connection that was taken, whose halves know the dialer's address.
 fn taken<S, T>(
     answer: Result<Poll<(Addr, S, T)>, Error>,
 ) -> Result<Poll<(Addr, NotingSink<S>, NotingStream<T>)>, Error>

@@ -1,5 +1,5 @@
--- Used in the tests alone: no public clause of a library names these definitions. They say what a wrapper of the tests notes
--- round the calls that it passes on.
+-- No public clause of a library of the product names these definitions. They say what the wrapper notes round the calls that
+-- it passes on.
 use Rattle.std.specs.Prelude.{◌≡◌, ℕ, ◌+◌, ◌%◌, ◌^◌, Bool, true, false, List, [], ◌∷◌, ◌++◌, length, codes, Option, Some, None, Result, Ok, Err}
 use Rattle.rt_base.specs.declared.addr.Addr.{Addr}
 use Rattle.rt_base.specs.declared.error.Error.{Error}
