@@ -5,3 +5,5 @@ pub mod Retry
 pub mod Chief
 pub mod Courier
 pub mod Keeper
+pub mod Naps
+pub mod Deals

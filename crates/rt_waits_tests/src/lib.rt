@@ -1,14 +1,9 @@
-//! Tests of what waits and what draws: a poller and tasks of one's own, and many slots, signals, guards and draws at once.
+//! Tests of what waits and what draws: runs of a napper and of a dealer, and many slots, signals, guards and draws at once.
 #![tactic(auto)]
 
-mod dealer;
 #[cfg(test)]
 mod deals;
 #[cfg(test)]
 mod many;
-mod nap;
 #[cfg(test)]
 mod naps;
-
-pub use dealer::Dealer;
-pub use nap::{Nap, Napper};

@@ -3,7 +3,6 @@
 ghost use Rattle.rt_model.specs.Rules.{MayCall};
 ghost use Rattle.rt_world.specs.Calls.{Kept};
 
-use crate::nap::Napper;
 use rand_chacha::ChaCha12Rng;
 use rand_core::{Rng, SeedableRng};
 use rt_audit::{FinishCause, Journal};
@@ -11,6 +10,7 @@ use rt_core::{
     AbortOnDrop, AbortOnDropOf, Convert, Error, HandleOf, JoinAll, NoMemory, NoPoller, Poller,
     Signaler,
 };
+use rt_errand::Napper;
 use rt_model::Begin;
 use rt_super::Stopped;
 use rt_world::WorldOf;

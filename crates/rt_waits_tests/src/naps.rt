@@ -1,9 +1,9 @@
 // A run of a task that polls a poller of one's own.
 
-use crate::nap::{Nap, Napper};
 use rt_audit::Journal;
 use rt_core::utils::reschedule;
 use rt_core::{Context, NoMemory, Rng, RootMaker, Runner, World};
+use rt_errand::{Nap, Napper};
 use std::alloc::Global;
 use std::test::Fail;
 
@@ -35,19 +35,8 @@ impl RootMaker<Napper> for RootNapper {
     }
 }
 
-/// The lines of a journal.
-pub(crate) fn lines(alloc: Global, journal: &Journal) -> Result<String, NoMemory> {
-    let mut text = String::new(alloc);
-    for entry in journal.entries() {
-        entry.add_to(alloc, &mut text)?;
-        text.push('\n')?;
-    }
-    Ok(text)
-}
-
-/// Whether the nap is over once its sleep is and the others had their turn.
-fn naps(alloc: Global) -> Result<bool, NoMemory> {
-    let expected = "\
+/// The nap is over once its sleep is and the others had their turn.
+const NAPPED: &str = "\
 start 0 - 1000000 0
 root 0
 round 0
@@ -79,16 +68,37 @@ answer 0 ended
 crash
 finish ok
 ";
-    let Ok(finished) = Runner::default().start_and_recover::<Napper, RootNapper>(alloc, RootNapper)
-    else {
-        return Ok(false);
-    };
-    let text = lines(alloc, finished.checkpoint.journal())?;
-    Ok(finished.output == 7 && text.as_str() == expected)
+
+/// The lines of a journal.
+fn lines(alloc: Global, journal: &Journal) -> Result<String, NoMemory> {
+    let mut text = String::new(alloc);
+    for entry in journal.entries() {
+        entry.add_to(alloc, &mut text)?;
+        text.push('\n')?;
+    }
+    Ok(text)
+}
+
+/// Whether a journal has these lines.
+pub(crate) fn has_lines(alloc: Global, journal: &Journal, expected: &str) -> bool {
+    match lines(alloc, journal) {
+        Ok(text) => text.as_str() == expected,
+        Err(NoMemory) => false,
+    }
+}
+
+/// Whether a napper gives its number, with these lines.
+fn naps(alloc: Global) -> bool {
+    match Runner::default().start_and_recover::<Napper, RootNapper>(alloc, RootNapper) {
+        Ok(finished) => {
+            finished.output == 7 && has_lines(alloc, finished.checkpoint.journal(), NAPPED)
+        }
+        Err(_failure) => false,
+    }
 }
 
 #[test]
 fn a_poller_of_ones_own(rt: HostRuntime) -> Result<(), Fail> {
-    assert!(rt; naps(rt.alloc())?);
+    assert!(rt; naps(rt.alloc()));
     Ok(())
 }

@@ -6,7 +6,7 @@ use Rattle.rt_base.specs.declared.poll.Poll.TheVariants.{Pending, Ready}
 use Rattle.rt_model.specs.Walk.{Step, Last, Gives, then, followed_by}
 use Rattle.rt_core.specs.Pollers.{reschedule_polls, reschedule_spends, sleep_polls, sleep_spends}
 use Rattle.rt_core.specs.Sleeper.{Sleeper}
-use Rattle.rt_waits_tests.specs.declared.nap.Nap.{Nap}
+use Rattle.rt_errand.specs.declared.nap.Nap.{Nap}
 
 abbrev pub Napping : (A O : Type 0) → Type 0
 Napping A O = Step A Nap O (Poll (Result (Unit {0}) Error))

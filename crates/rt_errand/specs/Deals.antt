@@ -5,7 +5,7 @@ use Rattle.rt_model.specs.declared.answer.Answer.{Answer}
 use Rattle.rt_model.specs.declared.answer.Answer.TheVariants.{Ready, NoMemory}
 use Rattle.rt_model.specs.Walk.{Step, Gives, then}
 use Rattle.rt_core.specs.Drawing.{asks_auditor, asks_bytes, asks_u32, asks_u64}
-use Rattle.rt_waits_tests.specs.declared.dealer.Dealer.{Dealer}
+use Rattle.rt_errand.specs.declared.dealer.Dealer.{Dealer}
 
 abbrev pub Dealing : Type 0
 Dealing = Step Dealer Dealer ℕ (Answer ℕ)

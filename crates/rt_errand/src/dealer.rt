@@ -1,6 +1,6 @@
 // A task that draws, and asks for the digest.
 
-ghost use Rattle.rt_waits_tests.specs.Deals.{deals};
+ghost use Rattle.rt_errand.specs.Deals.{deals};
 
 use rt_core::{Answer, Context, Cx, Outcome, Rng, Task, World};
 

@@ -1,6 +1,6 @@
-use Rattle.rt_waits_tests.specs.Naps.{nap_polls, rests}
-use Rattle.rt_waits_tests.proofs.Joined.{goes-gives, goes-then}
-use Rattle.rt_waits_tests.proofs.nap.NapPollerUnit.poll.Goals as goal
+use Rattle.rt_errand.specs.Naps.{nap_polls, rests}
+use Rattle.rt_errand.proofs.Joined.{goes-gives, goes-then}
+use Rattle.rt_errand.proofs.nap.NapPollerUnit.poll.Goals as goal
 
 pub returns-in-Pending-clause-steps : goal.returns-in-Pending-clause-steps
 unfolding nap_polls

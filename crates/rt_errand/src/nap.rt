@@ -1,6 +1,6 @@
 // A poller of one's own, made of two others, and a task that polls it.
 
-ghost use Rattle.rt_waits_tests.specs.Naps.{nap_polls, nap_spends};
+ghost use Rattle.rt_errand.specs.Naps.{nap_polls, nap_spends};
 
 use rt_core::{
     Answer, Context, Cx, Error, Outcome, Poll, Poller, Reschedule, Rng, Sleep, Task, World,

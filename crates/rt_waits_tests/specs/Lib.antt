@@ -1,2 +1,0 @@
-pub mod Naps
-pub mod Deals
