@@ -1,9 +1,7 @@
-// Whole journals of chiefs, as text.
+// Whole runs of chiefs.
 
-use crate::errands::{Expected, is_as_expected};
-use rt_core::{Error, Runner};
-use rt_errand::{Chief, Plan, RootChief};
-use std::test::Fail;
+use crate::told::{Ending, Root, Run, Settings, plays};
+use rt_errand::Plan;
 
 /// Up to where a chief has polled its worker for the first time.
 const HIRED: &str = "\
@@ -112,90 +110,58 @@ crash
 finish ok
 ";
 
-/// Whether a chief that waits so ends with this, at this time, with these pieces of a journal.
-fn plays(
-    rt: &HostRuntime,
-    plan: Plan,
-    ending: Result<u64, Error>,
-    time: u128,
-    pieces: &[&str],
-) -> Result<bool, Fail> {
-    let alloc = rt.alloc();
-    let mut lines = String::new(alloc);
-    for piece in pieces {
-        lines.push_str(piece)?;
+/// An alarm before that of the worker.
+const SHORT: &str = "call 0 sleep-poll 2000000 -> pending 0\n";
+
+/// An alarm behind that of the worker.
+const LONG: &str = "call 0 sleep-poll 10000000 -> pending 0\n";
+
+const RUNS: &[Run] = &[
+    Run {
+        name: "a_sleep_that_is_over_first",
+        settings: Settings::Seed(1),
+        root: Root::Chief(Plan::Watches(2_000_000)),
+        ending: Ending::Late,
+        time: 2_000_000,
+        pieces: &[HIRED, SHORT, NAPS, LATE],
+    },
+    Run {
+        name: "a_handle_that_is_ready_first",
+        settings: Settings::Seed(1),
+        root: Root::Chief(Plan::Watches(10_000_000)),
+        ending: Ending::Gives(5),
+        time: 5_000_000,
+        pieces: &[HIRED, LONG, NAPS, JOINED],
+    },
+    Run {
+        name: "a_limit_on_a_handle",
+        settings: Settings::Seed(1),
+        root: Root::Chief(Plan::Limits(2_000_000)),
+        ending: Ending::Late,
+        time: 2_000_000,
+        pieces: &[HIRED, SHORT, NAPS, LATE],
+    },
+    Run {
+        name: "timeout_of_a_ready_state",
+        settings: Settings::Seed(1),
+        root: Root::Chief(Plan::Holds(100_000_000, 42)),
+        ending: Ending::Gives(42),
+        time: 0,
+        pieces: &[HELD],
+    },
+    Run {
+        name: "select_of_ready_and_pending",
+        settings: Settings::Seed(1),
+        root: Root::Chief(Plan::Chooses(7)),
+        ending: Ending::Gives(7),
+        time: 0,
+        pieces: &[HIRED, CHOSEN],
+    },
+];
+
+#[test]
+fn waits_in_ways_of_its_own(rt: HostRuntime) {
+    for run in RUNS {
+        plays(&rt, rt.alloc(), run);
     }
-    let run = Runner::seeded(1).start_and_recover::<Chief, RootChief>(
-        alloc,
-        RootChief { plan, alloc },
-    );
-    let expected = Expected {
-        ending: Ok(ending),
-        time,
-        lines: lines.as_str(),
-    };
-    Ok(is_as_expected(alloc, run, expected)?)
-}
-
-#[test]
-fn a_sleep_and_a_handle_in_one_poll(rt: HostRuntime) -> Result<(), Fail> {
-    let first = "call 0 sleep-poll 2000000 -> pending 0\n";
-    let late = [HIRED, first, NAPS, LATE];
-    assert!(rt;
-        plays(
-            &rt,
-            Plan::Watches(2_000_000),
-            Err(Error::Timeout),
-            2_000_000,
-            late.as_slice()
-        )?
-    );
-    let second = "call 0 sleep-poll 10000000 -> pending 0\n";
-    let joined = [HIRED, second, NAPS, JOINED];
-    assert!(rt;
-        plays(
-            &rt,
-            Plan::Watches(10_000_000),
-            Ok(5),
-            5_000_000,
-            joined.as_slice()
-        )?
-    );
-    Ok(())
-}
-
-#[test]
-fn a_limit_on_a_handle(rt: HostRuntime) -> Result<(), Fail> {
-    let first = "call 0 sleep-poll 2000000 -> pending 0\n";
-    let late = [HIRED, first, NAPS, LATE];
-    assert!(rt;
-        plays(
-            &rt,
-            Plan::Limits(2_000_000),
-            Err(Error::Timeout),
-            2_000_000,
-            late.as_slice()
-        )?
-    );
-    Ok(())
-}
-
-#[test]
-fn timeout_of_a_ready_state(rt: HostRuntime) -> Result<(), Fail> {
-    assert!(rt;
-        plays(
-            &rt,
-            Plan::Holds(100_000_000, 42),
-            Ok(42),
-            0,
-            [HELD].as_slice()
-        )?
-    );
-    Ok(())
-}
-
-#[test]
-fn select_of_ready_and_pending(rt: HostRuntime) -> Result<(), Fail> {
-    assert!(rt; plays(&rt, Plan::Chooses(7), Ok(7), 0, [HIRED, CHOSEN].as_slice())?);
-    Ok(())
 }

@@ -1,9 +1,7 @@
-// Whole journals of couriers, as text.
+// Whole runs of couriers.
 
-use crate::errands::{Expected, is_as_expected};
-use rt_core::{Config, Error, Nanos, RunError, Runner};
-use rt_errand::{Courier, Parcel, RootCourier};
-use std::test::Fail;
+use crate::told::{Ending, Root, Run, Settings, plays};
+use rt_errand::Parcel;
 
 /// Up to where a courier waits, with both ends of its slot.
 const SET_OUT: &str = "\
@@ -83,18 +81,12 @@ crash
 finish timeout
 ";
 
-/// A run of a courier: its parcel, its limit, the time at its end, and the pieces of its journal.
-struct Run {
-    parcel: Parcel,
-    limit: Option<Nanos>,
-    time: Nanos,
-    pieces: &'static [&'static str],
-}
-
 const RUNS: &[Run] = &[
     Run {
-        parcel: Parcel::Number(7),
-        limit: None,
+        name: "a_number",
+        settings: Settings::Plain,
+        root: Root::Courier(Parcel::Number(7)),
+        ending: Ending::Gives(7),
         time: 2_000_000,
         pieces: &[
             "start 0 - 1000000 0\n",
@@ -107,8 +99,10 @@ const RUNS: &[Run] = &[
         ],
     },
     Run {
-        parcel: Parcel::Failure,
-        limit: None,
+        name: "an_error",
+        settings: Settings::Plain,
+        root: Root::Courier(Parcel::Failure),
+        ending: Ending::Late,
         time: 2_000_000,
         pieces: &[
             "start 0 - 1000000 0\n",
@@ -121,8 +115,10 @@ const RUNS: &[Run] = &[
         ],
     },
     Run {
-        parcel: Parcel::Nothing,
-        limit: None,
+        name: "nothing",
+        settings: Settings::Plain,
+        root: Root::Courier(Parcel::Nothing),
+        ending: Ending::Closed,
         time: 2_000_000,
         pieces: &[
             "start 0 - 1000000 0\n",
@@ -135,8 +131,10 @@ const RUNS: &[Run] = &[
         ],
     },
     Run {
-        parcel: Parcel::Late(7),
-        limit: None,
+        name: "a_number_too_late",
+        settings: Settings::Plain,
+        root: Root::Courier(Parcel::Late(7)),
+        ending: Ending::Aborted,
         time: 2_000_000,
         pieces: &[
             "start 0 - 1000000 0\n",
@@ -149,8 +147,10 @@ const RUNS: &[Run] = &[
         ],
     },
     Run {
-        parcel: Parcel::Unwanted(7),
-        limit: None,
+        name: "a_number_for_nobody",
+        settings: Settings::Plain,
+        root: Root::Courier(Parcel::Unwanted(7)),
+        ending: Ending::Gives(7),
         time: 1_000_000,
         pieces: &[
             "start 0 - 1000000 0\n",
@@ -161,50 +161,18 @@ const RUNS: &[Run] = &[
         ],
     },
     Run {
-        parcel: Parcel::Number(7),
-        limit: Some(1_000_000),
+        name: "a_limit",
+        settings: Settings::Timeout(1_000_000),
+        root: Root::Courier(Parcel::Number(7)),
+        ending: Ending::Timeout,
         time: 1_000_000,
         pieces: &["start 0 1000000 1000000 0\n", SET_OUT, CUT_OFF],
     },
 ];
 
-/// How the run of such a courier ends.
-fn ending(run: &Run) -> Result<Result<u64, Error>, RunError> {
-    if run.limit.is_some() {
-        return Err(RunError::Timeout);
-    }
-    match run.parcel {
-        Parcel::Number(number) | Parcel::Unwanted(number) => Ok(Ok(number)),
-        Parcel::Failure => Ok(Err(Error::Timeout)),
-        Parcel::Nothing => Ok(Err(Error::Closed)),
-        Parcel::Late(_) => Ok(Err(Error::Aborted)),
-    }
-}
-
-/// Whether the run of such a courier comes to this.
-fn plays(rt: &HostRuntime, run: &Run) -> Result<bool, Fail> {
-    let alloc = rt.alloc();
-    let mut lines = String::new(alloc);
-    for piece in run.pieces {
-        lines.push_str(piece)?;
-    }
-    let Ok(runner) = Runner::new(Config::new().with_timeout(run.limit)) else {
-        return Ok(false);
-    };
-    let parcel = run.parcel;
-    let played = runner.start_and_recover::<Courier, RootCourier>(alloc, RootCourier { parcel });
-    let expected = Expected {
-        ending: ending(run),
-        time: run.time,
-        lines: lines.as_str(),
-    };
-    Ok(is_as_expected(alloc, played, expected)?)
-}
-
 #[test]
-fn what_comes_by_a_slot(rt: HostRuntime) -> Result<(), Fail> {
+fn what_comes_by_a_slot(rt: HostRuntime) {
     for run in RUNS {
-        assert!(rt; plays(&rt, run)?);
+        plays(&rt, rt.alloc(), run);
     }
-    Ok(())
 }

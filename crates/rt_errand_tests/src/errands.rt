@@ -1,121 +1,19 @@
-// Whole journals, as text.
+// Whole runs of errands, retries, crews and heirs, and settings that are refused.
 
+use crate::told::{Begins, Ending, Root, Run, Settings, config_of, plays};
 use rand_chacha::ChaCha12Rng;
-use rt_core::utils::reschedule;
-use rt_core::{
-    Config, ConfigError, Error, Failure, Finished, Journal, MAX_TIME, Nanos, NoMemory, RunError,
-    Runner,
-};
-use rt_errand::{
-    Crew, Errand, Heir, Retry, RootCrew, RootErrand, RootHeir, RootPair, RootRetry, Stage,
-};
-use std::alloc::Global;
+use rt_core::{Config, ConfigError, MAX_TIME, Runner};
 use std::test::Fail;
 
-/// The lines of a journal.
-fn lines(alloc: Global, journal: &Journal) -> Result<String, NoMemory> {
-    let mut text = String::new(alloc);
-    for entry in journal.entries() {
-        entry.add_to(alloc, &mut text)?;
-        text.push('\n')?;
-    }
-    Ok(text)
-}
-
-/// What comes of a run.
-#[derive(Drop)]
-pub(crate) struct Expected<'a, O = Result<u64, Error>> {
-    pub(crate) ending: Result<O, RunError>,
-    pub(crate) time: Nanos,
-    pub(crate) lines: &'a str,
-}
-
-/// Whether a run came to this end, with these lines.
-pub(crate) fn is_as_expected<O: PartialEq + Drop>(
-    alloc: Global,
-    run: Result<Finished<O, ChaCha12Rng>, Failure>,
-    expected: Expected<'_, O>,
-) -> Result<bool, NoMemory> {
-    let (ended, journal) = match run {
-        Ok(finished) => {
-            let Finished { output, checkpoint } = finished;
-            (Ok(output), checkpoint.into_journal())
-        }
-        Err(failure) => {
-            let Failure { cause, journal } = failure;
-            (Err(cause), journal)
-        }
-    };
-    let text = lines(alloc, &journal)?;
-    Ok(
-        ended == expected.ending
-            && journal.last_time() == expected.time
-            && text.as_str() == expected.lines,
-    )
-}
-
-/// A run that is to be compared: its settings and root, and what comes of it.
-#[derive(Drop)]
-struct Case {
-    config: Config<ChaCha12Rng>,
-    root: RootErrand,
-    expected: Expected<'static>,
-}
-
-/// Whether an errand's run comes to what is expected.
-fn plays(alloc: Global, case: Case) -> Result<bool, NoMemory> {
-    let Case {
-        config,
-        root,
-        expected,
-    } = case;
-    let Ok(runner) = Runner::new(config) else {
-        return Ok(false);
-    };
-    let run = runner.start_and_recover::<Errand, RootErrand>(alloc, root);
-    is_as_expected(alloc, run, expected)
-}
-
-/// Settings with one moment to begin with and a cycle of a nanosecond.
-fn last_moment() -> Config<ChaCha12Rng> {
-    Config::new().with_start_time(MAX_TIME).with_cycle(1)
-}
-
-/// A root at this stage, which gives this number.
-pub(crate) fn root(stage: Stage, number: u64) -> RootErrand {
-    RootErrand { stage, number }
-}
-
-/// A sleep that wasn't polled yet.
-pub(crate) fn naps(nap: Nanos) -> Stage {
-    Stage::Naps { nap }
-}
-
-/// A turn of the others, and then a nap.
-fn yields(nap: Nanos) -> Stage {
-    Stage::Yields {
-        turn: reschedule(),
-        nap,
-    }
-}
-
-/// Why settings are refused, if they are.
-fn refusal(config: Config<ChaCha12Rng>) -> Option<ConfigError> {
-    match Runner::new(config) {
-        Ok(_) => None,
-        Err(error) => Some(error),
-    }
-}
-
-#[test]
-fn one_ready_root(rt: HostRuntime) -> Result<(), Fail> {
-    let case = Case {
-        config: Config::new(),
-        root: root(Stage::Done, 7),
-        expected: Expected {
-            ending: Ok(Ok(7)),
-            time: 0,
-            lines: "\
+const RUNS: &[Run] = &[
+    Run {
+        name: "one_ready_root",
+        settings: Settings::Plain,
+        root: Root::Errand(Begins::Done, 7),
+        ending: Ending::Gives(7),
+        time: 0,
+        pieces: &[
+            "\
 start 0 - 1000000 0
 root 0
 round 0
@@ -129,21 +27,16 @@ answer 0 ended
 crash
 finish ok
 ",
-        },
-    };
-    assert!(rt; plays(rt.alloc(), case)?);
-    Ok(())
-}
-
-#[test]
-fn sleeps_to_its_alarm(rt: HostRuntime) -> Result<(), Fail> {
-    let case = Case {
-        config: Config::new(),
-        root: root(naps(10_000_000), 0),
-        expected: Expected {
-            ending: Ok(Ok(0)),
-            time: 10_000_000,
-            lines: "\
+        ],
+    },
+    Run {
+        name: "sleeps_to_its_alarm",
+        settings: Settings::Plain,
+        root: Root::Errand(Begins::Naps(10_000_000), 0),
+        ending: Ending::Gives(0),
+        time: 10_000_000,
+        pieces: &[
+            "\
 start 0 - 1000000 0
 root 0
 round 0
@@ -167,21 +60,16 @@ answer 0 ended
 crash
 finish ok
 ",
-        },
-    };
-    assert!(rt; plays(rt.alloc(), case)?);
-    Ok(())
-}
-
-#[test]
-fn sleeps_less_than_a_cycle(rt: HostRuntime) -> Result<(), Fail> {
-    let case = Case {
-        config: Config::new(),
-        root: root(naps(500_000), 0),
-        expected: Expected {
-            ending: Ok(Ok(0)),
-            time: 1_000_000,
-            lines: "\
+        ],
+    },
+    Run {
+        name: "sleeps_less_than_a_cycle",
+        settings: Settings::Plain,
+        root: Root::Errand(Begins::Naps(500_000), 0),
+        ending: Ending::Gives(0),
+        time: 1_000_000,
+        pieces: &[
+            "\
 start 0 - 1000000 0
 root 0
 round 0
@@ -204,21 +92,16 @@ answer 0 ended
 crash
 finish ok
 ",
-        },
-    };
-    assert!(rt; plays(rt.alloc(), case)?);
-    Ok(())
-}
-
-#[test]
-fn deadline_before_the_alarm(rt: HostRuntime) -> Result<(), Fail> {
-    let case = Case {
-        config: Config::new().with_timeout(Some(10_000_000)),
-        root: root(naps(10_000_000), 0),
-        expected: Expected {
-            ending: Err(RunError::Timeout),
-            time: 10_000_000,
-            lines: "\
+        ],
+    },
+    Run {
+        name: "deadline_before_the_alarm",
+        settings: Settings::Timeout(10_000_000),
+        root: Root::Errand(Begins::Naps(10_000_000), 0),
+        ending: Ending::Timeout,
+        time: 10_000_000,
+        pieces: &[
+            "\
 start 0 10000000 1000000 0
 root 0
 round 0
@@ -235,21 +118,16 @@ answer 0 ended
 crash
 finish timeout
 ",
-        },
-    };
-    assert!(rt; plays(rt.alloc(), case)?);
-    Ok(())
-}
-
-#[test]
-fn deadline_of_zero(rt: HostRuntime) -> Result<(), Fail> {
-    let case = Case {
-        config: Config::new().with_timeout(Some(0)),
-        root: root(Stage::Done, 7),
-        expected: Expected {
-            ending: Err(RunError::Timeout),
-            time: 0,
-            lines: "\
+        ],
+    },
+    Run {
+        name: "deadline_of_zero",
+        settings: Settings::Timeout(0),
+        root: Root::Errand(Begins::Done, 7),
+        ending: Ending::Timeout,
+        time: 0,
+        pieces: &[
+            "\
 start 0 0 1000000 0
 root 0
 cleanup
@@ -259,21 +137,16 @@ answer 0 ended
 crash
 finish timeout
 ",
-        },
-    };
-    assert!(rt; plays(rt.alloc(), case)?);
-    Ok(())
-}
-
-#[test]
-fn pending_root_stalls(rt: HostRuntime) -> Result<(), Fail> {
-    let case = Case {
-        config: Config::new(),
-        root: root(Stage::Waits, 0),
-        expected: Expected {
-            ending: Err(RunError::Stalled),
-            time: 1_000_000,
-            lines: "\
+        ],
+    },
+    Run {
+        name: "pending_root_stalls",
+        settings: Settings::Plain,
+        root: Root::Errand(Begins::Waits, 0),
+        ending: Ending::Stalled,
+        time: 1_000_000,
+        pieces: &[
+            "\
 start 0 - 1000000 0
 root 0
 round 0
@@ -288,28 +161,17 @@ answer 0 ended
 crash
 finish stalled
 ",
-        },
-    };
-    assert!(rt; plays(rt.alloc(), case)?);
-    Ok(())
-}
-
-/// A wake of itself, behind which it is visited once more, and one of a number that no task was given.
-#[test]
-fn wakes_by_number(rt: HostRuntime) -> Result<(), Fail> {
-    let itself = Case {
-        config: Config::new(),
-        root: root(
-            Stage::Wakes {
-                task: 0,
-                nap: 5_000_000,
-            },
-            3,
-        ),
-        expected: Expected {
-            ending: Ok(Ok(3)),
-            time: 5_000_000,
-            lines: "\
+        ],
+    },
+    // It is visited once more behind its wake.
+    Run {
+        name: "wakes_itself",
+        settings: Settings::Plain,
+        root: Root::Errand(Begins::Wakes(0, 5_000_000), 3),
+        ending: Ending::Gives(3),
+        time: 5_000_000,
+        pieces: &[
+            "\
 start 0 - 1000000 0
 root 0
 round 0
@@ -341,21 +203,16 @@ answer 0 ended
 crash
 finish ok
 ",
-        },
-    };
-    let nobody = Case {
-        config: Config::new(),
-        root: root(
-            Stage::Wakes {
-                task: 5,
-                nap: 5_000_000,
-            },
-            3,
-        ),
-        expected: Expected {
-            ending: Ok(Err(Error::UnknownToken)),
-            time: 0,
-            lines: "\
+        ],
+    },
+    Run {
+        name: "wakes_nobody",
+        settings: Settings::Plain,
+        root: Root::Errand(Begins::Wakes(5, 5_000_000), 3),
+        ending: Ending::UnknownToken,
+        time: 0,
+        pieces: &[
+            "\
 start 0 - 1000000 0
 root 0
 round 0
@@ -370,22 +227,16 @@ answer 0 ended
 crash
 finish ok
 ",
-        },
-    };
-    assert!(rt; plays(rt.alloc(), itself)?);
-    assert!(rt; plays(rt.alloc(), nobody)?);
-    Ok(())
-}
-
-#[test]
-fn clock_overflow(rt: HostRuntime) -> Result<(), Fail> {
-    let case = Case {
-        config: last_moment(),
-        root: root(yields(0), 0),
-        expected: Expected {
-            ending: Err(RunError::TimeOverflow),
-            time: MAX_TIME,
-            lines: "\
+        ],
+    },
+    Run {
+        name: "clock_overflow",
+        settings: Settings::LastMoment,
+        root: Root::Errand(Begins::Yields(0), 0),
+        ending: Ending::TimeOverflow,
+        time: MAX_TIME,
+        pieces: &[
+            "\
 start 9223372036854775807999999999 - 1 0
 root 0
 round 0
@@ -401,21 +252,16 @@ answer 0 ended
 crash
 finish overflow
 ",
-        },
-    };
-    assert!(rt; plays(rt.alloc(), case)?);
-    Ok(())
-}
-
-#[test]
-fn sleep_past_the_end_of_time(rt: HostRuntime) -> Result<(), Fail> {
-    let case = Case {
-        config: last_moment(),
-        root: root(naps(1), 0),
-        expected: Expected {
-            ending: Ok(Err(Error::ClockOverflow)),
-            time: MAX_TIME,
-            lines: "\
+        ],
+    },
+    Run {
+        name: "sleep_past_the_end_of_time",
+        settings: Settings::LastMoment,
+        root: Root::Errand(Begins::Naps(1), 0),
+        ending: Ending::ClockOverflow,
+        time: MAX_TIME,
+        pieces: &[
+            "\
 start 9223372036854775807999999999 - 1 0
 root 0
 round 0
@@ -429,18 +275,16 @@ answer 0 ended
 crash
 finish ok
 ",
-        },
-    };
-    assert!(rt; plays(rt.alloc(), case)?);
-    Ok(())
-}
-
-#[test]
-fn three_tries(rt: HostRuntime) -> Result<(), Fail> {
-    let expected = Expected {
-        ending: Ok(Ok(3)),
+        ],
+    },
+    Run {
+        name: "three_tries",
+        settings: Settings::Plain,
+        root: Root::Retry,
+        ending: Ending::Gives(3),
         time: 70_000_000,
-        lines: "\
+        pieces: &[
+            "\
 start 0 - 1000000 0
 root 0
 round 0
@@ -484,43 +328,16 @@ answer 0 ended
 crash
 finish ok
 ",
-    };
-    let run = Runner::default().start_and_recover::<Retry, RootRetry>(rt.alloc(), RootRetry);
-    assert!(rt; is_as_expected(rt.alloc(), run, expected)?);
-    Ok(())
-}
-
-#[test]
-fn refused_settings(rt: HostRuntime) -> Result<(), Fail> {
-    let late = last_moment().with_timeout(Some(1));
-    assert!(rt; refusal(Config::new().with_cycle(0)) == Some(ConfigError::ZeroCycle));
-    assert!(rt;
-        refusal(Config::new().with_start_time(MAX_TIME + 1)) == Some(ConfigError::StartTooLate)
-    );
-    assert!(rt; refusal(late) == Some(ConfigError::DeadlineTooLate));
-    assert!(rt; refusal(last_moment().with_timeout(Some(0))) == None);
-    Ok(())
-}
-
-/// A run of a crew whose worker gives 7, and what comes of it.
-fn crew_plays(
-    alloc: Global,
-    config: Config<ChaCha12Rng>,
-    expected: Expected<'_>,
-) -> Result<bool, NoMemory> {
-    let Ok(runner) = Runner::new(config) else {
-        return Ok(false);
-    };
-    let run = runner.start_and_recover::<Crew, RootCrew>(alloc, RootCrew { number: 7 });
-    is_as_expected(alloc, run, expected)
-}
-
-#[test]
-fn a_worker_is_joined(rt: HostRuntime) -> Result<(), Fail> {
-    let expected = Expected {
-        ending: Ok(Ok(7)),
+        ],
+    },
+    Run {
+        name: "a_worker_is_joined",
+        settings: Settings::Seed(1),
+        root: Root::Crew,
+        ending: Ending::Gives(7),
         time: 3_000_000,
-        lines: "\
+        pieces: &[
+            "\
 start 0 - 1000000 0
 root 0
 round 0
@@ -564,17 +381,16 @@ answer 0 ended
 crash
 finish ok
 ",
-    };
-    assert!(rt; crew_plays(rt.alloc(), Config::new().with_seed(1), expected)?);
-    Ok(())
-}
-
-#[test]
-fn the_root_is_ended_last(rt: HostRuntime) -> Result<(), Fail> {
-    let expected = Expected {
-        ending: Err(RunError::Timeout),
+        ],
+    },
+    Run {
+        name: "the_root_is_ended_last",
+        settings: Settings::Timeout(2_000_000),
+        root: Root::Crew,
+        ending: Ending::Timeout,
         time: 2_000_000,
-        lines: "\
+        pieces: &[
+            "\
 start 0 2000000 1000000 0
 root 0
 round 0
@@ -601,18 +417,16 @@ answer 0 ended
 crash
 finish timeout
 ",
-    };
-    let config = Config::new().with_timeout(Some(2_000_000));
-    assert!(rt; crew_plays(rt.alloc(), config, expected)?);
-    Ok(())
-}
-
-#[test]
-fn nobody_waits_for_a_worker(rt: HostRuntime) -> Result<(), Fail> {
-    let expected = Expected {
-        ending: Ok(Ok(7)),
+        ],
+    },
+    Run {
+        name: "nobody_waits_for_a_worker",
+        settings: Settings::Seed(35),
+        root: Root::Pair,
+        ending: Ending::Gives(7),
         time: 3_000_000,
-        lines: "\
+        pieces: &[
+            "\
 start 0 - 1000000 0
 call - child 0 worker -> node 1
 call - spawn 1 -> task 0 node 2
@@ -676,19 +490,16 @@ answer 1 ended
 crash
 finish ok
 ",
-    };
-    let root = RootPair { number: 7 };
-    let run = Runner::seeded(35).start_and_recover::<Crew, RootPair>(rt.alloc(), root);
-    assert!(rt; is_as_expected(rt.alloc(), run, expected)?);
-    Ok(())
-}
-
-#[test]
-fn spawn_on_an_ended_node(rt: HostRuntime) -> Result<(), Fail> {
-    let expected = Expected {
-        ending: Ok(Err(Error::Closed)),
+        ],
+    },
+    Run {
+        name: "spawn_on_an_ended_node",
+        settings: Settings::Plain,
+        root: Root::Heir,
+        ending: Ending::Closed,
         time: 2_000_000,
-        lines: "\
+        pieces: &[
+            "\
 start 0 - 1000000 0
 root 0
 round 0
@@ -723,8 +534,52 @@ answer 0 ended
 crash
 finish ok
 ",
-    };
-    let run = Runner::default().start_and_recover::<Heir, RootHeir>(rt.alloc(), RootHeir);
-    assert!(rt; is_as_expected(rt.alloc(), run, expected)?);
+        ],
+    },
+    // No number is left for the root.
+    Run {
+        name: "last_task_number",
+        settings: Settings::NextTask(u64::MAX),
+        root: Root::Errand(Begins::Done, 7),
+        ending: Ending::TooManyTasks,
+        time: 0,
+        pieces: &[
+            "\
+start 0 - 1000000 18446744073709551615
+cleanup
+nodeend 0
+call - close-node 0 -> ok
+crash
+finish tasks
+",
+        ],
+    },
+];
+
+#[test]
+fn whole_runs(rt: HostRuntime) {
+    for run in RUNS {
+        plays(&rt, rt.alloc(), run);
+    }
+}
+
+/// Why settings are refused, if they are.
+fn refusal(config: Config<ChaCha12Rng>) -> Option<ConfigError> {
+    match Runner::new(config) {
+        Ok(_) => None,
+        Err(error) => Some(error),
+    }
+}
+
+#[test]
+fn refused_settings(rt: HostRuntime) -> Result<(), Fail> {
+    let last = config_of(Settings::LastMoment);
+    let late = config_of(Settings::LastMoment).with_timeout(Some(1));
+    assert!(rt; refusal(Config::new().with_cycle(0)) == Some(ConfigError::ZeroCycle));
+    assert!(rt;
+        refusal(Config::new().with_start_time(MAX_TIME + 1)) == Some(ConfigError::StartTooLate)
+    );
+    assert!(rt; refusal(late) == Some(ConfigError::DeadlineTooLate));
+    assert!(rt; refusal(last.with_timeout(Some(0))) == None);
     Ok(())
 }

@@ -11,3 +11,5 @@ mod errands;
 mod keeper;
 #[cfg(test)]
 mod resuming;
+#[cfg(test)]
+mod told;

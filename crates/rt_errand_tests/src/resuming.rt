@@ -1,46 +1,28 @@
 // Runs that go on behind others, and the first number of a run's tasks.
 
-use crate::errands::{Expected, is_as_expected, naps, root};
+use crate::told::{Begins, Ending, errand, gives, is_as_expected};
 use rand_chacha::ChaCha12Rng;
 use rand_core::SeedableRng;
-use rt_core::{Config, Finished, Nanos, NoMemory, RunError, Runner};
-use rt_errand::{Errand, RootErrand, Stage};
+use rt_core::{Config, Error, Finished, Nanos, Runner};
+use rt_errand::{Errand, RootErrand};
 use std::alloc::Global;
 use std::test::Fail;
 
-/// A root that naps for so long runs with these settings, and another for so long behind it. Whether the first gives its
-/// number at its moment, with the digest of its journal in the checkpoint, and the second comes to what is expected.
-fn goes_on(
-    alloc: Global,
-    config: Config<ChaCha12Rng>,
-    first: Nanos,
-    second: Nanos,
-    expected: Expected<'_>,
-) -> Result<bool, NoMemory> {
-    let Ok(runner) = Runner::new(config) else {
-        return Ok(false);
-    };
-    match runner.start_and_recover::<Errand, RootErrand>(alloc, root(naps(first), 1)) {
-        Ok(finished) => {
-            let Finished { output, checkpoint } = finished;
-            let told = checkpoint.auditor() == checkpoint.journal().auditor();
-            let there = checkpoint.time() == first;
-            let run = Runner::from(checkpoint).start_and_recover::<Errand, RootErrand>(
-                alloc,
-                root(naps(second), 2),
-            );
-            Ok(output == Ok(1) && told && there && is_as_expected(alloc, run, expected)?)
-        }
-        Err(_) => Ok(false),
-    }
+/// How a second run ends, when, and the lines of both.
+#[derive(Clone, Copy)]
+struct Second {
+    nap: Nanos,
+    ending: Ending,
+    time: Nanos,
+    lines: &'static str,
 }
 
-#[test]
-fn resumed_times(rt: HostRuntime) -> Result<(), Fail> {
-    let expected = Expected {
-        ending: Ok(Ok(2)),
-        time: 12_000_000,
-        lines: "\
+/// The second run draws from the same generator, and its tasks are numbered from 0 on.
+const RESUMED: Second = Second {
+    nap: 6_000_000,
+    ending: Ending::Gives(2),
+    time: 12_000_000,
+    lines: "\
 start 0 - 1000000 5
 root 5
 round 5
@@ -86,19 +68,14 @@ answer 0 ended
 crash
 finish ok
 ",
-    };
-    let config = Config::new().with_seed(7).with_next_task(5);
-    assert!(rt; goes_on(rt.alloc(), config, 6_000_000, 6_000_000, expected)?);
-    Ok(())
-}
+};
 
 /// The deadline is a moment, and stays.
-#[test]
-fn time_goes_on_over_runs(rt: HostRuntime) -> Result<(), Fail> {
-    let expected = Expected {
-        ending: Err(RunError::Timeout),
-        time: 10_000_000,
-        lines: "\
+const CUT_OFF: Second = Second {
+    nap: 4_000_000,
+    ending: Ending::Timeout,
+    time: 10_000_000,
+    lines: "\
 start 0 10000000 1000000 0
 root 0
 round 0
@@ -137,32 +114,49 @@ answer 0 ended
 crash
 finish timeout
 ",
+};
+
+/// Whether a run gave its number at this moment, with the digest of its journal in the checkpoint, and the one behind it comes to
+/// what is expected.
+fn goes_on(
+    alloc: Global,
+    finished: Finished<Result<u64, Error>, ChaCha12Rng>,
+    moment: Nanos,
+    second: Second,
+) -> bool {
+    let Finished { output, checkpoint } = finished;
+    let gave = gives(output) == Ending::Gives(1);
+    let told = checkpoint.auditor() == checkpoint.journal().auditor();
+    let there = checkpoint.time() == moment;
+    let maker = errand(Begins::Naps(second.nap), 2);
+    let run = Runner::from(checkpoint).start_and_recover::<Errand, RootErrand>(alloc, maker);
+    let came = is_as_expected(alloc, run, second.ending, second.time, &[second.lines]);
+    gave && told && there && came
+}
+
+/// Whether a root that naps for 6 ms runs with these settings, and another behind it.
+fn runs_twice(alloc: Global, config: Config<ChaCha12Rng>, second: Second) -> bool {
+    let Ok(runner) = Runner::new(config) else {
+        return false;
     };
-    let rng = ChaCha12Rng::seed_from_u64(7);
-    let config = Config::new().with_rng(rng).with_timeout(Some(10_000_000));
-    assert!(rt; goes_on(rt.alloc(), config, 6_000_000, 4_000_000, expected)?);
+    let maker = errand(Begins::Naps(6_000_000), 1);
+    match runner.start_and_recover::<Errand, RootErrand>(alloc, maker) {
+        Ok(finished) => goes_on(alloc, finished, 6_000_000, second),
+        Err(_failure) => false,
+    }
+}
+
+#[test]
+fn resumed_times(rt: HostRuntime) -> Result<(), Fail> {
+    let config = Config::new().with_seed(7).with_next_task(5);
+    assert!(rt; runs_twice(rt.alloc(), config, RESUMED));
     Ok(())
 }
 
 #[test]
-fn last_task_number(rt: HostRuntime) -> Result<(), Fail> {
-    let expected = Expected {
-        ending: Err(RunError::TooManyTasks),
-        time: 0,
-        lines: "\
-start 0 - 1000000 18446744073709551615
-cleanup
-nodeend 0
-call - close-node 0 -> ok
-crash
-finish tasks
-",
-    };
-    let Ok(runner) = Runner::new(Config::new().with_next_task(u64::MAX)) else {
-        assert!(rt; false);
-        return Ok(());
-    };
-    let run = runner.start_and_recover::<Errand, RootErrand>(rt.alloc(), root(Stage::Done, 7));
-    assert!(rt; is_as_expected(rt.alloc(), run, expected)?);
+fn time_goes_on_over_runs(rt: HostRuntime) -> Result<(), Fail> {
+    let rng = ChaCha12Rng::seed_from_u64(7);
+    let config = Config::new().with_rng(rng).with_timeout(Some(10_000_000));
+    assert!(rt; runs_twice(rt.alloc(), config, CUT_OFF));
     Ok(())
 }
