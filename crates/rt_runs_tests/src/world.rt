@@ -8,7 +8,7 @@ ghost use Rattle.rt_world.specs.Calls.{Kept};
 use crate::steady::Steady;
 use rand_core::Rng;
 use rt_audit::{FinishCause, Journal};
-use rt_base::{Error, Execution, NoMemory};
+use rt_base::{Error, Execution, NoMemory, Poll, Text};
 use rt_model::Begin;
 use rt_world::{Answer, Cx, Outcome, Task, World, WorldOf};
 use std::alloc::Global;
@@ -41,7 +41,7 @@ impl Task for Probe {
 }
 
 /// A run that is over: its output, its last cause, and how many entries it has.
-#[derive(Clone, Copy)]
+#[derive(Clone, Copy, PartialEq, Eq)]
 struct Came {
     output: Option<u64>,
     cause: FinishCause,
@@ -118,27 +118,39 @@ fn spawns<G: Rng>(world: &mut WorldOf<Probe, G>, node: u64) -> Result<Option<(u6
     }
 }
 
-/// A call on a slot.
-enum SlotCall {
+/// A call on a slot or a signal, or one that draws no byte.
+enum WorldCall {
     Make,
     Send(u64, u64),
     SendError(u64),
+    SendText(u64),
     Close(u64),
     Poll(u64),
     GiveUp(u64),
     AbortWait(u64),
+    Signaler,
+    Signal(u64, i32),
+    CloneSignal(u64),
+    PollSignal(u64),
+    FillNothing,
 }
+
+/// The text of an error that is sent.
+const NO_HOST: &str = "no such host";
 
 /// What is heard of a call.
 #[derive(Clone, Copy, PartialEq, Eq)]
 enum Heard {
     Done,
     Slot(u64),
+    Signal(u64),
     Node(u64, bool),
     Task(u64, u64),
     Pending,
     Value(u64),
+    Shown(i32),
     SendFailed,
+    NoHost,
     Closed,
     Aborted,
     Unknown,
@@ -146,28 +158,41 @@ enum Heard {
 }
 
 /// Calls on slots. The last four find spent what they spend, and write nothing.
-const SLOT_CALLS: &[(SlotCall, Heard)] = &[
-    (SlotCall::Make, Heard::Slot(0)),
-    (SlotCall::Poll(0), Heard::Pending),
-    (SlotCall::Send(0, 9), Heard::Done),
-    (SlotCall::Poll(0), Heard::Value(9)),
-    (SlotCall::Poll(0), Heard::Closed),
-    (SlotCall::Make, Heard::Slot(1)),
-    (SlotCall::SendError(1), Heard::Done),
-    (SlotCall::Poll(1), Heard::SendFailed),
-    (SlotCall::Poll(1), Heard::SendFailed),
-    (SlotCall::Make, Heard::Slot(2)),
-    (SlotCall::Close(2), Heard::Done),
-    (SlotCall::Poll(2), Heard::Closed),
-    (SlotCall::Make, Heard::Slot(3)),
-    (SlotCall::AbortWait(3), Heard::Done),
-    (SlotCall::Poll(3), Heard::Aborted),
-    (SlotCall::GiveUp(3), Heard::Done),
-    (SlotCall::Poll(3), Heard::Unknown),
-    (SlotCall::Send(0, 8), Heard::Done),
-    (SlotCall::Close(2), Heard::Done),
-    (SlotCall::AbortWait(3), Heard::Done),
-    (SlotCall::GiveUp(3), Heard::Done),
+const SLOT_CALLS: &[(WorldCall, Heard)] = &[
+    (WorldCall::Make, Heard::Slot(0)),
+    (WorldCall::Poll(0), Heard::Pending),
+    (WorldCall::Send(0, 9), Heard::Done),
+    (WorldCall::Poll(0), Heard::Value(9)),
+    (WorldCall::Poll(0), Heard::Closed),
+    (WorldCall::Make, Heard::Slot(1)),
+    (WorldCall::SendError(1), Heard::Done),
+    (WorldCall::Poll(1), Heard::SendFailed),
+    (WorldCall::Poll(1), Heard::SendFailed),
+    (WorldCall::Make, Heard::Slot(2)),
+    (WorldCall::Close(2), Heard::Done),
+    (WorldCall::Poll(2), Heard::Closed),
+    (WorldCall::Make, Heard::Slot(3)),
+    (WorldCall::AbortWait(3), Heard::Done),
+    (WorldCall::Poll(3), Heard::Aborted),
+    (WorldCall::GiveUp(3), Heard::Done),
+    (WorldCall::Poll(3), Heard::Unknown),
+    (WorldCall::Send(0, 8), Heard::Done),
+    (WorldCall::Close(2), Heard::Done),
+    (WorldCall::AbortWait(3), Heard::Done),
+    (WorldCall::GiveUp(3), Heard::Done),
+];
+
+/// An error with a text is handed out, a copy of a signal shows the value that came before it was made, and drawing no byte is
+/// noted as any draw.
+const SHOWN: &[(WorldCall, Heard)] = &[
+    (WorldCall::Make, Heard::Slot(0)),
+    (WorldCall::SendText(0), Heard::Done),
+    (WorldCall::Poll(0), Heard::NoHost),
+    (WorldCall::Signaler, Heard::Signal(1)),
+    (WorldCall::Signal(1, 5), Heard::Done),
+    (WorldCall::CloneSignal(1), Heard::Signal(2)),
+    (WorldCall::PollSignal(2), Heard::Shown(5)),
+    (WorldCall::FillNothing, Heard::Done),
 ];
 
 fn polled(answer: Result<Option<u64>, Error>) -> Heard {
@@ -200,8 +225,31 @@ fn spawned(answer: Result<Option<(u64, u64)>, Error>) -> Heard {
     }
 }
 
-fn refused(error: Error) -> Heard {
+fn numbered(answer: Result<u64, NoMemory>) -> Heard {
+    match answer {
+        Ok(signal) => Heard::Signal(signal),
+        Err(NoMemory) => Heard::Other,
+    }
+}
+
+fn cloned(answer: Result<u64, Error>) -> Heard {
+    match answer {
+        Ok(signal) => Heard::Signal(signal),
+        Err(error) => refused(error),
+    }
+}
+
+fn shown(answer: Result<Poll<i32>, Error>) -> Heard {
+    match answer {
+        Ok(Poll::Pending) => Heard::Pending,
+        Ok(Poll::Ready(value)) => Heard::Shown(value),
+        Err(error) => refused(error),
+    }
+}
+
+fn named(error: &Error) -> Heard {
     match error {
+        Error::ResolveFailed(text) if text.as_str() == NO_HOST => Heard::NoHost,
         Error::SendFailed => Heard::SendFailed,
         Error::Closed => Heard::Closed,
         Error::Aborted => Heard::Aborted,
@@ -210,52 +258,103 @@ fn refused(error: Error) -> Heard {
     }
 }
 
-/// Makes a call on a slot.
+fn refused(error: Error) -> Heard {
+    let heard = named(&error);
+    drop(error);
+    heard
+}
+
+/// An error with a text of its own.
+fn no_host(alloc: Global) -> Result<Error, NoMemory> {
+    Ok(Error::ResolveFailed(Text::of(NO_HOST.to_owned(alloc)?)))
+}
+
+/// Sends an error with a text.
 #[tactic(auto, using(rt_world::proofs::Walked::close_laws))]
-fn call_slot<G: Rng>(world: &mut WorldOf<Probe, G>, call: &SlotCall) -> Heard
+fn sends_text<G: Rng>(alloc: Global, world: &mut WorldOf<Probe, G>, slot: u64) -> Heard
+    requires { MayCall world.old.told.state world.old.out }
+    ensures { Kept G.stream world.old world.new }
+{
+    match no_host(alloc) {
+        Ok(error) => {
+            world.slot_send(slot, Err(error));
+            Heard::Done
+        }
+        Err(NoMemory) => Heard::Other,
+    }
+}
+
+/// Draws no byte.
+#[tactic(auto, using(rt_world::proofs::Walked::close_laws))]
+fn fills_nothing<G: Rng>(world: &mut WorldOf<Probe, G>) -> Heard
+    requires { MayCall world.old.told.state world.old.out }
+    ensures { Kept G.stream world.old world.new }
+{
+    let mut none = [0u8; 0];
+    match world.fill_bytes(&mut none) {
+        Ok(()) => Heard::Done,
+        Err(NoMemory) => Heard::Other,
+    }
+}
+
+/// Makes a call.
+#[tactic(auto, using(rt_world::proofs::Walked::close_laws))]
+fn makes<G: Rng>(alloc: Global, world: &mut WorldOf<Probe, G>, call: &WorldCall) -> Heard
     requires { MayCall world.old.told.state world.old.out }
     ensures { Kept G.stream world.old world.new }
 {
     match *call {
-        SlotCall::Make => match world.slot() {
+        WorldCall::Make => match world.slot() {
             Ok(slot) => return Heard::Slot(slot),
             Err(NoMemory) => return Heard::Other,
         },
-        SlotCall::Poll(slot) => return polled(world.slot_poll(slot)),
-        SlotCall::Send(slot, value) => world.slot_send(slot, Ok(value)),
-        SlotCall::SendError(slot) => world.slot_send(slot, Err(Error::SendFailed)),
-        SlotCall::Close(slot) => world.slot_close(slot),
-        SlotCall::GiveUp(slot) => world.slot_give_up(slot),
-        SlotCall::AbortWait(slot) => world.abort_wait(slot),
+        WorldCall::Poll(slot) => return polled(world.slot_poll(slot)),
+        WorldCall::Send(slot, value) => world.slot_send(slot, Ok(value)),
+        WorldCall::SendError(slot) => world.slot_send(slot, Err(Error::SendFailed)),
+        WorldCall::SendText(slot) => return sends_text(alloc, world, slot),
+        WorldCall::Close(slot) => world.slot_close(slot),
+        WorldCall::GiveUp(slot) => world.slot_give_up(slot),
+        WorldCall::AbortWait(slot) => world.abort_wait(slot),
+        WorldCall::Signaler => return numbered(world.signaler()),
+        WorldCall::Signal(signaler, value) => world.signal(signaler, value),
+        WorldCall::CloneSignal(signal) => return cloned(world.clone_signal(signal)),
+        WorldCall::PollSignal(signal) => return shown(world.poll_signal(signal)),
+        WorldCall::FillNothing => return fills_nothing(world),
     }
     Heard::Done
 }
 
-/// Whether calls on slots are answered as they should be.
+/// Whether calls are answered as they should be.
 #[tactic(auto, using(rt_world::proofs::Walked::loop_laws))]
-fn answers_on_slots<G: Rng>(world: &mut WorldOf<Probe, G>, calls: &[(SlotCall, Heard)]) -> bool
+fn answers_each<G: Rng>(
+    alloc: Global,
+    world: &mut WorldOf<Probe, G>,
+    calls: &[(WorldCall, Heard)],
+) -> bool
     requires { MayCall world.old.told.state world.old.out }
     ensures { Kept G.stream world.old world.new }
 {
     for (call, wanted) in calls {
-        if call_slot(world, call) != *wanted {
+        if makes(alloc, world, call) != *wanted {
             return false;
         }
     }
     true
 }
 
+/// How a world of calls before a root begins.
+const BEGIN: Begin = Begin {
+    start: 3,
+    cycle: 1_000_000,
+    deadline: None,
+    first: 0,
+    catch: false,
+};
+
 /// Whether calls before a root are answered as they should be, and are written.
 #[tactic(auto, using(rt_world::proofs::Walked::close_laws), unfolding(rt_model::specs::Effects::after, rt_model::specs::State::begun))]
 fn answers_calls(alloc: Global) -> Result<bool, NoMemory> {
-    let begin = Begin {
-        start: 3,
-        cycle: 1_000_000,
-        deadline: None,
-        first: 0,
-        catch: false,
-    };
-    let Ok(mut world) = WorldOf::<Probe, Steady>::begin(alloc, Journal::new(alloc), begin, Steady)
+    let Ok(mut world) = WorldOf::<Probe, Steady>::begin(alloc, Journal::new(alloc), BEGIN, Steady)
     else {
         return Err(NoMemory);
     };
@@ -293,21 +392,14 @@ fn answers_calls(alloc: Global) -> Result<bool, NoMemory> {
     )
 }
 
-/// Whether these calls on slots are answered as they should be, in a world of their own. Answers how many entries it has, too.
+/// Whether these calls are answered as they should be, in a world of their own, and how many entries it has.
 #[tactic(auto, using(rt_world::proofs::Walked::close_laws), unfolding(rt_model::specs::Effects::after, rt_model::specs::State::begun))]
-fn slots_answer(alloc: Global, calls: &[(SlotCall, Heard)]) -> Result<(bool, usize), NoMemory> {
-    let begin = Begin {
-        start: 3,
-        cycle: 1_000_000,
-        deadline: None,
-        first: 0,
-        catch: false,
-    };
-    let Ok(mut world) = WorldOf::<Probe, Steady>::begin(alloc, Journal::new(alloc), begin, Steady)
+fn answer(alloc: Global, calls: &[(WorldCall, Heard)]) -> Result<(bool, usize), NoMemory> {
+    let Ok(mut world) = WorldOf::<Probe, Steady>::begin(alloc, Journal::new(alloc), BEGIN, Steady)
     else {
         return Err(NoMemory);
     };
-    let answered = answers_on_slots(&mut world, calls);
+    let answered = answers_each(alloc, &mut world, calls);
     let cause = world.cleanup_unmade(None, FinishCause::NoMemory);
     let came = taken_apart(world, None, cause);
     Ok((answered, came.entries))
@@ -315,23 +407,41 @@ fn slots_answer(alloc: Global, calls: &[(SlotCall, Heard)]) -> Result<(bool, usi
 
 #[test]
 fn slots(rt: HostRuntime) -> Result<(), Fail> {
-    assert!(rt; slots_answer(rt.alloc(), SLOT_CALLS)? == (true, 22));
+    assert!(rt; answer(rt.alloc(), SLOT_CALLS)? == (true, 22));
     Ok(())
 }
 
-/// Whether the root of a run is taken in, the output and the cause that come of it, and how many entries it has.
-const RUNS: &[(bool, Option<u64>, FinishCause, usize)] = &[
-    (true, Some(7), FinishCause::Completed, 12),
-    (false, None, FinishCause::NoMemory, 6),
+#[test]
+fn what_came_is_shown(rt: HostRuntime) -> Result<(), Fail> {
+    // the start, an entry for each call and a second for the draw, and four of the cleanup
+    assert!(rt; answer(rt.alloc(), SHOWN)? == (true, 14));
+    Ok(())
+}
+
+/// Whether the root of a run is taken in, and what comes of it.
+const RUNS: &[(bool, Came)] = &[
+    (
+        true,
+        Came {
+            output: Some(7),
+            cause: FinishCause::Completed,
+            entries: 12,
+        },
+    ),
+    (
+        false,
+        Came {
+            output: None,
+            cause: FinishCause::NoMemory,
+            entries: 6,
+        },
+    ),
 ];
 
 #[test]
 fn surface(rt: HostRuntime) -> Result<(), Fail> {
-    for &(taken_in, output, cause, entries) in RUNS {
-        let came = run(rt.alloc(), taken_in)?;
-        assert!(rt; came.output == output);
-        assert!(rt; came.cause == cause);
-        assert!(rt; came.entries == entries);
+    for &(taken_in, wanted) in RUNS {
+        assert!(rt; run(rt.alloc(), taken_in)? == wanted);
     }
     assert!(rt; answers_calls(rt.alloc())?);
     Ok(())

@@ -1,6 +1,6 @@
 use Rattle.rt_model.specs.Rules.{MayCall}
 use Rattle.rt_world.specs.Calls.{Kept}
-use Rattle.rt_runs_tests.proofs.world.answers_on_slots.Given as goal
+use Rattle.rt_runs_tests.proofs.world.answers_each.Given as goal
 
 abbrev pub invariant-loop-call : goal.invariant-loop-call
 invariant-loop-call g l = record {
