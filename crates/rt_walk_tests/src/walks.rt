@@ -1,12 +1,6 @@
 // Journals that are lawful to their ends, and copies with the place of the line that is refused.
 
-use crate::copies::Change::{Before, Instead, Missing};
-use crate::copies::{
-    ABORTS_OF_ITSELF, CAUGHT_PANICS, CLEANUPS, CUTS, Change, Copied, DEADLINES, FAMILIES, FIRES,
-    LAST_TASKS, LATE_ONES, NO_ROOTS, NODES, OF_DRAWS, OF_SIGNALS, OF_THE_SHUTDOWN, ORDERS, PANICS,
-    REFUSALS, ROOT_PANICS, SLEEPS, SLOT_POLLS, SLOT_SENDS, SPAWNS, SPAWNS_ON_AN_ENDED_NODE, STARTS,
-    STOPS_OF_ITSELF, TWICE_WOKEN, UNMADES, VISITS, VISITS_WITH_AN_END, WAKES,
-};
+use crate::copies::COPIES;
 use crate::journals::{
     CLEANUP, CUT, DRAWS, LATE, LATE_SIGNAL, ONE_LEFT, READY, REFUSED, SHUTDOWN, SIGNALS, SLEEP,
     SLOTS, STALL, TIMED, TWO_LEFT, UNMADE,
@@ -22,7 +16,17 @@ use rt_journals::{
 use rt_model::Begin;
 use rt_walk::{Walker, first_unlawful};
 use std::alloc::Global;
+use std::process::Abort;
 use std::test::Fail;
+
+/// What becomes of a line.
+#[derive(Clone, Copy)]
+enum Change {
+    Missing,
+    Instead(&'static str),
+    /// It stands behind this line.
+    Before(&'static str),
+}
 
 /// The lines of texts that follow one another.
 fn lines_of<'a>(alloc: Global, texts: &[&'a str]) -> Result<Vec<&'a str>, NoMemory> {
@@ -67,38 +71,87 @@ fn first_of(
     Ok(first?)
 }
 
-/// Journals with what begins each.
-const JOURNALS: &[(&str, Begin, &str)] = &[
-    ("one ready root", BEGIN, READY),
-    ("a sleep to its alarm", BEGIN, SLEEP),
-    ("a deadline before the alarm", TIMED, LATE),
-    ("a root that wakes itself and stalls", BEGIN, STALL),
-    ("a run that is cut off where memory lacked", BEGIN, CUT),
-    ("a run that is cut off before its root", BEGIN, UNMADE),
-    ("a task that the maker spawned", BEGIN, MADE),
-    ("an abort of itself", BEGIN, ABORTS),
-    ("an abort of itself that is left pending", BEGIN, STOPS),
-    ("a task that is woken twice and ends", BEGIN, TWICE),
-    ("a child that ends with its parent", BEGIN, FAMILY),
-    ("a reported panic", BEGIN, PANIC),
-    ("a caught panic", CATCHING, CAUGHT),
-    ("a panic of the root", BEGIN, ROOT_PANIC),
-    (
-        "a panic of the root that isn't caught",
-        CATCHING,
-        ROOT_PANIC,
-    ),
-    ("refused calls", BEGIN, REFUSED),
-    ("a cleanup by numbers", BEGIN, CLEANUP),
-    ("a node that ended before the cleanup", BEGIN, NODE_ENDED),
-    ("slots of a sender and a receiver", BEGIN, SLOTS),
-    ("signals of a task and the root", BEGIN, SIGNALS),
-    ("a shutdown", BEGIN, SHUTDOWN),
-    ("a value that is given in a cleanup", BEGIN, LATE_SIGNAL),
-    ("draws and a digest", BEGIN, DRAWS),
-    ("the last numbers", TWO_LEFT, LAST_NUMBERS),
-    ("no number for the root", ONE_LEFT, NO_NUMBER),
-];
+/// How a journal of this name begins.
+fn begin_of(name: &str) -> Begin {
+    match name {
+        "timed" | "late" => TIMED,
+        "catching" | "caught" => CATCHING,
+        "two-left" | "last-numbers" => TWO_LEFT,
+        "one-left" | "no-number" => ONE_LEFT,
+        _ => BEGIN,
+    }
+}
+
+/// The journal of this name.
+fn journal(name: &str) -> Option<&'static str> {
+    Some(match name {
+        "ready" => READY,
+        "sleep" => SLEEP,
+        "late" => LATE,
+        "stall" => STALL,
+        "cut" => CUT,
+        "unmade" => UNMADE,
+        "made" => MADE,
+        "aborts" => ABORTS,
+        "stops" => STOPS,
+        "twice" => TWICE,
+        "family" => FAMILY,
+        name => return later_journal(name),
+    })
+}
+
+fn later_journal(name: &str) -> Option<&'static str> {
+    Some(match name {
+        "panic" => PANIC,
+        "caught" => CAUGHT,
+        "root-panic" => ROOT_PANIC,
+        "refused" => REFUSED,
+        "cleanup" => CLEANUP,
+        "node-ended" => NODE_ENDED,
+        "slots" => SLOTS,
+        "signals" => SIGNALS,
+        "shutdown" => SHUTDOWN,
+        "late-signal" => LATE_SIGNAL,
+        "draws" => DRAWS,
+        "last-numbers" => LAST_NUMBERS,
+        "no-number" => NO_NUMBER,
+        _ => return None,
+    })
+}
+
+/// The journals of these names, which spaces part.
+fn texts_of(alloc: Global, names: &str) -> Result<Vec<&'static str>, NoMemory> {
+    let mut texts = Vec::new(alloc);
+    for name in names.split_whitespace() {
+        if let Some(text) = journal(name) {
+            texts.push(text)?;
+        }
+    }
+    Ok(texts)
+}
+
+/// How runs of these names begin.
+fn begins_of(alloc: Global, names: &str) -> Result<Vec<Begin>, NoMemory> {
+    let mut begins = Vec::new(alloc);
+    for name in names.split_whitespace() {
+        begins.push(begin_of(name))?;
+    }
+    Ok(begins)
+}
+
+/// The place of a change, and the change: `3 missing`, `3 instead LINE` or `3 before LINE`.
+fn change_of(words: &'static str) -> Option<(usize, Change)> {
+    let (place, kind) = words.split_once(' ')?;
+    let at = place.parse::<usize>().ok()?;
+    if kind == "missing" {
+        return Some((at, Change::Missing));
+    }
+    match kind.split_once(' ')? {
+        ("instead", line) => Some((at, Change::Instead(line))),
+        ("before", line) => Some((at, Change::Before(line))),
+        _ => None,
+    }
+}
 
 /// The end of the first front of these lines that isn't lawful.
 fn first_front(alloc: Global, begin: Begin, lines: &[&str]) -> Result<Option<usize>, Unread> {
@@ -116,68 +169,58 @@ fn unlawful_front(alloc: Global, begin: Begin, text: &str) -> Result<Option<usiz
     first_front(alloc, begin, lines.as_slice())
 }
 
-#[test]
-fn whole_journals_and_their_fronts(rt: HostRuntime) -> Result<(), Fail> {
-    for (name, begin, text) in JOURNALS {
-        let front = unlawful_front(rt.alloc(), *begin, text)?;
-        assert!(rt; front == None, "in {name}");
+/// Journals that are lawful, each by how it begins and its name.
+const JOURNALS: &str = "\
+begin ready
+begin sleep
+timed late
+begin stall
+begin cut
+begin unmade
+begin made
+begin aborts
+begin stops
+begin twice
+begin family
+begin panic
+catching caught
+begin root-panic
+catching root-panic
+begin refused
+begin cleanup
+begin node-ended
+begin slots
+begin signals
+begin shutdown
+begin late-signal
+begin draws
+two-left last-numbers
+one-left no-number";
+
+/// Stops where this isn't read.
+fn read<T: Drop>(rt: &impl Abort, row: &str, value: Option<T>) -> T {
+    match value {
+        Some(value) => value,
+        None => panic!(rt; "{row}"),
     }
-    Ok(())
 }
 
-/// A journal, how it begins, and copies that are refused where they were changed.
-type Copies = (Begin, &'static str, &'static [Copied]);
+/// Whether no front of the journal of a row is unlawful.
+fn is_lawful(rt: &impl Abort, alloc: Global, row: &str) -> bool {
+    let (begin, name) = read(rt, row, row.split_once(' '));
+    let text = read(rt, row, journal(name));
+    let front = unlawful_front(alloc, begin_of(begin), text);
+    front.expect(rt, "lines of a journal").is_none()
+}
 
-const OF_A_ROOT: &[Copies] = &[
-    (BEGIN, READY, STARTS),
-    (BEGIN, READY, VISITS),
-    (BEGIN, READY, CLEANUPS),
-    (BEGIN, CUT, CUTS),
-    (BEGIN, UNMADE, UNMADES),
-];
+#[test]
+fn whole_journals_and_their_fronts(rt: HostRuntime) {
+    for row in JOURNALS.lines() {
+        assert!(rt; is_lawful(&rt, rt.alloc(), row), "{row}");
+    }
+}
 
-const OF_CLOCK_AND_DRAWS: &[Copies] = &[
-    (BEGIN, SLEEP, SLEEPS),
-    (BEGIN, SLEEP, FIRES),
-    (TIMED, LATE, DEADLINES),
-    (BEGIN, STALL, WAKES),
-    (BEGIN, DRAWS, OF_DRAWS),
-];
-
-const OF_TASKS: &[Copies] = &[
-    (BEGIN, MADE, SPAWNS),
-    (BEGIN, MADE, VISITS_WITH_AN_END),
-    (BEGIN, ABORTS, ABORTS_OF_ITSELF),
-    (BEGIN, STOPS, STOPS_OF_ITSELF),
-    (BEGIN, FAMILY, FAMILIES),
-];
-
-const OF_DOUBLE_WAKES: &[Copies] = &[(BEGIN, TWICE, TWICE_WOKEN)];
-
-const OF_PANICS: &[Copies] = &[
-    (BEGIN, PANIC, PANICS),
-    (CATCHING, CAUGHT, CAUGHT_PANICS),
-    (BEGIN, ROOT_PANIC, ROOT_PANICS),
-];
-
-const OF_REFUSALS_AND_ENDS: &[Copies] = &[
-    (BEGIN, REFUSED, REFUSALS),
-    (BEGIN, REFUSED, SPAWNS_ON_AN_ENDED_NODE),
-    (BEGIN, CLEANUP, ORDERS),
-    (BEGIN, NODE_ENDED, NODES),
-    (TWO_LEFT, LAST_NUMBERS, LAST_TASKS),
-    (ONE_LEFT, NO_NUMBER, NO_ROOTS),
-];
-
-const OF_SLOTS: &[Copies] = &[(BEGIN, SLOTS, SLOT_POLLS), (BEGIN, SLOTS, SLOT_SENDS)];
-
-const OF_GROUPS: &[Copies] = &[
-    (BEGIN, SIGNALS, OF_SIGNALS),
-    (BEGIN, SHUTDOWN, OF_THE_SHUTDOWN),
-    (BEGIN, LATE_SIGNAL, LATE_ONES),
-];
-
-/// The place of the first line of a changed journal that may not come where it stands.
+/// The first line of a journal with this change that may not come where it stands.
 fn first_changed(
     alloc: Global,
     begin: Begin,
@@ -189,243 +232,116 @@ fn first_changed(
     first_of(alloc, begin, &[], lines.as_slice())
 }
 
-/// The first of the copies of a journal that isn't refused at its place.
-fn not_refused(
+/// Whether the copy of a row is refused at its place.
+fn is_refused(rt: &impl Abort, alloc: Global, name: &str, row: &'static str) -> bool {
+    let (words, _) = read(rt, row, row.split_once(" | "));
+    let (at, change) = read(rt, row, change_of(words));
+    let text = read(rt, row, journal(name));
+    let first = first_changed(alloc, begin_of(name), text, at, change);
+    first.expect(rt, "lines of a journal") == Some(at)
+}
+
+/// Takes the copies of a journal, whose name stands before them.
+fn refuses_each(rt: &impl Abort, alloc: Global, copies: &'static str) {
+    if let Some((name, rows)) = copies.split_once('\n') {
+        for row in rows.lines() {
+            if !row.starts_with("#") {
+                assert!(rt; is_refused(rt, alloc, name, row), "{name}: {row}");
+            }
+        }
+    }
+}
+
+#[test]
+fn damaged_copies(rt: HostRuntime) {
+    for copies in COPIES.split("= ") {
+        refuses_each(&rt, rt.alloc(), copies);
+    }
+}
+
+/// Journals that follow one another, how each of their runs begins, a change, the line that is refused, and what that shows.
+///
+/// A change allows or makes something of a later line. A run behind a completed one goes by the next beginning, from its own
+/// state: its root has its own number, and no alarm of the run before is set.
+const WALKS: &str = "\
+sleep | begin | 5 instead call 0 sleep-poll 9223372036854775807999999999 -> pending 0 | 8 | a skip to before a sleep to the last moment
+ready | begin | 5 before event stop 9 | 6 | an event in a poll that no call follows
+made | begin | 9 instead call 0 sleep-poll 5 -> pending 0 | - | a sleep of a task at its end
+made | begin | 9 instead call 0 wake 1 -> ok | 10 | a wake of a task at its end, which comes next
+panic | catching | - | 17 | a second wake that is owed to nobody where the panic is caught
+caught | begin | - | 17 | a second wake that is owed where the panic is kept
+ready sleep late | begin begin timed | - | - | two runs that complete, and one that doesn't
+ready sleep late | begin timed timed | - | 12 | another beginning for the second
+ready sleep late | begin begin begin | - | 34 | another beginning for the third
+ready sleep late | begin begin timed | 10 missing | 10 | the crash of the first is missing
+ready sleep late | begin begin timed | 11 missing | 11 | the finish of the first is missing
+ready sleep late | begin begin timed | 33 missing | 33 | the finish of the second is missing
+ready sleep late | begin begin timed | 12 missing | 12 | the start of the second is missing
+ready sleep late | begin begin timed | 34 missing | 34 | the start of the third is missing
+ready sleep late | begin begin | - | 34 | a third run that nothing begins
+ready | begin timed | - | - | a beginning that no run has
+late ready | timed begin | - | 15 | a run behind one that failed";
+
+/// The lines of these journals, with a change.
+fn lines_in(
     alloc: Global,
-    begin: Begin,
-    text: &'static str,
-    copies: &[Copied],
-) -> Result<Option<&'static str>, Unread> {
-    for (name, at, change) in copies {
-        if first_changed(alloc, begin, text, *at, *change)? != Some(*at) {
-            return Ok(Some(*name));
-        }
-    }
-    Ok(None)
-}
-
-/// The first of these copies that isn't refused at its place.
-fn first_kept(alloc: Global, table: &[Copies]) -> Result<Option<&'static str>, Unread> {
-    for (begin, text, copies) in table {
-        let kept = not_refused(alloc, *begin, text, copies)?;
-        if kept.is_some() {
-            return Ok(kept);
-        }
-    }
-    Ok(None)
-}
-
-#[test]
-fn damaged_copies_of_a_root(rt: HostRuntime) -> Result<(), Fail> {
-    assert!(rt; first_kept(rt.alloc(), OF_A_ROOT)?.is_none());
-    Ok(())
-}
-
-#[test]
-fn damaged_copies_of_clock_and_draws(rt: HostRuntime) -> Result<(), Fail> {
-    assert!(rt; first_kept(rt.alloc(), OF_CLOCK_AND_DRAWS)?.is_none());
-    Ok(())
-}
-
-#[test]
-fn damaged_copies_of_tasks(rt: HostRuntime) -> Result<(), Fail> {
-    assert!(rt; first_kept(rt.alloc(), OF_TASKS)?.is_none());
-    Ok(())
-}
-
-#[test]
-fn damaged_copies_of_double_wakes(rt: HostRuntime) -> Result<(), Fail> {
-    assert!(rt; first_kept(rt.alloc(), OF_DOUBLE_WAKES)?.is_none());
-    Ok(())
-}
-
-#[test]
-fn damaged_copies_of_panics(rt: HostRuntime) -> Result<(), Fail> {
-    assert!(rt; first_kept(rt.alloc(), OF_PANICS)?.is_none());
-    Ok(())
-}
-
-#[test]
-fn damaged_copies_of_refusals_and_ends(rt: HostRuntime) -> Result<(), Fail> {
-    assert!(rt; first_kept(rt.alloc(), OF_REFUSALS_AND_ENDS)?.is_none());
-    Ok(())
-}
-
-#[test]
-fn damaged_copies_of_slots(rt: HostRuntime) -> Result<(), Fail> {
-    assert!(rt; first_kept(rt.alloc(), OF_SLOTS)?.is_none());
-    Ok(())
-}
-
-#[test]
-fn damaged_copies_of_signals(rt: HostRuntime) -> Result<(), Fail> {
-    assert!(rt; first_kept(rt.alloc(), OF_GROUPS)?.is_none());
-    Ok(())
-}
-
-/// Runs that follow one another, with a change, and the line that is refused.
-struct Walk {
-    name: &'static str,
-    begins: (Begin, &'static [Begin]),
-    texts: &'static [&'static str],
-    change: Option<(usize, Change)>,
-    first: Option<usize>,
-}
-
-/// The lines of a walk.
-fn lines_in(alloc: Global, walk: &Walk) -> Result<Vec<&'static str>, NoMemory> {
-    let lines = lines_of(alloc, walk.texts)?;
-    match walk.change {
+    names: &str,
+    change: &'static str,
+) -> Result<Vec<&'static str>, NoMemory> {
+    let texts = texts_of(alloc, names)?;
+    let lines = lines_of(alloc, texts.as_slice())?;
+    match change_of(change) {
         Some((at, change)) => changed(lines, at, change),
         None => Ok(lines),
     }
 }
 
-fn walked(alloc: Global, walk: &Walk) -> Result<Option<usize>, Unread> {
-    let (begin, later) = walk.begins;
-    let lines = lines_in(alloc, walk)?;
-    first_of(alloc, begin, later, lines.as_slice())
+/// The place of the first line that may not come where it stands, in runs that begin so.
+fn first_in(alloc: Global, begins: &[Begin], lines: &[&str]) -> Result<Option<usize>, Unread> {
+    match begins.split_first() {
+        Some((begin, later)) => first_of(alloc, *begin, later, lines),
+        None => Ok(None),
+    }
 }
 
-/// What a change allows, or makes of a later line.
-const ELSEWHERE: &[Walk] = &[
-    Walk {
-        name: "a skip to before a sleep to the last moment",
-        begins: (BEGIN, &[]),
-        texts: &[SLEEP],
-        change: Some((
-            5,
-            Instead("call 0 sleep-poll 9223372036854775807999999999 -> pending 0"),
-        )),
-        first: Some(8),
-    },
-    Walk {
-        name: "an event in a poll that no call follows",
-        begins: (BEGIN, &[]),
-        texts: &[READY],
-        change: Some((5, Before("event stop 9"))),
-        first: Some(6),
-    },
-    Walk {
-        name: "a sleep of a task at its end",
-        begins: (BEGIN, &[]),
-        texts: &[MADE],
-        change: Some((9, Instead("call 0 sleep-poll 5 -> pending 0"))),
-        first: None,
-    },
-    Walk {
-        name: "a wake of a task at its end, which comes next",
-        begins: (BEGIN, &[]),
-        texts: &[MADE],
-        change: Some((9, Instead("call 0 wake 1 -> ok"))),
-        first: Some(10),
-    },
-    Walk {
-        name: "a second wake that is owed to nobody where the panic is caught",
-        begins: (CATCHING, &[]),
-        texts: &[PANIC],
-        change: None,
-        first: Some(17),
-    },
-    Walk {
-        name: "a second wake that is owed where the panic is kept",
-        begins: (BEGIN, &[]),
-        texts: &[CAUGHT],
-        change: None,
-        first: Some(17),
-    },
-];
+/// The place of the line of a row that is refused.
+fn walked(
+    alloc: Global,
+    names: &str,
+    begins: &str,
+    change: &'static str,
+) -> Result<Option<usize>, Unread> {
+    let begins = begins_of(alloc, begins)?;
+    let lines = lines_in(alloc, names, change)?;
+    first_in(alloc, begins.as_slice(), lines.as_slice())
+}
 
-/// A run behind a completed one goes by the next beginning, from its own state: its root has its own number, and no alarm
-/// of the run before is set.
-const RUNS: &[Walk] = &[
-    Walk {
-        name: "two runs that complete, and one that doesn't",
-        begins: (BEGIN, &[BEGIN, TIMED]),
-        texts: &[READY, SLEEP, LATE],
-        change: None,
-        first: None,
-    },
-    Walk {
-        name: "another beginning for the second",
-        begins: (BEGIN, &[TIMED, TIMED]),
-        texts: &[READY, SLEEP, LATE],
-        change: None,
-        first: Some(12),
-    },
-    Walk {
-        name: "another beginning for the third",
-        begins: (BEGIN, &[BEGIN, BEGIN]),
-        texts: &[READY, SLEEP, LATE],
-        change: None,
-        first: Some(34),
-    },
-    Walk {
-        name: "the crash of the first is missing",
-        begins: (BEGIN, &[BEGIN, TIMED]),
-        texts: &[READY, SLEEP, LATE],
-        change: Some((10, Missing)),
-        first: Some(10),
-    },
-    Walk {
-        name: "the finish of the first is missing",
-        begins: (BEGIN, &[BEGIN, TIMED]),
-        texts: &[READY, SLEEP, LATE],
-        change: Some((11, Missing)),
-        first: Some(11),
-    },
-    Walk {
-        name: "the finish of the second is missing",
-        begins: (BEGIN, &[BEGIN, TIMED]),
-        texts: &[READY, SLEEP, LATE],
-        change: Some((33, Missing)),
-        first: Some(33),
-    },
-    Walk {
-        name: "the start of the second is missing",
-        begins: (BEGIN, &[BEGIN, TIMED]),
-        texts: &[READY, SLEEP, LATE],
-        change: Some((12, Missing)),
-        first: Some(12),
-    },
-    Walk {
-        name: "the start of the third is missing",
-        begins: (BEGIN, &[BEGIN, TIMED]),
-        texts: &[READY, SLEEP, LATE],
-        change: Some((34, Missing)),
-        first: Some(34),
-    },
-    Walk {
-        name: "a third run that nothing begins",
-        begins: (BEGIN, &[BEGIN]),
-        texts: &[READY, SLEEP, LATE],
-        change: None,
-        first: Some(34),
-    },
-    Walk {
-        name: "a beginning that no run has",
-        begins: (BEGIN, &[TIMED]),
-        texts: &[READY],
-        change: None,
-        first: None,
-    },
-    Walk {
-        name: "a run behind one that failed",
-        begins: (TIMED, &[BEGIN]),
-        texts: &[LATE, READY],
-        change: None,
-        first: Some(15),
-    },
-];
+/// The place of the line that a row says is refused, and of the one that is.
+fn places_of(
+    alloc: Global,
+    row: &'static str,
+) -> Option<(Option<usize>, Result<Option<usize>, Unread>)> {
+    let (names, rest) = row.split_once(" | ")?;
+    let (begins, rest) = rest.split_once(" | ")?;
+    let (change, rest) = rest.split_once(" | ")?;
+    let (first, _) = rest.split_once(" | ")?;
+    Some((
+        first.parse::<usize>().ok(),
+        walked(alloc, names, begins, change),
+    ))
+}
+
+/// Whether a row comes to what it says.
+fn comes_so(rt: &impl Abort, alloc: Global, row: &'static str) -> bool {
+    let (wanted, first) = read(rt, row, places_of(alloc, row));
+    first.expect(rt, "lines of journals") == wanted
+}
 
 #[test]
-fn several_runs(rt: HostRuntime) -> Result<(), Fail> {
-    for walks in [ELSEWHERE, RUNS] {
-        for walk in walks {
-            assert!(rt; walked(rt.alloc(), walk)? == walk.first, "at {}", walk.name);
-        }
+fn several_runs(rt: HostRuntime) {
+    for row in WALKS.lines() {
+        assert!(rt; comes_so(&rt, rt.alloc(), row), "{row}");
     }
-    Ok(())
 }
 
 /// Pieces of which so many numbers make a journal, and how many entries it has.
