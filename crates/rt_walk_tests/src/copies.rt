@@ -1,6 +1,6 @@
 // Changes of one line of a journal, by each of which the copy is refused at that line.
 
-/// For each journal, by its name behind `=`: the place of a line, what becomes of it, the line that stands there or before it
+/// For each journal, by its name behind `=`: the place of an entry, what becomes of its line, the line that is there or before it
 /// then, and what is wrong. A line that begins with `#` says what the ones below it are about.
 pub const COPIES: &str = "\
 = ready
@@ -246,7 +246,7 @@ pub const COPIES: &str = "\
 6 before root 18446744073709551615 | a root by the greatest number
 6 before round 18446744073709551614 | a round without a root
 12 instead finish stalled | a finish as of a stall
-= cleanup
+= root-first
 # Over a cleanup of three tasks.
 11 instead visit 0 | a visit once the root is ready
 13 instead call 1 close-node 0 -> ok | the root's call first
@@ -274,7 +274,7 @@ pub const COPIES: &str = "\
 41 instead call 0 slot-poll 1 -> err 3 | an abort of a wait that nobody aborted
 42 instead call 0 slot-poll 2 -> ready | a value behind an abort
 44 instead call 0 slot-poll 4 -> pending | a wait for an error that was told
-46 instead call 0 slot-poll 4 -> err 13 | an error that is told behind the giving up
+46 instead call 0 slot-poll 4 -> err 7 | an error that is told behind the giving up
 = slots
 # Over slots: what is done to them, and whom it wakes.
 22 instead call 1 slot-send 5 -> ok | a send into a slot that isn't there
@@ -294,25 +294,26 @@ pub const COPIES: &str = "\
 5 instead call 0 signaler -> signal 2 | a signaler of another number
 6 instead call 0 clone-signal 3 -> signal 2 | a further signal of one that isn't there
 6 instead call 0 clone-signal 1 -> err 12 | a refused one of one that is there
-9 instead call 0 signal-poll 2 -> ok 5 | a value before it was given
-16 instead call 1 completion-poll 1 -> ok | a completion that is met before
-17 instead call 1 signal 2 5 -> ok | a value by a signaler that isn't there
-18 missing | one who waits isn't woken by the value
-18 instead wake 0 | the wakes in the other order
-20 before wake 1 | the completion's wait is met by the value
-20 before call 1 signal 1 6 -> ok | a second value
-20 before call 1 signaler-close 1 -> ok | a signaler that is given up behind its value
-20 instead call 1 signal-poll 1 -> ok 6 | another value
-20 instead call 1 signal-poll 1 -> pending | pending behind the value
-23 instead call 1 signal-poll 3 -> ok 5 | a value of a closed group
-23 instead call 1 signal-poll 3 -> pending | pending in a closed group
-24 before call 1 completion-close 3 -> ok | a completion of a closed group
-25 instead call 1 completion-poll 1 -> ok | a completion that is met with an open signal
-28 instead call 1 completion-poll 1 -> ready | a completion that is told ready
-27 missing | one who waits isn't woken by the last signal
-28 before call 1 signal-close 2 -> ok | a second giving up of a signal
-28 before call 1 signal-poll 2 -> ok 5 | a poll of a signal that was given up
-30 before call 1 completion-close 1 -> ok | a second giving up of a completion
+10 instead call 0 signal-poll 2 -> ok -5 | a value before it was given
+11 instead call 0 completion-poll 1 -> ok | a completion that is met before
+18 instead call 1 signal 2 -5 -> ok | a value by a signaler that isn't there
+19 missing | one who waits isn't woken by the value
+19 instead wake 0 | the wakes in the other order
+21 before wake 0 | the completion's wait is met by the value
+21 before call 1 signal 1 6 -> ok | a second value
+21 before call 1 signaler-close 1 -> ok | a signaler that is given up behind its value
+21 instead call 1 signal-poll 1 -> ok 6 | another value
+21 instead call 1 signal-poll 1 -> pending | pending behind the value
+22 instead call 1 completion-poll 1 -> ok | a completion that is met with two open signals
+24 before call 1 completion-poll 1 -> ok | a completion that is met with an open signal
+24 before call 1 signal-close 2 -> ok | a second giving up of a signal
+24 before call 1 signal-poll 2 -> ok -5 | a poll of a signal that was given up
+25 missing | one who waits isn't woken by the last signal
+26 instead call 1 completion-poll 1 -> ready | a completion that is told ready
+28 before call 1 completion-close 1 -> ok | a second giving up of a completion
+34 instead call 1 signal-poll 3 -> ok -5 | a value of a closed group
+34 instead call 1 signal-poll 3 -> pending | pending in a closed group
+34 before call 1 completion-close 3 -> ok | a completion of a closed group
 = shutdown
 # Over a shutdown.
 5 missing | a signal of the shutdown without its event
@@ -330,12 +331,11 @@ pub const COPIES: &str = "\
 22 instead call 1 completion-poll 2 -> ok | a completion that is met with an open signal
 29 instead call 0 signal-poll 1 -> ok -7 | the second stop's value is shown
 32 missing | one wake for two completions
-37 missing | a stop in the cleanup without its event
 = draws
 # Over a root that draws and asks for the digest.
 6 instead call 0 u32 -> 4294967296 | 32 bits that are more
 6 instead call 0 u32 -> ok 7 | a value where a number was drawn
-8 instead call 0 u64 -> bytes 0 0 0 0 0 0 0 7 | bytes where a number was drawn
+8 instead call 0 u64 -> bytes 0000000000000007 | bytes where a number was drawn
 7 missing | a draw without its event
 8 instead call 0 u32 -> 7 | the event of another draw
 7 instead event rand next_u16 | the event of no draw
@@ -343,14 +343,15 @@ pub const COPIES: &str = "\
 7 instead event rand | an event without a name
 7 instead event rand next_u64 next_u32 | an event of two draws
 8 before event rand next_u64 | two events before a draw
-10 instead call 0 fill 3 -> bytes 0 7 | one byte too few
-10 instead call 0 fill 3 -> 7 | a number where bytes were drawn
-12 instead call 0 auditor -> bytes 1 2 3 4 | a digest behind the event of a draw
-13 instead call 0 auditor -> bytes 1 2 3 | a digest of three bytes
+10 instead call 0 fill 3 -> 0007 | one byte too few
+10 instead call 0 fill 3 -> number 7 | a number where bytes were drawn
+12 instead call 0 auditor -> 01020304 | a digest behind the event of a draw
+13 instead call 0 auditor -> 010203 | a digest of three bytes
 17 missing | a draw at the end without its event
-= late-signal
-# Over a value that is given in a cleanup.
-13 before wake 0 | a wake in the cleanup
-13 before call 1 signal 1 5 -> ok | a second value
-12 before event process_task 1 h | an event of a visit in the cleanup
+= late-signals
+# Over signals in a cleanup.
+33 before event process_task 1 a | an event of a visit in the cleanup
+34 before wake 1 | a wake in the cleanup
+34 before call 1 signal 1 5 -> ok | a second value
+34 missing | a stop in the cleanup without its event
 ";

@@ -4,10 +4,6 @@
 #[cfg(test)]
 mod copies;
 #[cfg(test)]
-mod journals;
-#[cfg(test)]
 mod many;
-#[cfg(test)]
-mod told_text;
 #[cfg(test)]
 mod walks;

@@ -1,17 +1,12 @@
 // Journals that are lawful to their ends, and copies with the place of the line that is refused.
 
 use crate::copies::COPIES;
-use crate::journals::{
-    CLEANUP, CUT, DRAWS, LATE, LATE_SIGNAL, ONE_LEFT, READY, REFUSED, SHUTDOWN, SIGNALS, SLEEP,
-    SLOTS, STALL, TIMED, TWO_LEFT, UNMADE,
-};
 use crate::many::{MANY_ALARMS, MANY_TASKS, Piece, joined};
-use crate::told_text::{Unread, entries_of};
 use rt_audit::Entry;
 use rt_base::NoMemory;
 use rt_journals::{
-    ABORTS, BEGIN, CATCHING, CAUGHT, FAMILY, LAST_NUMBERS, MADE, NO_NUMBER, NODE_ENDED, PANIC,
-    ROOT_PANIC, STOPS, TWICE,
+    BEGIN, OTHERS, TASKS, Unread, WAITS, begin_of, entries_in, entries_of, journal, lines_of,
+    parts_of,
 };
 use rt_model::Begin;
 use rt_walk::{Walker, first_unlawful};
@@ -26,17 +21,6 @@ enum Change {
     Instead(&'static str),
     /// It stands behind this line.
     Before(&'static str),
-}
-
-/// The lines of texts that follow one another.
-fn lines_of<'a>(alloc: Global, texts: &[&'a str]) -> Result<Vec<&'a str>, NoMemory> {
-    let mut lines = Vec::new(alloc);
-    for text in texts {
-        for line in text.lines() {
-            lines.push(line)?;
-        }
-    }
-    Ok(lines)
 }
 
 /// The lines with this change.
@@ -71,70 +55,33 @@ fn first_of(
     Ok(first?)
 }
 
-/// How a journal of this name begins.
-fn begin_of(name: &str) -> Begin {
-    match name {
-        "timed" | "late" => TIMED,
-        "catching" | "caught" => CATCHING,
-        "two-left" | "last-numbers" => TWO_LEFT,
-        "one-left" | "no-number" => ONE_LEFT,
-        _ => BEGIN,
+/// The lines of the journals of these names, which spaces part.
+fn lines_of_all(alloc: Global, names: &str) -> Result<Vec<&'static str>, NoMemory> {
+    let mut lines = Vec::new(alloc);
+    for name in names.split(' ') {
+        add_lines(alloc, &mut lines, journal(name))?;
+    }
+    Ok(lines)
+}
+
+fn add_lines(
+    alloc: Global,
+    lines: &mut Vec<&'static str>,
+    journal: Option<(&'static str, &'static str)>,
+) -> Result<(), NoMemory> {
+    match journal {
+        Some((_, text)) => Ok(lines.extend_from_slice(lines_of(alloc, text)?.as_slice())?),
+        None => Ok(lines.push("no journal")?),
     }
 }
 
-/// The journal of this name.
-fn journal(name: &str) -> Option<&'static str> {
-    Some(match name {
-        "ready" => READY,
-        "sleep" => SLEEP,
-        "late" => LATE,
-        "stall" => STALL,
-        "cut" => CUT,
-        "unmade" => UNMADE,
-        "made" => MADE,
-        "aborts" => ABORTS,
-        "stops" => STOPS,
-        "twice" => TWICE,
-        "family" => FAMILY,
-        name => return later_journal(name),
-    })
-}
-
-fn later_journal(name: &str) -> Option<&'static str> {
-    Some(match name {
-        "panic" => PANIC,
-        "caught" => CAUGHT,
-        "root-panic" => ROOT_PANIC,
-        "refused" => REFUSED,
-        "cleanup" => CLEANUP,
-        "node-ended" => NODE_ENDED,
-        "slots" => SLOTS,
-        "signals" => SIGNALS,
-        "shutdown" => SHUTDOWN,
-        "late-signal" => LATE_SIGNAL,
-        "draws" => DRAWS,
-        "last-numbers" => LAST_NUMBERS,
-        "no-number" => NO_NUMBER,
-        _ => return None,
-    })
-}
-
-/// The journals of these names, which spaces part.
-fn texts_of(alloc: Global, names: &str) -> Result<Vec<&'static str>, NoMemory> {
-    let mut texts = Vec::new(alloc);
-    for name in names.split_whitespace() {
-        if let Some(text) = journal(name) {
-            texts.push(text)?;
-        }
-    }
-    Ok(texts)
-}
-
-/// How runs of these names begin.
+/// The beginnings of these names.
 fn begins_of(alloc: Global, names: &str) -> Result<Vec<Begin>, NoMemory> {
     let mut begins = Vec::new(alloc);
-    for name in names.split_whitespace() {
-        begins.push(begin_of(name))?;
+    for name in names.split(' ') {
+        if let Some(begin) = begin_of(name) {
+            begins.push(begin)?;
+        }
     }
     Ok(begins)
 }
@@ -153,50 +100,6 @@ fn change_of(words: &'static str) -> Option<(usize, Change)> {
     }
 }
 
-/// The end of the first front of these lines that isn't lawful.
-fn first_front(alloc: Global, begin: Begin, lines: &[&str]) -> Result<Option<usize>, Unread> {
-    for end in 0..lines.len() {
-        if first_of(alloc, begin, &[], &lines[..end])?.is_some() {
-            return Ok(Some(end));
-        }
-    }
-    first_of(alloc, begin, &[], lines)
-}
-
-/// The end of the first front of a journal that isn't lawful.
-fn unlawful_front(alloc: Global, begin: Begin, text: &str) -> Result<Option<usize>, Unread> {
-    let lines = lines_of(alloc, &[text])?;
-    first_front(alloc, begin, lines.as_slice())
-}
-
-/// Journals that are lawful, each by how it begins and its name.
-const JOURNALS: &str = "\
-begin ready
-begin sleep
-timed late
-begin stall
-begin cut
-begin unmade
-begin made
-begin aborts
-begin stops
-begin twice
-begin family
-begin panic
-catching caught
-begin root-panic
-catching root-panic
-begin refused
-begin cleanup
-begin node-ended
-begin slots
-begin signals
-begin shutdown
-begin late-signal
-begin draws
-two-left last-numbers
-one-left no-number";
-
 /// Stops where this isn't read.
 fn read<T: Drop>(rt: &impl Abort, row: &str, value: Option<T>) -> T {
     match value {
@@ -205,18 +108,44 @@ fn read<T: Drop>(rt: &impl Abort, row: &str, value: Option<T>) -> T {
     }
 }
 
-/// Whether no front of the journal of a row is unlawful.
-fn is_lawful(rt: &impl Abort, alloc: Global, row: &str) -> bool {
-    let (begin, name) = read(rt, row, row.split_once(' '));
-    let text = read(rt, row, journal(name));
-    let front = unlawful_front(alloc, begin_of(begin), text);
+/// The end of the first front of these entries that isn't lawful.
+fn first_front(alloc: Global, begin: Begin, entries: &[Entry]) -> Result<Option<usize>, NoMemory> {
+    for end in 0..entries.len() {
+        if first_unlawful(alloc, begin, &[], &entries[..end])?.is_some() {
+            return Ok(Some(end));
+        }
+    }
+    first_unlawful(alloc, begin, &[], entries)
+}
+
+/// The end of the first front of a journal that isn't lawful.
+fn unlawful_front(alloc: Global, begin: Begin, text: &str) -> Result<Option<usize>, Unread> {
+    let entries = entries_in(alloc, text)?;
+    let front = first_front(alloc, begin, entries.as_slice());
+    drop(entries);
+    Ok(front?)
+}
+
+/// Whether no front of a journal that begins so is unlawful.
+fn is_lawful(rt: &impl Abort, alloc: Global, begin: &str, text: &str) -> bool {
+    let front = unlawful_front(alloc, read(rt, begin, begin_of(begin)), text);
     front.expect(rt, "lines of a journal").is_none()
+}
+
+/// Takes a journal behind its head, under each of its beginnings.
+fn is_lawful_under_each(rt: &impl Abort, alloc: Global, block: &'static str) {
+    let (name, begins, lines) = read(rt, block, parts_of(block));
+    for begin in begins.split(' ') {
+        assert!(rt; is_lawful(rt, alloc, begin, lines), "{name} {begin}");
+    }
 }
 
 #[test]
 fn whole_journals_and_their_fronts(rt: HostRuntime) {
-    for row in JOURNALS.lines() {
-        assert!(rt; is_lawful(&rt, rt.alloc(), row), "{row}");
+    for text in [TASKS, WAITS, OTHERS] {
+        for block in text.split("== ").skip(1) {
+            is_lawful_under_each(&rt, rt.alloc(), block);
+        }
     }
 }
 
@@ -228,7 +157,7 @@ fn first_changed(
     at: usize,
     change: Change,
 ) -> Result<Option<usize>, Unread> {
-    let lines = changed(lines_of(alloc, &[text])?, at, change)?;
+    let lines = changed(lines_of(alloc, text)?, at, change)?;
     first_of(alloc, begin, &[], lines.as_slice())
 }
 
@@ -236,8 +165,10 @@ fn first_changed(
 fn is_refused(rt: &impl Abort, alloc: Global, name: &str, row: &'static str) -> bool {
     let (words, _) = read(rt, row, row.split_once(" | "));
     let (at, change) = read(rt, row, change_of(words));
-    let text = read(rt, row, journal(name));
-    let first = first_changed(alloc, begin_of(name), text, at, change);
+    let (begins, text) = read(rt, name, journal(name));
+    let (begin, _) = begins.split_once(' ').unwrap_or((begins, ""));
+    let begin = read(rt, begins, begin_of(begin));
+    let first = first_changed(alloc, begin, text, at, change);
     first.expect(rt, "lines of a journal") == Some(at)
 }
 
@@ -265,7 +196,7 @@ fn damaged_copies(rt: HostRuntime) {
 /// state: its root has its own number, and no alarm of the run before is set.
 const WALKS: &str = "\
 sleep | begin | 5 instead call 0 sleep-poll 9223372036854775807999999999 -> pending 0 | 8 | a skip to before a sleep to the last moment
-ready | begin | 5 before event stop 9 | 6 | an event in a poll that no call follows
+ready | begin | 5 before event stop 00000009 | 6 | an event in a poll that no call follows
 made | begin | 9 instead call 0 sleep-poll 5 -> pending 0 | - | a sleep of a task at its end
 made | begin | 9 instead call 0 wake 1 -> ok | 10 | a wake of a task at its end, which comes next
 panic | catching | - | 17 | a second wake that is owed to nobody where the panic is caught
@@ -288,8 +219,7 @@ fn lines_in(
     names: &str,
     change: &'static str,
 ) -> Result<Vec<&'static str>, NoMemory> {
-    let texts = texts_of(alloc, names)?;
-    let lines = lines_of(alloc, texts.as_slice())?;
+    let lines = lines_of_all(alloc, names)?;
     match change_of(change) {
         Some((at, change)) => changed(lines, at, change),
         None => Ok(lines),
@@ -350,12 +280,12 @@ const MANY: &[(&[Piece], u64, u64, usize)] = &[
     (MANY_TASKS, 1, 1001, 9014),
 ];
 
-/// How many lines a journal has, and the first that may not come where it stands.
-fn lines_and_first(alloc: Global, text: &str) -> Result<(usize, Option<usize>), Unread> {
-    let lines = lines_of(alloc, &[text])?;
-    let count = lines.len();
-    let first = first_of(alloc, BEGIN, &[], lines.as_slice());
-    drop(lines);
+/// How many entries a journal has, and the first that may not come where it stands.
+fn entries_and_first(alloc: Global, text: &str) -> Result<(usize, Option<usize>), Unread> {
+    let entries = entries_in(alloc, text)?;
+    let count = entries.len();
+    let first = first_unlawful(alloc, BEGIN, &[], entries.as_slice());
+    drop(entries);
     Ok((count, first?))
 }
 
@@ -367,7 +297,7 @@ fn walked_pieces(
     end: u64,
 ) -> Result<(usize, Option<usize>), Unread> {
     let text = joined(alloc, pieces, first, end)?;
-    lines_and_first(alloc, text.as_str())
+    entries_and_first(alloc, text.as_str())
 }
 
 #[test]

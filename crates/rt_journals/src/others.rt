@@ -1,0 +1,95 @@
+//! Journals of runs that are drawn, are cut off, or have another order than that of numbers.
+
+/// The journals, each behind its head.
+pub const OTHERS: &str = "\
+== stall begin | A root that wakes itself twice, waits, and ends since there is nothing to do. A draw shuffles its round.
+start 0 - 1000000 0
+root 0
+round 0
+visit 0
+event process_task 0 -
+call 0 wake 0 -> ok
+wake 0
+call 0 wake 1 -> err 12
+call 0 wake 0 -> ok
+wake 0
+answer 0 pending
+advance 1000000
+draw 7
+round 0 0
+visit 0
+event process_task 0 -
+answer 0 pending
+visit 0
+event process_task 0 -
+answer 0 pending
+advance 2000000
+cleanup
+nodeend 0
+answer 0 ended
+crash
+finish stalled
+== cut begin | A run that is cut off before its first round.
+start 0 - 1000000 0
+root 0
+cleanup
+nodeend 0
+call 0 close-node 0 -> ok
+answer 0 ended
+crash
+finish nomemory
+== unmade begin | A run that is cut off before its root is taken in.
+start 0 - 1000000 0
+cleanup
+nodeend 0
+call - close-node 0 -> ok
+crash
+finish nomemory
+== root-first begin | The root is ready before another task of its round is visited, and the cleanup ends the tasks.
+start 0 - 1000000 0
+call - child 0 side -> node 1
+call - spawn 1 -> task 0 node 2
+call - give-up 0 -> ok
+root 1
+round 1 0
+visit 1
+event process_task 1 -
+call 1 child 0 h -> node 3
+call 1 spawn 3 -> task 2 node 4
+answer 1 ready
+cleanup
+nodeend 0
+call 0 close-node 2 -> ok
+answer 0 ended
+call 2 close-node 4 -> ok
+answer 2 ended
+call 1 give-up 2 -> ok
+call 1 close-node 0 -> ok
+answer 1 ended
+crash
+finish ok
+== draws begin | A root draws by each of the calls, and asks for the digest. It draws once more where it ends.
+start 0 - 1000000 0
+root 0
+round 0
+visit 0
+event process_task 0 -
+event rand next_u32
+call 0 u32 -> 4294967295
+event rand next_u64
+call 0 u64 -> 18446744073709551615
+event rand fill_bytes
+call 0 fill 3 -> 0007ff
+event rand fill_bytes
+call 0 fill 0 -> -
+call 0 auditor -> 01020304
+answer 0 ready
+cleanup
+nodeend 0
+event rand next_u64
+call 0 u64 -> 7
+call 0 close-node 0 -> ok
+answer 0 ended
+crash
+finish ok
+";
