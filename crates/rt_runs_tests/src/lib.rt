@@ -2,15 +2,13 @@
 #![tactic(auto)]
 
 #[cfg(test)]
-mod journals;
-#[cfg(test)]
 mod machine;
 #[cfg(test)]
 mod numbers;
 #[cfg(test)]
-mod reading;
-#[cfg(test)]
 mod replay;
+#[cfg(test)]
+mod said;
 #[cfg(test)]
 mod steady;
 #[cfg(test)]

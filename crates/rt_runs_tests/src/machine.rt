@@ -1,62 +1,69 @@
 // Runs by the calls of the machine, beside their journals.
 
-use crate::journals::JOURNALS;
-use crate::reading::{line_of, said_in};
 use crate::replay::{Said, journal_of};
+use crate::said::said_in;
 use crate::steady::STEADY_DRAW;
 use rt_audit::{AnswerKind, Entry, Journal};
 use rt_base::{MAX_TIME, NoMemory};
-use rt_journals::BEGIN;
+use rt_journals::{
+    BEGIN, TASKS, Unread, WAITS, begin_of, entries_and_silent_in, entries_in, parts_of,
+};
 use rt_machine::Machine;
 use rt_model::Begin;
 use std::alloc::Global;
+use std::process::Abort;
 use std::test::Fail;
 
-/// The journal of a run that makes the calls and gives the answers of this one.
-fn journal_again(alloc: Global, begin: Begin, text: &str) -> Result<Journal, NoMemory> {
+/// The journal of a run that makes the calls and gives the answers of these entries.
+fn journal_again(alloc: Global, begin: Begin, entries: &[Entry]) -> Result<Journal, NoMemory> {
     if begin.start > MAX_TIME {
         return Err(NoMemory);
     }
-    let said = said_in(alloc, text)?;
+    let said = said_in(alloc, entries)?;
     journal_of(alloc, begin, said.as_slice())
 }
 
 /// The lines that such a run writes. The rounds of the journal have their plain order, and the draws before them aren't in it.
-fn wanted_lines<'a>(alloc: Global, text: &'a str) -> Result<Vec<&'a str>, NoMemory> {
+fn wanted_lines(alloc: Global, entries: &[Entry]) -> Result<Vec<String>, NoMemory> {
     let mut wanted = Vec::new(alloc);
-    add_wanted(&mut wanted, text)?;
+    for entry in entries {
+        add_wanted(alloc, &mut wanted, entry)?;
+    }
     Ok(wanted)
 }
 
-fn add_wanted<'a>(wanted: &mut Vec<&'a str>, text: &'a str) -> Result<(), NoMemory> {
-    for line in text.lines() {
-        if line.starts_with("round ") {
-            add_draws(wanted, line)?;
-        }
-        if !line.starts_with("silent ") {
-            wanted.push(line)?;
-        }
+fn add_wanted(alloc: Global, wanted: &mut Vec<String>, entry: &Entry) -> Result<(), NoMemory> {
+    if let Entry::Round { order } = entry {
+        add_draws(alloc, wanted, order.as_slice())?;
+    }
+    let line = line_of(alloc, entry)?;
+    Ok(wanted.push(line)?)
+}
+
+/// Adds the draws of a round, one for each number but the first.
+fn add_draws(alloc: Global, wanted: &mut Vec<String>, order: &[u64]) -> Result<(), NoMemory> {
+    for _ in order.iter().skip(1) {
+        wanted.push(STEADY_DRAW.to_owned(alloc)?)?;
     }
     Ok(())
 }
 
-/// Adds the draws of a round, one for each number but the first.
-fn add_draws<'a>(wanted: &mut Vec<&'a str>, round: &str) -> Result<(), NoMemory> {
-    for _ in round.split(' ').skip(2) {
-        wanted.push(STEADY_DRAW)?;
-    }
-    Ok(())
+/// The line of an entry.
+fn line_of(alloc: Global, entry: &Entry) -> Result<String, NoMemory> {
+    let mut line = String::new(alloc);
+    entry.add_to(alloc, &mut line)?;
+    Ok(line)
 }
 
 /// The line of an entry, if it is another one than this.
 fn other_than(
     alloc: Global,
     entry: &Entry,
-    wanted: Option<&&str>,
+    wanted: Option<&String>,
 ) -> Result<Option<String>, NoMemory> {
     let line = line_of(alloc, entry)?;
     match wanted {
-        Some(text) if *text == line.as_str() => Ok(None),
+        Some(text) if text.as_str() == line.as_str() => Ok(None),
         _ => Ok(Some(line)),
     }
 }
@@ -65,7 +72,7 @@ fn other_than(
 fn first_other_of(
     alloc: Global,
     entries: &[Entry],
-    wanted: &[&str],
+    wanted: &[String],
 ) -> Result<Option<String>, NoMemory> {
     for (place, entry) in entries.iter().enumerate() {
         let other = other_than(alloc, entry, wanted.get(place))?;
@@ -79,22 +86,63 @@ fn first_other_of(
     Ok(Some("a line is lacking".to_owned(alloc)?))
 }
 
-/// The first line that a run writes otherwise which makes the calls and gives the answers of a journal.
-fn first_other(alloc: Global, begin: Begin, text: &str) -> Result<Option<String>, NoMemory> {
-    let wanted = wanted_lines(alloc, text)?;
-    let journal = journal_again(alloc, begin, text)?;
-    first_other_of(alloc, journal.entries(), wanted.as_slice())
+/// The first line that a run writes otherwise than these, which makes the calls and gives the answers of these entries.
+fn first_other_again(
+    alloc: Global,
+    begin: Begin,
+    entries: &[Entry],
+    wanted: &[String],
+) -> Result<Option<String>, NoMemory> {
+    let journal = journal_again(alloc, begin, entries)?;
+    first_other_of(alloc, journal.entries(), wanted)
+}
+
+/// The lines that a run writes which makes the calls and gives the answers of a journal.
+fn wanted_in(alloc: Global, text: &str) -> Result<Vec<String>, Unread> {
+    let entries = entries_in(alloc, text)?;
+    let wanted = wanted_lines(alloc, entries.as_slice());
+    drop(entries);
+    Ok(wanted?)
+}
+
+/// The first line that such a run writes otherwise.
+fn first_other(alloc: Global, begin: Begin, text: &str) -> Result<Option<String>, Unread> {
+    let entries = entries_and_silent_in(alloc, text)?;
+    let wanted = wanted_in(alloc, text)?;
+    let other = first_other_again(alloc, begin, entries.as_slice(), wanted.as_slice());
+    drop(entries);
+    drop(wanted);
+    Ok(other?)
+}
+
+/// Runs a journal again that begins so.
+fn replays(rt: &impl Abort, alloc: Global, name: &str, begin: &str, text: &str) {
+    let Some(begin) = begin_of(begin) else {
+        panic!(rt; "{name}: {begin}");
+    };
+    let other = first_other(alloc, begin, text).expect(rt, "lines of a journal");
+    if let Some(line) = other {
+        panic!(rt; "another line in {name}: {}", line.as_str());
+    }
+}
+
+/// Runs the journal behind its head again, under each of its beginnings.
+fn replays_under_each(rt: &impl Abort, alloc: Global, block: &'static str) {
+    let Some((name, begins, text)) = parts_of(block) else {
+        panic!(rt; "{block}");
+    };
+    for begin in begins.split(' ') {
+        replays(rt, alloc, name, begin, text);
+    }
 }
 
 #[test]
-fn journals_of_runs(rt: HostRuntime) -> Result<(), Fail> {
-    for (run, (begin, text)) in JOURNALS.iter().enumerate() {
-        let other = first_other(rt.alloc(), *begin, text)?;
-        if let Some(line) = other {
-            panic!(rt; "another line in run {}: {}", run, line.as_str());
+fn journals_of_runs(rt: HostRuntime) {
+    for text in [TASKS, WAITS] {
+        for block in text.split("== ").skip(1) {
+            replays_under_each(&rt, rt.alloc(), block);
         }
     }
-    Ok(())
 }
 
 /// Of what a run has many.

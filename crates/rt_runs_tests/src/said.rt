@@ -1,0 +1,116 @@
+//! What the entries of a journal say to a replay.
+
+use crate::replay::Said;
+use rt_audit::{AnswerKind, Call, CallReply, Entry};
+use rt_base::{Error, NoMemory};
+use std::alloc::Global;
+
+/// What the entries of a journal say.
+pub fn said_in<'a>(alloc: Global, entries: &'a [Entry]) -> Result<Vec<Said<'a>>, NoMemory> {
+    let mut said = Vec::new(alloc);
+    let mut made = false;
+    add_said(&mut said, entries, &mut made)?;
+    Ok(said)
+}
+
+fn add_said<'a>(
+    said: &mut Vec<Said<'a>>,
+    entries: &'a [Entry],
+    made: &mut bool,
+) -> Result<(), NoMemory> {
+    for entry in entries {
+        if let Some(next) = said_by(entry, made) {
+            said.push(next)?;
+        }
+    }
+    Ok(())
+}
+
+/// What an entry says, if it says something. `made` says whether the root was taken in.
+fn said_by<'a>(entry: &'a Entry, made: &mut bool) -> Option<Said<'a>> {
+    match entry {
+        Entry::Root { task: _ } => {
+            *made = true;
+            Some(Said::Answer(AnswerKind::Ready))
+        }
+        // a maker without a root has made its calls here
+        Entry::Cleanup if !*made => Some(Said::Answer(AnswerKind::Ready)),
+        Entry::Answer { task: _, kind } => answered(*kind),
+        Entry::Call { by: _, call, reply } => called(call, reply),
+        _ => None,
+    }
+}
+
+/// The answer of a part. That of a stopped task is not said.
+fn answered<'a>(kind: AnswerKind) -> Option<Said<'a>> {
+    match kind {
+        AnswerKind::Stopped => None,
+        kind => Some(Said::Answer(kind)),
+    }
+}
+
+/// A call whose reply tells what it is about, or another one.
+fn called<'a>(call: &'a Call, reply: &CallReply) -> Option<Said<'a>> {
+    Some(match call {
+        Call::Child { node, label } => Said::Child(*node, label.as_str()),
+        Call::SleepPoll { due } => Said::SleepPoll(due.nanos(), alarm_in(reply)),
+        Call::SlotPoll { slot } => Said::SlotPoll(*slot, !is_failed(reply)),
+        Call::Signal { signaler, value } => Said::Signal(*signaler, *value),
+        Call::Stop { value } => Said::Stop(*value),
+        call => return called_on_task(call),
+    })
+}
+
+/// The alarm of a sleep that isn't over.
+fn alarm_in(reply: &CallReply) -> Option<u64> {
+    match reply {
+        CallReply::PendingAt { alarm } => Some(*alarm),
+        _ => None,
+    }
+}
+
+/// Whether a poll showed that a send had failed.
+fn is_failed(reply: &CallReply) -> bool {
+    match reply {
+        CallReply::Refused { error } => matches!(error.error(), Error::SendFailed),
+        _ => false,
+    }
+}
+
+fn called_on_task<'a>(call: &Call) -> Option<Said<'a>> {
+    Some(match call {
+        Call::CloseNode { node } => Said::CloseNode(*node),
+        Call::Spawn { node } => Said::Spawn(*node),
+        Call::Abort { task } => Said::Abort(*task),
+        Call::AbortTask { task } => Said::AbortTask(*task),
+        Call::Wake { task } => Said::Wake(*task),
+        Call::Join { task } => Said::Join(*task),
+        Call::GiveUp { task } => Said::GiveUp(*task),
+        call => return called_on_slot(call),
+    })
+}
+
+fn called_on_slot<'a>(call: &Call) -> Option<Said<'a>> {
+    Some(match call {
+        Call::Slot => Said::Slot,
+        Call::SlotSend { slot } => Said::SlotSend(*slot),
+        Call::SlotClose { slot } => Said::SlotClose(*slot),
+        Call::SlotGiveUp { slot } => Said::SlotGiveUp(*slot),
+        Call::AbortWait { slot } => Said::AbortWait(*slot),
+        call => return called_on_signal(call),
+    })
+}
+
+fn called_on_signal<'a>(call: &Call) -> Option<Said<'a>> {
+    Some(match call {
+        Call::Signaler => Said::Signaler,
+        Call::Stopped => Said::Stopped,
+        Call::CloneSignal { signal } => Said::CloneSignal(*signal),
+        Call::SignalPoll { signal } => Said::SignalPoll(*signal),
+        Call::SignalClose { signal } => Said::SignalClose(*signal),
+        Call::SignalerClose { signaler } => Said::SignalerClose(*signaler),
+        Call::CompletionPoll { completion } => Said::CompletionPoll(*completion),
+        Call::CompletionClose { completion } => Said::CompletionClose(*completion),
+        _ => return None,
+    })
+}
