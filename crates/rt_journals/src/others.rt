@@ -92,4 +92,59 @@ call 0 close-node 0 -> ok
 answer 0 ended
 crash
 finish ok
+== polled-and-aborted begin | A task is aborted after its first poll, another before. Each ends in its next visit.
+start 0 - 1000000 0
+root 0
+round 0
+visit 0
+event process_task 0 -
+call 0 child 0 h -> node 1
+call 0 spawn 1 -> task 1 node 2
+call 0 child 0 s -> node 3
+call 0 spawn 3 -> task 2 node 4
+call 0 abort-task 2 -> ok
+call 0 wake 0 -> ok
+wake 0
+answer 0 pending
+advance 1000000
+round 1 2 0
+visit 1
+event process_task 1 h
+answer 1 pending
+visit 2
+event process_task 2 s
+call 2 close-node 4 -> ok
+answer 2 ended
+nodeend 3
+visit 0
+event process_task 0 -
+call 0 abort-task 1 -> ok
+wake 1
+answer 0 pending
+advance 2000000
+round 1
+visit 1
+event process_task 1 h
+call 1 close-node 2 -> ok
+answer 1 ended
+nodeend 1
+== sent-and-aborted begin | The wait for a slot is aborted that has what was sent.
+start 0 - 1000000 0
+root 0
+round 0
+visit 0
+event process_task 0 -
+call 0 slot -> slot 0
+call 0 slot-poll 0 -> pending
+call 0 slot-send 0 -> ok
+wake 0
+call 0 abort-wait 0 -> ok
+call 0 slot-poll 0 -> err 3
+== maker-lacks begin | A maker that closed its context runs out of memory.
+start 0 - 1000000 0
+call - close-node 0 -> ok
+cleanup
+nodeend 0
+crash
+finish nomemory
 ";

@@ -598,4 +598,43 @@ answer 18446744073709551614 ended
 call - close-node 0 -> ok
 crash
 finish tasks
+== kin begin | A child that was never polled ends with its parent, which spawned it in that visit.
+start 0 - 1000000 0
+root 0
+round 0
+visit 0
+event process_task 0 -
+call 0 child 0 h -> node 1
+call 0 spawn 1 -> task 1 node 2
+call 0 join 1 -> pending
+answer 0 pending
+advance 1000000
+round 1
+visit 1
+event process_task 1 h
+call 1 child 2 h -> node 3
+call 1 spawn 3 -> task 2 node 4
+call 1 give-up 2 -> ok
+answer 1 ready
+call 1 close-node 2 -> ok
+answer 1 ended
+wake 0
+nodeend 1
+advance 2000000
+round 2 0
+visit 2
+event process_task 2 h_h
+call 2 close-node 4 -> ok
+answer 2 ended
+visit 0
+event process_task 0 -
+call 0 join 1 -> ready
+call 0 give-up 1 -> ok
+answer 0 ready
+cleanup
+nodeend 0
+call 0 close-node 0 -> ok
+answer 0 ended
+crash
+finish ok
 ";

@@ -364,4 +364,49 @@ call 0 close-node 0 -> ok
 answer 0 ended
 crash
 finish ok
+== stops-itself begin | A root with two signals of the shutdown begins it twice, and sees the first value.
+start 0 - 1000000 0
+root 0
+round 0
+visit 0
+event process_task 0 -
+event stopped
+call 0 stopped -> signal 1
+call 0 signal-poll 1 -> pending
+event stopped
+call 0 stopped -> signal 2
+event stop 00000009
+call 0 stop 9 -> completion 3
+wake 0
+event stop 00000007
+call 0 stop 7 -> completion 4
+answer 0 pending
+advance 1000000
+round 0
+visit 0
+event process_task 0 -
+call 0 signal-poll 1 -> ok 9
+event stopped
+call 0 stopped -> closed 9
+answer 0 ready
+cleanup
+nodeend 0
+call 0 close-node 0 -> ok
+answer 0 ended
+crash
+finish ok
+== lacks-behind-calls begin | A poll that closed the root's context runs out of memory, and so does the root's end.
+start 0 - 1000000 0
+root 0
+round 0
+visit 0
+event process_task 0 -
+call 0 sleep-poll 5 -> pending 0
+call 0 close-node 0 -> ok
+answer 0 nomemory
+cleanup
+nodeend 0
+answer 0 ended
+crash
+finish nomemory
 ";

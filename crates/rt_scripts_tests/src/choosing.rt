@@ -3,11 +3,7 @@
 use crate::supervised::expect_report;
 use std::test::Fail;
 
-#[test]
-fn select_takes_the_first(rt: HostRuntime) -> Result<(), Fail> {
-    let input =
-        "script w\nsleep 1000000\nend 1\ndone\nscript main\nspawn a w\nspawn b w\nselect a b\nend last\ndone\nrun main\n";
-    let report = "\
+pub const SELECT_TAKES_THE_FIRST: &str = "\
 run main
 start 0 - 1000000 0
 root 0
@@ -81,7 +77,12 @@ time 3000000
 rounds 4
 digest d3846b3a
 ";
-    expect_report(&rt, rt.alloc(), input, 0, report)
+
+#[test]
+fn select_takes_the_first(rt: HostRuntime) -> Result<(), Fail> {
+    let input =
+        "script w\nsleep 1000000\nend 1\ndone\nscript main\nspawn a w\nspawn b w\nselect a b\nend last\ndone\nrun main\n";
+    expect_report(&rt, rt.alloc(), input, 0, SELECT_TAKES_THE_FIRST)
 }
 
 /// A name that stands twice, one of a signal and one that holds nothing leave all handles as they were.

@@ -4,6 +4,8 @@
 #[cfg(test)]
 mod choosing;
 #[cfg(test)]
+mod lawful;
+#[cfg(test)]
 mod seeded;
 #[cfg(test)]
 mod shutdown;

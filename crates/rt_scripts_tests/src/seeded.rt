@@ -82,13 +82,7 @@ digest f4108541
     expect_report(&rt, rt.alloc(), input, 0, report)
 }
 
-/// Rounds and the tasks of all runs draw from one generator, each what comes next. The root draws, then the next round, then the task
-/// that was spawned, and the second run goes on behind that. Its number has the highest bit, which an output has not.
-#[test]
-fn draws_of_tasks(rt: HostRuntime) -> Result<(), Fail> {
-    let input =
-        "seed 7\nscript a\ndraw\nend last\ndone\nscript main\nspawn h a\ndraw\nyield\njoin h\nend last\ndone\nrun main\nrun a\n";
-    let report = "\
+pub const DRAWS_OF_TASKS: &str = "\
 run main
 start 0 - 1000000 0
 root 0
@@ -155,14 +149,17 @@ time 2000000
 rounds 1
 digest ef3d4546
 ";
-    expect_report(&rt, rt.alloc(), input, 0, report)
+
+/// Rounds and the tasks of all runs draw from one generator, each what comes next. The root draws, then the next round, then the task
+/// that was spawned, and the second run goes on behind that. Its number has the highest bit, which an output has not.
+#[test]
+fn draws_of_tasks(rt: HostRuntime) -> Result<(), Fail> {
+    let input =
+        "seed 7\nscript a\ndraw\nend last\ndone\nscript main\nspawn h a\ndraw\nyield\njoin h\nend last\ndone\nrun main\nrun a\n";
+    expect_report(&rt, rt.alloc(), input, 0, DRAWS_OF_TASKS)
 }
 
-/// A later run begins at the last moment of the one before, and its tasks and alarms have numbers from 0 on.
-#[test]
-fn resumed_times(rt: HostRuntime) -> Result<(), Fail> {
-    let input = "script a\nsleep 6000000\nend 0\ndone\nrun a\nrun a\n";
-    let report = "\
+pub const RESUMED_TIMES: &str = "\
 run a
 start 0 - 1000000 0
 root 0
@@ -218,15 +215,15 @@ time 12000000
 rounds 2
 digest 6121f2d8
 ";
-    expect_report(&rt, rt.alloc(), input, 0, report)
+
+/// A later run begins at the last moment of the one before, and its tasks and alarms have numbers from 0 on.
+#[test]
+fn resumed_times(rt: HostRuntime) -> Result<(), Fail> {
+    let input = "script a\nsleep 6000000\nend 0\ndone\nrun a\nrun a\n";
+    expect_report(&rt, rt.alloc(), input, 0, RESUMED_TIMES)
 }
 
-/// The deadline of the first run is that of the second.
-#[test]
-fn time_goes_on_over_runs(rt: HostRuntime) -> Result<(), Fail> {
-    let input =
-        "timeout 10000000\nscript a\nsleep 6000000\nend 0\ndone\nscript b\nsleep 4000000\nend 0\ndone\nrun a\nrun b\n";
-    let report = "\
+pub const TIME_GOES_ON_OVER_RUNS: &str = "\
 run a
 start 0 10000000 1000000 0
 root 0
@@ -275,7 +272,13 @@ time 10000000
 rounds 1
 digest 173af621
 ";
-    expect_report(&rt, rt.alloc(), input, 6, report)
+
+/// The deadline of the first run is that of the second.
+#[test]
+fn time_goes_on_over_runs(rt: HostRuntime) -> Result<(), Fail> {
+    let input =
+        "timeout 10000000\nscript a\nsleep 6000000\nend 0\ndone\nscript b\nsleep 4000000\nend 0\ndone\nrun a\nrun b\n";
+    expect_report(&rt, rt.alloc(), input, 6, TIME_GOES_ON_OVER_RUNS)
 }
 
 /// Each of two runs has a draw, and the second's is the next behind the first's.
@@ -386,11 +389,7 @@ digest 045fd5e9
     expect_report(&rt, rt.alloc(), input, 6, report)
 }
 
-#[test]
-fn clock_overflow(rt: HostRuntime) -> Result<(), Fail> {
-    let input =
-        "start 9223372036854775807999999999\ncycle 1\nscript a\nyield\nend 0\ndone\nrun a\n";
-    let report = "\
+pub const CLOCK_OVERFLOW: &str = "\
 run a
 start 9223372036854775807999999999 - 1 0
 root 0
@@ -411,7 +410,12 @@ time 9223372036854775807999999999
 rounds 1
 digest 32ffd0c0
 ";
-    expect_report(&rt, rt.alloc(), input, 6, report)
+
+#[test]
+fn clock_overflow(rt: HostRuntime) -> Result<(), Fail> {
+    let input =
+        "start 9223372036854775807999999999\ncycle 1\nscript a\nyield\nend 0\ndone\nrun a\n";
+    expect_report(&rt, rt.alloc(), input, 6, CLOCK_OVERFLOW)
 }
 
 #[test]
@@ -440,11 +444,7 @@ digest 32ffd0c0
     expect_report(&rt, rt.alloc(), input, 0, report)
 }
 
-/// The root gets no number, and its end makes its calls as no task.
-#[test]
-fn last_task_number(rt: HostRuntime) -> Result<(), Fail> {
-    let input = "next 18446744073709551615\nscript a\nend 1\ndone\nrun a\n";
-    let report = "\
+pub const LAST_TASK_NUMBER: &str = "\
 run a
 start 0 - 1000000 18446744073709551615
 cleanup
@@ -457,7 +457,12 @@ time 0
 rounds 0
 digest 00000000
 ";
-    expect_report(&rt, rt.alloc(), input, 6, report)
+
+/// The root gets no number, and its end makes its calls as no task.
+#[test]
+fn last_task_number(rt: HostRuntime) -> Result<(), Fail> {
+    let input = "next 18446744073709551615\nscript a\nend 1\ndone\nrun a\n";
+    expect_report(&rt, rt.alloc(), input, 6, LAST_TASK_NUMBER)
 }
 
 /// The second run has numbers from 0 on.

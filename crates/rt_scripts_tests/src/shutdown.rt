@@ -3,11 +3,7 @@
 use crate::supervised::expect_report;
 use std::test::Fail;
 
-#[test]
-fn stop_reaches_a_waiter(rt: HostRuntime) -> Result<(), Fail> {
-    let input =
-        "script g\nstopped s\nwait s\nend 1\ndone\nscript main\nspawn h g\nsleep 2000000\nstop 9\njoin h\nend last\ndone\nrun main\n";
-    let report = "\
+pub const STOP_REACHES_A_WAITER: &str = "\
 run main
 start 0 - 1000000 0
 root 0
@@ -73,15 +69,15 @@ time 4000000
 rounds 5
 digest 4c5d0b24
 ";
-    expect_report(&rt, rt.alloc(), input, 0, report)
+
+#[test]
+fn stop_reaches_a_waiter(rt: HostRuntime) -> Result<(), Fail> {
+    let input =
+        "script g\nstopped s\nwait s\nend 1\ndone\nscript main\nspawn h g\nsleep 2000000\nstop 9\njoin h\nend last\ndone\nrun main\n";
+    expect_report(&rt, rt.alloc(), input, 0, STOP_REACHES_A_WAITER)
 }
 
-/// The script's own signal is open all the while, and shows its value at each wait.
-#[test]
-fn stop_times_out_on_its_own_signal(rt: HostRuntime) -> Result<(), Fail> {
-    let input =
-        "script main\nstopped s\nstop 3 2500000\nwait s\nwait s\nstop 4 0\nend last\ndone\nrun main\n";
-    let report = "\
+pub const STOP_TIMES_OUT_ON_ITS_OWN_SIGNAL: &str = "\
 run main
 start 0 - 1000000 0
 root 0
@@ -129,14 +125,16 @@ time 2500000
 rounds 2
 digest 0b5a9521
 ";
-    expect_report(&rt, rt.alloc(), input, 0, report)
+
+/// The script's own signal is open all the while, and shows its value at each wait.
+#[test]
+fn stop_times_out_on_its_own_signal(rt: HostRuntime) -> Result<(), Fail> {
+    let input =
+        "script main\nstopped s\nstop 3 2500000\nwait s\nwait s\nstop 4 0\nend last\ndone\nrun main\n";
+    expect_report(&rt, rt.alloc(), input, 0, STOP_TIMES_OUT_ON_ITS_OWN_SIGNAL)
 }
 
-/// A signal that is made behind a stop has its value: a wait for it and its end write nothing.
-#[test]
-fn signal_behind_a_stop(rt: HostRuntime) -> Result<(), Fail> {
-    let input = "script main\nstop -7\nstopped s\nwait s\nend last\ndone\nrun main\n";
-    let report = "\
+pub const SIGNAL_BEHIND_A_STOP: &str = "\
 run main
 start 0 - 1000000 0
 root 0
@@ -163,7 +161,12 @@ time 0
 rounds 1
 digest 1eeefe63
 ";
-    expect_report(&rt, rt.alloc(), input, 0, report)
+
+/// A signal that is made behind a stop has its value: a wait for it and its end write nothing.
+#[test]
+fn signal_behind_a_stop(rt: HostRuntime) -> Result<(), Fail> {
+    let input = "script main\nstop -7\nstopped s\nwait s\nend last\ndone\nrun main\n";
+    expect_report(&rt, rt.alloc(), input, 0, SIGNAL_BEHIND_A_STOP)
 }
 
 /// At its end a script first gives up the stop that is under way, and then what it holds.
@@ -290,12 +293,7 @@ digest f5ceff9d
     Ok(())
 }
 
-/// What a name held is given up first, whatever its kind.
-#[test]
-fn names_bound_again(rt: HostRuntime) -> Result<(), Fail> {
-    let input =
-        "script t\npend\ndone\nscript main\nstopped g\nspawn h t\nspawn g t\nstopped h\nstopped h\nend last\ndone\nrun main\n";
-    let report = "\
+pub const NAMES_BOUND_AGAIN: &str = "\
 run main
 start 0 - 1000000 0
 root 0
@@ -333,5 +331,11 @@ time 0
 rounds 1
 digest 5b63c7fa
 ";
-    expect_report(&rt, rt.alloc(), input, 0, report)
+
+/// What a name held is given up first, whatever its kind.
+#[test]
+fn names_bound_again(rt: HostRuntime) -> Result<(), Fail> {
+    let input =
+        "script t\npend\ndone\nscript main\nstopped g\nspawn h t\nspawn g t\nstopped h\nstopped h\nend last\ndone\nrun main\n";
+    expect_report(&rt, rt.alloc(), input, 0, NAMES_BOUND_AGAIN)
 }

@@ -52,11 +52,7 @@ digest c6c10688
     expect_report(&rt, rt.alloc(), input, 0, report)
 }
 
-#[test]
-fn tasks_spawned_by_the_maker(rt: HostRuntime) -> Result<(), Fail> {
-    let input =
-        "script runtimes\ndone\nscript a\npend\ndone\nscript main\nyield\nend 1\ndone\nrun main with a runtimes a\n";
-    let report = "\
+pub const TASKS_SPAWNED_BY_THE_MAKER: &str = "\
 run main
 start 0 - 1000000 0
 call - child 0 a -> node 1
@@ -101,7 +97,12 @@ time 1000000
 rounds 2
 digest 7df9e3e1
 ";
-    expect_report(&rt, rt.alloc(), input, 0, report)
+
+#[test]
+fn tasks_spawned_by_the_maker(rt: HostRuntime) -> Result<(), Fail> {
+    let input =
+        "script runtimes\ndone\nscript a\npend\ndone\nscript main\nyield\nend 1\ndone\nrun main with a runtimes a\n";
+    expect_report(&rt, rt.alloc(), input, 0, TASKS_SPAWNED_BY_THE_MAKER)
 }
 
 #[test]
@@ -198,11 +199,7 @@ digest 7f1bd155
     expect_report(&rt, rt.alloc(), input, 0, report)
 }
 
-#[test]
-fn child_ends_with_its_parent(rt: HostRuntime) -> Result<(), Fail> {
-    let input =
-        "script child\npend\ndone\nscript parent\nspawn c child\nsleep 5000000\nend 1\ndone\nscript side\nsleep 9000000\nend 3\ndone\nscript main\nspawn p parent\nspawn s side\njoin p\njoin s\nend last\ndone\nrun main\n";
-    let report = "\
+pub const CHILD_ENDS_WITH_ITS_PARENT: &str = "\
 run main
 start 0 - 1000000 0
 root 0
@@ -296,14 +293,15 @@ time 11000000
 rounds 7
 digest 18f847ba
 ";
-    expect_report(&rt, rt.alloc(), input, 0, report)
-}
 
 #[test]
-fn reported_panic(rt: HostRuntime) -> Result<(), Fail> {
+fn child_ends_with_its_parent(rt: HostRuntime) -> Result<(), Fail> {
     let input =
-        "script bad\npanic boom\ndone\nscript main\nspawn h bad\njoin h\nend last\ndone\nrun main\n";
-    let report = "\
+        "script child\npend\ndone\nscript parent\nspawn c child\nsleep 5000000\nend 1\ndone\nscript side\nsleep 9000000\nend 3\ndone\nscript main\nspawn p parent\nspawn s side\njoin p\njoin s\nend last\ndone\nrun main\n";
+    expect_report(&rt, rt.alloc(), input, 0, CHILD_ENDS_WITH_ITS_PARENT)
+}
+
+pub const REPORTED_PANIC: &str = "\
 run main
 start 0 - 1000000 0
 root 0
@@ -342,14 +340,15 @@ time 2000000
 rounds 3
 digest 7f1bd155
 ";
-    expect_report(&rt, rt.alloc(), input, 6, report)
-}
 
 #[test]
-fn caught_panic(rt: HostRuntime) -> Result<(), Fail> {
+fn reported_panic(rt: HostRuntime) -> Result<(), Fail> {
     let input =
-        "catch on\nscript bad\npanic boom\ndone\nscript main\nspawn h bad\njoin h\nend last\ndone\nrun main\n";
-    let report = "\
+        "script bad\npanic boom\ndone\nscript main\nspawn h bad\njoin h\nend last\ndone\nrun main\n";
+    expect_report(&rt, rt.alloc(), input, 6, REPORTED_PANIC)
+}
+
+pub const CAUGHT_PANIC: &str = "\
 run main
 start 0 - 1000000 0
 root 0
@@ -387,7 +386,12 @@ time 2000000
 rounds 3
 digest 7f1bd155
 ";
-    expect_report(&rt, rt.alloc(), input, 0, report)
+
+#[test]
+fn caught_panic(rt: HostRuntime) -> Result<(), Fail> {
+    let input =
+        "catch on\nscript bad\npanic boom\ndone\nscript main\nspawn h bad\njoin h\nend last\ndone\nrun main\n";
+    expect_report(&rt, rt.alloc(), input, 0, CAUGHT_PANIC)
 }
 
 #[test]
@@ -748,12 +752,7 @@ digest 32ffd0c0
     expect_report(&rt, rt.alloc(), input, 0, report)
 }
 
-/// The task is first: the alarm of the limit stays, and wakes the root once more.
-#[test]
-fn given_up_sleep_still_fires(rt: HostRuntime) -> Result<(), Fail> {
-    let input =
-        "script w\nend 5\ndone\nscript main\nspawn h w\nwithin 9000000 h\npend\ndone\nrun main\n";
-    let report = "\
+pub const GIVEN_UP_SLEEP_STILL_FIRES: &str = "\
 run main
 start 0 - 1000000 0
 root 0
@@ -801,7 +800,13 @@ time 10000000
 rounds 4
 digest c00e3d5d
 ";
-    expect_report(&rt, rt.alloc(), input, 6, report)
+
+/// The task is first: the alarm of the limit stays, and wakes the root once more.
+#[test]
+fn given_up_sleep_still_fires(rt: HostRuntime) -> Result<(), Fail> {
+    let input =
+        "script w\nend 5\ndone\nscript main\nspawn h w\nwithin 9000000 h\npend\ndone\nrun main\n";
+    expect_report(&rt, rt.alloc(), input, 6, GIVEN_UP_SLEEP_STILL_FIRES)
 }
 
 /// At its end a script first gives up what it waits for with a limit, whatever its name.

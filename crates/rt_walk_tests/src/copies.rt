@@ -48,6 +48,7 @@ pub const COPIES: &str = "\
 10 instead crash k | a crash with a choice
 11 instead finish timeout | a wrong cause
 12 before cleanup | an entry after the finish
+10 before call - sleep-poll 5 -> pending 0 | a sleep of nobody behind the last end
 = sleep
 # Over a root that sleeps: its sleep, and the clock.
 5 instead call 1 sleep-poll 10000000 -> pending 0 | a call by another task
@@ -89,6 +90,7 @@ pub const COPIES: &str = "\
 13 instead round 0 | a round with a number once that was woken twice
 14 before draw 7 | a draw behind its round
 20 before visit 0 | a third visit of two
+17 before advance 2000000 | a round that passes over a task that runs
 = made
 # Over a task of the maker: what spawns it, and its end.
 1 instead call - child 0 side -> node 0 | a child at a node that is known
@@ -125,6 +127,7 @@ pub const COPIES: &str = "\
 12 instead visit 0 | a visit of it behind the end of its node
 12 instead answer 0 ended | a second end of its state
 12 instead advance 1000000 | an advance before the round is over
+9 instead call - close-node 2 -> ok | a close by nobody at the task's end
 = aborts
 # Over a task that aborts itself and finishes.
 7 instead call 0 join 1 -> ready | a result before the task's visit
@@ -166,6 +169,8 @@ pub const COPIES: &str = "\
 55 instead answer 3 pending | a child that goes on
 56 instead nodeend 5 | the end of a node that has ended before
 69 missing | another task whose own number isn't queued
+8 instead call 0 spawn 3 -> task 1 node 4 | a task's number that was given before
+63 instead answer 2 ended | the end of a task beside one that ended
 = twice
 # Over a task that wakes itself twice and ends at the first of its two visits.
 19 instead round 1 | a round with a number once that was woken twice
@@ -233,6 +238,7 @@ pub const COPIES: &str = "\
 24 instead call 1 spawn 4 -> closed | a second spawn on a spent context
 25 instead wake 1 | a wake in place of a close
 27 instead call 0 join 1 -> pending | a pending join of a task that is over
+14 instead call 0 spawn 2 -> err 13 | too many tasks while numbers are left
 = last-numbers
 # Over two tasks that take the last numbers.
 3 instead root 18446744073709551615 | the greatest number for the root
@@ -289,6 +295,7 @@ pub const COPIES: &str = "\
 30 before wake 0 | a wake for a slot that nobody waits for
 31 before wake 0 | a wake behind an abort
 46 before call 0 slot-give-up 4 -> ok | a second giving up
+41 instead call 0 slot-poll 1 -> pending | a wait for a slot that was closed
 = signals
 # Over a group of signals.
 5 instead call 0 signaler -> signal 2 | a signaler of another number
@@ -314,6 +321,7 @@ pub const COPIES: &str = "\
 34 instead call 1 signal-poll 3 -> ok -5 | a value of a closed group
 34 instead call 1 signal-poll 3 -> pending | pending in a closed group
 34 before call 1 completion-close 3 -> ok | a completion of a closed group
+20 missing | the second who waits isn't woken by the value
 = shutdown
 # Over a shutdown.
 5 missing | a signal of the shutdown without its event
@@ -354,4 +362,14 @@ pub const COPIES: &str = "\
 34 before wake 1 | a wake in the cleanup
 34 before call 1 signal 1 5 -> ok | a second value
 34 missing | a stop in the cleanup without its event
+= kin
+25 instead answer 2 ready | a poll of a child below an ended node
+27 instead nodeend 3 | the end of the child's node, which has ended before
+= polled-and-aborted
+20 instead answer 2 ready | a poll of a task that was aborted before its first
+32 instead answer 1 ready | a poll of a task that was aborted behind its first
+= sent-and-aborted
+10 instead call 0 slot-poll 0 -> ready | what was sent, behind an abort of the wait
+= stops-itself
+20 instead call 0 signal-poll 1 -> ok 7 | the second stop's value is shown to who stopped
 ";

@@ -195,7 +195,7 @@ fn damaged_copies(rt: HostRuntime) {
 /// A change allows or makes something of a later line. A run behind a completed one goes by the next beginning, from its own
 /// state: its root has its own number, and no alarm of the run before is set.
 const WALKS: &str = "\
-sleep | begin | 5 instead call 0 sleep-poll 9223372036854775807999999999 -> pending 0 | 8 | a skip to before a sleep to the last moment
+sleep | begin | 5 instead call 0 sleep-poll 9223372036854775807999999999 -> pending 0 | 8 | a skip to before the last moment
 ready | begin | 5 before event stop 00000009 | 6 | an event in a poll that no call follows
 made | begin | 9 instead call 0 sleep-poll 5 -> pending 0 | - | a sleep of a task at its end
 made | begin | 9 instead call 0 wake 1 -> ok | 10 | a wake of a task at its end, which comes next
@@ -211,7 +211,13 @@ ready sleep late | begin begin timed | 12 missing | 12 | the start of the second
 ready sleep late | begin begin timed | 34 missing | 34 | the start of the third is missing
 ready sleep late | begin begin | - | 34 | a third run that nothing begins
 ready | begin timed | - | - | a beginning that no run has
-late ready | timed begin | - | 15 | a run behind one that failed";
+late ready | timed begin | - | 15 | a run behind one that failed
+stall ready | begin begin | - | 26 | a run behind one that stalled
+ready | begin | 5 before call 0 sleep-poll 0 -> ready | - | a sleep that is over at once
+refused | begin | 6 before call 0 child 0  -> err label | - | an empty label, which is bad
+aborts | begin | 24 before call 0 join 1 -> err 2 | - | a second join, which is refused
+caught | catching | 22 before answer 0 pending | 23 | a root that is pending behind a caught panic
+unmade | begin | 1 before call - auditor -> 00000001 | - | another digest, of which no entry says that it's wrong";
 
 /// The lines of these journals, with a change.
 fn lines_in(
