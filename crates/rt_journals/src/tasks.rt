@@ -502,7 +502,7 @@ visit 0
 event process_task 0 -
 call 0 child 0 runtimes -> err 14
 call 0 child 0 9a -> err 14
-call 0 child 1 a -> err 12
+call 0 child 1 9a -> err 12
 call 0 spawn 1 -> err 12
 call 0 abort-task 9 -> err 12
 call 0 wake 9 -> err 12

@@ -187,6 +187,9 @@ call 0 slot-give-up 4 -> ok
 silent call 0 slot-give-up 4 -> ok
 call 0 slot-poll 4 -> err 12
 call 0 give-up 1 -> ok
+call 0 slot -> slot 5
+call 0 slot-close 5 -> ok
+call 0 slot-poll 5 -> err 2
 answer 0 ready
 cleanup
 nodeend 0

@@ -215,6 +215,7 @@ late ready | timed begin | - | 15 | a run behind one that failed
 stall ready | begin begin | - | 26 | a run behind one that stalled
 ready | begin | 5 before call 0 sleep-poll 0 -> ready | - | a sleep that is over at once
 refused | begin | 6 before call 0 child 0  -> err label | - | an empty label, which is bad
+signals | begin | 24 before call 1 completion-poll 1 -> pending | - | a completion with one of two signals open
 aborts | begin | 24 before call 0 join 1 -> err 2 | - | a second join, which is refused
 caught | catching | 22 before answer 0 pending | 23 | a root that is pending behind a caught panic
 unmade | begin | 1 before call - auditor -> 00000001 | - | another digest, of which no entry says that it's wrong";
