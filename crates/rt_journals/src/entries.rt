@@ -42,7 +42,7 @@ fn add_entry(entries: &mut Vec<Entry>, entry: Entry) -> Result<(), NoMemory> {
 }
 
 /// The entry of a line.
-pub fn entry_of(alloc: Global, line: &str) -> Result<Option<Entry>, NoMemory> {
+fn entry_of(alloc: Global, line: &str) -> Result<Option<Entry>, NoMemory> {
     let words = words_of(alloc, line)?;
     match words.split_first() {
         Some((word, rest)) => entry_by(alloc, word, rest),

@@ -1,7 +1,7 @@
 //! Whole journals of small runs, a line for each entry, how each run begins, and the reader of a journal's lines.
 //!
 //! A journal follows its head, `== NAME BEGIN.. | WHAT`, whose beginnings are those under which it is lawful. Its lines are
-//! those of [`rt_audit::Entry`], but for the event of a visit, whose number is written plainly and whose label as it is. A line
+//! those of [`Entry`], but for the event of a visit, whose number is written plainly and whose label as it is. A line
 //! that begins with `silent` is a call that writes nothing: so the place of an entry is that of its line without these.
 #![tactic(auto)]
 
@@ -15,8 +15,9 @@ mod waits;
 mod words;
 
 pub use begins::{BEGIN, begin_of};
-pub use entries::{Unread, entries_of, entry_of};
+pub use entries::{Unread, entries_of};
 pub use others::OTHERS;
+use rt_audit::Entry;
 use rt_base::NoMemory;
 use std::alloc::Global;
 pub use tasks::TASKS;
@@ -63,13 +64,13 @@ pub fn lines_of<'a>(alloc: Global, text: &'a str) -> Result<Vec<&'a str>, NoMemo
 }
 
 /// The entries of the lines of a journal.
-pub fn entries_in(alloc: Global, text: &str) -> Result<Vec<rt_audit::Entry>, Unread> {
+pub fn entries_in(alloc: Global, text: &str) -> Result<Vec<Entry>, Unread> {
     let lines = lines_of(alloc, text)?;
     entries_of(alloc, lines.as_slice())
 }
 
 /// The entries of the lines of a journal, and those that the silent calls would write.
-pub fn entries_and_silent_in(alloc: Global, text: &str) -> Result<Vec<rt_audit::Entry>, Unread> {
+pub fn entries_and_silent_in(alloc: Global, text: &str) -> Result<Vec<Entry>, Unread> {
     let lines = all_lines(alloc, text)?;
     entries_of(alloc, lines.as_slice())
 }

@@ -105,14 +105,25 @@ fn wanted_in(alloc: Global, text: &str) -> Result<Vec<String>, Unread> {
     Ok(wanted?)
 }
 
-/// The first line that such a run writes otherwise.
-fn first_other(alloc: Global, begin: Begin, text: &str) -> Result<Option<String>, Unread> {
+/// The first line that such a run writes otherwise than these.
+fn first_other_than(
+    alloc: Global,
+    begin: Begin,
+    text: &str,
+    wanted: &[String],
+) -> Result<Option<String>, Unread> {
     let entries = entries_and_silent_in(alloc, text)?;
-    let wanted = wanted_in(alloc, text)?;
-    let other = first_other_again(alloc, begin, entries.as_slice(), wanted.as_slice());
+    let other = first_other_again(alloc, begin, entries.as_slice(), wanted);
     drop(entries);
-    drop(wanted);
     Ok(other?)
+}
+
+/// The first line that such a run writes otherwise than the journal.
+fn first_other(alloc: Global, begin: Begin, text: &str) -> Result<Option<String>, Unread> {
+    let wanted = wanted_in(alloc, text)?;
+    let other = first_other_than(alloc, begin, text, wanted.as_slice());
+    drop(wanted);
+    other
 }
 
 /// Runs a journal again that begins so.

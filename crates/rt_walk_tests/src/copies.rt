@@ -363,13 +363,17 @@ pub const COPIES: &str = "\
 34 before call 1 signal 1 5 -> ok | a second value
 34 missing | a stop in the cleanup without its event
 = kin
+# Over a child that ends with its parent before its first poll.
 25 instead answer 2 ready | a poll of a child below an ended node
 27 instead nodeend 3 | the end of the child's node, which has ended before
 = polled-and-aborted
+# Over a task that is aborted after its first poll, and one before.
 20 instead answer 2 ready | a poll of a task that was aborted before its first
 32 instead answer 1 ready | a poll of a task that was aborted behind its first
 = sent-and-aborted
+# Over a wait that is aborted after the send.
 10 instead call 0 slot-poll 0 -> ready | what was sent, behind an abort of the wait
 = stops-itself
+# Over a root that stops its own run twice.
 20 instead call 0 signal-poll 1 -> ok 7 | the second stop's value is shown to who stopped
 ";

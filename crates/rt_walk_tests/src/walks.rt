@@ -190,7 +190,8 @@ fn damaged_copies(rt: HostRuntime) {
     }
 }
 
-/// Journals that follow one another, how each of their runs begins, a change, the line that is refused, and what that shows.
+/// Journals that follow one another, how each of their runs begins, a change, the place of the entry that is refused, and what
+/// that shows.
 ///
 /// A change allows or makes something of a later line. A run behind a completed one goes by the next beginning, from its own
 /// state: its root has its own number, and no alarm of the run before is set.
