@@ -2,8 +2,8 @@
 
 use rt_base::{Env, Error, Poll};
 use rt_bufs::{IoBuf, IoBufs};
+use rt_fixtures::{Ending, seen, seen_error};
 use rt_net::{Network, Receiving, Sending};
-use rt_noting::{Ending, seen, seen_error};
 use std::alloc::Global;
 use std::process::Abort;
 

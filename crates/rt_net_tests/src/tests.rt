@@ -3,10 +3,10 @@
 use crate::line::{Line, Step, Taken, poll_put, takes};
 use rt_base::{Addr, Env, Error, Ip, NoEnv, Poll};
 use rt_bufs::{IoBuf, IoBufs};
-use rt_net::{Channel, Net, Network, Receiving, Reply, Sending, Sink, Stream};
-use rt_noting::{
+use rt_fixtures::{
     Ending, Notebook, Noting, NotingSink, NotingStream, got, seen, seen_error, take_room_of_calls,
 };
+use rt_net::{Channel, Net, Network, Receiving, Reply, Sending, Sink, Stream};
 use std::alloc::Global;
 use std::process::Abort;
 

@@ -1,7 +1,7 @@
 use Rattle.std.proofs.Common.{[], refl, subst, inl, inr, rules}
 use Rattle.rt_base.specs.Noted.{Adds}
-use Rattle.rt_noting.proofs.NotingLemmas.{adds-none, adds-both}
-use Rattle.rt_noting.proofs.noting.NotingNetwork.poll_send.Goals as goal
+use Rattle.rt_fixtures.proofs.NotingLemmas.{adds-none, adds-both}
+use Rattle.rt_fixtures.proofs.noting.NotingNetwork.poll_send.Goals as goal
 
 pub returns-in_err-endings-clause-gives : goal.returns-in_err-endings-clause-gives
 returns-in_err-endings-clause-gives g c = ([], adds-none _ _ (search rules), inr ((search rules), refl, refl, refl))

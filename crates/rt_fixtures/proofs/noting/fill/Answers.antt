@@ -1,6 +1,6 @@
 use Rattle.std.proofs.Common.{◌≡◌, ◌+◌, ◌≤◌, length, vec_len, vec_capacity, arith, rules}
-use Rattle.rt_noting.proofs.NotingLemmas.{chunk-fits}
-use Rattle.rt_noting.proofs.noting.fill.Goals as goal
+use Rattle.rt_fixtures.proofs.NotingLemmas.{chunk-fits}
+use Rattle.rt_fixtures.proofs.noting.fill.Goals as goal
 
 pub unreachable-requires : goal.unreachable-requires
 unreachable-requires c =

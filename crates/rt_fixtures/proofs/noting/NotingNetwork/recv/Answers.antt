@@ -1,9 +1,9 @@
 use Rattle.std.proofs.Common.{[], ◌∷◌, ◌++◌, refl, ap, inl, inr, rules}
 use Rattle.std.specs.Prelude.{codes}
 use Rattle.rt_base.specs.Noted.{Happened}
-use Rattle.rt_noting.specs.Noting.{named, receipt}
-use Rattle.rt_noting.proofs.NotingLemmas.{adds-none, adds-around, closing-same}
-use Rattle.rt_noting.proofs.noting.NotingNetwork.recv.Goals as goal
+use Rattle.rt_fixtures.specs.Noting.{named, receipt}
+use Rattle.rt_fixtures.proofs.NotingLemmas.{adds-none, adds-around, closing-same}
+use Rattle.rt_fixtures.proofs.noting.NotingNetwork.recv.Goals as goal
 
 pub returns-in_err-room-clause-gives : goal.returns-in_err-room-clause-gives
 returns-in_err-room-clause-gives g c = ([], adds-none _ _ refl, inr ((search rules), refl, refl, refl))

@@ -1,6 +1,6 @@
 use Rattle.std.proofs.Common.{[], refl, inl, inr, rules}
-use Rattle.rt_noting.proofs.NotingLemmas.{adds-none, adds-around}
-use Rattle.rt_noting.proofs.noting.NotingNetwork.send.Goals as goal
+use Rattle.rt_fixtures.proofs.NotingLemmas.{adds-none, adds-around}
+use Rattle.rt_fixtures.proofs.noting.NotingNetwork.send.Goals as goal
 
 pub returns-in_default-clause-gives : goal.returns-in_default-clause-gives
 returns-in_default-clause-gives g c = ([], adds-none _ _ (search rules), inr (refl, refl, refl, refl, refl, refl))

@@ -5,7 +5,7 @@
 ghost use Rattle.std.specs.Prelude.{◌≡◌, ◌+◌, ◌*◌, ◌≤◌, ◌<◌, IfOk, OnOk, OnErr, ◌∷◌, ◌++◌, [], length, vec_capacity};
 ghost use Rattle.rt_base.specs.Noted.{Adds, Happened};
 ghost use Rattle.rt_net.specs.Asked.{HasLength};
-ghost use Rattle.rt_noting.specs.Noting.{named, refusal, ending, closing_event, receipt, count_if_ok, bytes_in, with_taken, KnowDialer};
+ghost use Rattle.rt_fixtures.specs.Noting.{named, refusal, ending, closing_event, receipt, count_if_ok, bytes_in, with_taken, KnowDialer};
 
 use rt_base::{Addr, Env, Error, Event, Items, NoMemory, Poll, Text};
 use rt_bufs::{IoBuf, IoBufs};
@@ -264,7 +264,7 @@ impl<N: Network> Network for Noting<N> {
     ghost use Rattle.std.specs.Prelude.{◌≡◌, ◌+◌, ◌⊎◌, codes, List, [], ◌∷◌, ◌++◌, Err, None, IfOk, length};
     ghost use Rattle.rt_base.specs.declared.error.Error.TheVariants.{NoMemory};
     ghost use Rattle.rt_base.specs.Noted.{Noted, Happened};
-    ghost use Rattle.rt_noting.specs.Noting.{around, followed, ending, outcome, counted_bytes, count_if_ok, receipt_of, receipt_of_reply, count_with, count_with_reply, with_listener, with_halves, with_taken, KnowDialer};
+    ghost use Rattle.rt_fixtures.specs.Noting.{around, followed, ending, outcome, counted_bytes, count_if_ok, receipt_of, receipt_of_reply, count_with, count_with_reply, with_listener, with_halves, with_taken, KnowDialer};
 
     ghost refusals = { λ s. N.refusals s.inner };
 

@@ -1,9 +1,9 @@
 use Rattle.std.proofs.Common.{true, Some, ◌∷◌, ◌++◌, refl, ap, inl, rules}
 use Rattle.rt_base.specs.Noted.{Happened}
 use Rattle.std.specs.Prelude.{codes}
-use Rattle.rt_noting.specs.Noting.{named}
-use Rattle.rt_noting.proofs.NotingLemmas.{adds-around, closing-same}
-use Rattle.rt_noting.proofs.noting.NotingNetwork.bind.Goals as goal
+use Rattle.rt_fixtures.specs.Noting.{named}
+use Rattle.rt_fixtures.proofs.NotingLemmas.{adds-around, closing-same}
+use Rattle.rt_fixtures.proofs.noting.NotingNetwork.bind.Goals as goal
 
 pub returns-in-Ok-clause-gives : goal.returns-in-Ok-clause-gives
 returns-in-Ok-clause-gives g c =

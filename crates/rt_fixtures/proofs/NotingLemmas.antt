@@ -4,7 +4,7 @@ use Rattle.std.specs.List.{concat}
 use Rattle.std.proofs.lemmas.List.{append-nil, append_assoc, length-append}
 use Rattle.rt_base.specs.declared.event.Event.{Event}
 use Rattle.rt_base.specs.Noted.{Noted, Adds}
-use Rattle.rt_noting.specs.Noting.{closing_event}
+use Rattle.rt_fixtures.specs.Noting.{closing_event}
 
 -- nothing
 pub adds-none : (old new : Option (List Noted)) → new ≡ old → Adds old [] new

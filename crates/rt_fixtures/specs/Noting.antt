@@ -1,5 +1,4 @@
--- No public clause of a library of the product names these definitions. They say what the wrapper notes round the calls that
--- it passes on.
+-- What a network notes round each call that it passes on, and what it returns where it can't note that.
 use Rattle.std.specs.Prelude.{◌≡◌, ℕ, ◌+◌, ◌%◌, ◌^◌, Bool, true, false, List, [], ◌∷◌, ◌++◌, length, codes, Option, Some, None, Result, Ok, Err}
 use Rattle.rt_base.specs.declared.addr.Addr.{Addr}
 use Rattle.rt_base.specs.declared.error.Error.{Error}

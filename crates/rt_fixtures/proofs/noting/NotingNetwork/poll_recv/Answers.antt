@@ -1,8 +1,8 @@
 use Rattle.std.proofs.Common.{[], ◌++◌, refl, ap, subst, inl, inr, rules}
 use Rattle.rt_base.specs.Noted.{Adds}
-use Rattle.rt_noting.specs.Noting.{receipt}
-use Rattle.rt_noting.proofs.NotingLemmas.{adds-none, adds-both, closing-same}
-use Rattle.rt_noting.proofs.noting.NotingNetwork.poll_recv.Goals as goal
+use Rattle.rt_fixtures.specs.Noting.{receipt}
+use Rattle.rt_fixtures.proofs.NotingLemmas.{adds-none, adds-both, closing-same}
+use Rattle.rt_fixtures.proofs.noting.NotingNetwork.poll_recv.Goals as goal
 
 pub returns-in_err-room-clause-gives : goal.returns-in_err-room-clause-gives
 returns-in_err-room-clause-gives g c = ([], adds-none _ _ refl, inr ((search rules), refl, refl, refl))
