@@ -1,6 +1,6 @@
 //! Journals of runs that are drawn, are cut off, or have another order than that of numbers.
 
-/// The journals, each behind its head.
+/// The journals, each after its head.
 pub const OTHERS: &str = "\
 == stall begin | A root that wakes itself twice, waits, and ends since there is nothing to do. A draw shuffles its round.
 start 0 - 1000000 0

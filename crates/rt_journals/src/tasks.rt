@@ -1,6 +1,6 @@
 //! Journals of runs whose tasks spawn, join and abort others, panic and end.
 
-/// The journals, each behind its head.
+/// The journals, each after its head.
 pub const TASKS: &str = "\
 == made begin | The maker spawns a task, which has a smaller number than the root.
 start 0 - 1000000 0

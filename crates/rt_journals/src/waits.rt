@@ -1,6 +1,6 @@
 //! Journals of runs that sleep, and of slots and signals.
 
-/// The journals, each behind its head.
+/// The journals, each after its head.
 pub const WAITS: &str = "\
 == ready begin | A root that is ready at its first visit.
 start 0 - 1000000 0

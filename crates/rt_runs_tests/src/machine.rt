@@ -137,7 +137,7 @@ fn replays(rt: &impl Abort, alloc: Global, name: &str, begin: &str, text: &str) 
     }
 }
 
-/// Runs the journal behind its head again, under each of its beginnings.
+/// Runs the journal of a head again, under each of its beginnings.
 fn replays_under_each(rt: &impl Abort, alloc: Global, block: &'static str) {
     let Some((name, begins, text)) = parts_of(block) else {
         panic!(rt; "{block}");

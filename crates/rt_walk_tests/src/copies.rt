@@ -1,6 +1,6 @@
 // Changes of one line of a journal, by each of which the copy is refused at that line.
 
-/// For each journal, by its name behind `=`: the place of an entry, what becomes of its line, the line that is there or before it
+/// For each journal, by its name after `=`: the place of an entry, what becomes of its line, the line that is there or before it
 /// then, and what is wrong. A line that begins with `#` says what the ones below it are about.
 pub const COPIES: &str = "\
 = ready
@@ -43,12 +43,12 @@ pub const COPIES: &str = "\
 9 missing | a task that doesn't end
 9 instead answer 1 ended | the end of another task
 10 before call 0 wake 0 -> ok | a call of a dead task
-10 before call - wake 0 -> ok | a call by nobody behind the last end
+10 before call - wake 0 -> ok | a call by nobody after the last end
 10 missing | no crash
 10 instead crash k | a crash with a choice
 11 instead finish timeout | a wrong cause
 12 before cleanup | an entry after the finish
-10 before call - sleep-poll 5 -> pending 0 | a sleep of nobody behind the last end
+10 before call - sleep-poll 5 -> pending 0 | a sleep of nobody after the last end
 = sleep
 # Over a root that sleeps: its sleep, and the clock.
 5 instead call 1 sleep-poll 10000000 -> pending 0 | a call by another task
@@ -88,7 +88,7 @@ pub const COPIES: &str = "\
 7 instead call 0 wake 1 -> ok | a wake of a task that isn't there
 7 instead call 0 wake 1 -> err 2 | a wake that is refused for another reason
 13 instead round 0 | a round with a number once that was woken twice
-14 before draw 7 | a draw behind its round
+14 before draw 7 | a draw after its round
 20 before visit 0 | a third visit of two
 17 before advance 2000000 | a round that passes over a task that runs
 = made
@@ -121,10 +121,10 @@ pub const COPIES: &str = "\
 9 instead answer 0 ready | a second answer
 9 instead visit 1 | a visit before the task has ended
 9 instead cleanup | a cleanup before the task has ended
-11 instead call 0 wake 1 -> ok | a call behind the end of its state
-11 instead visit 1 | a visit behind the end of its state
-11 instead cleanup | a cleanup behind the end of its state
-12 instead visit 0 | a visit of it behind the end of its node
+11 instead call 0 wake 1 -> ok | a call after the end of its state
+11 instead visit 1 | a visit after the end of its state
+11 instead cleanup | a cleanup after the end of its state
+12 instead visit 0 | a visit of it after the end of its node
 12 instead answer 0 ended | a second end of its state
 12 instead advance 1000000 | an advance before the round is over
 9 instead call - close-node 2 -> ok | a close by nobody at the task's end
@@ -140,7 +140,7 @@ pub const COPIES: &str = "\
 18 instead wake 1 | a wake in place of the node's end
 23 instead call 0 join 1 -> pending | a pending join of a task that is over
 23 instead call 0 join 1 -> err 1 | a panic that nobody reported
-24 instead call 0 join 1 -> ready | a result that is told twice
+24 instead call 0 join 1 -> ready | a result that is returned twice
 = stops
 # Over a task that aborts itself and is left pending.
 5 instead call 0 abort-task 0 -> ok | an abort of the root by its number
@@ -150,6 +150,7 @@ pub const COPIES: &str = "\
 19 missing | a task whose own number isn't queued
 20 missing | a joiner that isn't woken
 22 instead round 0 | a round without the stopped task
+22 instead round 1 1 | a round with a number twice in place of another
 23 instead visit 1 | a visit of the stopped task
 25 instead call 0 join 1 -> ready | a result of the stopped task
 25 instead call 0 join 1 -> pending | a pending join of the stopped task
@@ -164,7 +165,7 @@ pub const COPIES: &str = "\
 43 missing | a child whose number isn't queued
 43 instead wake 2 | the number of a task that goes on in place of the child's
 45 instead round 0 3 | a round without the parent
-52 instead visit 1 | a visit of the parent behind its end
+52 instead visit 1 | a visit of the parent after its end
 54 instead answer 3 pending | a poll of the child
 55 instead answer 3 pending | a child that goes on
 56 instead nodeend 5 | the end of a node that has ended before
@@ -189,8 +190,8 @@ pub const COPIES: &str = "\
 = root-panic
 # Over a panic of the root.
 6 before answer 0 ended | an end of the root in its visit
-6 before call 0 wake 0 -> ok | a call behind the panic
-6 before advance 1000000 | an advance behind the panic
+6 before call 0 wake 0 -> ok | a call after the panic
+6 before advance 1000000 | an advance after the panic
 11 instead finish ok | a finish as if nobody panicked
 = cut
 # Over a run that is cut off before its first round.
@@ -209,17 +210,17 @@ pub const COPIES: &str = "\
 17 missing | a second wake that is missing
 18 missing | a node that doesn't end
 20 instead round 0 | a round with a number once that was woken twice
-23 instead answer 0 ready | a root that is ready behind a panic
-23 instead answer 0 pending | a root that is pending behind a panic
-23 instead call 0 join 1 -> err 1 | a poll of the root behind a panic
-24 instead visit 0 | a visit behind a panic
+23 instead answer 0 ready | a root that is ready after a panic
+23 instead answer 0 pending | a root that is pending after a panic
+23 instead call 0 join 1 -> err 1 | a poll of the root after a panic
+24 instead visit 0 | a visit after a panic
 30 instead finish ok | a wrong cause
 = refused
 # Over calls that are refused or come too late.
-5 instead call 0 child 0 runtimes -> err label | a reserved label that is told to be bad
+5 instead call 0 child 0 runtimes -> err label | a reserved label that is refused as bad
 5 instead call 0 child 0 runtimes -> node 1 | a reserved label that is taken
-6 instead call 0 child 0 9a -> err reserved | a bad label that is told to be reserved
-6 instead call 0 child 0 9a -> err 12 | a bad label that is told to be an unknown context
+6 instead call 0 child 0 9a -> err reserved | a bad label that is refused as reserved
+6 instead call 0 child 0 9a -> err 12 | a bad label that is refused as an unknown context
 7 instead call 0 child 1 9a -> err label | a bad label on a context that isn't there
 8 instead call 0 spawn 1 -> err 13 | too many tasks on a context that isn't there
 9 instead call 0 abort-task 9 -> ok | an abort of a task that isn't there
@@ -244,7 +245,7 @@ pub const COPIES: &str = "\
 3 instead root 18446744073709551615 | the greatest number for the root
 8 instead call 18446744073709551613 spawn 4 -> err 13 | too many tasks on a context that isn't there
 9 instead call 18446744073709551613 spawn 3 -> task 18446744073709551615 node 4 | the greatest number for a task
-11 instead call 18446744073709551613 spawn 3 -> err 13 | a spent context that is told of too many tasks
+11 instead call 18446744073709551613 spawn 3 -> err 13 | a spent context that is refused for too many tasks
 18 instead call 18446744073709551614 wake 18446744073709551615 -> ok | a wake of the greatest number
 = no-number
 # Over a maker that leaves no number for the root.
@@ -274,26 +275,26 @@ pub const COPIES: &str = "\
 12 instead call 0 slot-poll 0 -> err 3 | an abort of a wait that goes on
 12 instead call 0 slot-poll 5 -> pending | a wait for a slot that isn't there
 16 instead call 0 slot-poll 3 -> pending | a wait for a slot that was given up
-16 instead call 0 slot-poll 3 -> err 2 | a slot that was given up and is told to be closed
+16 instead call 0 slot-poll 3 -> err 2 | a slot that was given up and is refused as closed
 39 instead call 0 slot-poll 0 -> pending | a wait for what was sent
-40 instead call 0 slot-poll 0 -> ready | a value that is told twice
+40 instead call 0 slot-poll 0 -> ready | a value that is returned twice
 41 instead call 0 slot-poll 1 -> err 3 | an abort of a wait that nobody aborted
-42 instead call 0 slot-poll 2 -> ready | a value behind an abort
-44 instead call 0 slot-poll 4 -> pending | a wait for an error that was told
-46 instead call 0 slot-poll 4 -> err 7 | an error that is told behind the giving up
+42 instead call 0 slot-poll 2 -> ready | a value after an abort
+44 instead call 0 slot-poll 4 -> pending | a wait for an error that was returned
+46 instead call 0 slot-poll 4 -> err 7 | an error that is returned after the giving up
 = slots
 # Over slots: what is done to them, and whom it wakes.
 22 instead call 1 slot-send 5 -> ok | a send into a slot that isn't there
 23 missing | a receiver that isn't woken by a send
 23 instead wake 1 | a wake of the sender in place of the receiver
 24 before call 1 slot-send 0 -> ok | a second send
-24 before call 1 slot-close 0 -> ok | a close behind the send
+24 before call 1 slot-close 0 -> ok | a close after the send
 25 missing | a receiver that isn't woken by a close
 27 missing | a receiver that isn't woken by an abort
 28 before call 1 abort-wait 2 -> ok | a second abort of a wait
 29 before wake 0 | a wake for a slot that was given up
 30 before wake 0 | a wake for a slot that nobody waits for
-31 before wake 0 | a wake behind an abort
+31 before wake 0 | a wake after an abort
 46 before call 0 slot-give-up 4 -> ok | a second giving up
 41 instead call 0 slot-poll 1 -> pending | a wait for a slot that was closed
 = signals
@@ -308,15 +309,15 @@ pub const COPIES: &str = "\
 19 instead wake 0 | the wakes in the other order
 21 before wake 0 | the completion's wait is met by the value
 21 before call 1 signal 1 6 -> ok | a second value
-21 before call 1 signaler-close 1 -> ok | a signaler that is given up behind its value
+21 before call 1 signaler-close 1 -> ok | a signaler that is given up after its value
 21 instead call 1 signal-poll 1 -> ok 6 | another value
-21 instead call 1 signal-poll 1 -> pending | pending behind the value
+21 instead call 1 signal-poll 1 -> pending | pending after the value
 22 instead call 1 completion-poll 1 -> ok | a completion that is met with two open signals
 24 before call 1 completion-poll 1 -> ok | a completion that is met with an open signal
 24 before call 1 signal-close 2 -> ok | a second giving up of a signal
 24 before call 1 signal-poll 2 -> ok -5 | a poll of a signal that was given up
 25 missing | one who waits isn't woken by the last signal
-26 instead call 1 completion-poll 1 -> ready | a completion that is told ready
+26 instead call 1 completion-poll 1 -> ready | a completion that returns ready
 28 before call 1 completion-close 1 -> ok | a second giving up of a completion
 34 instead call 1 signal-poll 3 -> ok -5 | a value of a closed group
 34 instead call 1 signal-poll 3 -> pending | pending in a closed group
@@ -334,7 +335,7 @@ pub const COPIES: &str = "\
 16 instead call 1 stop 9 -> completion 3 | a completion of another number
 17 missing | one who waits isn't woken by the stop
 20 before wake 0 | a wake by the second stop
-21 instead call 1 stopped -> signal 4 | another signal behind the stop
+21 instead call 1 stopped -> signal 4 | another signal after the stop
 21 instead call 1 stopped -> closed -7 | the value of the second stop
 22 instead call 1 completion-poll 2 -> ok | a completion that is met with an open signal
 29 instead call 0 signal-poll 1 -> ok -7 | the second stop's value is shown
@@ -353,7 +354,7 @@ pub const COPIES: &str = "\
 8 before event rand next_u64 | two events before a draw
 10 instead call 0 fill 3 -> 0007 | one byte too few
 10 instead call 0 fill 3 -> number 7 | a number where bytes were drawn
-12 instead call 0 auditor -> 01020304 | a digest behind the event of a draw
+12 instead call 0 auditor -> 01020304 | a digest after the event of a draw
 13 instead call 0 auditor -> 010203 | a digest of three bytes
 17 missing | a draw at the end without its event
 = late-signals
@@ -369,10 +370,10 @@ pub const COPIES: &str = "\
 = polled-and-aborted
 # Over a task that is aborted after its first poll, and one before.
 20 instead answer 2 ready | a poll of a task that was aborted before its first
-32 instead answer 1 ready | a poll of a task that was aborted behind its first
+32 instead answer 1 ready | a poll of a task that was aborted after its first
 = sent-and-aborted
 # Over a wait that is aborted after the send.
-10 instead call 0 slot-poll 0 -> ready | what was sent, behind an abort of the wait
+10 instead call 0 slot-poll 0 -> ready | what was sent, after an abort of the wait
 = stops-itself
 # Over a root that stops its own run twice.
 20 instead call 0 signal-poll 1 -> ok 7 | the second stop's value is shown to who stopped

@@ -6,7 +6,7 @@ use std::alloc::Global;
 /// A piece of a journal.
 pub enum Piece {
     Once(&'static str),
-    /// For each number, which stands in the place of a `#`.
+    /// For each number, which replaces each `#`.
     Each(&'static str),
 }
 

@@ -19,7 +19,7 @@ use std::test::Fail;
 enum Change {
     Missing,
     Instead(&'static str),
-    /// It stands behind this line.
+    /// This line comes before it.
     Before(&'static str),
 }
 
@@ -42,7 +42,7 @@ fn changed(
     Ok(lines)
 }
 
-/// The place of the first line that may not come where it stands.
+/// The place of the first entry that may not come where it is.
 fn first_of(
     alloc: Global,
     begin: Begin,
@@ -132,7 +132,7 @@ fn is_lawful(rt: &impl Abort, alloc: Global, begin: &str, text: &str) -> bool {
     front.expect(rt, "lines of a journal").is_none()
 }
 
-/// Takes a journal behind its head, under each of its beginnings.
+/// Takes a journal with its head, under each of its beginnings.
 fn is_lawful_under_each(rt: &impl Abort, alloc: Global, block: &'static str) {
     let (name, begins, lines) = read(rt, block, parts_of(block));
     for begin in begins.split(' ') {
@@ -149,7 +149,7 @@ fn whole_journals_and_their_fronts(rt: HostRuntime) {
     }
 }
 
-/// The first line of a journal with this change that may not come where it stands.
+/// The place of the first entry of a journal with this change that may not come where it is.
 fn first_changed(
     alloc: Global,
     begin: Begin,
@@ -172,7 +172,7 @@ fn is_refused(rt: &impl Abort, alloc: Global, name: &str, row: &'static str) -> 
     first.expect(rt, "lines of a journal") == Some(at)
 }
 
-/// Takes the copies of a journal, whose name stands before them.
+/// Takes the copies of a journal, whose name comes before them.
 fn refuses_each(rt: &impl Abort, alloc: Global, copies: &'static str) {
     if let Some((name, rows)) = copies.split_once('\n') {
         for row in rows.lines() {
@@ -193,7 +193,7 @@ fn damaged_copies(rt: HostRuntime) {
 /// Journals that follow one another, how each of their runs begins, a change, the place of the entry that is refused, and what
 /// that shows.
 ///
-/// A change allows or makes something of a later line. A run behind a completed one goes by the next beginning, from its own
+/// A change allows or makes something of a later line. A run after a completed one goes by the next beginning, from its own
 /// state: its root has its own number, and no alarm of the run before is set.
 const WALKS: &str = "\
 sleep | begin | 5 instead call 0 sleep-poll 9223372036854775807999999999 -> pending 0 | 8 | a skip to before the last moment
@@ -212,13 +212,13 @@ ready sleep late | begin begin timed | 12 missing | 12 | the start of the second
 ready sleep late | begin begin timed | 34 missing | 34 | the start of the third is missing
 ready sleep late | begin begin | - | 34 | a third run that nothing begins
 ready | begin timed | - | - | a beginning that no run has
-late ready | timed begin | - | 15 | a run behind one that failed
-stall ready | begin begin | - | 26 | a run behind one that stalled
+late ready | timed begin | - | 15 | a run after one that failed
+stall ready | begin begin | - | 26 | a run after one that stalled
 ready | begin | 5 before call 0 sleep-poll 0 -> ready | - | a sleep that is over at once
 refused | begin | 6 before call 0 child 0  -> err label | - | an empty label, which is bad
 signals | begin | 24 before call 1 completion-poll 1 -> pending | - | a completion with one of two signals open
 aborts | begin | 24 before call 0 join 1 -> err 2 | - | a second join, which is refused
-caught | catching | 22 before answer 0 pending | 23 | a root that is pending behind a caught panic
+caught | catching | 22 before answer 0 pending | 23 | a root that is pending after a caught panic
 unmade | begin | 1 before call - auditor -> 00000001 | - | another digest, of which no entry says that it's wrong";
 
 /// The lines of these journals, with a change.
@@ -234,7 +234,7 @@ fn lines_in(
     }
 }
 
-/// The place of the first line that may not come where it stands, in runs that begin so.
+/// The place of the first entry that may not come where it is, in runs that begin so.
 fn first_in(alloc: Global, begins: &[Begin], lines: &[&str]) -> Result<Option<usize>, Unread> {
     match begins.split_first() {
         Some((begin, later)) => first_of(alloc, *begin, later, lines),
@@ -288,7 +288,7 @@ const MANY: &[(&[Piece], u64, u64, usize)] = &[
     (MANY_TASKS, 1, 1001, 9014),
 ];
 
-/// How many entries a journal has, and the first that may not come where it stands.
+/// How many entries a journal has, and the first that may not come where it is.
 fn entries_and_first(alloc: Global, text: &str) -> Result<(usize, Option<usize>), Unread> {
     let entries = entries_in(alloc, text)?;
     let count = entries.len();
