@@ -1,7 +1,6 @@
 // Calls of a context that a maker is handed. They are made in a world of their own, so that nothing has to be said of them in
 // advance, and the lines of its journal are compared.
 
-ghost use Rattle.std.specs.Prelude.{◌≡◌};
 ghost use Rattle.rt_model.specs.Rules.{MayCall};
 ghost use Rattle.rt_world.specs.Calls.{Kept};
 
