@@ -3,9 +3,9 @@ use Rattle.std.proofs.Common.{◌≡◌, ◌-◌, ◌^◌, ℕ, List, [], ◌∷
 use Rattle.rt_base.specs.declared.error.Error.{Error}
 use Rattle.rt_base.specs.declared.error.Error.TheVariants.{UnknownToken, TooManyTasks}
 use Rattle.rt_audit.specs.declared.call.Call.{Call}
-use Rattle.rt_audit.specs.declared.call.Call.TheVariants.{Child, CloseNode, Spawn, Abort, AbortTask, Wake as WakeCall, GiveUp, SleepPoll, Slot, SlotSend, SlotClose, SlotGiveUp, AbortWait, Signaler, Signal, SignalClose, SignalerClose, CompletionClose, Stop, NextU32, NextU64, FillBytes, Auditor}
+use Rattle.rt_audit.specs.declared.call.Call.TheVariants.{Child, Spawn}
 use Rattle.rt_audit.specs.declared.reply.CallReply.{CallReply}
-use Rattle.rt_audit.specs.declared.reply.CallReply.TheVariants.{Done, NodeAt, TaskAt, Closed, SlotAt, SignalAt, CompletionAt, PendingAt, Ready as IsOver, Number, Bytes, Refused}
+use Rattle.rt_audit.specs.declared.reply.CallReply.TheVariants.{NodeAt, TaskAt, Closed, Refused}
 use Rattle.rt_audit.specs.declared.answer.AnswerKind.{AnswerKind}
 use Rattle.rt_audit.specs.declared.answer.AnswerKind.TheVariants.{Pending as IsPending, Ready as IsReady, Panicked as IsPanicked, NoMemory as LacksMemory}
 use Rattle.rt_audit.specs.declared.entry.Entry.{Entry}
@@ -41,30 +41,6 @@ module _ (drawn : List Drawn) (s : State) where
   answers-so : (call : Call) (reply : CallReply) → Answers (as_if drawn s) call reply → Answers s call reply
   answers-so (Child node label) reply a = child-so (not (is_live s.nodes node)) UnknownToken node label reply a
   answers-so (Spawn node) reply a = spawn-so (not (is_free s.nodes node)) (leb (2 ^ 64 - 1) s.numbers.next) UnknownToken TooManyTasks node reply a
-  answers-so (CloseNode node) Done a = a
-  answers-so (Abort task) Done a = a
-  answers-so (AbortTask task) Done a = a
-  answers-so (AbortTask task) (Refused error) a = a
-  answers-so (GiveUp task) Done a = a
-  answers-so (WakeCall task) Done a = a
-  answers-so (WakeCall task) (Refused error) a = a
-  answers-so (SleepPoll due) IsOver a = a
-  answers-so (SleepPoll due) (PendingAt alarm) a = a
-  answers-so Slot (SlotAt slot) a = a
-  answers-so (SlotSend slot) Done a = a
-  answers-so (SlotClose slot) Done a = a
-  answers-so (SlotGiveUp slot) Done a = a
-  answers-so (AbortWait slot) Done a = a
-  answers-so Signaler (SignalAt signal) a = a
-  answers-so (Signal signaler value) Done a = a
-  answers-so (SignalClose signal) Done a = a
-  answers-so (SignalerClose signaler) Done a = a
-  answers-so (CompletionClose completion) Done a = a
-  answers-so (Stop value) (CompletionAt completion) a = a
-  answers-so NextU32 (Number number) a = a
-  answers-so NextU64 (Number number) a = a
-  answers-so (FillBytes len) (Bytes bytes) a = a
-  answers-so Auditor (Bytes bytes) a = a
   answers-so _ _ a = a
 
   event-so : (p : Phase) (label : List ℕ) (fields : List (List ℕ)) → MayEvent p (as_if drawn s) label fields → MayEvent p s label fields

@@ -1,5 +1,5 @@
 -- What an auditor's answer tells.
-use Rattle.std.proofs.Common.{◌≡◌, ◌≢◌, ℕ, List, [], ◌∷◌, ◌++◌, Option, Some, None, length, refl}
+use Rattle.std.proofs.Common.{◌≡◌, ◌≢◌, ℕ, List, [], ◌∷◌, ◌++◌, Option, Some, length, refl}
 use Rattle.rt_base.specs.declared.error.Error.{Error}
 use Rattle.rt_audit.specs.Crc32c.{bit_step, bit_steps}
 use Rattle.rt_audit.specs.Digest.{first_digest, fields_digest}
@@ -9,14 +9,12 @@ use Rattle.rt_audit.specs.declared.call.Call.TheVariants.{Auditor}
 use Rattle.rt_audit.specs.declared.reply.CallReply.{CallReply}
 use Rattle.rt_audit.specs.declared.reply.CallReply.TheVariants.{Bytes, Refused}
 use Rattle.rt_audit.specs.declared.entry.Entry.{Entry}
-use Rattle.rt_audit.specs.declared.entry.Entry.TheVariants.{Start, Call}
+use Rattle.rt_audit.specs.declared.entry.Entry.TheVariants.{Call}
 use Rattle.rt_model.specs.Digests.{AreDigested}
-use Rattle.rt_model.specs.State.{State, begun}
-use Rattle.rt_model.specs.Effects.{after}
-use Rattle.rt_model.specs.Rules.{Answers, IsLawful}
+use Rattle.rt_model.specs.State.{State}
+use Rattle.rt_model.specs.Rules.{Answers}
 use Rattle.rt_model.proofs.Append.{AreDigested-append}
-use Rattle.rt_laws.specs.Examples.{small_begin, opening, visiting_root}
-use Rattle.rt_laws.proofs.Decided.{lawful}
+use Rattle.rt_laws.specs.Examples.{opening, visiting_root}
 
 pub only_digest : (digest bytes : List ℕ) (x y : List Entry) (by : Option ℕ) → AreDigested digest (x ++ Call by Auditor (Bytes bytes) ∷ y) → bytes ≡ digest_from digest x
 only_digest digest bytes [] y by d = d.0
@@ -24,10 +22,6 @@ only_digest digest bytes (e ∷ x) y by d = only_digest (digest_after digest e) 
 
 pub that_digest : (digest : List ℕ) (x : List Entry) (by : Option ℕ) → AreDigested digest x → AreDigested digest (x ++ Call by Auditor (Bytes (digest_from digest x)) ∷ [])
 that_digest digest x by d = AreDigested-append digest x (Call by Auditor (Bytes (digest_from digest x)) ∷ []) d (refl, tt)
-
-pub other_bytes : IsLawful (begun small_begin) (Start 0 0 None 1000000 ∷ Call None Auditor (Bytes (0 ∷ 0 ∷ 0 ∷ 1 ∷ [])) ∷ [])
-unfolding begun after
-other_bytes = lawful small_begin (Start 0 0 None 1000000 ∷ Call None Auditor (Bytes (0 ∷ 0 ∷ 0 ∷ 1 ∷ [])) ∷ []) refl
 
 pub visit_told : AreDigested first_digest (opening ++ visiting_root ++ (Call (Some 0) Auditor (Bytes (50 ∷ 255 ∷ 208 ∷ 192 ∷ [])) ∷ []))
 unfolding fields_digest bit_step bit_steps framed_field

@@ -96,33 +96,11 @@ answer _ _ = None
 
 module _ {A O : Type 0} where
   abbrev plainly : (held : Held A O) (call : Call) (reply : CallReply) → Option (IsPlainly held.sent call reply)
-  plainly held (Child node label) reply = Some tt
-  plainly held (CloseNode node) reply = Some tt
-  plainly held (Abort task) reply = Some tt
-  plainly held (AbortTask task) reply = Some tt
-  plainly held (WakeCall task) reply = Some tt
-  plainly held (Join task) reply = Some tt
-  plainly held (GiveUp task) reply = Some tt
-  plainly held Slot reply = Some tt
-  plainly held (SlotClose slot) reply = Some tt
+  plainly held (Spawn node) reply = None
+  plainly held (SleepPoll due) reply = None
+  plainly held (SlotSend slot) reply = None
   plainly held (SlotPoll slot) reply = answer (find slot held.sent) reply
-  plainly held (SlotGiveUp slot) reply = Some tt
-  plainly held (AbortWait slot) reply = Some tt
-  plainly held Signaler reply = Some tt
-  plainly held (CloneSignal signal) reply = Some tt
-  plainly held (Signal signaler value) reply = Some tt
-  plainly held (SignalPoll signal) reply = Some tt
-  plainly held (SignalClose signal) reply = Some tt
-  plainly held (SignalerClose signaler) reply = Some tt
-  plainly held (CompletionPoll completion) reply = Some tt
-  plainly held (CompletionClose completion) reply = Some tt
-  plainly held (Stop value) reply = Some tt
-  plainly held StoppedCall reply = Some tt
-  plainly held NextU32 reply = Some tt
-  plainly held NextU64 reply = Some tt
-  plainly held (FillBytes len) reply = Some tt
-  plainly held Auditor reply = Some tt
-  plainly held call reply = None
+  plainly held _ reply = Some tt
 
   abbrev fits : (held : Held A O) (ask : Ask A O) (t : Turn) → Option (Fits held ask t)
   fits held (Plainly call) t = plainly held call t.reply

@@ -1,5 +1,5 @@
 -- What a part made before it lacked memory.
-use Rattle.std.proofs.Common.{◌≡◌, ◌⊎◌, inl, inr, ℕ, List, [], ◌∷◌, ◌++◌, Some, Result, false, true, refl, sym, ap, ◌∙◌}
+use Rattle.std.proofs.Common.{◌≡◌, ◌⊎◌, inl, inr, ℕ, List, [], ◌∷◌, ◌++◌, Some, None, Result, false, true, refl, sym, ap, ◌∙◌}
 use Rattle.rt_base.specs.declared.error.Error.{Error}
 use Rattle.rt_base.specs.declared.execution.Execution.TheVariants.{Shared}
 use Rattle.rt_audit.specs.declared.answer.AnswerKind.TheVariants.{NoMemory as LacksMemory, Ended}
@@ -19,7 +19,7 @@ use Rattle.rt_model.specs.Tied.{Value, nothing, IsTied, taken}
 use Rattle.rt_model.specs.Run.{IsCutOff}
 use Rattle.rt_model.proofs.Append.{IsTied-append}
 use Rattle.rt_laws.specs.Examples.{small_begin, opening, visiting_root, finishing}
-use Rattle.rt_laws.specs.Supervised.{Aborting, Parent, Joining, Aborter, aborting_root, aborting_next, aborter_spawned, joiner_ends, lacking_join}
+use Rattle.rt_laws.specs.Supervised.{Aborting, Parent, Joining, Aborter, aborting_root, aborting_next, aborter_spawned, joiner_ends, lacking_join, beside_journal}
 use Rattle.rt_laws.specs.Slotting.{sending_root, slot_ready, send_lacks, sending_journal}
 use Rattle.rt_laws.proofs.Decided.{lawful}
 use Rattle.rt_laws.proofs.Followed.{tied}
@@ -153,3 +153,20 @@ module _ (sent : Result ℕ Error) where
           tied p (after s (Answered 0 LacksMemory)) broken end rest refl,
         );
       }
+
+-- while the root waits for its task, whose poll lacks memory
+
+beside-lawful : IsLawful (begun small_begin) beside_journal
+unfolding begun after
+beside-lawful = lawful small_begin beside_journal refl
+
+pub lacks_beside : IsCutOff (aborting_root Pending) small_begin beside_journal
+unfolding begun after
+lacks_beside =
+    let value : Value Aborting ℕ = record { held = record { tasks = []; results = []; sent = []; executions = (1, Shared false) ∷ [] }; output = None; panic = None; unmade = None; whole = false } in
+    record {
+      value = value;
+      lawful = beside-lawful;
+      ends = refl;
+      tied = tied (aborting_root Pending) (begun small_begin) nothing value beside_journal refl;
+    }

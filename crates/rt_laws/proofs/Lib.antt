@@ -20,10 +20,8 @@ pub mod Grouped
 pub mod Handed
 pub mod Endings
 pub mod Ends
-pub mod Kindred
 pub mod Lacked
 pub mod Misses
-pub mod Nearby
 pub mod Nodes
 pub mod Numbers
 pub mod OneTask
@@ -38,7 +36,6 @@ pub mod Runs
 pub mod Same
 pub mod Signals
 pub mod Small
-pub mod Spawned
 pub mod Stands
 pub mod Starts
 pub mod Stays

@@ -1,28 +1,26 @@
 -- A root that receives what it sends by a slot, and what comes near to its run is none.
 use Rattle.std.proofs.Common.{◌≡◌, ℕ, List, [], ◌∷◌, ◌++◌, Some, Result, Ok, Err, true, refl}
 use Rattle.rt_base.specs.declared.error.Error.{Error}
-use Rattle.rt_base.specs.declared.error.Error.TheVariants.{Closed, Aborted, Timeout}
-use Rattle.rt_audit.specs.declared.call.Call.TheVariants.{Slot, SlotSend, SlotClose, SlotPoll, SlotGiveUp, AbortWait}
+use Rattle.rt_base.specs.declared.error.Error.TheVariants.{Closed, Timeout}
+use Rattle.rt_audit.specs.declared.call.Call.TheVariants.{SlotGiveUp}
 use Rattle.rt_audit.specs.declared.reply.CallReply.{CallReply}
-use Rattle.rt_audit.specs.declared.reply.CallReply.TheVariants.{Done, SlotAt, Pending as StillPending, Ready as IsReady, Refused}
+use Rattle.rt_audit.specs.declared.reply.CallReply.TheVariants.{Done, Ready as IsReady, Refused}
 use Rattle.rt_audit.specs.declared.finish.FinishCause.{FinishCause}
 use Rattle.rt_audit.specs.declared.finish.FinishCause.TheVariants.{Completed}
 use Rattle.rt_audit.specs.declared.entry.Entry.{Entry}
-use Rattle.rt_audit.specs.declared.entry.Entry.TheVariants.{Call, Wake, Answer as Answered, Advance}
-use Rattle.rt_audit.specs.declared.answer.AnswerKind.TheVariants.{Pending, Ready as AnswersReady}
+use Rattle.rt_audit.specs.declared.entry.Entry.TheVariants.{Call, Answer as Answered}
+use Rattle.rt_audit.specs.declared.answer.AnswerKind.TheVariants.{Ready as AnswersReady}
 use Rattle.rt_model.specs.State.{State, begun}
 use Rattle.rt_model.specs.Effects.{after, after_all}
-use Rattle.rt_model.specs.Rules.{IsLawful}
 use Rattle.rt_model.specs.Lists.{find}
 use Rattle.rt_model.specs.Turns.{IsAnswerOf}
 use Rattle.rt_model.specs.Tied.{Value, IsTied, nothing}
 use Rattle.rt_model.specs.Run.{IsRun}
-use Rattle.rt_laws.specs.Examples.{small_begin, gave, opening, visiting_root, root_ends, finishing}
+use Rattle.rt_laws.specs.Examples.{small_begin, gave, root_ends, finishing}
 use Rattle.rt_laws.specs.Supervised.{without_value}
-use Rattle.rt_laws.specs.Slotting.{Mailer, Waiting, mailing_root, slot_polled, slot_sent, slot_received, slot_used, slot_aborted, mailing_journal}
+use Rattle.rt_laws.specs.Slotting.{Mailer, Waiting, mailing_root, slot_received, mailing_journal}
 use Rattle.rt_laws.proofs.Decided.{lawful}
 use Rattle.rt_laws.proofs.Followed.{tied}
-use Rattle.rt_laws.proofs.Small.{tail, told}
 use Rattle.rt_laws.proofs.Misses.{tied-front, tied-tail}
 use Rattle.rt_laws.proofs.Values.{all-whole, same_value, tied-same}
 
@@ -93,54 +91,3 @@ no_number_for_an_error cause end value r = let h = its-answer (Err Timeout) IsRe
 
 pub no_other_error : (cause : FinishCause) (end : State) (value : Value Mailer ℕ) → IsRun (mailing_root (Err Timeout)) small_begin (mailing_journal (Refused Closed)) cause end value → ⊥
 no_other_error cause end value r = let h = its-answer (Err Timeout) (Refused Closed) cause end value r in cc
-
-pub no_early_number : IsLawful (begun small_begin) (slot_polled IsReady) → ⊥
-unfolding begun after
-no_early_number l = let h = told (opening ++ visiting_root ++ (Call (Some 0) Slot (SlotAt 0) ∷ [])) (SlotPoll 0) IsReady l in cc
-
-pub no_missing_wake : IsLawful (begun small_begin) (slot_sent []) → ⊥
-unfolding begun after
-no_missing_wake l =
-    let h = (tail (slot_used (Call (Some 0) (SlotSend 0) Done ∷ [])) (Answered 0 Pending ∷ Advance 1000000 ∷ []) l).0.0 in
-    cc
-
-pub no_second_number : IsLawful (begun small_begin) (slot_received IsReady ++ (Call (Some 0) (SlotPoll 0) IsReady ∷ [])) → ⊥
-unfolding begun after
-no_second_number l = told (slot_received IsReady) (SlotPoll 0) IsReady l
-
-pub no_second_send : IsLawful (begun small_begin) (slot_used (Call (Some 0) (SlotSend 0) Done ∷ Wake 0 ∷ Call (Some 0) (SlotSend 0) Done ∷ [])) → ⊥
-unfolding begun after
-no_second_send l =
-    let h = told (slot_used (Call (Some 0) (SlotSend 0) Done ∷ Wake 0 ∷ [])) (SlotSend 0) Done l in
-    cc
-
-pub no_number_behind_an_abort : IsLawful (begun small_begin) (slot_aborted IsReady) → ⊥
-unfolding begun after
-no_number_behind_an_abort l =
-    told (slot_used (Call (Some 0) (SlotSend 0) Done ∷ Wake 0 ∷ Call (Some 0) (AbortWait 0) Done ∷ [])) (SlotPoll 0) IsReady l
-
-pub no_wait_behind_a_close : IsLawful (begun small_begin) (slot_used (Call (Some 0) (SlotClose 0) Done ∷ Wake 0 ∷ Call (Some 0) (SlotPoll 0) StillPending ∷ [])) → ⊥
-unfolding begun after
-no_wait_behind_a_close l = told (slot_used (Call (Some 0) (SlotClose 0) Done ∷ Wake 0 ∷ [])) (SlotPoll 0) StillPending l
-
--- what they come near to
-
-pub pending_poll : IsLawful (begun small_begin) (slot_polled StillPending)
-unfolding begun after
-pending_poll = lawful small_begin (slot_polled StillPending) refl
-
-pub its_wake : IsLawful (begun small_begin) (slot_sent (Wake 0 ∷ []))
-unfolding begun after
-its_wake = lawful small_begin (slot_sent (Wake 0 ∷ [])) refl
-
-pub closed_poll : IsLawful (begun small_begin) (slot_received IsReady ++ (Call (Some 0) (SlotPoll 0) (Refused Closed) ∷ []))
-unfolding begun after
-closed_poll = lawful small_begin (slot_received IsReady ++ (Call (Some 0) (SlotPoll 0) (Refused Closed) ∷ [])) refl
-
-pub aborted_poll : IsLawful (begun small_begin) (slot_aborted (Refused Aborted))
-unfolding begun after
-aborted_poll = lawful small_begin (slot_aborted (Refused Aborted)) refl
-
-pub poll_behind_a_close : IsLawful (begun small_begin) (slot_used (Call (Some 0) (SlotClose 0) Done ∷ Wake 0 ∷ Call (Some 0) (SlotPoll 0) (Refused Closed) ∷ []))
-unfolding begun after
-poll_behind_a_close = lawful small_begin (slot_used (Call (Some 0) (SlotClose 0) Done ∷ Wake 0 ∷ Call (Some 0) (SlotPoll 0) (Refused Closed) ∷ [])) refl

@@ -1,44 +1,25 @@
 -- The near misses of the examples are no runs.
-use Rattle.std.proofs.Common.{◌≡◌, ◌≢◌, ◌<◌, inl, inr, ℕ, true, false, leb, List, [], ◌∷◌, ◌++◌, Some, None, refl, sym, ap, ◌∙◌, arith}
+use Rattle.std.proofs.Common.{◌≡◌, ◌≢◌, ◌<◌, inl, inr, ℕ, true, false, leb, List, [], ◌∷◌, ◌++◌, Some, refl, sym, ap, ◌∙◌, arith}
 use Rattle.rt_base.specs.declared.time.TheConstants.{MAX_TIME}
 use Rattle.rt_audit.specs.declared.call.Call.{Call as CallOf}
-use Rattle.rt_audit.specs.declared.call.Call.TheVariants.{SleepPoll}
 use Rattle.rt_audit.specs.declared.reply.CallReply.{CallReply}
-use Rattle.rt_audit.specs.declared.reply.CallReply.TheVariants.{PendingAt}
-use Rattle.rt_audit.specs.declared.answer.AnswerKind.TheVariants.{Pending as AnswersPending, Ready as AnswersReady, Ended}
+use Rattle.rt_audit.specs.declared.answer.AnswerKind.TheVariants.{Ready as AnswersReady, Ended}
 use Rattle.rt_audit.specs.declared.finish.FinishCause.{FinishCause}
 use Rattle.rt_audit.specs.declared.finish.FinishCause.TheVariants.{Completed, NoMemory}
 use Rattle.rt_audit.specs.declared.entry.Entry.{Entry}
-use Rattle.rt_audit.specs.declared.entry.Entry.TheVariants.{Call, Event, Visit, Answer as Answered, NodeEnd, Advance, Skip, Fire, Cleanup, Crash, Finish}
-use Rattle.rt_model.specs.Events.{process_task, task_fields}
+use Rattle.rt_audit.specs.declared.entry.Entry.TheVariants.{Call, Answer as Answered, NodeEnd, Advance, Skip, Fire, Cleanup, Crash, Finish}
 use Rattle.rt_model.specs.State.{State, begun}
 use Rattle.rt_model.specs.Effects.{after, after_all}
 use Rattle.rt_model.specs.Rules.{IsLawful}
 use Rattle.rt_model.specs.Tied.{Steps, Value, nothing, IsTied}
 use Rattle.rt_model.specs.Run.{IsRun}
-use Rattle.rt_laws.specs.Examples.{small_begin, ready_root, opening, visiting_root, still_asleep, awake, root_ends, finishing, stray_call, open_node, unanswered_poll, second_task, ordered, finished_for, called, fires_with, early_fire, early_sleep, skipped_journal}
+use Rattle.rt_laws.specs.Examples.{small_begin, ready_root, opening, visiting_root, still_asleep, awake, root_ends, finishing, open_node, ordered, finished_for, called, fires_with, early_fire, early_sleep, skipped_journal}
 use Rattle.rt_laws.proofs.Clock.{lawful-tail}
 use Rattle.rt_laws.proofs.Valid.{only}
 use Rattle.rt_laws.proofs.Values.{all-whole, not-whole}
 
--- behind a front that may come, this may not
-behind : (x y : List Entry) → (IsLawful (after_all (begun small_begin) x) y → ⊥) → IsLawful (begun small_begin) (x ++ y) → ⊥
-behind x y refused l = refused (lawful-tail (begun small_begin) x y l)
-
 abbrev ready : List Entry
 ready = opening ++ visiting_root ++ (Answered 0 AnswersReady ∷ [])
-
-pub no_stray_call : IsLawful (begun small_begin) stray_call → ⊥
-unfolding begun after
-no_stray_call = behind (ready ++ root_ends) (Call None (SleepPoll 5) (PendingAt 0) ∷ finishing Completed) (λ l. let h = l.0.1.0.0 in cc)
-
-pub no_unanswered_poll : IsLawful (begun small_begin) unanswered_poll → ⊥
-unfolding begun after
-no_unanswered_poll = behind (opening ++ visiting_root) (root_ends ++ finishing NoMemory) (λ l. l.0.1.0)
-
-pub no_second_task : IsLawful (begun small_begin) second_task → ⊥
-unfolding begun after
-no_second_task l = let m = (lawful-tail (begun small_begin) opening (Visit 1 ∷ Event process_task (task_fields 1 []) ∷ Answered 1 AnswersPending ∷ visiting_root ++ (Answered 0 AnswersReady ∷ []) ++ root_ends ++ finishing Completed) l).0.1.1 in cc
 
 pub no_other_order : (order : List ℕ) → order ≢ 0 ∷ [] → IsLawful (begun small_begin) (ordered order) → ⊥
 unfolding begun after

@@ -1,19 +1,17 @@
--- The runs with panics, and what comes near to them is none.
-use Rattle.std.proofs.Common.{◌≡◌, ◌≢◌, ℕ, Bool, true, false, List, [], ◌∷◌, ◌++◌, Some, refl, arith}
-use Rattle.std.proofs.lemmas.List.Sorted.{length_permutation}
+-- The runs with panics, and what comes near to one is none.
+use Rattle.std.proofs.Common.{◌≡◌, ◌≢◌, ℕ, Bool, true, false, List, [], ◌∷◌, Some, refl}
 use Rattle.rt_audit.specs.declared.answer.AnswerKind.{AnswerKind}
 use Rattle.rt_audit.specs.declared.answer.AnswerKind.TheVariants.{Pending, Ready, Panicked, Stopped, NoMemory, Ended}
 use Rattle.rt_audit.specs.declared.finish.FinishCause.{FinishCause}
 use Rattle.rt_audit.specs.declared.finish.FinishCause.TheVariants.{Completed, TaskPanicked}
-use Rattle.rt_audit.specs.declared.entry.Entry.{Entry}
-use Rattle.rt_audit.specs.declared.entry.Entry.TheVariants.{Wake, Round, Answer as Answered, NodeEnd, Advance}
+use Rattle.rt_audit.specs.declared.entry.Entry.TheVariants.{Answer as Answered}
 use Rattle.rt_model.specs.State.{State, Halted, begun}
 use Rattle.rt_model.specs.Effects.{after, after_all}
 use Rattle.rt_model.specs.Rules.{MayAnswer, IsLawful}
 use Rattle.rt_model.specs.Tied.{Value, nothing, IsTied}
 use Rattle.rt_model.specs.Run.{IsRun}
-use Rattle.rt_laws.specs.Supervised.{gave_beside, Aborting, aborter_joined}
-use Rattle.rt_laws.specs.Panics.{begin_catching, panicking_root, panicking_journal, raising_root, failed_beside, raises, both_wakes, kept_panic, reported_journal, caught_panic, caught_journal, answered_kept, answered_caught, wakes_behind, woken_in}
+use Rattle.rt_laws.specs.Supervised.{gave_beside, Aborting}
+use Rattle.rt_laws.specs.Panics.{begin_catching, panicking_root, panicking_journal, raising_root, failed_beside, kept_panic, reported_journal, caught_journal, answered_kept}
 use Rattle.rt_laws.proofs.Clock.{lawful-tail}
 use Rattle.rt_laws.proofs.Values.{same_value}
 use Rattle.rt_laws.proofs.Decided.{lawful}
@@ -64,10 +62,6 @@ module _ (text : List ℕ) where
       let e = same_value Aborting ℕ (raising_root text) b b reported_journal cause TaskPanicked end last value (failed_beside 1 text) run reported_run refl in
       rw e refl
 
--- what may come behind a front of these
-tail : (catch : Bool) (x y : List Entry) → IsLawful (begun (begin_catching catch)) (x ++ y) → IsLawful (after_all (begun (begin_catching catch)) x) y
-tail catch x y l = lawful-tail (begun (begin_catching catch)) x y l
-
 -- the visit of a root that is stopped is answered in one way
 not-answered : (s : State) (task : ℕ) (kind : AnswerKind) → s.phase ≡ Halted task → kind ≢ Stopped → MayAnswer s task kind → ⊥
 not-answered s task Pending is other m = cc
@@ -80,46 +74,5 @@ not-answered s task Ended is other m = rw is at m
 pub no_poll : (kind : AnswerKind) → kind ≢ Stopped → IsLawful (begun (begin_catching false)) (answered_kept kind) → ⊥
 unfolding begun after
 no_poll kind other l =
-    let m = (tail false kept_panic (Answered 0 kind ∷ []) l).0.1.0 in
+    let m = (lawful-tail (begun (begin_catching false)) kept_panic (Answered 0 kind ∷ []) l).0.1.0 in
     not-answered (after_all (begun (begin_catching false)) kept_panic) 0 kind refl other m
-
-pub no_missing_wake : IsLawful (begun (begin_catching false)) (wakes_behind (Wake 0 ∷ [])) → ⊥
-unfolding begun after
-no_missing_wake l = let h = (tail false (aborter_joined ++ raises ++ (Wake 0 ∷ [])) (NodeEnd 1 ∷ []) l).0.0 in cc
-
-pub no_round_of_one : IsLawful (begun (begin_catching false)) (woken_in both_wakes (0 ∷ [])) → ⊥
-unfolding begun after
-no_round_of_one l =
-    let m = (tail false (wakes_behind both_wakes ++ (Advance 2000000 ∷ [])) (Round (0 ∷ []) ∷ []) l).0.1.1 in
-    let e = length_permutation (0 ∷ 0 ∷ []) (0 ∷ []) m in
-    omega arith
-
-pub no_second_wake : IsLawful (begun (begin_catching true)) (wakes_behind both_wakes) → ⊥
-unfolding begun after
-no_second_wake l = let h = (tail true (aborter_joined ++ raises ++ (Wake 0 ∷ [])) (Wake 0 ∷ NodeEnd 1 ∷ []) l).0 in cc
-
-pub no_stop : IsLawful (begun (begin_catching true)) (answered_caught Stopped) → ⊥
-unfolding begun after
-no_stop l = let h = (tail true caught_panic (Answered 0 Stopped ∷ []) l).0.1 in cc
-
--- what each of these differs from
-
-pub root_stopped : IsLawful (begun (begin_catching false)) (answered_kept Stopped)
-unfolding begun after
-root_stopped = lawful (begin_catching false) (answered_kept Stopped) refl
-
-pub both_come : IsLawful (begun (begin_catching false)) (wakes_behind both_wakes)
-unfolding begun after
-both_come = lawful (begin_catching false) (wakes_behind both_wakes) refl
-
-pub queued_twice : IsLawful (begun (begin_catching false)) (woken_in both_wakes (0 ∷ 0 ∷ []))
-unfolding begun after
-queued_twice = lawful (begin_catching false) (woken_in both_wakes (0 ∷ 0 ∷ [])) refl
-
-pub one_comes : IsLawful (begun (begin_catching true)) (wakes_behind (Wake 0 ∷ []))
-unfolding begun after
-one_comes = lawful (begin_catching true) (wakes_behind (Wake 0 ∷ [])) refl
-
-pub goes_on : IsLawful (begun (begin_catching true)) (answered_caught Pending)
-unfolding begun after
-goes_on = lawful (begin_catching true) (answered_caught Pending) refl

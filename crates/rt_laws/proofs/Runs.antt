@@ -16,8 +16,7 @@ use Rattle.rt_model.specs.Turns.{Held, put}
 use Rattle.rt_model.specs.Tied.{Steps, Value, nothing, MovesCleanup, IsTied, taken}
 use Rattle.rt_model.specs.Run.{IsRun, IsCutOff}
 use Rattle.rt_model.proofs.Append.{IsLawful-append, IsTied-append}
-use Rattle.rt_laws.specs.Examples.{small_begin, gave, closes_node, ready_root, Sleeper, sleeping_root, opening, visiting_root, still_asleep, awake, alarm_fires, root_ends, finishing, ready_journal, skipped_journal, short_journal, cut_journal, fires_with, early_fire, early_sleep}
-use Rattle.rt_laws.proofs.Decided.{lawful}
+use Rattle.rt_laws.specs.Examples.{small_begin, gave, closes_node, ready_root, Sleeper, sleeping_root, opening, visiting_root, still_asleep, awake, alarm_fires, root_ends, finishing, ready_journal, skipped_journal, short_journal, cut_journal, fires_with, early_fire}
 use Rattle.rt_laws.proofs.Valid.{asleep, with_root, no_values}
 
 -- the end of a root, whatever it was
@@ -200,7 +199,3 @@ fires_within due later short =
     let first = opening ++ visiting_root ++ still_asleep due ++ (Advance 1000000 ∷ []) in
     let now : leb due 1000000 ≡ true = grind arith in
     IsLawful-append (begun small_begin) first (Fire 0 ∷ []) (asleep-lawful due later (omega arith)) (rw now (search rules))
-
-pub over_at_once : IsLawful (begun small_begin) (early_sleep 0)
-unfolding begun after
-over_at_once = lawful small_begin (early_sleep 0) refl

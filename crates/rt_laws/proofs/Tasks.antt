@@ -1,5 +1,5 @@
 -- The numbers of tasks: none is given twice, and who runs or has a result was given one.
-use Rattle.std.proofs.Common.{◌≡◌, ◌<◌, ◌≤◌, ◌+◌, ◌-◌, ◌^◌, ◌⊎◌, inl, inr, ℕ, List, [], ◌∷◌, ◌++◌, Option, Some, None, is_some, Bool, true, false, not, ◌&&◌, eqb, leb, drop, refl, arith}
+use Rattle.std.proofs.Common.{◌≡◌, ◌<◌, ◌+◌, ◌-◌, ◌^◌, ◌⊎◌, inl, inr, ℕ, List, [], ◌∷◌, ◌++◌, Option, Some, None, is_some, Bool, true, false, not, ◌&&◌, eqb, leb, drop, refl, arith}
 use Rattle.std.proofs.lemmas.Bool.{cases_Bool}
 use Rattle.rt_base.specs.declared.error.Error.{Error}
 use Rattle.rt_base.specs.declared.error.Error.TheVariants.{UnknownToken, TooManyTasks}
@@ -55,10 +55,6 @@ once-with k (x ∷ xs) h o = grind (arith, once-with k xs, with-lacks x k xs, eq
 pub without-has : (k other : ℕ) (xs : List ℕ) → has_number k (without_number other xs) ≡ true → has_number k xs ≡ true
 without-has k other [] h = h
 without-has k other (x ∷ xs) h = grind (arith, without-has k other xs)
-
-pub has-without : (k other : ℕ) (xs : List ℕ) → eqb other k ≡ false → has_number k xs ≡ true → has_number k (without_number other xs) ≡ true
-has-without k other [] e h = h
-has-without k other (x ∷ xs) e h = grind (arith, has-without k other xs)
 
 pub without-lacks : (k other : ℕ) (xs : List ℕ) → has_number k xs ≡ false → has_number k (without_number other xs) ≡ false
 without-lacks k other [] h = h
@@ -176,10 +172,6 @@ spawn-answers s node task number m =
     (free, second.1.0, second.1.1, second.1.2)
 
 -- calls
-
-next-called : (s : State) (call : Call) (reply : CallReply) → Answers s call reply → s.numbers.next ≤ (numbers_called s.numbers call reply).next
-next-called s (Spawn node) (TaskAt task number) m = let e = (spawn-answers s node task number m).1 in omega arith
-next-called s _ _ m = omega arith
 
 once-called : (s : State) (call : Call) (reply : CallReply) → Answers s call reply → AreTasks s → AreOnce (running_called s.running call reply)
 once-called s (Spawn node) (TaskAt task number) m t =

@@ -288,13 +288,6 @@ ended-below r n j t h k = elim (or-cases (was_born_ended r n) (list_any (λ e. s
 
 -- a tree stays one
 
-known-numbered : (xs : List NodeState) (j : ℕ) → is_some (find_by (λ (x : NodeState). x.number == j) xs) ≡ false → numbered j (map {B = ℕ × Option ℕ} (λ (x : NodeState). (x.number, x.parent)) xs) ≡ false
-known-numbered [] j h = refl
-known-numbered (x ∷ xs) j h = elim (cases_Bool (eqb x.number j)) [
-  | inl c ↦ (let z : true ≡ false = rw c at h in absurd (cc))
-  | inr c ↦ rw c (known-numbered xs j (rw c at h))
-]
-
 numbered-push : (l : Links) (x : ℕ × Option ℕ) (p : ℕ) → numbered p l ≡ false → eqb x.0 p ≡ false → numbered p (l ++ x ∷ []) ≡ false
 numbered-push [] x p h e = rw e refl
 numbered-push (y ∷ l) x p h e = elim (cases_Bool (eqb y.0 p)) [

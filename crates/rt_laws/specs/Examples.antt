@@ -165,22 +165,9 @@ no_number_journal = (Start (2 ^ 64 - 1) 0 None 1000000 ∷ Cleanup ∷ NodeEnd 0
 
 -- near misses: no run writes these
 
--- a call of nobody behind the last end
-abbrev pub stray_call : List Entry
-stray_call = opening ++ visiting_root ++ (Answered 0 AnswersReady ∷ []) ++ root_ends ++ (Call None (SleepPoll 5) (PendingAt 0) ∷ []) ++ finishing Completed
-
 -- the node of the root stays open
 abbrev pub open_node : List Entry
 open_node = opening ++ visiting_root ++ (Answered 0 AnswersReady ∷ Cleanup ∷ NodeEnd 0 ∷ Answered 0 Ended ∷ []) ++ finishing Completed
-
--- a cleanup in the midst of a poll, of a run that is cut off there: `cut_journal` without its answer
-abbrev pub unanswered_poll : List Entry
-unanswered_poll = opening ++ visiting_root ++ root_ends ++ finishing NoMemory
-
--- a task that doesn't run is visited
-abbrev pub second_task : List Entry
-second_task =
-    opening ++ (Visit 1 ∷ Event process_task (task_fields 1 []) ∷ Answered 1 AnswersPending ∷ []) ++ visiting_root ++ (Answered 0 AnswersReady ∷ []) ++ root_ends ++ finishing Completed
 
 -- the first round has this order
 abbrev pub ordered : List ℕ → List Entry

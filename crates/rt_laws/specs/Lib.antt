@@ -5,7 +5,6 @@ pub mod Drawing
 pub mod Earliest
 pub mod Examples
 pub mod Giving
-pub mod Kin
 pub mod Onward
 pub mod Panics
 pub mod Polls

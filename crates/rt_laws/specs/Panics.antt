@@ -1,4 +1,4 @@
--- Small runs with panics, and what comes near to them.
+-- Small runs with panics, and what comes near to one.
 use Rattle.std.specs.Prelude.{ℕ, List, [], ◌∷◌, ◌++◌, Some, Bool, false}
 use Rattle.rt_base.specs.declared.error.Error.TheVariants.{Exited}
 use Rattle.rt_base.specs.declared.execution.Execution.TheVariants.{Shared}
@@ -80,13 +80,6 @@ caught_panic = woken_in (Wake 0 ∷ []) (0 ∷ []) ++ visiting_root
 abbrev pub caught_journal : List Entry
 caught_journal = caught_panic ++ (Call (Some 0) (Join 1) (Refused Exited) ∷ []) ++ parent_ends
 
--- near misses are among these and those of `wakes_behind` and `woken_in`, each beside a journal that differs in this one place and
--- is lawful
-
--- the root's visit behind a panic that is kept is answered so
+-- a near miss is among these: the root's visit behind a panic that is kept is answered so
 abbrev pub answered_kept : AnswerKind → List Entry
 answered_kept kind = kept_panic ++ (Answered 0 kind ∷ [])
-
--- and behind one that was caught
-abbrev pub answered_caught : AnswerKind → List Entry
-answered_caught kind = caught_panic ++ (Answered 0 kind ∷ [])

@@ -1,7 +1,7 @@
 -- A root that sends itself a number or an error by a slot, and what comes near to its run.
 use Rattle.std.specs.Prelude.{ℕ, List, [], ◌∷◌, ◌++◌, Some, None, Result}
 use Rattle.rt_base.specs.declared.error.Error.{Error}
-use Rattle.rt_audit.specs.declared.call.Call.TheVariants.{CloseNode, Slot, SlotSend, SlotPoll, SlotGiveUp, AbortWait}
+use Rattle.rt_audit.specs.declared.call.Call.TheVariants.{CloseNode, Slot, SlotSend, SlotPoll, SlotGiveUp}
 use Rattle.rt_audit.specs.declared.reply.CallReply.{CallReply}
 use Rattle.rt_audit.specs.declared.reply.CallReply.TheVariants.{Done, SlotAt, Pending as StillPending, Refused}
 use Rattle.rt_audit.specs.declared.answer.AnswerKind.TheVariants.{Pending as AnswersPending, Ready as AnswersReady, NoMemory as LacksMemory, Ended}
@@ -68,25 +68,15 @@ abbrev pub sending_journal : List Entry
 sending_journal =
     send_lacks ++ (Cleanup ∷ NodeEnd 0 ∷ Call (Some 0) (SlotGiveUp 0) Done ∷ Call (Some 0) (CloseNode 0) Done ∷ Answered 0 Ended ∷ []) ++ finishing NoMemory
 
--- it has made a slot, and polled it so
-abbrev pub slot_polled : CallReply → List Entry
-slot_polled reply = opening ++ visiting_root ++ (Call (Some 0) Slot (SlotAt 0) ∷ Call (Some 0) (SlotPoll 0) reply ∷ [])
-
--- the slot has what was sent, and these wakes followed
-abbrev pub slot_sent : List Entry → List Entry
-slot_sent wakes = slot_polled StillPending ++ (Call (Some 0) (SlotSend 0) Done ∷ []) ++ wakes ++ (Answered 0 AnswersPending ∷ Advance 1000000 ∷ [])
-
--- the next poll is answered so
+-- it waits for the slot that it made and sends into it, and its next poll is answered so
 abbrev pub slot_received : CallReply → List Entry
-slot_received reply = slot_sent (Wake 0 ∷ []) ++ (Round (0 ∷ []) ∷ []) ++ visiting_root ++ (Call (Some 0) (SlotPoll 0) reply ∷ [])
+slot_received reply =
+    opening
+    ++ visiting_root
+    ++ (Call (Some 0) Slot (SlotAt 0) ∷ Call (Some 0) (SlotPoll 0) StillPending ∷ Call (Some 0) (SlotSend 0) Done ∷ Wake 0 ∷ [])
+    ++ (Answered 0 AnswersPending ∷ Advance 1000000 ∷ Round (0 ∷ []) ∷ [])
+    ++ visiting_root
+    ++ (Call (Some 0) (SlotPoll 0) reply ∷ [])
 
 abbrev pub mailing_journal : CallReply → List Entry
 mailing_journal reply = slot_received reply ++ (Call (Some 0) (SlotGiveUp 0) Done ∷ Answered 0 AnswersReady ∷ []) ++ root_ends ++ finishing Completed
-
--- the root makes these calls in its first poll, behind its wait
-abbrev pub slot_used : List Entry → List Entry
-slot_used entries = slot_polled StillPending ++ entries
-
--- what was sent is there when the wait is aborted, and the next poll is answered so
-abbrev pub slot_aborted : CallReply → List Entry
-slot_aborted reply = slot_used (Call (Some 0) (SlotSend 0) Done ∷ Wake 0 ∷ Call (Some 0) (AbortWait 0) Done ∷ Call (Some 0) (SlotPoll 0) reply ∷ [])

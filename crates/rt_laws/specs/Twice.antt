@@ -1,4 +1,4 @@
--- A run in which a task is woken twice and ends at the first of its two visits, and what comes near to it.
+-- A run in which a task is woken twice and ends at the first of its two visits.
 use Rattle.std.specs.Prelude.{ℕ, List, [], ◌∷◌, ◌++◌, map, Some, false}
 use Rattle.rt_base.specs.declared.execution.Execution.TheVariants.{Shared}
 use Rattle.rt_audit.specs.declared.call.Call.TheVariants.{Child, Join, GiveUp, Wake as WakeCall}
@@ -74,13 +74,9 @@ woken_twice =
     ++ visiting_task
     ++ (Call (Some 1) (WakeCall 1) Done ∷ Wake 1 ∷ Call (Some 1) (WakeCall 1) Done ∷ Wake 1 ∷ Answered 1 AnswersPending ∷ Advance 2000000 ∷ [])
 
--- this is drawn for the next round, and it has this order
-abbrev pub woken_in : List ℕ → List Entry
-woken_in order = woken_twice ++ (Draw 6 ∷ Round order ∷ [])
-
--- its first visit in that round begins. Its number stands there once more
+-- the first of its two visits in the next round begins, for which this is drawn
 abbrev pub visited_once : List Entry
-visited_once = woken_in (1 ∷ 1 ∷ []) ++ visiting_task
+visited_once = woken_twice ++ (Draw 6 ∷ Round (1 ∷ 1 ∷ []) ∷ []) ++ visiting_task
 
 -- it is ready, and ends with its node. It was left pending, so the end of the node queues it behind who waits for it
 abbrev pub ended_behind : List Entry → List Entry
@@ -102,16 +98,13 @@ passed_in order = passed_by (7 ∷ []) order
 abbrev pub waits_on : List Entry
 waits_on = visiting_root ++ joined ++ (Call (Some 0) (GiveUp 1) Done ∷ Call (Some 0) (WakeCall 0) Done ∷ Wake 0 ∷ Answered 0 AnswersPending ∷ [])
 
--- behind the root stands the number of the task that has ended. The visits go on so
-abbrev pub behind_root : List Entry → List Entry
-behind_root rest = passed_in (0 ∷ 1 ∷ []) ++ waits_on ++ rest
-
--- it is passed over
+-- behind the root comes the number of the task that has ended, which is passed over
 abbrev pub twice_journal : List Entry
-twice_journal = behind_root (Advance 4000000 ∷ Round (0 ∷ []) ∷ visiting_root ++ (Answered 0 AnswersReady ∷ []) ++ root_ends ++ finishing Completed)
-
--- near misses, each beside a journal that differs in this one place and is lawful
-
--- the task is pending in the first of its two visits, and what comes next is this
-abbrev pub pending_behind : Entry → List Entry
-pending_behind e = visited_once ++ (Answered 1 AnswersPending ∷ e ∷ [])
+twice_journal =
+    passed_in (0 ∷ 1 ∷ [])
+    ++ waits_on
+    ++ (Advance 4000000 ∷ Round (0 ∷ []) ∷ [])
+    ++ visiting_root
+    ++ (Answered 0 AnswersReady ∷ [])
+    ++ root_ends
+    ++ finishing Completed

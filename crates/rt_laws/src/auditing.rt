@@ -10,9 +10,9 @@ ghost use Rattle.rt_audit.specs.declared.reply.CallReply.TheVariants.{Bytes, Ref
 ghost use Rattle.rt_audit.specs.declared.entry.Entry.{Entry};
 ghost use Rattle.rt_audit.specs.declared.entry.Entry.TheVariants.{Start, Call};
 ghost use Rattle.rt_model.specs.Digests.{AreDigested};
-ghost use Rattle.rt_model.specs.State.{State, begun};
-ghost use Rattle.rt_model.specs.Rules.{Answers, IsLawful};
-ghost use Rattle.rt_laws.specs.Examples.{small_begin, opening, visiting_root};
+ghost use Rattle.rt_model.specs.State.{State};
+ghost use Rattle.rt_model.specs.Rules.{Answers};
+ghost use Rattle.rt_laws.specs.Examples.{opening, visiting_root};
 
 /// An auditor's answer is the digest of the events before it, counted from that of the events before all entries, and no other.
 pub fn an_auditor_tells_the_digest_of_the_events_before()
@@ -20,11 +20,10 @@ pub fn an_auditor_tells_the_digest_of_the_events_before()
     ensures that { (digest : List ℕ) (x : List Entry) (by : Option ℕ) → AreDigested digest x → AreDigested digest (x ++ Call by Auditor (Bytes (digest_from digest x)) ∷ []) }
 {}
 
-/// Before any event the maker is told four zeros (`zeros`). Other bytes may come there (`may`), but none are the digest (`other`).
+/// Before any event the maker is told four zeros (`zeros`), and no other bytes are the digest (`other`).
 /// Behind the event of its first visit the root is told the digest of that, as another program worked it out (`behind`).
 pub fn an_auditor_tells_four_zeros_at_first()
     ensures zeros { AreDigested first_digest (Start 0 0 None 1000000 ∷ Call None Auditor (Bytes first_digest) ∷ []) }
-    ensures may { IsLawful (begun small_begin) (Start 0 0 None 1000000 ∷ Call None Auditor (Bytes (0 ∷ 0 ∷ 0 ∷ 1 ∷ [])) ∷ []) }
     ensures other { (bytes : List ℕ) → bytes ≢ first_digest → AreDigested first_digest (Start 0 0 None 1000000 ∷ Call None Auditor (Bytes bytes) ∷ []) → ⊥ }
     ensures behind { AreDigested first_digest (opening ++ visiting_root ++ (Call (Some 0) Auditor (Bytes (50 ∷ 255 ∷ 208 ∷ 192 ∷ [])) ∷ [])) }
 {}

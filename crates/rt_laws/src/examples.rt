@@ -6,9 +6,7 @@ ghost use Rattle.rt_base.specs.declared.error.Error.{Error};
 ghost use Rattle.rt_base.specs.declared.execution.Execution.TheVariants.{Shared};
 ghost use Rattle.rt_base.specs.declared.time.TheConstants.{MAX_TIME};
 ghost use Rattle.rt_audit.specs.declared.call.Call.{Call};
-ghost use Rattle.rt_audit.specs.declared.call.Call.TheVariants.{CloseNode};
 ghost use Rattle.rt_audit.specs.declared.reply.CallReply.{CallReply};
-ghost use Rattle.rt_audit.specs.declared.reply.CallReply.TheVariants.{Done};
 ghost use Rattle.rt_audit.specs.declared.entry.Entry.TheVariants.{Wake};
 ghost use Rattle.rt_audit.specs.declared.finish.FinishCause.{FinishCause};
 ghost use Rattle.rt_audit.specs.declared.finish.FinishCause.TheVariants.{Completed, Timeout, Stalled, TimeOverflow, TooManyTasks, NoMemory};
@@ -22,7 +20,7 @@ ghost use Rattle.rt_model.specs.Tied.{Value, nothing, IsTied};
 ghost use Rattle.rt_model.specs.Run.{IsRun, IsCutOff, IsValidInput};
 ghost use Rattle.rt_laws.specs.Supervised.{Aborting, Parent, Aborter, aborting_root, aborting_next, aborter_spawned, beside_journal, lacking_join};
 ghost use Rattle.rt_laws.specs.Slotting.{sending_root, send_lacks, sending_journal};
-ghost use Rattle.rt_laws.specs.Examples.{small_begin, opening, visiting_root, begin_by, ready_root, pending_root, sleeping_root, gave, ready_journal, skipped_journal, short_journal, cut_journal, stalled_journal, late_journal, at_once_late_journal, overflow_journal, no_number_journal, drawn, stray_call, open_node, unanswered_poll, second_task, ordered, finished_for, called, fires_with, early_fire, early_sleep, silent_end, busy_root, lacking_journal, invented_in_poll, invented_in_end, called_by_maker, asking_maker, maker_lacks};
+ghost use Rattle.rt_laws.specs.Examples.{small_begin, opening, visiting_root, begin_by, ready_root, pending_root, sleeping_root, gave, ready_journal, skipped_journal, short_journal, cut_journal, stalled_journal, late_journal, at_once_late_journal, overflow_journal, no_number_journal, drawn, open_node, ordered, finished_for, called, fires_with, early_fire, early_sleep, silent_end, busy_root, lacking_journal, invented_in_poll, invented_in_end, called_by_maker, asking_maker, maker_lacks};
 
 /// A root that is ready with a number at its first poll gives it, at time 0.
 #[tactic(auto, using(crate::proofs::Runs::ready_time))]
@@ -49,13 +47,11 @@ pub fn a_sleeping_root_has_its_run()
 pub fn a_run_that_lacked_memory_is_cut_off()
     ensures at_once { (due : ℕ) → IsCutOff (sleeping_root due) small_begin cut_journal }
     ensures within { (call : Call) (reply : CallReply) → IsLawful (begun small_begin) (lacking_journal call reply) → IsCutOff busy_root small_begin (lacking_journal call reply) }
-    ensures lawful { IsLawful (begun small_begin) (lacking_journal (CloseNode 0) Done) }
     ensures beside { IsCutOff (aborting_root Pending) small_begin beside_journal }
     ensures spawned { IsCutOff (aborting_root Pending) small_begin (lacking_join 2) }
     ensures free { IsCutOff (aborting_root Pending) small_begin (lacking_join 1) }
     ensures sent { (sent : Result ℕ Error) → IsCutOff (sending_root sent) small_begin sending_journal }
     ensures maker { (call : Call) (reply : CallReply) → IsLawful (begun small_begin) (called_by_maker call reply) → IsCutOff asking_maker small_begin (called_by_maker call reply) }
-    ensures lawful_maker { IsLawful (begun small_begin) (called_by_maker (CloseNode 0) Done) }
     ensures maker_at_once { IsCutOff asking_maker small_begin maker_lacks }
 {}
 
@@ -87,9 +83,6 @@ pub fn small_inputs_are_valid()
 
 /// What comes near to the runs of these roots is no run of any steps.
 pub fn near_misses_are_not_lawful()
-    ensures stray_call { IsLawful (begun small_begin) stray_call → ⊥ }
-    ensures unanswered_poll { IsLawful (begun small_begin) unanswered_poll → ⊥ }
-    ensures second_task { IsLawful (begun small_begin) second_task → ⊥ }
     ensures other_order { (order : List ℕ) → order ≢ 0 ∷ [] → IsLawful (begun small_begin) (ordered order) → ⊥ }
     ensures other_cause { (cause : FinishCause) → cause ≢ Completed → cause ≢ NoMemory → IsLawful (begun small_begin) (finished_for cause) → ⊥ }
     ensures missing_wake { (due : ℕ) → IsLawful (begun small_begin) (fires_with due []) → ⊥ }
@@ -98,13 +91,11 @@ pub fn near_misses_are_not_lawful()
     ensures late_due { (due : ℕ) → MAX_TIME < due → IsLawful (begun small_begin) (skipped_journal due) → ⊥ }
 {}
 
-/// Three of those with what may come there: an alarm with its wake (`wake`), one that is due within the cycle (`fire`), and a
-/// sleep that is due at once (`sleep`). A cleanup behind a poll that was answered stands in `a_run_that_lacked_memory_is_cut_off`
-/// (`at_once`), and the others in the runs above.
+/// Two of those with what may come there: an alarm with its wake (`wake`), and one that is due within the cycle (`fire`). What
+/// the others differ from is in the runs above.
 pub fn near_misses_are_lawful_but_for_one_place()
     ensures wake { (due : ℕ) → 1000000 < due → due ≤ MAX_TIME → IsLawful (begun small_begin) (fires_with due (Wake 0 ∷ [])) }
     ensures fire { (due : ℕ) → 0 < due → due ≤ 1000000 → IsLawful (begun small_begin) (early_fire due) }
-    ensures sleep { IsLawful (begun small_begin) (early_sleep 0) }
 {}
 
 /// What may come near to the run of a root that is ready at once, and is no run of its steps: its node stays open, it

@@ -6,7 +6,6 @@ mod chained;
 mod drawing;
 mod examples;
 mod giving;
-mod kin;
 mod panics;
 mod refusals;
 mod signaling;
@@ -75,34 +74,16 @@ pub use giving::{
     a_stream_gives_in_parts_what_it_gives, a_stream_gives_what_it_answers,
     near_misses_of_giving_are_not_given, what_a_stream_gave_leaves_one_stream,
 };
-pub use kin::{
-    a_child_ends_with_its_parent, near_misses_of_ends_are_lawful_but_for_one_place,
-    near_misses_of_ends_are_not_lawful,
-};
 pub use panics::{
     a_caught_panic_has_its_run, a_panic_of_the_root_has_its_run, a_reported_panic_has_its_run,
-    near_misses_of_panics_are_lawful_but_for_one_place, near_misses_of_panics_are_not_lawful,
+    near_misses_of_panics_are_not_lawful,
 };
-pub use refusals::{calls_are_refused_for_their_cause, near_misses_of_refusals_are_not_lawful};
-pub use signaling::{
-    a_root_that_stops_has_its_run, a_signal_shows_its_value,
-    each_signal_of_the_shutdown_shows_the_first_value,
-    near_misses_of_signals_are_lawful_but_for_one_place, near_misses_of_signals_are_not_lawful,
-};
-pub use slotting::{
-    near_misses_of_slots_are_lawful_but_for_one_place, near_misses_of_slots_are_not_lawful,
-    what_was_sent_into_a_slot_is_received,
-};
-pub use supervised::{
-    a_task_of_the_maker_has_its_run, a_task_that_aborts_itself_and_is_pending_has_its_run,
-    a_task_that_aborts_itself_has_its_run, inputs_with_spawned_tasks_are_valid,
-    near_misses_of_tasks_are_lawful_but_for_one_place, near_misses_of_tasks_are_not_lawful,
-    no_run_begins_behind_one_that_failed,
-};
+pub use refusals::near_misses_of_refusals_are_not_lawful;
+pub use signaling::{a_signal_shows_its_value, each_signal_of_the_shutdown_shows_the_first_value};
+pub use slotting::{near_misses_of_slots_are_no_runs, what_was_sent_into_a_slot_is_received};
+pub use supervised::inputs_with_spawned_tasks_are_valid;
 pub use twice::{
-    a_round_is_drawn, a_task_that_is_woken_twice_has_its_run,
-    near_misses_of_double_wakes_are_lawful_but_for_one_place,
-    near_misses_of_double_wakes_are_not_lawful, near_misses_of_draws_are_not_drawn,
+    a_round_is_drawn, a_task_that_is_woken_twice_has_its_run, near_misses_of_draws_are_not_drawn,
 };
 
 /// Time never goes back: not behind any state, and so nowhere in a run.

@@ -1,9 +1,8 @@
 //! The definitions tried on small runs with panics.
 
-ghost use Rattle.std.specs.Prelude.{◌≡◌, ◌≢◌, [], ◌∷◌, ℕ, List, Some, Bool, true, false};
+ghost use Rattle.std.specs.Prelude.{◌≡◌, ◌≢◌, ℕ, List, Some, Bool, true, false};
 ghost use Rattle.rt_audit.specs.declared.answer.AnswerKind.{AnswerKind};
-ghost use Rattle.rt_audit.specs.declared.answer.AnswerKind.TheVariants.{Pending, Stopped};
-ghost use Rattle.rt_audit.specs.declared.entry.Entry.TheVariants.{Wake};
+ghost use Rattle.rt_audit.specs.declared.answer.AnswerKind.TheVariants.{Stopped};
 ghost use Rattle.rt_audit.specs.declared.finish.FinishCause.{FinishCause};
 ghost use Rattle.rt_audit.specs.declared.finish.FinishCause.TheVariants.{Completed, TaskPanicked};
 ghost use Rattle.rt_model.specs.State.{State, begun};
@@ -12,7 +11,7 @@ ghost use Rattle.rt_model.specs.Rules.{IsLawful};
 ghost use Rattle.rt_model.specs.Tied.{Value, nothing};
 ghost use Rattle.rt_model.specs.Run.{IsRun};
 ghost use Rattle.rt_laws.specs.Supervised.{Aborting, gave_beside, without_value};
-ghost use Rattle.rt_laws.specs.Panics.{begin_catching, panicking_root, panicking_journal, raising_root, failed_beside, reported_journal, caught_journal, answered_kept, answered_caught, wakes_behind, woken_in, both_wakes};
+ghost use Rattle.rt_laws.specs.Panics.{begin_catching, panicking_root, panicking_journal, raising_root, failed_beside, reported_journal, caught_journal, answered_kept};
 
 /// The first panic of a spawned task that nobody catches is kept: it wakes the root, which isn't polled any more, and the run
 /// fails with the task's text.
@@ -32,23 +31,7 @@ pub fn a_panic_of_the_root_has_its_run()
     ensures { (catch : Bool) (text : List ℕ) → IsRun (panicking_root text) (begin_catching catch) panicking_journal TaskPanicked (after_all (begun (begin_catching catch)) panicking_journal) (record nothing { panic = Some text }) }
 {}
 
-/// Behind a panic that is kept the root's visit is answered in no way but that it is stopped (`polled`); both wakes come
-/// (`missing_wake`), and the root's number is in the next round once for each (`queued_once`). Behind one that was caught one wake
-/// comes (`second_wake`), and the root isn't stopped (`stopped`).
+/// Behind a panic that is kept the root's visit is answered in no way but that it is stopped.
 pub fn near_misses_of_panics_are_not_lawful()
     ensures polled { (kind : AnswerKind) → kind ≢ Stopped → IsLawful (begun (begin_catching false)) (answered_kept kind) → ⊥ }
-    ensures missing_wake { IsLawful (begun (begin_catching false)) (wakes_behind (Wake 0 ∷ [])) → ⊥ }
-    ensures queued_once { IsLawful (begun (begin_catching false)) (woken_in both_wakes (0 ∷ [])) → ⊥ }
-    ensures second_wake { IsLawful (begun (begin_catching true)) (wakes_behind both_wakes) → ⊥ }
-    ensures stopped { IsLawful (begun (begin_catching true)) (answered_caught Stopped) → ⊥ }
-{}
-
-/// Each of those differs in one place alone from what may come. Behind a panic that is kept the root is stopped, both wakes come,
-/// and the next round has the root's number twice. Behind one that was caught one wake comes, and the root is polled.
-pub fn near_misses_of_panics_are_lawful_but_for_one_place()
-    ensures stopped { IsLawful (begun (begin_catching false)) (answered_kept Stopped) }
-    ensures both_wakes { IsLawful (begun (begin_catching false)) (wakes_behind both_wakes) }
-    ensures queued_twice { IsLawful (begun (begin_catching false)) (woken_in both_wakes (0 ∷ 0 ∷ [])) }
-    ensures one_wake { IsLawful (begun (begin_catching true)) (wakes_behind (Wake 0 ∷ [])) }
-    ensures polled { IsLawful (begun (begin_catching true)) (answered_caught Pending) }
 {}

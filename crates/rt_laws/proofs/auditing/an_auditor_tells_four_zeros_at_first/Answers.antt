@@ -1,12 +1,9 @@
 use Rattle.std.proofs.Common.{refl}
-use Rattle.rt_laws.proofs.Audited.{other_bytes, visit_told}
+use Rattle.rt_laws.proofs.Audited.{visit_told}
 use Rattle.rt_laws.proofs.auditing.an_auditor_tells_four_zeros_at_first.Goals as goal
 
 pub returns-clause-zeros : goal.returns-clause-zeros
 returns-clause-zeros c = (tt, (refl, tt))
-
-pub returns-clause-may : goal.returns-clause-may
-returns-clause-may c = other_bytes
 
 pub returns-clause-other : goal.returns-clause-other
 returns-clause-other c bytes other d = other d.1.0

@@ -1,14 +1,5 @@
-use Rattle.rt_laws.proofs.Misses.{no_stray_call, no_unanswered_poll, no_second_task, no_other_order, no_other_cause, no_missing_wake, no_early_fire, no_early_sleep, no_late_due}
+use Rattle.rt_laws.proofs.Misses.{no_other_order, no_other_cause, no_missing_wake, no_early_fire, no_early_sleep, no_late_due}
 use Rattle.rt_laws.proofs.examples.near_misses_are_not_lawful.Goals as goal
-
-pub returns-clause-stray_call : goal.returns-clause-stray_call
-returns-clause-stray_call c = no_stray_call
-
-pub returns-clause-unanswered_poll : goal.returns-clause-unanswered_poll
-returns-clause-unanswered_poll c = no_unanswered_poll
-
-pub returns-clause-second_task : goal.returns-clause-second_task
-returns-clause-second_task c = no_second_task
 
 pub returns-clause-other_order : goal.returns-clause-other_order
 returns-clause-other_order c = no_other_order
