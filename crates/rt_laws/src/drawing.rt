@@ -71,7 +71,8 @@ pub fn near_misses_of_drawing_are_not_lawful()
     ensures bytes { (bytes : List ℕ) → length bytes ≢ 4 → IsLawful (begun small_begin) (visited_again (draws_by (codes "fill_bytes") (FillBytes 4) (Bytes bytes))) → ⊥ }
 {}
 
-/// One of those with what may come there, a number of 32 bits that isn't too great. The others stand in the run above.
+/// A near miss of drawing with what may come there, a number of 32 bits that isn't too great. The others stand in the run
+/// above.
 pub fn near_misses_of_drawing_are_lawful_but_for_one_place()
     ensures { (number : ℕ) → number < 2 ^ 32 → IsLawful (begun small_begin) (visited_again (draws_by (codes "next_u32") NextU32 (Number number))) }
 {}
@@ -83,7 +84,7 @@ pub fn a_draw_is_answered_by_what_it_asks_for()
     ensures bytes { (s : State) (len : ℕ) (reply : CallReply) → Answers s (FillBytes len) reply → (bytes : List ℕ) × (reply ≡ Bytes bytes) × (length bytes ≡ len) }
 {}
 
-/// So no draw is refused, out of memory or for any other cause, and none that asks for bytes is answered by more or fewer of
+/// No draw is refused, out of memory or for any other cause, and none that asks for bytes is answered by more or fewer of
 /// them (`count`).
 pub fn other_answers_of_draws_are_refused()
     ensures short { (s : State) (error : Error) → Answers s NextU32 (Refused error) → ⊥ }

@@ -21,7 +21,7 @@ pub fn a_stream_decides_what_it_gives()
     ensures { (from left other : Stream) (one two : List Drawn) → map asked_for one ≡ map asked_for two → Gave from one left → Gave from two other → one ≡ two }
 {}
 
-/// So a stream decides into which order it puts numbers (`order`), which stream is left of it then (`leaves`), and what is told
+/// A stream decides into which order it puts numbers (`order`), which stream is left of it then (`leaves`), and what is told
 /// once a round has begun (`round`). The order has each number as often as it stood there (`permutes`).
 pub fn a_stream_decides_the_order_of_a_round()
     ensures order { (from left other : Stream) (numbers one two : List ℕ) → Orders from left numbers one → Orders from other numbers two → one ≡ two }

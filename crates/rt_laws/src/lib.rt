@@ -86,7 +86,7 @@ pub use twice::{
     a_round_is_drawn, a_task_that_is_woken_twice_has_its_run, near_misses_of_draws_are_not_drawn,
 };
 
-/// Time never goes back: not behind any state, and so nowhere in a run.
+/// Time never goes back: not after any state, and so nowhere in a run.
 #[tactic(auto, using(crate::proofs::Clock::later, crate::proofs::Clock::later_begun))]
 pub fn time_never_goes_back()
     ensures of_runs { (b : Begin) (x y : List Entry) → IsLawful (begun b) (x ++ y) → (after_all (begun b) x).clock.time ≤ (after_all (begun b) (x ++ y)).clock.time }
@@ -135,7 +135,7 @@ pub fn an_alarm_fires_once()
     ensures { (b : Begin) (x y : List Entry) (alarm : ℕ) → IsLawful (begun b) (x ++ Fire alarm ∷ y) → All (λ (e : Entry). e ≢ Fire alarm) y }
 {}
 
-/// Right behind an alarm that goes off its task wakes.
+/// Right after an alarm that goes off its task wakes.
 #[tactic(auto, using(crate::proofs::Numbers::run_wakes))]
 pub fn an_alarm_wakes_its_task()
     ensures { (b : Begin) (x y : List Entry) (e : Entry) (a : Alarm) (task : ℕ) → IsLawful (begun b) (x ++ Fire a.number ∷ e ∷ y) → Contains (after_all (begun b) x).alarms.alarms a → a.task ≡ Some task → e ≡ Wake task }
@@ -153,7 +153,7 @@ pub fn a_round_visits_whoever_is_ready()
     ensures { (b : Begin) (x y z : List Entry) (order : List ℕ) (now task : ℕ) → IsLawful (begun b) (x ++ Round order ∷ (y ++ Advance now ∷ z)) → let s = after_all (begun b) x in Contains s.ready task → Contains s.running task → Contains y (Visit task) }
 {}
 
-/// Behind a cleanup tasks only end: none is visited, nothing wakes, and the clock stands still.
+/// After a cleanup tasks only end: none is visited, nothing wakes, and the clock stands still.
 #[tactic(auto, using(crate::proofs::Endings::run_cleaned, crate::proofs::Endings::run_still))]
 pub fn a_cleanup_only_ends_tasks()
     ensures entries { (b : Begin) (x y : List Entry) → IsLawful (begun b) (x ++ Cleanup ∷ y) → All IsOfCleanup y }
@@ -241,7 +241,7 @@ pub fn lacking_memory_keeps_the_other_tasks<A, O>()
     ensures ends { (p : Steps A O) (s : State) (v w : Value A O) (task other : ℕ) → Moves p s v (Answer task Ended) w → other ≢ task → All (λ (t : Turn). Spawns other t → ⊥) s.turns → find other w.held.tasks ≡ find other v.held.tasks }
 {}
 
-/// Behind a poll or an end that lacked memory a run only ends: it goes on by no round, visit or step of the clock. A poll that
+/// After a poll or an end that lacked memory a run only ends: it goes on by no round, visit or step of the clock. A poll that
 /// lacked it answers so. No entry tells it of an end, so each end behind which the run goes on has made all calls of its steps.
 pub fn behind_a_lack_of_memory_a_run_only_ends<A, O>()
     ensures polls { (p : Steps A O) (s : State) (v w : Value A O) (task : ℕ) (x y : List Entry) (e : Entry) → IsOnward e → IsTied p s v (Answer task NoMemory ∷ x ++ e ∷ y) w → ⊥ }

@@ -28,8 +28,8 @@ pub fn a_round_is_drawn()
     ensures draw { (one : ℕ) → AreDrawn (begun small_begin) (drawn_for_two (one ∷ [])) }
 {}
 
-/// With another place, with no draw or with two these rounds aren't drawn. A second draw for two numbers isn't, whether a round
-/// follows or not (`one_too_many`).
+/// A round of two numbers isn't drawn with another place, with no draw or with two. A second draw for two numbers isn't,
+/// whether a round follows or not (`one_too_many`).
 pub fn near_misses_of_draws_are_not_drawn()
     ensures other_place { AreDrawn (begun small_begin) (passed_in (1 ∷ 0 ∷ [])) → ⊥ }
     ensures unturned { AreDrawn (begun small_begin) (passed_by (6 ∷ []) (0 ∷ 1 ∷ [])) → ⊥ }
