@@ -1,18 +1,30 @@
 //! Laws of reports and checkpoints, in the words of the definitions. Each function does nothing: its contract is the law.
 
-ghost use Rattle.std.specs.Prelude.{◌≡◌, ◌+◌, ◌++◌, ◌∷◌, [], Bool, List, length, true};
+ghost use Rattle.std.specs.Prelude.{◌≡◌, ◌≤◌, ◌<◌, ◌+◌, ◌++◌, ◌∷◌, [], Bool, List, Some, ℕ, ℤ, length, true};
 ghost use Rattle.rand_chacha.specs.ChaCha.{ChaCha};
 ghost use Rattle.rand_core.specs.Stream.{Stream};
 ghost use Rattle.rt_audit.specs.declared.entry.Entry.{Entry};
+ghost use Rattle.rt_audit.specs.declared.finish.FinishCause.TheVariants.{Completed};
+ghost use Rattle.rt_base.specs.declared.time.TheConstants.{MAX_TIME};
 ghost use Rattle.rt_core.specs.Outcome.{Completes};
 ghost use Rattle.rt_core.specs.Starting.{Kept, Starting};
 ghost use Rattle.rt_core.specs.declared.run_error.RunError.{RunError};
-ghost use Rattle.rt_model.specs.Tied.{Steps};
+ghost use Rattle.rt_laws.specs.Chained.{BeginInOrder};
+ghost use Rattle.rt_laws.specs.Examples.{small_begin, ready_journal, skipped_journal, short_journal};
+ghost use Rattle.rt_model.specs.declared.begin.Begin.{Begin};
+ghost use Rattle.rt_model.specs.Effects.{after_all};
+ghost use Rattle.rt_model.specs.Run.{IsRun, IsValidInput};
+ghost use Rattle.rt_model.specs.Runs.{AreLawful, runs_from};
+ghost use Rattle.rt_model.specs.State.{begun};
+ghost use Rattle.rt_model.specs.Tied.{Steps, nothing};
+ghost use Rattle.rt_scenario.specs.Texts.{text_at};
+ghost use Rattle.rt_scenario.specs.declared.line.Line.TheVariants.{End, Sleep};
 ghost use Rattle.rt_scenario.specs.declared.scenario.RunLine.{RunLine};
 ghost use Rattle.rt_scenario.specs.declared.scenario.ScriptText.{ScriptText};
 ghost use Rattle.rt_scripts.specs.declared.outcome.RunReport.{RunReport};
 ghost use Rattle.rt_scripts.specs.declared.outcome.RunResult.TheVariants.{Failed};
-ghost use Rattle.rt_scripts.specs.Ran.{Chain, last_status};
+ghost use Rattle.rt_scripts.specs.Making.{Maker};
+ghost use Rattle.rt_scripts.specs.Ran.{Chain, last_status, root_steps};
 
 /// Each line has its report where the last status is 0. Nothing is reported without a line or after a run that
 /// failed. The entries of a run begin where those of the one before end, and those of the last one end the journal.
@@ -27,4 +39,22 @@ pub fn reports_tell_the_runs_of_all_lines()
 /// The journal of a completed run decides what is kept of it, except for how a generator that gives the same is kept.
 pub fn a_journal_decides_its_checkpoint<A, O, G>()
     ensures { (stream : G → Stream) (p : Steps A O) (s : Starting G) (one two : O) (kept other : Kept G) → Completes stream p s one kept → Completes stream p s two other → kept.journal ≡ other.journal → (other ≡ record kept { rng = other.rng }) × (stream other.rng ≡ stream kept.rng) }
+{}
+
+/// A script that ends at its first line, and one that sleeps first, have the journals of a root that does so, and give their number.
+pub fn small_scripts_have_their_runs()
+    ensures ready { (m : Maker) → m.with ≡ [] → (number : ℤ) → (text_at m.program m.root).lines ≡ End number ∷ [] → IsRun (root_steps m) small_begin ready_journal Completed (after_all (begun small_begin) ready_journal) (record nothing { output = Some number }) }
+    ensures skipped { (m : Maker) → m.with ≡ [] → (number : ℤ) (due : ℕ) → (text_at m.program m.root).lines ≡ Sleep due ∷ End number ∷ [] → 1000000 < due → due ≤ MAX_TIME → IsRun (root_steps m) small_begin (skipped_journal due) Completed (after_all (begun small_begin) (skipped_journal due)) (record nothing { output = Some number }) }
+    ensures short { (m : Maker) → m.with ≡ [] → (number : ℤ) (due : ℕ) → (text_at m.program m.root).lines ≡ Sleep due ∷ End number ∷ [] → 0 < due → due ≤ 1000000 → IsRun (root_steps m) small_begin (short_journal due) Completed (after_all (begun small_begin) (short_journal due)) (record nothing { output = Some number }) }
+{}
+
+/// Each run of these scripts completes.
+pub fn small_scripts_are_valid()
+    ensures ready { (m : Maker) → m.with ≡ [] → (number : ℤ) → (text_at m.program m.root).lines ≡ End number ∷ [] → IsValidInput (root_steps m) small_begin }
+    ensures sleeping { (m : Maker) → m.with ≡ [] → (number : ℤ) (due : ℕ) → (text_at m.program m.root).lines ≡ Sleep due ∷ End number ∷ [] → 0 < due → due ≤ MAX_TIME → IsValidInput (root_steps m) small_begin }
+{}
+
+/// The entries of a scenario's runs are lawful one run after another, and no run begins before the end of the one before it.
+pub fn runs_of_a_scenario_begin_in_order()
+    ensures { (whole : Bool) (scripts : List ScriptText) (from : Starting ChaCha) (lines : List RunLine) (runs : List RunReport) (entries : List Entry) → Chain whole scripts from lines runs entries → (later : List Begin) × AreLawful (runs_from from.begin later) entries × BeginInOrder (runs_from from.begin later) entries }
 {}
