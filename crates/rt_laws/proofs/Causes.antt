@@ -1,5 +1,5 @@
 -- What stands where a run has reached its cause, and where tasks are visited.
-use Rattle.std.proofs.Common.{◌≡◌, ◌≢◌, ◌≤◌, ℕ, List, [], ◌∷◌, ◌++◌, drop, Option, Some, None, Bool, true, false, leb, ◌-◌, ◌^◌, ◌&&◌, refl, arith, Contains}
+use Rattle.std.proofs.Common.{◌≡◌, ◌≢◌, ◌≤◌, ℕ, List, [], ◌∷◌, ◌++◌, drop, Option, Some, None, Bool, true, false, leb, ◌-◌, ◌^◌, ◌&&◌, refl, Contains}
 use Rattle.std.proofs.lemmas.Bool.{leb-true}
 use Rattle.rt_audit.specs.declared.answer.AnswerKind.{AnswerKind}
 use Rattle.rt_audit.specs.declared.answer.AnswerKind.TheVariants.{Pending, Ready, Panicked, Stopped, NoMemory, Ended}
@@ -11,7 +11,7 @@ use Rattle.rt_super.specs.Alarms.{Alarm}
 use Rattle.rt_super.specs.Ancestry.{is_ended}
 use Rattle.rt_model.specs.declared.result.Outcome.{Outcome}
 use Rattle.rt_model.specs.declared.result.Outcome.TheVariants.{There, Exited}
-use Rattle.rt_model.specs.Lists.{has_number, is_nil, is_some_number, find}
+use Rattle.rt_model.specs.Lists.{is_nil, is_some_number, find}
 use Rattle.rt_model.specs.Marks.{is_flagged}
 use Rattle.rt_model.specs.declared.begin.Begin.{Begin}
 use Rattle.rt_model.specs.State.{State, Phase, Making, Between, Visiting, Entered, Polling, Ending, Leaving, Turning, Over, Cleaning, Closing, Crashed, Finished, Clock, begun}
@@ -22,6 +22,7 @@ use Rattle.rt_model.specs.Rules.{May, MayAnswer, MayRound, MayClose, IsLawful}
 use Rattle.rt_laws.proofs.Clock.{lawful-front, lawful-tail}
 use Rattle.rt_laws.proofs.Endings.{run_cause}
 use Rattle.rt_laws.proofs.Rounds.{contains-from_has}
+use Rattle.rt_laws.proofs.Tasks.{from-runs}
 
 -- what ends a round is the root's answer, or that memory was lacking
 abbrev IsRoundCause : FinishCause → Type 0
@@ -115,16 +116,12 @@ unfolding begun
 run_sound b x l = sound-all (begun b) x l tt
 
 -- a task is visited while it runs, and before the deadline
-runs-visited : (running left rest : List ℕ) (task : ℕ) → from_running running left ≡ task ∷ rest → has_number task running ≡ true
-runs-visited running [] rest task h = absurd (cc)
-runs-visited running (k ∷ left) rest task h = grind (arith, runs-visited running left rest task)
-
 module _ (b : Begin) (x y : List Entry) (task : ℕ) (l : IsLawful (begun b) (x ++ Visit task ∷ y)) where
   pub run_visited : Contains (after_all (begun b) x).running task
   run_visited =
       let s = after_all (begun b) x in
       let m = (lawful-tail (begun b) x (Visit task ∷ y) l).0.1 in
-      contains-from_has task s.running (runs-visited s.running (left_of s.phase) (drop 1 (from_running s.running (left_of s.phase))) task m.1)
+      contains-from_has task s.running (from-runs s.running (left_of s.phase) (drop 1 (from_running s.running (left_of s.phase))) task m.1)
 
   pub run_visited_early : is_late (after_all (begun b) x).clock ≡ false
   run_visited_early =

@@ -21,7 +21,7 @@ use Rattle.rt_model.specs.State.{State, begun}
 use Rattle.rt_model.specs.Effects.{after, after_all, is_settled, numbers_called, marks_called, marks_answered, marks_ended, nodes_called, nodes_answered, released, unflagged, flagged_by, leaving, unmarked}
 use Rattle.rt_model.specs.Rules.{May, Answers, Unless, ChildAnswers, IsLawful}
 use Rattle.rt_laws.specs.Aborts.{IsAbortOf}
-use Rattle.rt_laws.proofs.Tasks.{AreTasks, AreApart, spawn-answers, find-removed, apart-flagged, tasks-after, begun-tasks}
+use Rattle.rt_laws.proofs.Tasks.{AreTasks, AreApart, not-not, spawn-answers, find-removed, apart-flagged, tasks-after, begun-tasks}
 use Rattle.rt_laws.proofs.Flags.{find-other}
 use Rattle.rt_laws.proofs.Trees.{IsTree, unlike, known-live, known-on, known-new, ended-new, ended-changed, ended-end, ended-stays, flags-end, puts-keeps, release-keeps, task-new, task-put, task-other, task-release, tree-new, tree-changed, tree-same, ended-now, or-cases, or-left, or-right}
 
@@ -168,10 +168,6 @@ all-named (other ∷ ks) k ms n h = elim (all-named ks k (flag other ms) n h) [
 unless-node : (refuses : Bool) (error : Error) (otherwise : CallReply → Type 0) (number : ℕ) (ended : Bool) → Unless refuses error otherwise (NodeAt number ended) → (refuses ≡ false) × otherwise (NodeAt number ended)
 unless-node true error otherwise number ended m = absurd m
 unless-node false error otherwise number ended m = (refl, m)
-
-not-not : (b : Bool) → not b ≡ false → b ≡ true
-not-not true h = refl
-not-not false h = absurd (cc)
 
 pub child-answers : (s : State) (node number : ℕ) (label : List ℕ) (ended : Bool) → Answers s (Child node label) (NodeAt number ended) → (is_live s.nodes node ≡ true) × (is_known s.nodes number ≡ false) × (ended ≡ is_ended s.nodes node)
 child-answers s node number label ended m =

@@ -133,14 +133,14 @@ end-runs _ running root task t m = absurd m
 abbrev AreEnded : State → Type 0
 AreEnded s = (k : ℕ) → is_there (find k s.results) ≡ true → has_number k s.running ≡ false
 
+some-told : (r : Option TaskResult) → is_there r ≡ true → is_some r ≡ true
+some-told (Some r) h = refl
+some-told None h = absurd (cc)
+
 ended-called : (s : State) (by : Option ℕ) (call : Call) (reply : CallReply) → Answers s call reply → AreTasks s → AreEnded s → (k : ℕ) → is_there (find k (results_called s.results by call reply)) ≡ true → has_number k (running_called s.running call reply) ≡ false
 ended-called s by call reply m t d k h =
     let was = there-called s by call reply k t h in
-    (gone-called k s call reply m (d k was, t.told k (there-some (find k s.results) was))).0
-  where
-    there-some : (r : Option TaskResult) → is_there r ≡ true → is_some r ≡ true
-    there-some (Some r) h = refl
-    there-some None h = absurd (cc)
+    (gone-called k s call reply m (d k was, t.told k (some-told (find k s.results) was))).0
 
 ended-answered : (s : State) (task : ℕ) (kind : AnswerKind) → May s (Answer task kind) → AreTasks s → AreEnded s → (k : ℕ) → is_there (find k (results_answered s task kind)) ≡ true → has_number k (running_answered s.running task kind) ≡ false
 ended-answered s task Ended m t d k h = elim (there-ended s.phase (ends_next s.running s.root) (is_settled s task) task s.results s.running k m.1.0 h) [
@@ -148,10 +148,6 @@ ended-answered s task Ended m t d k h = elim (there-ended s.phase (ends_next s.r
   | inr was ↦ without-lacks k task s.running (d k was)
 ]
 ended-answered s task _ m t d k h = d k h
-
-some-told : (r : Option TaskResult) → is_there r ≡ true → is_some r ≡ true
-some-told (Some r) h = refl
-some-told None h = absurd (cc)
 
 ended-root : (s : State) (task k : ℕ) → task ≡ s.numbers.next → k < s.numbers.next → has_number k s.running ≡ false → has_number k (with_number task s.running) ≡ false
 ended-root s task k e l h = with-lacks k task s.running h (rw e (grind arith))

@@ -9,22 +9,19 @@ use Rattle.rt_audit.specs.declared.finish.FinishCause.{FinishCause}
 use Rattle.rt_audit.specs.declared.finish.FinishCause.TheVariants.{Completed, TaskPanicked}
 use Rattle.rt_audit.specs.declared.entry.Entry.{Entry}
 use Rattle.rt_audit.specs.declared.entry.Entry.TheVariants.{Start, Call as CallEntry, Event, Draw, Root, Round, Visit, Answer, NodeEnd, Advance, Skip, Fire, Cleanup, Crash, Finish}
-use Rattle.rt_audit.specs.declared.call.Call.{Call}
-use Rattle.rt_audit.specs.declared.call.Call.TheVariants.{Spawn}
-use Rattle.rt_audit.specs.declared.reply.CallReply.{CallReply}
-use Rattle.rt_audit.specs.declared.reply.CallReply.TheVariants.{TaskAt}
 use Rattle.rt_model.specs.declared.mark.Mark.{Mark}
 use Rattle.rt_model.specs.declared.result.Outcome.{Outcome}
 use Rattle.rt_model.specs.declared.result.Outcome.TheVariants.{There, Exited}
 use Rattle.rt_super.specs.Ancestry.{is_ended}
-use Rattle.rt_model.specs.Lists.{has_number, with_number, without_number, is_some_number, find}
+use Rattle.rt_model.specs.Lists.{has_number, without_number, is_some_number, find}
 use Rattle.rt_model.specs.Marks.{is_flagged}
 use Rattle.rt_model.specs.declared.begin.Begin.{Begin}
 use Rattle.rt_model.specs.State.{State, Phase, Visiting, Entered, Polling, Halted, Ending, Leaving, Over, Cleaning, Closing, Crashed, Finished, Between, Turning, begun}
 use Rattle.rt_model.specs.Causes.{from_running, ends_next, reached}
-use Rattle.rt_model.specs.Effects.{after, after_all, is_settled, running_called, answered, entered, entered_by, node_ended, cleans, leaves, ended, left_pending, finished, left_of}
+use Rattle.rt_model.specs.Effects.{after, after_all, is_settled, answered, entered, entered_by, node_ended, cleans, leaves, ended, left_pending, finished, left_of}
 use Rattle.rt_model.specs.Rules.{May, MayAnswer, MayRound, MayCrash, MayFinish, MayEndNode, IsLawful, MayEnd}
 use Rattle.rt_laws.proofs.Clock.{lawful-front, lawful-tail}
+use Rattle.rt_laws.proofs.Tasks.{has-called}
 
 pub has-from_contains : (k : ℕ) (xs : List ℕ) → Contains xs k → has_number k xs ≡ true
 has-from_contains k [] (i, l, e) = absurd (omega arith)
@@ -59,14 +56,6 @@ IsInRound task _ = ⊥
 has-without : (task other : ℕ) (running : List ℕ) → eqb other task ≡ false → has_number task running ≡ true → has_number task (without_number other running) ≡ true
 has-without task other [] e h = cc
 has-without task other (x ∷ running) e h = grind (arith, has-without task other running)
-
-has-with : (task other : ℕ) (running : List ℕ) → has_number task running ≡ true → has_number task (with_number other running) ≡ true
-has-with task other [] h = absurd (cc)
-has-with task other (x ∷ running) h = grind (arith, has-with task other running)
-
-has-called : (task : ℕ) (running : List ℕ) (call : Call) (reply : CallReply) → has_number task running ≡ true → has_number task (running_called running call reply) ≡ true
-has-called task running (Spawn node) (TaskAt other number) h = has-with task other running h
-has-called task running _ _ h = h
 
 -- past the visits of all rounds
 abbrev IsPast : Phase → Type 0

@@ -160,7 +160,7 @@ unless-not : (refuses : Bool) (error : Error) (otherwise : CallReply → Type 0)
 unless-not true error otherwise task number m = absurd m
 unless-not false error otherwise task number m = (refl, m)
 
-not-not : (b : Bool) → not b ≡ false → b ≡ true
+pub not-not : (b : Bool) → not b ≡ false → b ≡ true
 not-not true h = refl
 not-not false h = absurd (cc)
 
@@ -212,7 +212,7 @@ told-called s by (Join task) IsReady m t k h = t.told k (has-replaced k task (λ
 told-called s by (GiveUp task) Done m t k h = t.told k (has-removed k task s.results h)
 told-called s by _ _ m t k h = t.told k h
 
-has-called : (task : ℕ) (running : List ℕ) (call : Call) (reply : CallReply) → has_number task running ≡ true → has_number task (running_called running call reply) ≡ true
+pub has-called : (task : ℕ) (running : List ℕ) (call : Call) (reply : CallReply) → has_number task running ≡ true → has_number task (running_called running call reply) ≡ true
 has-called task running (Spawn node) (TaskAt other number) h = with-has task other running h
 has-called task running _ _ h = h
 
