@@ -1,5 +1,6 @@
 // What no clause says: printed texts, and that calls succeed where there is memory.
 
+use crate::told::{holds, same};
 use rt_base::{
     Addr, BLOB_PAGE_SIZE, BlobLayout, BlobVersion, Cell, Choice, DEFAULT_BLOB_LAYOUT,
     DEFAULT_BLOB_VERSION, Env, Error, Event, Execution, Failed, IoKind, Ip, Items, ListSink,
@@ -12,20 +13,9 @@ use std::alloc::Global;
 use std::io;
 use std::io::{Read, Write};
 use std::process::Abort;
-use std::test::Fail;
 
 fn text(rt: &impl Abort, alloc: Global, bytes: &str) -> Text {
     Text::of(String::from_str(alloc, bytes).expect(rt, "room"))
-}
-
-/// Whether these are the same.
-fn same<T: Drop + PartialEq>(seen: T, wanted: T) -> bool {
-    seen == wanted
-}
-
-/// Whether these are different.
-fn differ<T: Drop + PartialEq>(seen: T, other: T) -> bool {
-    seen != other
 }
 
 /// Whether a call came to this.
@@ -51,8 +41,8 @@ fn surface(rt: HostRuntime) {
     small_types(&rt);
     read_options(&rt);
     write_options(&rt);
-    assert!(rt; layouts() & versions());
-    assert!(rt; shows(&rt, rt.alloc(), BlobVersion::new(65535), "65535"));
+    holds(&rt, "layouts and versions", layouts() & versions());
+    shows(&rt, rt.alloc(), BlobVersion::new(65535), "65535");
     errors(&rt, rt.alloc());
     names(&rt, rt.alloc());
     environment(&rt, rt.alloc());
@@ -60,33 +50,57 @@ fn surface(rt: HostRuntime) {
     sinks(&rt, rt.alloc());
 }
 
+/// Ends a text, which is this one.
+fn reads(rt: &impl Abort, text: Text, wanted: &str) {
+    holds(rt, wanted, text.as_str() == wanted);
+    same(rt, wanted, text.into_inner().len(), wanted.len());
+}
+
 fn texts(rt: &impl Abort, alloc: Global) {
     let word = text(rt, alloc, "ab");
     let copy = word.clone_value().expect(rt, "room");
-    assert!(rt; same(text(rt, alloc, "ab"), copy));
-    assert!(rt; word.as_str() == "ab");
-    assert!(rt; word.into_inner().len() == 2);
+    same(rt, "a copy", text(rt, alloc, "ab"), copy);
+    reads(rt, word, "ab");
 }
 
 fn items(rt: &impl Abort, alloc: Global) {
     let items: Items<u64> = Items::of(vec![in alloc; 1u64, 2].expect(rt, "room"));
-    assert!(rt; items.as_slice() == [1u64, 2].as_slice());
-    assert!(rt; items.into_inner().len() == 2);
+    holds(rt, "items", items.as_slice() == [1u64, 2].as_slice());
+    same(rt, "two items", items.into_inner().len(), 2);
 }
 
 fn small_types(rt: &impl Abort) {
-    assert!(rt; Poll::Ready(3u64) != Poll::Pending);
-    assert!(rt; Choice::Kept != Choice::Prefix(0));
-    assert!(rt; Execution::default() == Execution::Shared(false));
-    assert!(rt; MAX_TIME / 1_000_000_000 == 9223372036854775807);
+    holds(rt, "a poll", Poll::Ready(3u64) != Poll::Pending);
+    holds(rt, "a choice", Choice::Kept != Choice::Prefix(0));
+    same(
+        rt,
+        "by default",
+        Execution::default(),
+        Execution::Shared(false),
+    );
+    same(
+        rt,
+        "the last second",
+        MAX_TIME / 1_000_000_000,
+        9223372036854775807,
+    );
 }
 
 fn read_options(rt: &impl Abort) {
     let mut read = ReadOptions::default();
-    assert!(rt; (read.bits() == 0) & !read.contains(ReadOptions::DONT_CACHE));
+    holds(
+        rt,
+        "none",
+        (read.bits() == 0) & !read.contains(ReadOptions::DONT_CACHE),
+    );
     read |= ReadOptions::DONT_CACHE;
-    assert!(rt; read == ReadOptions::DONT_CACHE | ReadOptions::default());
-    assert!(rt; read.without(read) == ReadOptions::default());
+    same(
+        rt,
+        "one",
+        read,
+        ReadOptions::DONT_CACHE | ReadOptions::default(),
+    );
+    same(rt, "none again", read.without(read), ReadOptions::default());
 }
 
 /// Whether options don't have this one, and come to these bits with it.
@@ -98,10 +112,15 @@ fn adds(write: &mut WriteOptions, option: WriteOptions, bits: u8) -> bool {
 
 fn write_options(rt: &impl Abort) {
     let mut write = WriteOptions::default();
-    assert!(rt; adds(&mut write, WriteOptions::SYNC, 1));
-    assert!(rt; adds(&mut write, WriteOptions::DONT_CACHE, 3));
-    assert!(rt; write == WriteOptions::SYNC | WriteOptions::DONT_CACHE);
-    assert!(rt; write.without(WriteOptions::SYNC).bits() == 2);
+    holds(rt, "one", adds(&mut write, WriteOptions::SYNC, 1));
+    holds(rt, "two", adds(&mut write, WriteOptions::DONT_CACHE, 3));
+    same(
+        rt,
+        "both",
+        write,
+        WriteOptions::SYNC | WriteOptions::DONT_CACHE,
+    );
+    same(rt, "the other", write.without(WriteOptions::SYNC).bits(), 2);
 }
 
 /// Whether pages and layouts are these.
@@ -116,42 +135,48 @@ fn versions() -> bool {
     greater & (BlobVersion::default() == DEFAULT_BLOB_VERSION)
 }
 
-/// Whether a version has this text.
-fn shows(rt: &impl Abort, alloc: Global, version: BlobVersion, words: &str) -> bool {
+/// Stops where a version has another text.
+fn shows(rt: &impl Abort, alloc: Global, version: BlobVersion, words: &str) {
     let line = format!(in alloc; "{version}").expect(rt, "room");
-    line.as_str() == words
+    holds(rt, words, line.as_str() == words);
 }
 
 fn missing(rt: &impl Abort, alloc: Global) -> Error {
     Error::BlobMissing(text(rt, alloc, "p"), text(rt, alloc, "62"))
 }
 
-/// Whether a copy of an error is the same.
-fn is_cloned(rt: &impl Abort, error: Error) -> bool {
+/// A copy of an error is the same.
+fn is_cloned(rt: &impl Abort, error: Error) {
     let copy = error.clone_value().expect(rt, "room");
-    same(copy, error)
+    same(rt, "a copy", copy, error);
 }
 
-/// Whether the parts of a refusal are those that it was made of.
-fn is_given_back(refused: Refused<u64>, wanted: Error) -> bool {
+/// The parts of a refusal are those that it was made of.
+fn is_given_back(rt: &impl Abort, refused: Refused<u64>, wanted: Error) {
     let Refused { back, error } = refused;
-    same(error, wanted) & (back == 7)
+    same(rt, "an error", error, wanted);
+    same(rt, "what was given", back, 7);
 }
 
 fn errors(rt: &impl Abort, alloc: Global) {
-    assert!(rt; is_cloned(rt, missing(rt, alloc)));
+    is_cloned(rt, missing(rt, alloc));
     let error = missing(rt, alloc);
-    assert!(rt; is_given_back(Refused { back: 7, error }, missing(rt, alloc)));
+    is_given_back(rt, Refused { back: 7, error }, missing(rt, alloc));
     let other = Error::from(MetricError::OtherHelp);
-    assert!(rt; differ(missing(rt, alloc), other));
-    assert!(rt; are_made_of_causes());
+    differ(rt, missing(rt, alloc), other);
+    are_made_of_causes(rt);
 }
 
-/// Whether causes make errors of their kinds.
-fn are_made_of_causes() -> bool {
+/// Stops where these are the same.
+fn differ<T: Drop + PartialEq>(rt: &impl Abort, seen: T, other: T) {
+    assert!(rt; seen != other);
+}
+
+/// Causes make errors of their kinds.
+fn are_made_of_causes(rt: &impl Abort) {
     let failure = Error::from(IoKind::InjectedSyncFailure);
-    let apart = differ(failure, Error::Io(IoKind::InjectedStorageFault));
-    apart & same(Error::from(NoMemory), Error::NoMemory)
+    differ(rt, failure, Error::Io(IoKind::InjectedStorageFault));
+    same(rt, "a cause", Error::from(NoMemory), Error::NoMemory);
 }
 
 const ATTRIBUTES: &[(&str, &str)] = &[("b", "1"), ("a", "2"), ("c", "3"), ("b", "4")];
@@ -179,13 +204,17 @@ fn line_of(rt: &impl Abort, alloc: Global, name: &Name) -> String {
     line
 }
 
+/// Stops where a line is another one.
+fn is_line(rt: &impl Abort, line: String, wanted: &str) {
+    holds(rt, wanted, line.as_str() == wanted);
+}
+
 fn names(rt: &impl Abort, alloc: Global) {
-    assert!(rt; validate_label("a_1") == Ok(()));
+    same(rt, "a label", validate_label("a_1"), Ok(()));
     let name = name(rt, alloc);
     let copy = name.clone_value().expect(rt, "room");
-    let line = line_of(rt, alloc, &name);
-    assert!(rt; same(copy, name));
-    assert!(rt; line.as_str() == "p_c a=2 b=4 c=3");
+    is_line(rt, line_of(rt, alloc, &name), "p_c a=2 b=4 c=3");
+    same(rt, "a copy", copy, name);
 }
 
 fn environment(rt: &impl Abort, alloc: Global) {
@@ -194,7 +223,7 @@ fn environment(rt: &impl Abort, alloc: Global) {
     let label = text(rt, alloc, "stop");
     let fields = Items::of(Vec::new(alloc));
     none.event(Event { label, fields });
-    assert!(rt; none.draw() == 0);
+    same(rt, "a draw", none.draw(), 0);
 }
 
 fn three_bytes(rt: &impl Abort, alloc: Global) -> Vec<u8> {
@@ -207,35 +236,60 @@ fn read_up<S: Source + Drop>(alloc: Global, source: S, limit: usize) -> Result<V
     read_whole(alloc, &mut source, limit)
 }
 
+/// Stops where these are other bytes.
+fn are(rt: &impl Abort, seen: &[u8], wanted: &[u8]) {
+    assert!(rt; seen == wanted);
+}
+
+/// All is read of a source.
+fn is_read<S: Source + Drop>(rt: &impl Abort, alloc: Global, source: S, wanted: &[u8]) {
+    let read = read_up(alloc, source, wanted.len()).expect(rt, "all bytes");
+    are(rt, read.as_slice(), wanted);
+}
+
+/// A source has more than so many bytes.
+fn is_too_long<S: Source + Drop>(rt: &impl Abort, alloc: Global, source: S, limit: usize) {
+    let refused = failed(read_up(alloc, source, limit), Unread::TooLong);
+    holds(rt, "a long source", refused);
+}
+
 fn sources(rt: &impl Abort, alloc: Global) {
     let safe = SafeSource::new(three_bytes(rt, alloc));
-    let read = read_up(alloc, safe, 3).expect(rt, "three bytes");
-    assert!(rt; read.as_slice() == [1u8, 2, 3].as_slice());
+    is_read(rt, alloc, safe, &[1, 2, 3]);
     let long = SafeSource::new(three_bytes(rt, alloc));
-    assert!(rt; failed(read_up(alloc, long, 2), Unread::TooLong));
+    is_too_long(rt, alloc, long, 2);
     pieces(rt, alloc);
+}
+
+/// Reads at most four bytes.
+fn gives<S: Source>(rt: &impl Abort, source: &mut S, wanted: Result<usize, Failed>) {
+    let mut piece = [0u8; 4];
+    same(rt, "a piece", source.read(&mut piece), wanted);
 }
 
 fn pieces(rt: &impl Abort, alloc: Global) {
     let failing = vec![in alloc; 2u64].expect(rt, "room");
     let mut list = ListSource::new(three_bytes(rt, alloc), failing, 2);
-    let mut piece = [0u8; 4];
-    assert!(rt; list.read(&mut piece) == Ok(2));
-    assert!(rt; list.read(&mut piece) == Err(Failed));
-    assert!(rt; list.read(&mut piece) == Ok(1));
-    assert!(rt; list.read(&mut piece) == Ok(0));
+    gives(rt, &mut list, Ok(2));
+    gives(rt, &mut list, Err(Failed));
+    gives(rt, &mut list, Ok(1));
+    gives(rt, &mut list, Ok(0));
+}
+
+/// Writes bytes to a safe sink.
+fn keeps(rt: &impl Abort, alloc: Global, bytes: &[u8]) {
+    let mut safe = SafeSink::new(alloc);
+    same(rt, "a write", write_whole(&mut safe, bytes), Ok(()));
+    are(rt, safe.as_slice(), bytes);
 }
 
 fn sinks(rt: &impl Abort, alloc: Global) {
-    let mut safe = SafeSink::new(alloc);
-    assert!(rt; write_whole(&mut safe, b"run") == Ok(()));
-    assert!(rt; safe.as_slice() == b"run".as_slice());
-    drop(safe);
+    keeps(rt, alloc, b"run");
     let failing = vec![in alloc; 3u64].expect(rt, "room");
     let mut list = ListSink::new(alloc, failing, 1);
-    assert!(rt; write_whole(&mut list, b"run") == Err(Failed));
-    assert!(rt; list.as_slice() == b"ru".as_slice());
-    assert!(rt; list.write(b"n") == Ok(1));
+    same(rt, "a write", write_whole(&mut list, b"run"), Err(Failed));
+    are(rt, list.as_slice(), b"ru");
+    same(rt, "one byte more", list.write(b"n"), Ok(1));
 }
 
 #[test]
@@ -286,67 +340,102 @@ impl<W: Write> Write for Failing<W> {
     }
 }
 
+/// How many calls fail first, and with which number of the system; what is answered, and how many failures are counted.
+type CutShort = (u8, i32, Result<usize, Failed>, u64);
+
+const CUT_SHORT: i32 = 4;
+
+const BROKEN: i32 = 5;
+
+const CALLS: &[CutShort] = &[
+    (0, CUT_SHORT, Ok(3), 0),
+    (1, CUT_SHORT, Ok(3), 1),
+    (63, CUT_SHORT, Ok(3), 63),
+    (64, CUT_SHORT, Err(Failed), 64),
+    (1, BROKEN, Err(Failed), 1),
+];
+
+/// What a read comes to.
+fn reads_again(first: u8, number: i32) -> (Result<usize, Failed>, u64) {
+    let mut reader = Failing {
+        inner: b"run".as_slice(),
+        first,
+        number,
+    };
+    let mut errors = 0;
+    let mut piece = [0u8; 4];
+    let read = read_retried(&mut reader, &mut errors, &mut piece);
+    (read, errors)
+}
+
+/// What a write comes to, and how many bytes are written.
+fn writes_again(alloc: Global, first: u8, number: i32) -> (Result<usize, Failed>, u64, usize) {
+    let mut writer = Failing {
+        inner: Vec::new(alloc),
+        first,
+        number,
+    };
+    let mut errors = 0;
+    let written = write_retried(&mut writer, &mut errors, b"run");
+    (written, errors, writer.inner.len())
+}
+
 #[test]
 fn calls_that_a_signal_cut_short_are_made_again(rt: HostRuntime) {
-    let (cut_short, broken) = (4, 5);
-    for (first, number, answer, counted) in [
-        (0, cut_short, Ok(3), 0),
-        (1, cut_short, Ok(3), 1),
-        (63, cut_short, Ok(3), 63),
-        (64, cut_short, Err(Failed), 64),
-        (1, broken, Err(Failed), 1),
-    ] {
-        let mut reader = Failing {
-            inner: b"run".as_slice(),
-            first,
-            number,
-        };
-        let mut errors = 0;
-        let mut piece = [0u8; 4];
-        let read = read_retried(&mut reader, &mut errors, &mut piece);
-        assert!(rt; (read, errors) == (answer, counted), "reads at {first}");
-        let mut writer = Failing {
-            inner: Vec::new(rt.alloc()),
-            first,
-            number,
-        };
-        errors = 0;
-        let written = write_retried(&mut writer, &mut errors, b"run");
-        assert!(rt; (written, errors) == (answer, counted), "writes at {first}");
-        assert!(rt; writer.inner.len() == answer.unwrap_or(0));
+    for &(first, number, answer, counted) in CALLS {
+        let read = reads_again(first, number);
+        assert!(rt; read == (answer, counted), "reads at {first}");
+        let written = writes_again(rt.alloc(), first, number);
+        assert!(rt;
+            written == (answer, counted, answer.unwrap_or(0)),
+            "writes at {first}"
+        );
     }
 }
 
-/// Writes bytes to a safe sink and to one that takes a thousand at once.
-fn write_to_sinks(rt: &impl Abort, alloc: Global, bytes: &[u8]) {
-    let mut safe = SafeSink::new(alloc);
-    assert!(rt; write_whole(&mut safe, bytes) == Ok(()));
-    assert!(rt; safe.as_slice() == bytes);
-    drop(safe);
+/// Writes bytes to a sink that takes a thousand at once.
+fn keeps_pieces(rt: &impl Abort, alloc: Global, bytes: &[u8]) {
     let mut list = ListSink::new(alloc, Vec::new(alloc), 1000);
-    assert!(rt; write_whole(&mut list, bytes) == Ok(()));
-    assert!(rt; list.as_slice() == bytes);
+    same(rt, "a write", write_whole(&mut list, bytes), Ok(()));
+    are(rt, list.as_slice(), bytes);
 }
 
-/// Reads and writes bytes in one call.
-fn read_and_write(rt: &impl Abort, alloc: Global, bytes: &[u8]) {
+/// Reads bytes in one call.
+fn reads_once(rt: &impl Abort, alloc: Global, bytes: &[u8]) {
     let size = bytes.len();
     let mut reader = bytes;
     let mut errors = 0;
     let mut read = vec![in alloc; 0u8; size].expect(rt, "room");
-    assert!(rt; read_retried(&mut reader, &mut errors, read.as_mut_slice()) == Ok(size));
-    assert!(rt; read.as_slice() == bytes);
-    drop(read);
+    let answer = read_retried(&mut reader, &mut errors, read.as_mut_slice());
+    same(rt, "a read", (answer, errors), (Ok(size), 0));
+    are(rt, read.as_slice(), bytes);
+}
+
+/// Writes bytes in one call.
+fn writes_once(rt: &impl Abort, alloc: Global, bytes: &[u8]) {
+    let mut errors = 0;
     let mut writer = Vec::new(alloc);
-    assert!(rt; write_retried(&mut writer, &mut errors, bytes) == Ok(size));
-    assert!(rt; (writer.as_slice() == bytes) & (errors == 0));
+    let answer = write_retried(&mut writer, &mut errors, bytes);
+    same(rt, "a write", (answer, errors), (Ok(bytes.len()), 0));
+    are(rt, writer.as_slice(), bytes);
 }
 
 /// Copies a long text.
-fn copy_text(rt: &impl Abort, alloc: Global, bytes: &str) {
-    let word = text(rt, alloc, bytes);
+fn copy_text(rt: &impl Abort, alloc: Global, bytes: &[u8]) {
+    let word = text(rt, alloc, str::from_utf8(bytes).expect(rt, "letters"));
     let copy = word.clone_value().expect(rt, "room");
-    assert!(rt; same(copy, word));
+    same(rt, "a copy", copy, word);
+}
+
+/// Reads a copy by pieces of a thousand bytes.
+fn reads_pieces(rt: &impl Abort, alloc: Global, bytes: &[u8]) {
+    let copy = Vec::from_slice(alloc, bytes).expect(rt, "room");
+    is_read(
+        rt,
+        alloc,
+        ListSource::new(copy, Vec::new(alloc), 1000),
+        bytes,
+    );
 }
 
 #[test]
@@ -354,68 +443,61 @@ fn a_mebibyte(rt: HostRuntime) {
     let alloc = rt.alloc();
     let size = 1_048_576;
     let bytes = vec![in alloc; b'a'; size].expect(&rt, "room");
-    write_to_sinks(&rt, alloc, bytes.as_slice());
-    read_and_write(&rt, alloc, bytes.as_slice());
-    copy_text(
-        &rt,
-        alloc,
-        str::from_utf8(bytes.as_slice()).expect(&rt, "letters"),
-    );
-    let copy = bytes.clone().expect(&rt, "room");
-    let short = ListSource::new(copy, Vec::new(alloc), 1000);
-    let read = read_up(alloc, short, size).expect(&rt, "all bytes");
-    assert!(rt; read.as_slice() == bytes.as_slice());
-    drop(read);
-    let long = SafeSource::new(bytes);
-    assert!(rt; failed(read_up(alloc, long, size - 1), Unread::TooLong));
+    keeps(&rt, alloc, bytes.as_slice());
+    keeps_pieces(&rt, alloc, bytes.as_slice());
+    reads_once(&rt, alloc, bytes.as_slice());
+    writes_once(&rt, alloc, bytes.as_slice());
+    copy_text(&rt, alloc, bytes.as_slice());
+    reads_pieces(&rt, alloc, bytes.as_slice());
+    is_too_long(&rt, alloc, SafeSource::new(bytes), size - 1);
 }
 
-/// Whether an error has these words.
-fn has_words(rt: &impl Abort, alloc: Global, error: Error, words: &str) -> bool {
+/// Stops where an error has other words.
+fn says(rt: &impl Abort, alloc: Global, error: Error, words: &str) {
     let line = format!(in alloc; "{error}").expect(rt, "room");
     drop(error);
-    line.as_str() == words
+    assert!(rt; line.as_str() == words, "{words}");
 }
 
 fn call_words(rt: &impl Abort, alloc: Global) {
-    assert!(rt; has_words(rt, alloc, Error::Exited, "exited"));
-    assert!(rt; has_words(rt, alloc, Error::Closed, "closed"));
-    assert!(rt; has_words(rt, alloc, Error::Aborted, "aborted"));
-    assert!(rt; has_words(rt, alloc, Error::Timeout, "timeout"));
-    assert!(rt; has_words(rt, alloc, Error::UnknownToken, "unknown token"));
-    assert!(rt; has_words(rt, alloc, Error::ClockOverflow, "clock overflow"));
-    assert!(rt; has_words(rt, alloc, Error::TooManyTasks, "too many tasks"));
-    assert!(rt; has_words(rt, alloc, Error::NoMemory, "no memory"));
+    says(rt, alloc, Error::Exited, "exited");
+    says(rt, alloc, Error::Closed, "closed");
+    says(rt, alloc, Error::Aborted, "aborted");
+    says(rt, alloc, Error::Timeout, "timeout");
+    says(rt, alloc, Error::UnknownToken, "unknown token");
+    says(rt, alloc, Error::ClockOverflow, "clock overflow");
+    says(rt, alloc, Error::TooManyTasks, "too many tasks");
+    says(rt, alloc, Error::NoMemory, "no memory");
 }
 
 fn network_words(rt: &impl Abort, alloc: Global) {
-    assert!(rt; has_words(rt, alloc, Error::BindFailed, "bind failed"));
-    assert!(rt; has_words(rt, alloc, Error::ConnectionFailed, "connection failed"));
-    assert!(rt; has_words(rt, alloc, Error::WriteFailed, "write failed"));
-    assert!(rt; has_words(rt, alloc, Error::ReadFailed, "read failed"));
-    assert!(rt; has_words(rt, alloc, Error::SendFailed, "send failed"));
-    assert!(rt; has_words(rt, alloc, Error::RecvFailed, "recv failed"));
-    assert!(rt; has_words(rt, alloc, Error::PortsExhausted, "ports exhausted"));
+    says(rt, alloc, Error::BindFailed, "bind failed");
+    says(rt, alloc, Error::ConnectionFailed, "connection failed");
+    says(rt, alloc, Error::WriteFailed, "write failed");
+    says(rt, alloc, Error::ReadFailed, "read failed");
+    says(rt, alloc, Error::SendFailed, "send failed");
+    says(rt, alloc, Error::RecvFailed, "recv failed");
+    says(rt, alloc, Error::PortsExhausted, "ports exhausted");
 }
 
 fn storage_words(rt: &impl Abort, alloc: Global) {
     let words = "blob insufficient length";
-    assert!(rt; has_words(rt, alloc, Error::BlobInsufficientLength, words));
+    says(rt, alloc, Error::BlobInsufficientLength, words);
     let words = "invalid or missing checksum";
-    assert!(rt; has_words(rt, alloc, Error::InvalidChecksum, words));
-    assert!(rt; has_words(rt, alloc, Error::OffsetOverflow, "offset overflow"));
+    says(rt, alloc, Error::InvalidChecksum, words);
+    says(rt, alloc, Error::OffsetOverflow, "offset overflow");
     let mismatch = Error::BlobLayoutMismatch {
         expected: BlobLayout::ALL,
         found: BlobLayout::V0,
     };
     let words = "blob layout mismatch: expected one of V0..=V1, found V0";
-    assert!(rt; has_words(rt, alloc, mismatch, words));
+    says(rt, alloc, mismatch, words);
     let mismatch = Error::BlobVersionMismatch {
         expected: (BlobVersion::new(1), BlobVersion::new(20)),
         found: BlobVersion::new(300),
     };
     let words = "blob version mismatch: expected one of 1..=20, found 300";
-    assert!(rt; has_words(rt, alloc, mismatch, words));
+    says(rt, alloc, mismatch, words);
 }
 
 const METRIC_WORDS: &[(MetricError, &str)] = &[
@@ -451,10 +533,10 @@ fn error_words(rt: HostRuntime) {
     network_words(&rt, alloc);
     storage_words(&rt, alloc);
     for &(kind, words) in METRIC_WORDS {
-        assert!(rt; has_words(&rt, alloc, Error::Metric(kind), words));
+        says(&rt, alloc, Error::Metric(kind), words);
     }
     for &(kind, words) in IO_WORDS {
-        assert!(rt; has_words(&rt, alloc, Error::Io(kind), words));
+        says(&rt, alloc, Error::Io(kind), words);
     }
 }
 
@@ -469,66 +551,62 @@ fn partition_texts(rt: &impl Abort, alloc: Global) {
     let bad =
         "partition name invalid, must only contain alphanumeric, dash ('-'), or underscore ('_') characters: a";
     let error = Error::ResolveFailed(text(rt, alloc, "a"));
-    assert!(rt; has_words(rt, alloc, error, "dns resolution failed: a"));
+    says(rt, alloc, error, "dns resolution failed: a");
     let error = Error::PartitionNameInvalid(text(rt, alloc, "a"));
-    assert!(rt; has_words(rt, alloc, error, bad));
+    says(rt, alloc, error, bad);
     let error = Error::PartitionCreationFailed(text(rt, alloc, "a"));
-    assert!(rt; has_words(rt, alloc, error, "partition creation failed: a"));
+    says(rt, alloc, error, "partition creation failed: a");
     let error = Error::PartitionMissing(text(rt, alloc, "a"));
-    assert!(rt; has_words(rt, alloc, error, "partition missing: a"));
+    says(rt, alloc, error, "partition missing: a");
     let error = Error::PartitionCorrupt(text(rt, alloc, "a"));
-    assert!(rt; has_words(rt, alloc, error, "partition corrupt: a"));
+    says(rt, alloc, error, "partition corrupt: a");
 }
 
 fn blob_texts(rt: &impl Abort, alloc: Global) {
-    let error = Error::BlobAlreadyOpen(text(rt, alloc, "a"), text(rt, alloc, "b"));
-    assert!(rt; has_words(rt, alloc, error, "blob already open: a/b"));
-    let error = Error::BlobMissing(text(rt, alloc, "a"), text(rt, alloc, "b"));
-    assert!(rt; has_words(rt, alloc, error, "blob missing: a/b"));
-    let error = Error::BlobCorrupt(
-        text(rt, alloc, "a"),
-        text(rt, alloc, "b"),
-        text(rt, alloc, "c"),
-    );
-    assert!(rt; has_words(rt, alloc, error, "blob corrupt: a/b reason: c"));
+    let (partition, name) = both(rt, alloc);
+    let error = Error::BlobAlreadyOpen(partition, name);
+    says(rt, alloc, error, "blob already open: a/b");
+    let (partition, name) = both(rt, alloc);
+    let error = Error::BlobMissing(partition, name);
+    says(rt, alloc, error, "blob missing: a/b");
+    let (partition, name) = both(rt, alloc);
+    let error = Error::BlobCorrupt(partition, name, text(rt, alloc, "c"));
+    says(rt, alloc, error, "blob corrupt: a/b reason: c");
+}
+
+/// The names of a partition and a blob.
+fn both(rt: &impl Abort, alloc: Global) -> (Text, Text) {
+    (text(rt, alloc, "a"), text(rt, alloc, "b"))
 }
 
 fn failure_texts(rt: &impl Abort, alloc: Global) {
-    let error = Error::BlobOpenFailed(
-        text(rt, alloc, "a"),
-        text(rt, alloc, "b"),
-        IoKind::InjectedStorageFault,
-    );
+    let (partition, name) = both(rt, alloc);
+    let error = Error::BlobOpenFailed(partition, name, IoKind::InjectedStorageFault);
     let words = "blob open failed: a/b error: injected storage fault";
-    assert!(rt; has_words(rt, alloc, error, words));
-    let error = Error::BlobResizeFailed(
-        text(rt, alloc, "a"),
-        text(rt, alloc, "b"),
-        IoKind::InjectedWriteFailure,
-    );
+    says(rt, alloc, error, words);
+    let (partition, name) = both(rt, alloc);
+    let error = Error::BlobResizeFailed(partition, name, IoKind::InjectedWriteFailure);
     let words = "blob resize failed: a/b error: injected write failure";
-    assert!(rt; has_words(rt, alloc, error, words));
-    let error = Error::BlobSyncFailed(
-        text(rt, alloc, "a"),
-        text(rt, alloc, "b"),
-        IoKind::InjectedSyncFailure,
-    );
+    says(rt, alloc, error, words);
+    let (partition, name) = both(rt, alloc);
+    let error = Error::BlobSyncFailed(partition, name, IoKind::InjectedSyncFailure);
     let words = "blob sync failed: a/b error: injected sync failure";
-    assert!(rt; has_words(rt, alloc, error, words));
+    says(rt, alloc, error, words);
+}
+
+/// Stops where an address has another text.
+fn is_written(rt: &impl Abort, alloc: Global, ip: Ip, port: u16, words: &str) {
+    let addr = Addr { ip, port };
+    let line = format!(in alloc; "{addr}").expect(rt, "room");
+    assert!(rt; line.as_str() == words, "{words}");
 }
 
 #[test]
-fn address_texts(rt: HostRuntime) -> Result<(), Fail> {
+fn address_texts(rt: HostRuntime) {
     let here = Ip::V4([127, 0, 0, 1]);
+    is_written(&rt, rt.alloc(), here, 4000, "127.0.0.1:4000");
     let there = Ip::V6([0x2001, 0xdb8, 0, 0, 0, 0, 0, 0x1f]);
-    for (ip, port, words) in [
-        (here, 4000, "127.0.0.1:4000"),
-        (there, 0, "[2001:db8:0:0:0:0:0:1f]:0"),
-    ] {
-        let addr = Addr { ip, port };
-        assert!(rt; format!(in rt.alloc(); "{addr}")?.as_str() == words);
-    }
-    Ok(())
+    is_written(&rt, rt.alloc(), there, 0, "[2001:db8:0:0:0:0:0:1f]:0");
 }
 
 const BAD_LABELS: &[&str] = &["", "9a", "_a", "a-b", "a b", "\u{e9}"];
@@ -541,17 +619,25 @@ const REFUSED_LABELS: &[(&str, &str, MetricError)] = &[
     ("runtime", "9a", MetricError::BadLabel),
 ];
 
+/// A child's label is refused so.
+fn refuses_child(rt: &impl Abort, alloc: Global, prefix: &str, label: &str, kind: MetricError) {
+    same(rt, label, check_child_label(prefix, label), Err(kind));
+    let refused = failed(child_label(alloc, prefix, label), Error::Metric(kind));
+    assert!(rt; refused, "at {label}");
+}
+
 #[test]
 fn refused_labels(rt: HostRuntime) {
     for label in BAD_LABELS {
-        let refused = validate_label(label) == Err(MetricError::BadLabel);
-        assert!(rt; refused, "at {label}");
+        same(
+            &rt,
+            label,
+            validate_label(label),
+            Err(MetricError::BadLabel),
+        );
     }
     for &(prefix, label, kind) in REFUSED_LABELS {
-        assert!(rt; check_child_label(prefix, label) == Err(kind), "at {label}");
-        let answer = child_label(rt.alloc(), prefix, label);
-        let refused = failed(answer, Error::Metric(kind));
-        assert!(rt; refused, "at {label}");
+        refuses_child(&rt, rt.alloc(), prefix, label, kind);
     }
 }
 
@@ -569,16 +655,18 @@ const SMALL_TEXTS: &[(&str, &str, &str, bool)] = &[
     ),
 ];
 
-/// Whether a prefixed name has this text, and stands in place.
-fn is_kept(text: SmallText, full: &str, in_place: bool) -> bool {
-    text.as_str() == full && text.short().is_some() == in_place
+/// Stops where a prefixed name has another text, or isn't so kept.
+fn is_kept(rt: &impl Abort, text: SmallText, full: &str, in_place: bool) {
+    let kept = text.as_str() == full && text.short().is_some() == in_place;
+    drop(text);
+    assert!(rt; kept, "at {full}");
 }
 
 #[test]
 fn small_texts(rt: HostRuntime) {
     for &(prefix, name, full, in_place) in SMALL_TEXTS {
         let text = SmallText::prefixed(rt.alloc(), prefix, name).expect(&rt, "room");
-        assert!(rt; is_kept(text, full, in_place), "at {full}");
+        is_kept(&rt, text, full, in_place);
     }
 }
 

@@ -13,3 +13,5 @@ mod journal;
 mod signals;
 #[cfg(test)]
 mod supervision;
+#[cfg(test)]
+mod told;

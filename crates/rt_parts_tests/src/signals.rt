@@ -101,12 +101,18 @@ fn woken(task: Option<u64>) -> Came {
     }
 }
 
-fn refused(error: Error) -> Came {
-    match &error {
+fn named(error: &Error) -> Came {
+    match error {
         Error::Closed => Came::Closed,
         Error::UnknownToken => Came::Unknown,
         _ => Came::Other,
     }
+}
+
+fn refused(error: Error) -> Came {
+    let came = named(&error);
+    drop(error);
+    came
 }
 
 /// A value wakes who waits by a signal, and is shown again. The signal that is closed last completes.

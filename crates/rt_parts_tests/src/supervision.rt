@@ -1,129 +1,190 @@
 // Each call once, how ends reach down a tree, and many of each.
-use rt_base::{Error, MAX_TIME, Poll};
+use crate::told::{holds, same};
+use rt_base::{MAX_TIME, Poll};
 use rt_super::{Alarms, NOBODY, Slots, Tree};
 use std::alloc::Global;
 use std::process::Abort;
-use std::test::Fail;
+
+/// A child, and whether it is ended.
+fn child(rt: &impl Abort, tree: &mut Tree, parent: u64) -> (u64, bool) {
+    tree.child(parent).expect(rt, "room")
+}
 
 /// A child with a task on it.
-fn grow(tree: &mut Tree, parent: u64, task: u64) -> Result<u64, Error> {
-    let (node, _) = tree.child(parent)?;
-    let _ = tree.register(node, task)?;
-    Ok(node)
+fn grow(rt: &impl Abort, tree: &mut Tree, parent: u64, task: u64) -> u64 {
+    let (node, _) = tree.child(parent).expect(rt, "room");
+    let _ = tree.register(node, task).expect(rt, "room");
+    node
+}
+
+fn tree(rt: &impl Abort, alloc: Global) -> Tree {
+    Tree::new(alloc).expect(rt, "room")
+}
+
+/// The next task that is flagged.
+fn flags(rt: &impl Abort, tree: &mut Tree, task: u64) {
+    same(rt, "a flag", tree.next_flag(), Some(task));
+}
+
+fn flags_no_more(rt: &impl Abort, tree: &mut Tree) {
+    same(rt, "no flag", tree.next_flag(), None);
+}
+
+/// Whether a node is ended.
+fn ends(rt: &impl Abort, tree: &Tree, node: u64, ended: bool) {
+    same(rt, "an end", tree.is_ended(node), ended);
 }
 
 #[test]
-fn surface(rt: HostRuntime) -> Result<(), Fail> {
-    let mut tree = Tree::new(rt.alloc())?;
+fn surface(rt: HostRuntime) {
+    surface_of_tree(&rt, rt.alloc());
+    surface_of_alarms(&rt, rt.alloc());
+    surface_of_slots(&rt, rt.alloc());
+}
+
+fn surface_of_tree(rt: &impl Abort, alloc: Global) {
+    let mut tree = tree(rt, alloc);
     let root = tree.root();
-    let child = grow(&mut tree, root, 7)?;
-    assert!(rt; tree.task_of(child) == Some(7));
+    let child = grow(rt, &mut tree, root, 7);
+    same(rt, "its task", tree.task_of(child), Some(7));
     tree.end(child);
-    assert!(rt; tree.next_flag() == Some(7));
-    assert!(rt; tree.is_ended(child) && tree.lives(child));
+    flags(rt, &mut tree, 7);
+    ends(rt, &tree, child, true);
+    holds(rt, "it lives", tree.lives(child));
     tree.release(child);
-    assert!(rt; !tree.is_ended(child) && !tree.lives(child) && tree.has_ended(child));
-    assert!(rt; !tree.is_over());
+    ends(rt, &tree, child, false);
+    holds(rt, "it is gone", !tree.lives(child) & tree.has_ended(child));
+    holds(rt, "the root is there", !tree.is_over());
     tree.end(root);
-    assert!(rt; tree.is_over() && tree.is_ended(root));
-    surface_of_alarms(&rt, rt.alloc())?;
-    surface_of_slots(&rt, rt.alloc())
+    ends(rt, &tree, root, true);
+    holds(rt, "all is over", tree.is_over());
 }
 
-fn surface_of_alarms(rt: &impl Abort, alloc: Global) -> Result<(), Fail> {
+/// Sets an alarm, which gets this number.
+fn set(rt: &impl Abort, alarms: &mut Alarms, due: u128, task: u64, number: u64) {
+    same(rt, "a number", alarms.set(due, task).ok(), Some(number));
+}
+
+fn pops(rt: &impl Abort, alarms: &mut Alarms, now: u128, wanted: Option<(u64, u64)>) {
+    same(rt, "one that is due", alarms.pop_due(now), wanted);
+}
+
+fn surface_of_alarms(rt: &impl Abort, alloc: Global) {
     let mut alarms = Alarms::new(alloc);
-    assert!(rt; alarms.is_empty());
-    let alarm = alarms.set(30, 1)?;
-    alarms.rewake(alarm, 2);
-    assert!(rt; alarms.earliest() == Some(30));
-    assert!(rt; alarms.due_of(alarm) == Some(30));
-    assert!(rt; alarms.due(29).is_none());
-    assert!(rt; alarms.pop_due(29).is_none());
-    assert!(rt; alarms.due(30) == Some(alarm));
-    assert!(rt; alarms.pop_due(30) == Some((alarm, 2)));
-    let next = alarms.set(40, NOBODY)?;
-    assert!(rt; alarms.len() == 1);
-    assert!(rt; alarms.count() == 2);
-    assert!(rt; alarms.pop_due(40) == Some((next, NOBODY)));
-    let later = (alarms.set(60, 1)?, alarms.set(50, 3)?, alarms.set(70, 4)?);
-    alarms.rewake(later.0, 5);
-    assert!(rt;
-        (alarms.pop_due(60), alarms.pop_due(60)) == (Some((later.1, 3)), Some((later.0, 5)))
+    holds(rt, "none", alarms.is_empty());
+    set(rt, &mut alarms, 30, 1, 0);
+    alarms.rewake(0, 2);
+    same(rt, "the earliest", alarms.earliest(), Some(30));
+    same(rt, "when it is due", alarms.due_of(0), Some(30));
+    same(rt, "none at 29", alarms.due(29), None);
+    pops(rt, &mut alarms, 29, None);
+    same(rt, "one at 30", alarms.due(30), Some(0));
+    pops(rt, &mut alarms, 30, Some((0, 2)));
+    set(rt, &mut alarms, 40, NOBODY, 1);
+    same(
+        rt,
+        "set and ever set",
+        (alarms.len(), alarms.count()),
+        (1, 2),
     );
-    assert!(rt; (alarms.len(), alarms.due_of(later.2)) == (1, Some(70)));
+    pops(rt, &mut alarms, 40, Some((1, NOBODY)));
+    set(rt, &mut alarms, 60, 1, 2);
+    set(rt, &mut alarms, 50, 3, 3);
+    set(rt, &mut alarms, 70, 4, 4);
+    alarms.rewake(2, 5);
+    pops(rt, &mut alarms, 60, Some((3, 3)));
+    pops(rt, &mut alarms, 60, Some((2, 5)));
+    same(
+        rt,
+        "the last",
+        (alarms.len(), alarms.due_of(4)),
+        (1, Some(70)),
+    );
     alarms.clear();
-    assert!(rt; later == (2, 3, 4) && alarms.is_empty());
-    Ok(())
+    holds(rt, "none once more", alarms.is_empty());
 }
 
-fn surface_of_slots(rt: &impl Abort, alloc: Global) -> Result<(), Fail> {
-    let mut slots: Slots<u8> = Slots::new(alloc);
-    let slot = slots.add()?;
+/// Polls a slot in the name of a task.
+fn polls(rt: &impl Abort, slots: &mut Slots<u64>, slot: u64, task: u64, wanted: Poll<Option<u64>>) {
     assert!(rt; slots.holds(slot));
-    assert!(rt; slots.poll(slot, 3) == Poll::Pending);
-    assert!(rt; slots.put(slot, 9) == Some(3));
-    assert!(rt;
-        (slots.poll(slot, 3), slots.poll(slot, 3)) == (Poll::Ready(Some(9)), Poll::Ready(None))
-    );
-    assert!(rt; slots.close(slot).is_none());
-    assert!(rt; slots.abort(slot).is_none());
-    assert!(rt; slots.is_aborted(slot));
-    assert!(rt; slots.poll(slot, NOBODY) == Poll::Ready(None));
-    slots.give_up(slot);
-    assert!(rt; !slots.holds(slot));
-    Ok(())
+    same(rt, "a poll", slots.poll(slot, task), wanted);
+}
+
+fn add(rt: &impl Abort, slots: &mut Slots<u64>, number: u64) {
+    same(rt, "a slot", slots.add().ok(), Some(number));
+    holds(rt, "it is held", slots.holds(number));
+}
+
+fn surface_of_slots(rt: &impl Abort, alloc: Global) {
+    let mut slots: Slots<u64> = Slots::new(alloc);
+    add(rt, &mut slots, 0);
+    polls(rt, &mut slots, 0, 3, Poll::Pending);
+    same(rt, "who waits", slots.put(0, 9), Some(3));
+    polls(rt, &mut slots, 0, 3, Poll::Ready(Some(9)));
+    polls(rt, &mut slots, 0, 3, Poll::Ready(None));
+    same(rt, "a close", slots.close(0), None);
+    same(rt, "an abort", slots.abort(0), None);
+    holds(rt, "it is aborted", slots.is_aborted(0));
+    polls(rt, &mut slots, 0, NOBODY, Poll::Ready(None));
+    slots.give_up(0);
+    holds(rt, "it is given up", !slots.holds(0));
 }
 
 #[test]
-fn child_ends_with_its_parent(rt: HostRuntime) -> Result<(), Fail> {
-    let mut tree = Tree::new(rt.alloc())?;
-    let first = grow(&mut tree, 0, 1)?;
-    let inner = grow(&mut tree, first, 2)?;
-    let second = grow(&mut tree, 0, 3)?;
-    let last = grow(&mut tree, inner, 4)?;
-    let other = grow(&mut tree, first, 5)?;
+fn child_ends_with_its_parent(rt: HostRuntime) {
+    let mut tree = tree(&rt, rt.alloc());
+    let first = grow(&rt, &mut tree, 0, 1);
+    let inner = grow(&rt, &mut tree, first, 2);
+    let second = grow(&rt, &mut tree, 0, 3);
+    let last = grow(&rt, &mut tree, inner, 4);
+    let other = grow(&rt, &mut tree, first, 5);
     tree.end(first);
-    for task in [1, 2, 4, 5] {
-        assert!(rt; tree.next_flag() == Some(task));
-    }
-    assert!(rt; tree.next_flag().is_none());
-    assert!(rt; tree.is_ended(last) && tree.is_ended(other) && !tree.is_ended(second));
-    Ok(())
+    flags(&rt, &mut tree, 1);
+    flags(&rt, &mut tree, 2);
+    flags(&rt, &mut tree, 4);
+    flags(&rt, &mut tree, 5);
+    flags_no_more(&rt, &mut tree);
+    ends(&rt, &tree, last, true);
+    ends(&rt, &tree, other, true);
+    ends(&rt, &tree, second, false);
 }
 
 #[test]
-fn deep_chain_is_flagged(rt: HostRuntime) -> Result<(), Fail> {
-    let mut tree = Tree::new(rt.alloc())?;
+fn deep_chain_is_flagged(rt: HostRuntime) {
+    let mut tree = tree(&rt, rt.alloc());
     let mut last = 0;
     for task in 0..50_000 {
-        last = grow(&mut tree, last, task)?;
+        last = grow(&rt, &mut tree, last, task);
     }
     tree.end(0);
     for task in 0..50_000 {
-        assert!(rt; tree.next_flag() == Some(task));
+        flags(&rt, &mut tree, task);
     }
-    assert!(rt; tree.next_flag().is_none());
-    assert!(rt; tree.is_ended(last));
-    Ok(())
+    flags_no_more(&rt, &mut tree);
+    ends(&rt, &tree, last, true);
+}
+
+/// A new child of a node, which is ended or not.
+fn comes(rt: &impl Abort, tree: &mut Tree, parent: u64, ended: bool) {
+    let (late, told) = child(rt, tree, parent);
+    same(rt, "an ended child", told, ended);
+    ends(rt, tree, late, ended);
 }
 
 #[test]
-fn children_come_while_flags_are_pending(rt: HostRuntime) -> Result<(), Fail> {
-    let mut tree = Tree::new(rt.alloc())?;
-    let (first, _) = tree.child(0)?;
+fn children_come_while_flags_are_pending(rt: HostRuntime) {
+    let mut tree = tree(&rt, rt.alloc());
+    let (first, _) = child(&rt, &mut tree, 0);
     for task in 0..1_000 {
-        grow(&mut tree, first, task)?;
+        let _ = grow(&rt, &mut tree, first, task);
     }
     tree.end(first);
     for task in 0..1_000 {
-        let (late, ended) = tree.child(first)?;
-        assert!(rt; ended && tree.is_ended(late));
-        let (other, ended) = tree.child(0)?;
-        assert!(rt; !ended && !tree.is_ended(other));
-        assert!(rt; tree.next_flag() == Some(task));
+        comes(&rt, &mut tree, first, true);
+        comes(&rt, &mut tree, 0, false);
+        flags(&rt, &mut tree, task);
     }
-    assert!(rt; tree.next_flag().is_none());
-    Ok(())
+    flags_no_more(&rt, &mut tree);
 }
 
 /// Whom the alarm of this number wakes.
@@ -131,69 +192,86 @@ fn woken_by(number: u64) -> u64 {
     if number & 1 == 0 { number } else { NOBODY }
 }
 
-#[test]
-fn many_alarms_go_off_in_order(rt: HostRuntime) -> Result<(), Fail> {
-    let rising = (1u64, 4_095);
-    let equal = (0, 4_095);
-    let falling = (u64::MAX, 4_095);
-    let mixed = (2_654_435_761, 1_023);
-    for (factor, mask) in [rising, equal, falling, mixed] {
-        let mut alarms = Alarms::new(rt.alloc());
-        for number in 0..2_000u64 {
-            let due = number.wrapping_mul(factor) & mask;
-            assert!(rt; alarms.set(due as u128, woken_by(number))? == number);
-        }
-        assert!(rt; alarms.set(MAX_TIME, NOBODY)? == 2_000);
-        let mut last = None;
-        for _ in 0..2_000 {
-            let Some((number, task)) = alarms.pop_due(4_095) else {
-                panic!(rt; "one of them isn't due");
-            };
-            let next = Some((number.wrapping_mul(factor) & mask, number));
-            assert!(rt; last < next && task == woken_by(number), "{}", number);
-            last = next;
-        }
-        assert!(rt; alarms.pop_due(4_095).is_none());
-        assert!(rt; alarms.pop_due(MAX_TIME) == Some((2_000, NOBODY)));
-        assert!(rt; alarms.set(MAX_TIME, 1)? == 2_001);
-        alarms.clear();
-        assert!(rt; alarms.set(MAX_TIME, 1)? == 2_002);
+/// When the alarm of this number is due.
+fn due_by(number: u64, factor: u64, mask: u64) -> u64 {
+    number.wrapping_mul(factor) & mask
+}
+
+/// The time and number of the next alarm, which goes off behind the last.
+fn next(
+    rt: &impl Abort,
+    alarms: &mut Alarms,
+    last: (u64, u64),
+    factor: u64,
+    mask: u64,
+) -> (u64, u64) {
+    let (number, task) = alarms.pop_due(4_095).expect(rt, "one that is due");
+    let next = (due_by(number, factor, mask), number.wrapping_add(1));
+    assert!(rt; last < next && task == woken_by(number), "{number}");
+    next
+}
+
+fn go_off_in_order(rt: &impl Abort, alloc: Global, factor: u64, mask: u64) {
+    let mut alarms = Alarms::new(alloc);
+    for number in 0..2_000 {
+        let due = due_by(number, factor, mask);
+        set(rt, &mut alarms, due as u128, woken_by(number), number);
     }
-    Ok(())
+    set(rt, &mut alarms, MAX_TIME, NOBODY, 2_000);
+    let mut last = (0, 0);
+    for _ in 0..2_000 {
+        last = next(rt, &mut alarms, last, factor, mask);
+    }
+    pops(rt, &mut alarms, 4_095, None);
+    pops(rt, &mut alarms, MAX_TIME, Some((2_000, NOBODY)));
+    set(rt, &mut alarms, MAX_TIME, 1, 2_001);
+    alarms.clear();
+    set(rt, &mut alarms, MAX_TIME, 1, 2_002);
 }
 
 #[test]
-fn slots_come_beside_slots_of_all_kinds(rt: HostRuntime) -> Result<(), Fail> {
+fn many_alarms_go_off_in_order(rt: HostRuntime) {
+    go_off_in_order(&rt, rt.alloc(), 1, 4_095);
+    go_off_in_order(&rt, rt.alloc(), 0, 4_095);
+    go_off_in_order(&rt, rt.alloc(), u64::MAX, 4_095);
+    go_off_in_order(&rt, rt.alloc(), 2_654_435_761, 1_023);
+}
+
+/// What becomes of a slot, by its number, and who waited.
+fn changed(slots: &mut Slots<u64>, number: u64) -> Option<u64> {
+    match number % 5 {
+        0 => slots.close(number),
+        1 => slots.abort(number),
+        2 => slots.put(number, number),
+        3 => {
+            slots.give_up(number);
+            Some(number)
+        }
+        _ => Some(number),
+    }
+}
+
+/// What a slot answers then.
+fn answered(slot: u64) -> Poll<Option<u64>> {
+    match slot % 5 {
+        0 | 1 => Poll::Ready(None),
+        2 => Poll::Ready(Some(slot)),
+        _ => Poll::Pending,
+    }
+}
+
+#[test]
+fn slots_come_beside_slots_of_all_kinds(rt: HostRuntime) {
     let mut slots: Slots<u64> = Slots::new(rt.alloc());
     for number in 0..5_000 {
-        let slot = slots.add()?;
-        assert!(rt; slot == number && slots.holds(slot));
-        assert!(rt; slots.poll(slot, number) == Poll::Pending);
-        let waiting = match number % 5 {
-            0 => slots.close(slot),
-            1 => slots.abort(slot),
-            2 => slots.put(slot, number),
-            3 => {
-                slots.give_up(slot);
-                Some(number)
-            }
-            _ => Some(number),
-        };
-        assert!(rt; waiting == Some(number));
+        add(&rt, &mut slots, number);
+        polls(&rt, &mut slots, number, number, Poll::Pending);
+        same(&rt, "who waited", changed(&mut slots, number), Some(number));
     }
     for slot in 0..5_000 {
-        let wanted = match slot % 5 {
-            0 | 1 => Some(Poll::Ready(None)),
-            2 => Some(Poll::Ready(Some(slot))),
-            3 => None,
-            _ => Some(Poll::Pending),
-        };
-        let answer = if slots.holds(slot) {
-            Some(slots.poll(slot, NOBODY))
-        } else {
-            None
-        };
-        assert!(rt; answer == wanted);
+        same(&rt, "is held", slots.holds(slot), slot % 5 != 3);
+        if slots.holds(slot) {
+            polls(&rt, &mut slots, slot, NOBODY, answered(slot));
+        }
     }
-    Ok(())
 }
