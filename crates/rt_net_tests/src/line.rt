@@ -43,21 +43,29 @@ impl<K, M> Line<K, M> {
     }
 }
 
+// These bytes in one chunk.
+fn one_chunk(rt: &impl Abort, alloc: Global, bytes: Vec<u8>) -> IoBufs {
+    let chunk = IoBuf::from_vec(bytes).expect(rt, "room");
+    IoBufs::from_buf(alloc, chunk).expect(rt, "room")
+}
+
 // The bytes of these numbers, in one chunk.
-fn numbered(alloc: Global, from: usize, count: usize) -> Result<IoBufs, Error> {
+fn numbered(rt: &impl Abort, alloc: Global, from: usize, count: usize) -> IoBufs {
     let mut list = Vec::new(alloc);
     for index in 0..count {
-        list.push((from.wrapping_add(index) % 251) as u8)?;
+        list.push((from.wrapping_add(index) % 251) as u8)
+            .expect(rt, "room");
     }
-    Ok(IoBufs::from_buf(alloc, IoBuf::from_vec(list)?)?)
+    one_chunk(rt, alloc, list)
 }
 
 // The bytes of these numbers, in two chunks where there are two.
-fn halved(alloc: Global, from: usize, count: usize) -> Result<IoBufs, Error> {
+fn halved(rt: &impl Abort, alloc: Global, from: usize, count: usize) -> IoBufs {
     let half = count / 2;
-    let mut all = numbered(alloc, from, half)?;
-    all.append_all(numbered(alloc, from.wrapping_add(half), count - half)?)?;
-    Ok(all)
+    let mut all = numbered(rt, alloc, from, half);
+    let rest = numbered(rt, alloc, from.wrapping_add(half), count - half);
+    all.append_all(rest).expect(rt, "room");
+    all
 }
 
 // How many bytes there are, where they are those from this number on.
@@ -96,13 +104,14 @@ fn came(answer: Result<Poll<IoBufs>, Error>, received: &mut usize) -> Ending {
 
 // Task 1 sends and task 2 receives: how the call ended, and the task that it woke.
 fn take_step<N: Network, E: Env>(
+    rt: &impl Abort,
     net: &mut N,
     env: &mut E,
     line: &mut Line<N::Sink, N::Stream>,
     step: Step,
 ) -> (Ending, Option<u64>) {
     match step {
-        Step::Send(count) => sends(net, env, line, count),
+        Step::Send(count) => sends(rt, net, env, line, count),
         Step::PollSend => (poll_put(net, env, &mut line.sink, 1), None),
         Step::GiveUpSend => {
             net.give_up_send(&mut line.sink);
@@ -132,6 +141,7 @@ pub fn poll_put<N: Network, E: Env>(
 }
 
 fn sends<N: Network, E: Env>(
+    rt: &impl Abort,
     net: &mut N,
     env: &mut E,
     line: &mut Line<N::Sink, N::Stream>,
@@ -140,14 +150,10 @@ fn sends<N: Network, E: Env>(
     if line.sink.is_sending() {
         return (Ending::Other, None);
     }
-    match halved(line.alloc, line.sent, count).ok() {
-        Some(bufs) => {
-            line.sent = line.sent.wrapping_add(count);
-            let reply = net.send(env, &mut line.sink, bufs, 1);
-            (seen(reply.value), reply.wake)
-        }
-        None => (Ending::Other, None),
-    }
+    let bufs = halved(rt, line.alloc, line.sent, count);
+    line.sent = line.sent.wrapping_add(count);
+    let reply = net.send(env, &mut line.sink, bufs, 1);
+    (seen(reply.value), reply.wake)
 }
 
 fn receives<N: Network, E: Env>(
@@ -202,7 +208,7 @@ pub fn takes<N: Network, E: Env>(
     steps: &[Taken],
 ) {
     for (next, ending, wake) in steps {
-        let seen = take_step(net, env, line, *next);
+        let seen = take_step(rt, net, env, line, *next);
         assert!(rt; seen == (*ending, *wake), "{next:?}");
     }
 }

@@ -1069,6 +1069,50 @@ fn opens_many(rt: &impl Abort, alloc: Global, net: &mut Net, left: u16) {
     takes_all(rt, net, &mut NoEnv, line, &receives);
 }
 
+// A byte of its own is sent on each way of a connection, and received once the later connections are closed.
+const SENDS_ONE: &[Taken] = &[(Step::Send(1), Ending::Done, None)];
+
+const RECEIVES_ONE: &[Taken] = &[(Step::Recv(1), Ending::Got(1), None)];
+
+// The bytes of a channel have these numbers.
+fn begins_at<K, M>(line: &mut Line<K, M>, number: usize) {
+    line.sent = number;
+    line.received = number;
+}
+
+// As many connections at once through one listener, each of which sends a byte each way.
+fn connects_many<N: Network>(
+    rt: &impl Abort,
+    alloc: Global,
+    net: &mut N,
+    listener: &mut N::Listener,
+    left: u16,
+) {
+    if left == 0 {
+        return;
+    }
+    let (mut there, mut back, _) = connects(rt, alloc, net, &mut NoEnv, listener, here(4000));
+    begins_at(&mut there, left as usize);
+    begins_at(&mut back, left as usize);
+    takes(rt, net, &mut NoEnv, &mut there, SENDS_ONE);
+    takes(rt, net, &mut NoEnv, &mut back, SENDS_ONE);
+    connects_many(rt, alloc, net, listener, left - 1);
+    takes_all(rt, net, &mut NoEnv, there, RECEIVES_ONE);
+    takes_all(rt, net, &mut NoEnv, back, RECEIVES_ONE);
+}
+
+#[test]
+fn a_thousand_connections(rt: HostRuntime) {
+    let alloc = rt.alloc();
+    let mut net = memory(&rt, alloc);
+    let mut listener = net
+        .bind(&mut NoEnv, here(4000))
+        .expect(&rt, "the address is free");
+    connects_many(&rt, alloc, &mut net, &mut listener, 1000);
+    net.close_listener(listener);
+    drop(net);
+}
+
 #[test]
 fn many_live_at_once(rt: HostRuntime) {
     let mut net = memory(&rt, rt.alloc());
