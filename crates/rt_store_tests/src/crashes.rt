@@ -1,10 +1,9 @@
 // What a crash leaves, by what it draws.
 
-use crate::stores::{came, has, reads, set, store_of, syncs, went, write};
+use crate::stores::{came, ends, has, memory, reads, set, store_of, syncs, went, write};
 use rt_base::{Choice, Env, Error, Event, NoEnv, NoMemory, WriteOptions};
 use rt_store::{FaultConfig, MemStore, PartialWriteMode, ResizeConfig, Storage, WriteConfig};
 use std::alloc::Global;
-use std::test::Fail;
 
 /// Draws this number, then the next ones.
 #[derive(Drop)]
@@ -97,7 +96,9 @@ fn leaves(alloc: Global, is_synced: bool, crash: &Crash) -> Result<bool, NoMemor
     let kept = keeps(alloc, &mut store, "p", is_synced);
     let chosen = chooses(alloc, &mut store, &mut numbers, choices);
     let drawn = numbers.next.wrapping_sub(first);
-    Ok(kept & chosen & (drawn == draws) & has(&mut store, "p", b"n", len))
+    let left = has(&mut store, "p", b"n", len);
+    drop(store);
+    Ok(kept & chosen & (drawn == draws) & left)
 }
 
 /// How many crashes leave what is written.
@@ -119,17 +120,15 @@ const UNSYNCED: &[Crash] = &[
 ];
 
 #[test]
-fn unsynced_bytes_are_lost(rt: HostRuntime) -> Result<(), Fail> {
+fn unsynced_bytes_are_lost(rt: HostRuntime) {
     assert!(rt; leaves_each(rt.alloc(), false, UNSYNCED) == 2);
-    Ok(())
 }
 
 const DROPPED: &[Crash] = &[(0, OFF, 0, 0, 0, &[Choice::Dropped])];
 
 #[test]
-fn crash_drops_without_a_draw(rt: HostRuntime) -> Result<(), Fail> {
+fn crash_drops_without_a_draw(rt: HostRuntime) {
     assert!(rt; leaves_each(rt.alloc(), false, DROPPED) == 1);
-    Ok(())
 }
 
 const KEPT: &[Crash] = &[
@@ -140,9 +139,8 @@ const KEPT: &[Crash] = &[
 ];
 
 #[test]
-fn crash_keeps_by_a_draw(rt: HostRuntime) -> Result<(), Fail> {
+fn crash_keeps_by_a_draw(rt: HostRuntime) {
     assert!(rt; leaves_each(rt.alloc(), false, KEPT) == 4);
-    Ok(())
 }
 
 const PREFIX: PartialWriteMode = PartialWriteMode::Prefix;
@@ -155,17 +153,15 @@ const PREFIXES: &[Crash] = &[
 ];
 
 #[test]
-fn prefixes_stay(rt: HostRuntime) -> Result<(), Fail> {
+fn prefixes_stay(rt: HostRuntime) {
     assert!(rt; leaves_each(rt.alloc(), false, PREFIXES) == 4);
-    Ok(())
 }
 
 const SYNCED: &[Crash] = &[(0, OFF, 7, 3, 0, &[])];
 
 #[test]
-fn synced_bytes_stay(rt: HostRuntime) -> Result<(), Fail> {
+fn synced_bytes_stay(rt: HostRuntime) {
     assert!(rt; leaves_each(rt.alloc(), true, SYNCED) == 1);
-    Ok(())
 }
 
 /// Two blobs crash in the order of their partitions.
@@ -179,18 +175,20 @@ fn crashes_two(alloc: Global, store: &mut MemStore) -> bool {
 /// What is left is in a store that is made of a snapshot.
 fn stays_in_snapshot(store: MemStore, faults: FaultConfig) -> bool {
     let mut again = MemStore::from_snapshot(store.snapshot(), faults);
-    has(&mut again, "p", b"n", 3) & has(&mut again, "q", b"n", 0)
+    let stayed = has(&mut again, "p", b"n", 3) & has(&mut again, "q", b"n", 0);
+    drop(again);
+    stayed
 }
 
 #[test]
-fn partitions_crash_in_order(rt: HostRuntime) -> Result<(), Fail> {
+fn partitions_crash_in_order(rt: HostRuntime) {
     let mut faults = FaultConfig::default();
     faults.write.keep = 1;
-    let mut store = MemStore::new(rt.alloc(), FaultConfig::default())?;
+    let mut store = memory(&rt, rt.alloc());
     set(&mut store, faults);
     let crashed = crashes_two(rt.alloc(), &mut store);
-    assert!(rt; crashed & stays_in_snapshot(store, faults));
-    Ok(())
+    let stayed = stays_in_snapshot(store, faults);
+    assert!(rt; crashed & stayed);
 }
 
 /// Whether a crash leaves the one of two blobs whose bytes stay, and what is left is in a store that is made of a snapshot.
@@ -208,13 +206,13 @@ fn admit(store: &mut MemStore) {
 }
 
 #[test]
-fn admitted_bytes_stay(rt: HostRuntime) -> Result<(), Fail> {
-    let mut store = MemStore::new(rt.alloc(), FaultConfig::default())?;
+fn admitted_bytes_stay(rt: HostRuntime) {
+    let mut store = memory(&rt, rt.alloc());
     let kept = keeps(rt.alloc(), &mut store, "p", false);
     admit(&mut store);
     let chosen = chooses(rt.alloc(), &mut store, &mut NoEnv, &[]);
-    assert!(rt; kept & chosen & has(&mut store, "p", b"n", 3));
-    Ok(())
+    let left = has(&mut store, "p", b"n", 3);
+    ends(&rt, store, kept & chosen & left);
 }
 
 /// What comes behind a cut: three bytes are written behind the one that is left and a gap, or the blob gets a length.
@@ -330,7 +328,9 @@ fn comes_back(alloc: Global, cut: &Cut) -> Result<bool, NoMemory> {
     let changed = came(cut_and_follow(alloc, &mut store, cut), true);
     let mut numbers = Numbers { next: first };
     let chosen = chooses(alloc, &mut store, &mut numbers, choices);
-    Ok(kept & changed & chosen & came(shows(&mut store, after), true))
+    let left = came(shows(&mut store, after), true);
+    drop(store);
+    Ok(kept & changed & chosen & left)
 }
 
 /// How many do.
@@ -345,7 +345,6 @@ fn comes_back_each(alloc: Global, cuts: &[Cut]) -> usize {
 }
 
 #[test]
-fn cut_bytes_come_back(rt: HostRuntime) -> Result<(), Fail> {
+fn cut_bytes_come_back(rt: HostRuntime) {
     assert!(rt; comes_back_each(rt.alloc(), CUTS) == 8);
-    Ok(())
 }

@@ -1,12 +1,12 @@
 // Many of each: bytes, changes, blobs, partitions and ranges.
 
 use crate::crashes::crash;
-use crate::stores::{bufs, came, done, has, reads_each, reads_placed, went, writes};
-use rt_base::{Error, NoEnv, NoMemory, WriteOptions};
-use rt_bufs::IoBufs;
-use rt_store::{FaultConfig, MemStore, Storage};
+use crate::stores::{bufs, came, done, ends, has, memory, reads_each, reads_placed, went, writes};
+use rt_base::{Error, NoEnv, NoMemory, ReadOptions, WriteOptions};
+use rt_bufs::{IoBufs, IoBufsMut};
+use rt_store::{MemStore, Storage};
 use std::alloc::Global;
-use std::test::Fail;
+use std::process::Abort;
 
 /// A chunk of this many bytes.
 fn chunk_of(alloc: Global, len: usize) -> Result<IoBufs, NoMemory> {
@@ -65,6 +65,26 @@ fn fill<S: Storage>(
     Ok(written)
 }
 
+/// Whether these are so many bytes, by the first and the last of them.
+fn are_bytes(bufs: IoBufsMut, len: u64) -> bool {
+    match bufs.coalesce() {
+        Ok(buf) => {
+            let bytes = buf.as_slice();
+            let ends = bytes.starts_with(&[7]) & bytes.ends_with(&[7]);
+            ends & (bytes.len() as u64 == len)
+        }
+        Err(_) => false,
+    }
+}
+
+/// Whether all bytes of a blob are read at once.
+fn reads_whole<S: Storage>(store: &mut S, size: u64) -> Result<bool, Error> {
+    let (blob, len) = store.open(&mut NoEnv, "p", b"n")?;
+    let read = store.read_at(&mut NoEnv, &blob, 0, len as usize, ReadOptions::default());
+    store.close(blob);
+    Ok(are_bytes(read?, size))
+}
+
 /// How many changes a crash decided over.
 fn count_choices(alloc: Global, store: &mut MemStore) -> Result<usize, Error> {
     let choices = crash(alloc, store, &mut NoEnv)?;
@@ -78,25 +98,16 @@ type Size = (usize, usize, u64);
 fn holds(alloc: Global, store: &mut MemStore, size: &Size) -> bool {
     let (chunk, count, len) = *size;
     let filled = came(fill(alloc, store, chunk, count), count) & has(store, "p", b"n", len);
+    let read = came(reads_whole(store, len), true);
     let choices = came(count_choices(alloc, store), count);
-    filled & choices & has(store, "p", b"n", 0)
+    filled & read & choices & has(store, "p", b"n", 0)
 }
 
-fn holds_anew(alloc: Global, size: &Size) -> bool {
-    match MemStore::new(alloc, FaultConfig::default()) {
-        Ok(mut store) => holds(alloc, &mut store, size),
-        Err(_) => false,
-    }
-}
-
-fn holds_each(alloc: Global, sizes: &[Size]) -> usize {
-    let mut right = 0_usize;
-    for size in sizes {
-        if holds_anew(alloc, size) {
-            right = right.wrapping_add(1);
-        }
-    }
-    right
+fn holds_anew(rt: &impl Abort, alloc: Global, size: &Size) {
+    let mut store = memory(rt, alloc);
+    let held = holds(alloc, &mut store, size);
+    drop(store);
+    assert!(rt; held, "{} chunks of {}", size.1, size.0);
 }
 
 /// Makes a blob and a partition of this name.
@@ -132,15 +143,19 @@ const SIZES: &[Size] = &[
     (1_048_576, 1, 1_048_576),
     (1, 65_536, 65_536),
     (64, 1_000, 64_000),
+    (67_108_864, 1, 67_108_864),
+    (1, 100_000, 100_000),
 ];
 
 #[test]
-fn sizes(rt: HostRuntime) -> Result<(), Fail> {
-    let held = holds_each(rt.alloc(), SIZES);
-    let mut store = MemStore::new(rt.alloc(), FaultConfig::default())?;
+fn sizes(rt: HostRuntime) {
+    for size in SIZES {
+        holds_anew(&rt, rt.alloc(), size);
+    }
+    let mut store = memory(&rt, rt.alloc());
     let made = makes_each(rt.alloc(), &mut store, 1_000);
-    assert!(rt; (held == 3) & (made == 1_000) & came(count_names(&mut store), 1_000));
-    Ok(())
+    let counted = came(count_names(&mut store), 1_000);
+    ends(&rt, store, (made == 1_000) & counted);
 }
 
 /// How many ranges are read at once.
@@ -182,8 +197,8 @@ fn reads_many<S: Storage>(alloc: Global, store: &mut S) -> Result<bool, Error> {
 }
 
 #[test]
-fn a_thousand_ranges(rt: HostRuntime) -> Result<(), Fail> {
-    let mut store = MemStore::new(rt.alloc(), FaultConfig::default())?;
-    assert!(rt; came(reads_many(rt.alloc(), &mut store), true));
-    Ok(())
+fn a_thousand_ranges(rt: HostRuntime) {
+    let mut store = memory(&rt, rt.alloc());
+    let seen = came(reads_many(rt.alloc(), &mut store), true);
+    ends(&rt, store, seen);
 }

@@ -11,7 +11,7 @@ use rt_store::{
     collect_reads, copy_of,
 };
 use std::alloc::Global;
-use std::test::Fail;
+use std::process::Abort;
 
 /// Whether these are the same.
 fn same<T: Drop + PartialEq>(seen: T, wanted: T) -> bool {
@@ -37,6 +37,17 @@ fn failed<T: Drop, E: Drop + PartialEq>(answer: Result<T, E>, why: E) -> bool {
         Ok(_) => false,
         Err(error) => error == why,
     }
+}
+
+/// A store whose calls don't fail.
+pub fn memory(rt: &impl Abort, alloc: Global) -> MemStore {
+    MemStore::new(alloc, FaultConfig::default()).expect(rt, "room")
+}
+
+/// Ends a store, of which this was seen.
+pub fn ends(rt: &impl Abort, store: MemStore, seen: bool) {
+    drop(store);
+    assert!(rt; seen);
 }
 
 /// The answer of a call that is done at once.
@@ -220,18 +231,23 @@ fn has_no_faults(store: &MemStore) -> bool {
 /// The digest of one blob of a partition `p`: its name `a`, its version 0 and its bytes 0, 0, `ab`.
 const DIGEST: [u8; 4] = [0x48, 0x44, 0x42, 0x9a];
 
+/// Opens the first blob, and opens it again.
+fn opens_both(alloc: Global, store: &mut MemStore) -> bool {
+    let first = came(opens_first(alloc, store), true);
+    let again = came(opens_again(store), true);
+    first & again & has_no_faults(store) & (store.audit() == DIGEST)
+}
+
 #[test]
-fn surface(rt: HostRuntime) -> Result<(), Fail> {
+fn surface(rt: HostRuntime) {
     let mut faults = FaultConfig::default();
     faults.open_rate = HEIGHT;
-    let mut store = MemStore::new(rt.alloc(), faults)?;
+    let mut store = MemStore::new(rt.alloc(), faults).expect(&rt, "room");
     set(&mut store, FaultConfig::default());
-    let first = came(opens_first(rt.alloc(), &mut store), true);
-    let again = came(opens_again(&mut store), true);
-    assert!(rt; first & again & has_no_faults(&store) & (store.audit() == DIGEST));
+    let opened = opens_both(rt.alloc(), &mut store);
     let removed = removes_listed(&mut store);
-    assert!(rt; removed & settles() & begins_anew(rt.alloc(), store));
-    Ok(())
+    let anew = begins_anew(rt.alloc(), store);
+    assert!(rt; opened & removed & settles() & anew);
 }
 
 /// A store whose writes come to this.
@@ -252,16 +268,16 @@ fn write_faults<S: Storage>(alloc: Global, store: &mut S) -> Result<bool, Error>
 const HEIGHT: u32 = 1_000_000;
 
 #[test]
-fn write_fault_by_rate(rt: HostRuntime) -> Result<(), Fail> {
+fn write_fault_by_rate(rt: HostRuntime) {
     let write = WriteConfig {
         rate: HEIGHT,
         keep: 0,
         partial: PartialWriteMode::Off,
     };
-    let mut store = store_of(rt.alloc(), write)?;
+    let mut store = store_of(rt.alloc(), write).expect(&rt, "room");
     let seen = came(write_faults(rt.alloc(), &mut store), true);
-    assert!(rt; seen & (store.injected() == 1));
-    Ok(())
+    let injected = store.injected();
+    ends(&rt, store, seen & (injected == 1));
 }
 
 /// How many of the names are found where they stand.
@@ -323,12 +339,12 @@ fn removes_partition<S: Storage>(store: &mut S) -> bool {
 }
 
 #[test]
-fn names_are_listed_and_removed(rt: HostRuntime) -> Result<(), Fail> {
-    let mut store = MemStore::new(rt.alloc(), FaultConfig::default())?;
+fn names_are_listed_and_removed(rt: HostRuntime) {
+    let mut store = memory(&rt, rt.alloc());
     let listed = lists_names(&mut store);
     let removed = removes_names(&mut store);
-    assert!(rt; listed & removed & removes_partition(&mut store));
-    Ok(())
+    let all = removes_partition(&mut store);
+    ends(&rt, store, listed & removed & all);
 }
 
 /// Removes the partition of a blob that goes on.
@@ -346,10 +362,10 @@ fn lives_on<S: Storage>(alloc: Global, store: &mut S) -> Result<bool, Error> {
 }
 
 #[test]
-fn removed_blob_lives_on(rt: HostRuntime) -> Result<(), Fail> {
-    let mut store = MemStore::new(rt.alloc(), FaultConfig::default())?;
-    assert!(rt; came(lives_on(rt.alloc(), &mut store), true));
-    Ok(())
+fn removed_blob_lives_on(rt: HostRuntime) {
+    let mut store = memory(&rt, rt.alloc());
+    let seen = came(lives_on(rt.alloc(), &mut store), true);
+    ends(&rt, store, seen);
 }
 
 /// Whether the piece at this place is in the buffers.
@@ -430,10 +446,10 @@ fn reads_ranges<S: Storage>(alloc: Global, store: &mut S) -> Result<bool, Error>
 }
 
 #[test]
-fn several_ranges(rt: HostRuntime) -> Result<(), Fail> {
-    let mut store = MemStore::new(rt.alloc(), FaultConfig::default())?;
-    assert!(rt; came(reads_ranges(rt.alloc(), &mut store), true));
-    Ok(())
+fn several_ranges(rt: HostRuntime) {
+    let mut store = memory(&rt, rt.alloc());
+    let seen = came(reads_ranges(rt.alloc(), &mut store), true);
+    ends(&rt, store, seen);
 }
 
 /// A buffer of one byte.
@@ -487,10 +503,9 @@ fn fail_each(alloc: Global, each: &[Places]) -> usize {
 const INCOMPLETE: &[Places] = &[(&[1, 1], 2), (&[0, 2, 1], 2), (&[0], usize::MAX)];
 
 #[test]
-fn collected_reads(rt: HostRuntime) -> Result<(), Fail> {
+fn collected_reads(rt: HostRuntime) {
     let last = are_all(collect(rt.alloc(), &[1, 0, 1], 2), &[b"1", b"2"]);
     assert!(rt; last & (fail_each(rt.alloc(), INCOMPLETE) == 3));
-    Ok(())
 }
 
 /// Gives the store other settings.
@@ -546,10 +561,16 @@ fn faults_of(alloc: Global, store: &mut MemStore, faults: FaultConfig) -> Result
     Ok(store.injected())
 }
 
+fn faults_in(alloc: Global, mut store: MemStore, faults: FaultConfig, count: u64) -> bool {
+    let seen = came(faults_of(alloc, &mut store, faults), count);
+    drop(store);
+    seen
+}
+
 fn has_faults(alloc: Global, faults: FaultConfig, count: u64) -> bool {
-    match MemStore::new(alloc, FaultConfig::default()) {
-        Ok(mut store) => came(faults_of(alloc, &mut store, faults), count),
-        Err(_) => false,
+    match MemStore::new(alloc, FaultConfig::default()).ok() {
+        Some(store) => faults_in(alloc, store, faults, count),
+        None => false,
     }
 }
 
@@ -579,8 +600,7 @@ fn faults_on_bytes(alloc: Global) -> bool {
 }
 
 #[test]
-fn each_rate_at_its_height(rt: HostRuntime) -> Result<(), Fail> {
+fn each_rate_at_its_height(rt: HostRuntime) {
     let names = faults_by_name(rt.alloc());
     assert!(rt; names & faults_on_bytes(rt.alloc()));
-    Ok(())
 }
