@@ -162,22 +162,28 @@ fn first_changed(
 }
 
 /// Whether the copy of a row is refused at its place.
-fn is_refused(rt: &impl Abort, alloc: Global, name: &str, row: &'static str) -> bool {
+fn is_refused(
+    rt: &impl Abort,
+    alloc: Global,
+    begin: Begin,
+    text: &'static str,
+    row: &'static str,
+) -> bool {
     let (words, _) = read(rt, row, row.split_once(" | "));
     let (at, change) = read(rt, row, change_of(words));
-    let (begins, text) = read(rt, name, journal(name));
-    let (begin, _) = begins.split_once(' ').unwrap_or((begins, ""));
-    let begin = read(rt, begins, begin_of(begin));
     let first = first_changed(alloc, begin, text, at, change);
     first.expect(rt, "lines of a journal") == Some(at)
 }
 
-/// Takes the copies of a journal, whose name comes before them.
+/// Takes the copies of a journal, whose name comes before them. It begins by the first of its beginnings.
 fn refuses_each(rt: &impl Abort, alloc: Global, copies: &'static str) {
     if let Some((name, rows)) = copies.split_once('\n') {
+        let (begins, text) = read(rt, name, journal(name));
+        let (begin, _) = begins.split_once(' ').unwrap_or((begins, ""));
+        let begin = read(rt, begins, begin_of(begin));
         for row in rows.lines() {
             if !row.starts_with("#") {
-                assert!(rt; is_refused(rt, alloc, name, row), "{name}: {row}");
+                assert!(rt; is_refused(rt, alloc, begin, text, row), "{name}: {row}");
             }
         }
     }
