@@ -10,6 +10,7 @@ use rt_metrics::{
     LabelSet, Metric, Registered, Registry, raw, status, task,
 };
 use std::alloc::Global;
+use std::process::Abort;
 
 /// Whether these are the same.
 fn same<T: Drop + PartialEq>(seen: T, wanted: T) -> bool {
@@ -67,6 +68,12 @@ pub fn reads(registry: &Registry, wanted: &str) -> bool {
 
 /// The text of no metric.
 pub const EMPTY: &str = "# EOF\n";
+
+/// Ends a registry, of which this was seen.
+pub fn ends(rt: &impl Abort, registry: Registry, seen: bool) {
+    drop(registry);
+    assert!(rt; seen);
+}
 
 /// Whether the number has so many claims, and a metric exactly where it has some.
 fn claimed(registry: &Registry, id: u64, claims: u64) -> bool {
@@ -142,7 +149,8 @@ fn raised_text(registry: &mut Registry) -> Result<bool, Error> {
 #[test]
 fn text_of_a_counter(rt: HostRuntime) {
     let mut registry = Registry::new(rt.alloc());
-    assert!(rt; came(raised_text(&mut registry), true));
+    let seen = came(raised_text(&mut registry), true);
+    ends(&rt, registry, seen);
 }
 
 /// Whether there are two claims with a second one, and one when that is given back.
@@ -173,7 +181,8 @@ fn claim_and_give_up(registry: &mut Registry) -> Result<bool, Error> {
 #[test]
 fn claims_of_a_counter(rt: HostRuntime) {
     let mut registry = Registry::new(rt.alloc());
-    assert!(rt; came(claim_and_give_up(&mut registry), true));
+    let seen = came(claim_and_give_up(&mut registry), true);
+    ends(&rt, registry, seen);
 }
 
 /// Publishes what a batch has, and ends it.
@@ -235,7 +244,8 @@ fn batch_counts(registry: &mut Registry) -> Result<bool, Error> {
 #[test]
 fn batches_of_a_counter(rt: HostRuntime) {
     let mut registry = Registry::new(rt.alloc());
-    assert!(rt; came(batch_counts(&mut registry), true));
+    let seen = came(batch_counts(&mut registry), true);
+    ends(&rt, registry, seen);
 }
 
 fn go_up_and_down<H: Home>(home: &mut H, batch: &mut Batched<raw::Gauge>) {
@@ -280,7 +290,8 @@ fn batch_moves(registry: &mut Registry) -> Result<bool, Error> {
 #[test]
 fn batches_of_a_gauge(rt: HostRuntime) {
     let mut registry = Registry::new(rt.alloc());
-    assert!(rt; came(batch_moves(&mut registry), true));
+    let seen = came(batch_moves(&mut registry), true);
+    ends(&rt, registry, seen);
 }
 
 /// A guard at a status.
@@ -326,7 +337,8 @@ fn guard_calls(registry: &mut Registry) -> Result<bool, Error> {
 #[test]
 fn guarded_status(rt: HostRuntime) {
     let mut registry = Registry::new(rt.alloc());
-    assert!(rt; came(guard_calls(&mut registry), true));
+    let seen = came(guard_calls(&mut registry), true);
+    ends(&rt, registry, seen);
 }
 
 const TIMEOUT: status::Label = status::Label {
@@ -362,7 +374,8 @@ fn guard_removed(registry: &mut Registry) -> Result<bool, Error> {
 #[test]
 fn guard_of_a_removed_child(rt: HostRuntime) {
     let mut registry = Registry::new(rt.alloc());
-    assert!(rt; came(guard_removed(&mut registry), true));
+    let seen = came(guard_removed(&mut registry), true);
+    ends(&rt, registry, seen);
 }
 
 /// An attribute.
@@ -490,7 +503,8 @@ fn texts(alloc: Global, registry: &mut Registry) -> Result<bool, Error> {
 #[test]
 fn text_with_all(rt: HostRuntime) {
     let mut registry = Registry::new(rt.alloc());
-    assert!(rt; came(texts(rt.alloc(), &mut registry), true));
+    let seen = came(texts(rt.alloc(), &mut registry), true);
+    ends(&rt, registry, seen);
 }
 
 /// Whether a metric was refused so.
@@ -564,7 +578,8 @@ fn refuse(registry: &mut Registry) -> Result<bool, Error> {
 #[test]
 fn refusals(rt: HostRuntime) {
     let mut registry = Registry::new(rt.alloc());
-    assert!(rt; came(refuse(&mut registry), true));
+    let seen = came(refuse(&mut registry), true);
+    ends(&rt, registry, seen);
 }
 
 /// A counter under two prefixes.
@@ -614,7 +629,8 @@ fn count_in_scope(registry: &mut Registry) -> Result<bool, Error> {
 #[test]
 fn surface(rt: HostRuntime) {
     let mut registry = Registry::new(rt.alloc());
-    assert!(rt; came(count_in_scope(&mut registry), true));
+    let seen = came(count_in_scope(&mut registry), true);
+    ends(&rt, registry, seen);
 }
 
 /// A change of a gauge.
@@ -689,7 +705,8 @@ fn change_gauge(registry: &mut Registry) -> Result<bool, Error> {
 #[test]
 fn surface_of_gauges(rt: HostRuntime) {
     let mut registry = Registry::new(rt.alloc());
-    assert!(rt; came(change_gauge(&mut registry), true));
+    let seen = came(change_gauge(&mut registry), true);
+    ends(&rt, registry, seen);
 }
 
 /// Whether a status was counted.
@@ -721,7 +738,8 @@ fn count_statuses(registry: &mut Registry) -> Result<bool, Error> {
 #[test]
 fn surface_of_statuses(rt: HostRuntime) {
     let mut registry = Registry::new(rt.alloc());
-    assert!(rt; came(count_statuses(&mut registry), true));
+    let seen = came(count_statuses(&mut registry), true);
+    ends(&rt, registry, seen);
 }
 
 /// Whether this is one of the values of labels.
@@ -830,5 +848,6 @@ fn wrap_gauge(registry: &mut Registry) -> Result<bool, Error> {
 fn numbers_at_their_bounds(rt: HostRuntime) {
     let mut registry = Registry::new(rt.alloc());
     let counter = came(wrap_counter(&mut registry), true);
-    assert!(rt; counter & came(wrap_gauge(&mut registry), true));
+    let gauge = came(wrap_gauge(&mut registry), true);
+    ends(&rt, registry, counter & gauge);
 }

@@ -1,45 +1,66 @@
 // Which line is broken first and how, and what a whole scenario says.
 
-use rt_scenario::{Kind, Line, Refusal, RunLine, Settings, read_scenario};
+use rt_base::Text;
+use rt_scenario::{
+    Broken, Kind, Line, Refusal, RunLine, Scenario, ScriptTexts, Settings, ShortName, read_scenario,
+};
 use std::alloc::{AllocError, Global};
 use std::process::Abort;
-use std::test::Fail;
 
-#[test]
-fn surface(rt: HostRuntime) -> Result<(), Fail> {
-    let text =
-        b"# two scripts\n\ntimeout 9223372036854775807999999999\nscript a\nsleep 0\nyield\ndraw\npend\nend 7\ndone\nscript b_2\nsleep 340282366920938463463374607431768211455\nend -9223372036854775808\nend last\ndone\nscript c\ndone\nrun b_2\n";
-    let scenario = read_scenario(rt.alloc(), text)?;
-    assert!(rt; scenario.settings.timeout == Some(rt_base::MAX_TIME));
-    assert!(rt;
-        are_runs(
-            scenario.runs.as_slice(),
-            [(1usize, [].as_slice())].as_slice()
-        )
-    );
-    let scripts = &scenario.scripts;
-    assert!(rt; scripts.len() == 3);
-    assert!(rt; scripts.name(0) == "a");
-    assert!(rt;
-        scripts.lines(0)
-            == [
-                Line::Sleep(0),
-                Line::Yield,
-                Line::Draw,
-                Line::Pend,
-                Line::End(7)
-            ]
-            .as_slice()
-    );
-    assert!(rt; scripts.name(1) == "b_2");
-    assert!(rt;
-        scripts.lines(1) == [Line::Sleep(u128::MAX), Line::End(i64::MIN), Line::EndLast].as_slice()
-    );
-    assert!(rt; scripts.lines(2).len() == 0);
-    Ok(())
+/// A text that breaks no rule.
+fn read(rt: &impl Abort, alloc: Global, text: &str) -> Scenario {
+    read_scenario(alloc, text.as_bytes()).expect(rt, "a scenario")
 }
 
-/// Whether the runs are these, each by the place of its root and the places beside it.
+/// Stops where these differ.
+fn same<T: Drop + PartialEq>(rt: &impl Abort, what: &str, seen: T, wanted: T) {
+    assert!(rt; seen == wanted, "{what}");
+}
+
+/// Stops where a script has other lines.
+fn has_lines(rt: &impl Abort, seen: &[Line], wanted: &[Line]) {
+    assert!(rt; seen == wanted);
+}
+
+/// Stops where the runs are others, each by the place of its root and the places beside it.
+fn has_runs(rt: &impl Abort, runs: &[RunLine], wanted: &[(usize, &[usize])]) {
+    assert!(rt; are_runs(runs, wanted));
+}
+
+const FIRST: &[Line] = &[
+    Line::Sleep(0),
+    Line::Yield,
+    Line::Draw,
+    Line::Pend,
+    Line::End(7),
+];
+
+const SECOND: &[Line] = &[Line::Sleep(u128::MAX), Line::End(i64::MIN), Line::EndLast];
+
+#[test]
+fn surface(rt: HostRuntime) {
+    let text =
+        "# two scripts\n\ntimeout 9223372036854775807999999999\nscript a\nsleep 0\nyield\ndraw\npend\nend 7\n\
+        done\nscript b_2\nsleep 340282366920938463463374607431768211455\nend -9223372036854775808\nend last\n\
+        done\nscript c\ndone\nrun b_2\n";
+    let scenario = read(&rt, rt.alloc(), text);
+    same(
+        &rt,
+        "the timeout",
+        scenario.settings.timeout,
+        Some(rt_base::MAX_TIME),
+    );
+    has_runs(&rt, scenario.runs.as_slice(), &[(1, &[])]);
+    let scripts = &scenario.scripts;
+    assert!(rt; scripts.len() == 3);
+    same(&rt, "a name", scripts.name(0), "a");
+    has_lines(&rt, scripts.lines(0), FIRST);
+    same(&rt, "another name", scripts.name(1), "b_2");
+    has_lines(&rt, scripts.lines(1), SECOND);
+    same(&rt, "no line", scripts.lines(2).len(), 0);
+}
+
+/// Whether the runs are these.
 fn are_runs(runs: &[RunLine], wanted: &[(usize, &[usize])]) -> bool {
     let mut same = runs.len() == wanted.len();
     for (run, (root, with)) in runs.iter().zip(wanted) {
@@ -48,110 +69,130 @@ fn are_runs(runs: &[RunLine], wanted: &[(usize, &[usize])]) -> bool {
     same
 }
 
-/// This line of the text is the first that breaks a rule, and the word of the rule is this.
-fn expect_broken(
-    rt: &impl Abort,
-    alloc: Global,
-    text: &str,
-    line: u64,
-    word: &str,
-) -> Result<(), Fail> {
-    let Err(Refusal::Broken(broken)) = read_scenario(alloc, text.as_bytes()) else {
-        panic!(rt; "at {text}");
+/// What comes of a text: that it is read, or the line that is broken first and the word of the rule that it breaks.
+fn outcome(rt: &impl Abort, alloc: Global, text: &[u8]) -> String {
+    let answer = match read_scenario(alloc, text).err() {
+        None => String::from_str(alloc, "read"),
+        Some(Refusal::Broken(broken)) => told(alloc, broken),
+        Some(Refusal::NoMemory) => Err(AllocError),
     };
-    let kind = broken.kind;
-    assert!(rt; broken.line == line, "at {text}");
-    assert!(rt; format!(in alloc; "{kind}")?.as_str() == word, "at {text}");
-    Ok(())
+    answer.expect(rt, "room")
 }
 
-const BROKEN_LINES: &[(&str, u64, &str)] = &[
-    ("", 1, "norun"),
-    ("script a\nend", 2, "cut"),
-    ("script a\nend 7\ndone\nrun a", 4, "cut"),
-    ("script a\ndone\nrun a\nrun a", 4, "cut"),
-    ("# tab\there\n", 1, "byte"),
-    ("\n pend\n", 2, "space"),
-    ("pend \n", 1, "space"),
-    ("# a  b\n", 1, "space"),
-    ("pend\n", 1, "place"),
-    ("done\n", 1, "place"),
-    ("script a\nscript b\n", 2, "place"),
-    ("script a\ndone\ntimeout 1\n", 3, "place"),
-    ("script a\nrun a\n", 2, "place"),
-    ("script a\ndone\nrun a\nscript b\n", 4, "place"),
-    ("script a\ndone\nrun a\nrun a\nscript a\n", 5, "place"),
-    ("script a\ndone\nrun a\nrun a\ndone\n", 5, "place"),
-    ("script a\ndone\nrun a\nruns a\n", 4, "unknown"),
-    ("seeds 7\n", 1, "unknown"),
-    ("script a\nSleep 1\n", 2, "unknown"),
-    ("timeout\n", 1, "count"),
-    ("script a\nyield 1\n", 2, "count"),
-    ("script a\ndraw 1\n", 2, "count"),
-    ("timeout 1 2\n", 1, "count"),
-    ("script a b\n", 1, "count"),
-    ("script 9a\n", 1, "name"),
-    ("script abcdefghijklmnopqrstuvwxyzabcdefg\n", 1, "name"),
-    ("run a-b\n", 1, "name"),
-    ("script a\ndone\nrun a\nrun 9\n", 4, "name"),
-];
+fn told(alloc: Global, broken: Broken) -> Result<String, AllocError> {
+    let (line, kind) = (broken.line, broken.kind);
+    format!(in alloc; "{line} {kind}")
+}
 
-#[test]
-fn first_broken_lines(rt: HostRuntime) -> Result<(), Fail> {
-    for &(text, line, word) in BROKEN_LINES {
-        expect_broken(&rt, rt.alloc(), text, line, word)?;
+/// Stops where another outcome comes of a text.
+fn comes_to(rt: &impl Abort, alloc: Global, text: &str, wanted: &str) {
+    let seen = outcome(rt, alloc, text.as_bytes());
+    assert!(rt; seen.as_str() == wanted, "{text} comes to {seen}");
+}
+
+/// A text, in which `|` stands for the end of a line.
+fn lines_of(rt: &impl Abort, alloc: Global, row: &str) -> String {
+    let mut text = String::new(alloc);
+    for part in row.split('|') {
+        text.push_str(part).expect(rt, "room");
+        text.push('\n').expect(rt, "room");
     }
-    Ok(())
+    let _ = text.pop();
+    text
 }
 
-const NUMBERS_AND_NAMES: &[(&str, u64, &str)] = &[
-    ("timeout 01\n", 1, "number"),
-    ("timeout +1\n", 1, "number"),
-    ("timeout -1\n", 1, "number"),
-    (
-        "timeout 340282366920938463463374607431768211456\n",
-        1,
-        "number",
-    ),
-    ("script a\nsleep 1s\n", 2, "number"),
-    ("script a\nend 9223372036854775808\n", 2, "number"),
-    ("script a\nend -9223372036854775809\n", 2, "number"),
-    ("script a\nend -0\n", 2, "number"),
-    ("script a\nend -\n", 2, "number"),
-    (
-        "script a\nsleep 18446744073709551616\nend 99999999999999999999\n",
-        3,
-        "number",
-    ),
-    ("timeout 1\ntimeout 2\n", 2, "twice"),
-    ("timeout 1\ntimeout x\n", 2, "number"),
-    ("script a\ndone\nscript a\n", 3, "twice"),
-    ("run a\n", 1, "missing"),
-    ("script a\ndone\nrun b\n", 3, "missing"),
-    ("script a\ndone\nrun a\nrun b\n", 4, "missing"),
-    ("script a\ndone\nrun b\nrun a\n", 3, "missing"),
-    (
-        "timeout 9223372036854775808000000000\nscript a\ndone\nrun a\n",
-        4,
-        "config",
-    ),
-    ("script a\n", 2, "norun"),
-    ("script a\ndone\n\n", 4, "norun"),
-];
-
-#[test]
-fn refused_numbers_and_names(rt: HostRuntime) -> Result<(), Fail> {
-    for &(text, line, word) in NUMBERS_AND_NAMES {
-        expect_broken(&rt, rt.alloc(), text, line, word)?;
+/// Stops where another outcome comes of the text of a row.
+fn row_comes_to(rt: &impl Abort, alloc: Global, row: &str) {
+    match row.split_once(" => ") {
+        Some((text, wanted)) => {
+            let text = lines_of(rt, alloc, text);
+            comes_to(rt, alloc, text.as_str(), wanted);
+        }
+        None => panic!(rt; "{row}"),
     }
-    Ok(())
+}
+
+/// Takes the rows one by one.
+fn each_comes_to(rt: &impl Abort, alloc: Global, rows: &str) {
+    for row in rows.lines() {
+        row_comes_to(rt, alloc, row);
+    }
+}
+
+const BROKEN_LINES: &str = "\
+script a|end => 2 cut
+ => 1 norun
+script a|end 7|done|run a => 4 cut
+script a|done|run a|run a => 4 cut
+# tab\there| => 1 byte
+| pend| => 2 space
+pend | => 1 space
+# a  b| => 1 space
+pend| => 1 place
+done| => 1 place
+script a|script b| => 2 place
+script a|done|timeout 1| => 3 place
+script a|run a| => 2 place
+script a|done|run a|script b| => 4 place
+script a|done|run a|run a|script a| => 5 place
+script a|done|run a|run a|done| => 5 place
+script a|done|run a|runs a| => 4 unknown
+seeds 7| => 1 unknown
+script a|Sleep 1| => 2 unknown
+timeout| => 1 count
+script a|yield 1| => 2 count
+script a|draw 1| => 2 count
+timeout 1 2| => 1 count
+script a b| => 1 count
+script 9a| => 1 name
+script abcdefghijklmnopqrstuvwxyzabcdefg| => 1 name
+run a-b| => 1 name
+script a|done|run a|run 9| => 4 name
+";
+
+#[test]
+fn first_broken_lines(rt: HostRuntime) {
+    each_comes_to(&rt, rt.alloc(), BROKEN_LINES);
+}
+
+const NUMBERS_AND_NAMES: &str = "\
+timeout 01| => 1 number
+timeout +1| => 1 number
+timeout -1| => 1 number
+timeout 340282366920938463463374607431768211456| => 1 number
+script a|sleep 1s| => 2 number
+script a|end 9223372036854775808| => 2 number
+script a|end -9223372036854775809| => 2 number
+script a|end -0| => 2 number
+script a|end -| => 2 number
+script a|sleep 18446744073709551616|end 99999999999999999999| => 3 number
+timeout 1|timeout 2| => 2 twice
+timeout 1|timeout x| => 2 number
+script a|done|script a| => 3 twice
+run a| => 1 missing
+script a|done|run b| => 3 missing
+script a|done|run a|run b| => 4 missing
+script a|done|run b|run a| => 3 missing
+timeout 9223372036854775808000000000|script a|done|run a| => 4 config
+script a| => 2 norun
+script a|done|| => 4 norun
+";
+
+#[test]
+fn refused_numbers_and_names(rt: HostRuntime) {
+    each_comes_to(&rt, rt.alloc(), NUMBERS_AND_NAMES);
+}
+
+/// The settings of a text.
+fn settings(rt: &impl Abort, alloc: Global, text: &str) -> Settings {
+    read(rt, alloc, text).settings
 }
 
 #[test]
-fn surface_of_settings(rt: HostRuntime) -> Result<(), Fail> {
-    let text =
-        b"catch off\nnext 18446744073709551615\nstart 9223372036854775807999999998\nseed 0\ncycle 340282366920938463463374607431768211455\ntimeout 1\nscript a\ndone\nrun a\n";
-    let scenario = read_scenario(rt.alloc(), text)?;
+fn surface_of_settings(rt: HostRuntime) {
+    let text = "catch off\nnext 18446744073709551615\nstart 9223372036854775807999999998\nseed 0\n\
+        cycle 340282366920938463463374607431768211455\ntimeout 1\nscript a\ndone\n\
+        run a\n";
     let Settings {
         seed,
         next,
@@ -159,19 +200,17 @@ fn surface_of_settings(rt: HostRuntime) -> Result<(), Fail> {
         start,
         timeout,
         catch,
-    } = scenario.settings;
-    assert!(rt; seed == Some(0));
-    assert!(rt; next == Some(u64::MAX));
-    assert!(rt; cycle == Some(u128::MAX));
-    assert!(rt; start == Some(rt_base::MAX_TIME - 1));
-    assert!(rt; timeout == Some(1));
-    assert!(rt; catch == Some(false));
-    Ok(())
+    } = settings(&rt, rt.alloc(), text);
+    same(&rt, "the seed", seed, Some(0));
+    same(&rt, "the next number", next, Some(u64::MAX));
+    same(&rt, "the cycle", cycle, Some(u128::MAX));
+    same(&rt, "the start", start, Some(rt_base::MAX_TIME - 1));
+    same(&rt, "the timeout", timeout, Some(1));
+    same(&rt, "catch", catch, Some(false));
 }
 
 #[test]
-fn no_settings(rt: HostRuntime) -> Result<(), Fail> {
-    let scenario = read_scenario(rt.alloc(), b"script a\ndone\nrun a\n")?;
+fn no_settings(rt: HostRuntime) {
     let Settings {
         seed,
         next,
@@ -179,116 +218,79 @@ fn no_settings(rt: HostRuntime) -> Result<(), Fail> {
         start,
         timeout,
         catch,
-    } = scenario.settings;
-    assert!(rt; seed.is_none() && next.is_none());
-    assert!(rt; cycle.is_none() && start.is_none() && timeout.is_none());
-    assert!(rt; catch.is_none());
-    Ok(())
+    } = settings(&rt, rt.alloc(), "script a\ndone\nrun a\n");
+    same(&rt, "the seed", seed, None);
+    same(&rt, "the next number", next, None);
+    same(&rt, "the cycle", cycle, None);
+    same(&rt, "the start", start, None);
+    same(&rt, "the timeout", timeout, None);
+    same(&rt, "catch", catch, None);
 }
 
+const READ_SETTINGS: &str = "\
+seed 18446744073709551615|script a|done|run a| => read
+next 0|script a|done|run a| => read
+cycle 1|script a|done|run a| => read
+start 9223372036854775807999999999|script a|done|run a| => read
+start 9223372036854775807999999999|timeout 0|script a|done|run a| => read
+timeout 9223372036854775807999999999|start 0|script a|done|run a| => read
+";
+
 #[test]
-fn read_settings(rt: HostRuntime) -> Result<(), Fail> {
-    for text in [
-        "seed 18446744073709551615\nscript a\ndone\nrun a\n",
-        "next 0\nscript a\ndone\nrun a\n",
-        "cycle 1\nscript a\ndone\nrun a\n",
-        "start 9223372036854775807999999999\nscript a\ndone\nrun a\n",
-        "start 9223372036854775807999999999\ntimeout 0\nscript a\ndone\nrun a\n",
-        "timeout 9223372036854775807999999999\nstart 0\nscript a\ndone\nrun a\n",
-    ] {
-        expect_read(&rt, rt.alloc(), text);
-    }
-    Ok(())
+fn read_settings(rt: HostRuntime) {
+    each_comes_to(&rt, rt.alloc(), READ_SETTINGS);
 }
 
-const SETTINGS: &[(&str, u64, &str)] = &[
-    ("seed 7", 1, "cut"),
-    ("start  7\n", 1, "space"),
-    ("script a\nseed 1\n", 2, "place"),
-    ("script a\ndone\nnext 1\n", 3, "place"),
-    ("script a\ncycle x\n", 2, "place"),
-    ("script a\ndone\nrun a\nstart 1\n", 4, "place"),
-    ("script a\ndone\nrun a\nrun a\ntimeout x\n", 5, "place"),
-    ("Seed 7\n", 1, "unknown"),
-    ("seed\n", 1, "count"),
-    ("next 1 2\n", 1, "count"),
-    ("cycle\n", 1, "count"),
-    ("start x 1\n", 1, "count"),
-    ("seed x\n", 1, "number"),
-    ("next -1\n", 1, "number"),
-    ("cycle 01\n", 1, "number"),
-    ("start 1s\n", 1, "number"),
-    ("seed 18446744073709551616\n", 1, "number"),
-    ("next 18446744073709551616\n", 1, "number"),
-    (
-        "seed 340282366920938463463374607431768211456\n",
-        1,
-        "number",
-    ),
-    (
-        "cycle 340282366920938463463374607431768211456\n",
-        1,
-        "number",
-    ),
-    (
-        "start 340282366920938463463374607431768211456\n",
-        1,
-        "number",
-    ),
-    ("seed 1\nseed 1\n", 2, "twice"),
-    ("next 1\nseed 1\nnext 2\n", 3, "twice"),
-    ("cycle 0\ncycle 1\n", 2, "twice"),
-    ("start 1\nstart 1\n", 2, "twice"),
-    ("seed 1\nseed 18446744073709551616\n", 2, "number"),
-    ("start 1\nstart x\n", 2, "number"),
-];
+const SETTINGS: &str = "\
+seed 7 => 1 cut
+start  7| => 1 space
+script a|seed 1| => 2 place
+script a|done|next 1| => 3 place
+script a|cycle x| => 2 place
+script a|done|run a|start 1| => 4 place
+script a|done|run a|run a|timeout x| => 5 place
+Seed 7| => 1 unknown
+seed| => 1 count
+next 1 2| => 1 count
+cycle| => 1 count
+start x 1| => 1 count
+seed x| => 1 number
+next -1| => 1 number
+cycle 01| => 1 number
+start 1s| => 1 number
+seed 18446744073709551616| => 1 number
+next 18446744073709551616| => 1 number
+seed 340282366920938463463374607431768211456| => 1 number
+cycle 340282366920938463463374607431768211456| => 1 number
+start 340282366920938463463374607431768211456| => 1 number
+seed 1|seed 1| => 2 twice
+next 1|seed 1|next 2| => 3 twice
+cycle 0|cycle 1| => 2 twice
+start 1|start 1| => 2 twice
+seed 1|seed 18446744073709551616| => 2 number
+start 1|start x| => 2 number
+";
 
 #[test]
-fn refused_settings(rt: HostRuntime) -> Result<(), Fail> {
-    for &(text, line, word) in SETTINGS {
-        expect_broken(&rt, rt.alloc(), text, line, word)?;
-    }
-    Ok(())
+fn refused_settings(rt: HostRuntime) {
+    each_comes_to(&rt, rt.alloc(), SETTINGS);
 }
 
-const SETTINGS_OF_NO_RUN: &[(&str, u64, &str)] = &[
-    ("cycle 0\nscript a\ndone\nrun a\n", 4, "config"),
-    (
-        "start 9223372036854775808000000000\nscript a\ndone\nrun a\n",
-        4,
-        "config",
-    ),
-    (
-        "start 9223372036854775807999999999\ntimeout 1\nscript a\ndone\nrun a\n",
-        5,
-        "config",
-    ),
-    (
-        "timeout 9223372036854775807999999999\nstart 1\nscript a\ndone\nrun a\n",
-        5,
-        "config",
-    ),
-    (
-        "start 340282366920938463463374607431768211455\ntimeout 1\nscript a\ndone\nrun a\n",
-        5,
-        "config",
-    ),
-    (
-        "start 1\ntimeout 340282366920938463463374607431768211455\nscript a\ndone\nrun a\n",
-        5,
-        "config",
-    ),
-    ("cycle 0\nscript a\ndone\nrun a\nrun b\n", 4, "config"),
-    ("cycle 0\nscript a\ndone\nrun b\n", 4, "missing"),
-    ("cycle 0\nscript a\n", 3, "norun"),
-];
+const SETTINGS_OF_NO_RUN: &str = "\
+cycle 0|script a|done|run a| => 4 config
+start 9223372036854775808000000000|script a|done|run a| => 4 config
+start 9223372036854775807999999999|timeout 1|script a|done|run a| => 5 config
+timeout 9223372036854775807999999999|start 1|script a|done|run a| => 5 config
+start 340282366920938463463374607431768211455|timeout 1|script a|done|run a| => 5 config
+start 1|timeout 340282366920938463463374607431768211455|script a|done|run a| => 5 config
+cycle 0|script a|done|run a|run b| => 4 config
+cycle 0|script a|done|run b| => 4 missing
+cycle 0|script a| => 3 norun
+";
 
 #[test]
-fn settings_that_can_not_be_run(rt: HostRuntime) -> Result<(), Fail> {
-    for &(text, line, word) in SETTINGS_OF_NO_RUN {
-        expect_broken(&rt, rt.alloc(), text, line, word)?;
-    }
-    Ok(())
+fn settings_that_can_not_be_run(rt: HostRuntime) {
+    each_comes_to(&rt, rt.alloc(), SETTINGS_OF_NO_RUN);
 }
 
 const SUPERVISED: &[Line] = &[
@@ -307,157 +309,140 @@ const SUPERVISED: &[Line] = &[
     Line::Spawn(3, 0),
 ];
 
+/// Stops where the names of handles are others.
+fn has_names(rt: &impl Abort, seen: &[ShortName], wanted: &[&str]) {
+    same(rt, "how many names", seen.len(), wanted.len());
+    for (name, wanted) in seen.iter().zip(wanted) {
+        assert!(rt; name.as_str() == *wanted, "{wanted}");
+    }
+}
+
+/// Stops where the words are others.
+fn has_words(rt: &impl Abort, seen: &[Text], wanted: &[&str]) {
+    same(rt, "how many words", seen.len(), wanted.len());
+    for (word, wanted) in seen.iter().zip(wanted) {
+        assert!(rt; word.as_str() == *wanted, "{wanted}");
+    }
+}
+
 #[test]
-fn surface_of_supervision(rt: HostRuntime) -> Result<(), Fail> {
-    let text =
-        b"catch on\nscript idle\npend\ndone\nscript self\npanic a~\ndone\nscript main\nspawn z idle\nspawn b_1 self\nuntil 340282366920938463463374607431768211455\npanic boom\nabort b_1\nabort self\ndrop self\nabort z\njoin z\njoin B\nwithin 7 b_1\npanic boom\nspawn z idle\ndone\nrun main with self idle self\n";
-    let scenario = read_scenario(rt.alloc(), text)?;
-    assert!(rt; scenario.settings.catch == Some(true));
-    assert!(rt; scenario.settings.timeout.is_none());
-    assert!(rt;
-        are_runs(
-            scenario.runs.as_slice(),
-            [(2usize, [1usize, 0, 1].as_slice())].as_slice()
-        )
-    );
+fn surface_of_supervision(rt: HostRuntime) {
+    let text = "catch on\nscript idle\npend\ndone\nscript self\npanic a~\ndone\n\
+        script main\nspawn z idle\nspawn b_1 self\nuntil 340282366920938463463374607431768211455\npanic boom\n\
+        abort b_1\nabort self\ndrop self\nabort z\njoin z\njoin B\nwithin 7 b_1\npanic boom\nspawn z idle\n\
+        done\nrun main with self idle self\n";
+    let scenario = read(&rt, rt.alloc(), text);
+    same(&rt, "catch", scenario.settings.catch, Some(true));
+    same(&rt, "the timeout", scenario.settings.timeout, None);
+    has_runs(&rt, scenario.runs.as_slice(), &[(2, &[1, 0, 1])]);
     let scripts = &scenario.scripts;
     assert!(rt; scripts.len() == 3);
-    assert!(rt; scripts.lines(1) == [Line::Panic(0)].as_slice());
-    assert!(rt; scripts.handles(1).len() == 0);
-    assert!(rt; scripts.words(1).len() == 1);
-    assert!(rt; scripts.words(1)[0].as_str() == "a~");
-    assert!(rt; scripts.lines(2) == SUPERVISED);
-    let handles = scripts.handles(2);
-    assert!(rt; handles.len() == 4);
-    for (handle, name) in handles.iter().zip(["B", "b_1", "self", "z"]) {
-        assert!(rt; handle.as_str() == name);
-    }
-    let words = scripts.words(2);
-    assert!(rt; words.len() == 2);
-    assert!(rt; words[0].as_str() == "boom");
-    assert!(rt; words[1].as_str() == "boom");
-    Ok(())
+    has_lines(&rt, scripts.lines(1), &[Line::Panic(0)]);
+    has_names(&rt, scripts.handles(1), &[]);
+    has_words(&rt, scripts.words(1), &["a~"]);
+    has_lines(&rt, scripts.lines(2), SUPERVISED);
+    has_names(&rt, scripts.handles(2), &["B", "b_1", "self", "z"]);
+    has_words(&rt, scripts.words(2), &["boom", "boom"]);
 }
 
-/// A text that breaks no rule.
-fn expect_read(rt: &impl Abort, alloc: Global, text: &str) {
-    assert!(rt; read_scenario(alloc, text.as_bytes()).is_ok(), "at {text}");
+/// Stops where the runs of a text are others.
+fn text_has_runs(rt: &impl Abort, alloc: Global, text: &str, wanted: &[(usize, &[usize])]) {
+    let scenario = read(rt, alloc, text);
+    has_runs(rt, scenario.runs.as_slice(), wanted);
 }
 
 #[test]
-fn surface_of_runs(rt: HostRuntime) -> Result<(), Fail> {
-    for (text, wanted) in [
-        (
-            "script a\ndone\nrun a\nrun a\n",
-            [(0usize, [].as_slice()), (0, [].as_slice())].as_slice(),
-        ),
-        (
-            "script a\ndone\nscript b\ndone\nscript c\ndone\nrun c\nrun a with b c b\n",
-            [(2, [].as_slice()), (0, [1usize, 2, 1].as_slice())].as_slice(),
-        ),
-        (
-            "script a\ndone\nscript run\ndone\nrun run with a\n\n# again\nrun a with run\nrun run\n",
-            [(1, [0].as_slice()), (0, [1].as_slice()), (1, [].as_slice())].as_slice(),
-        ),
-    ] {
-        let scenario = read_scenario(rt.alloc(), text.as_bytes())?;
-        assert!(rt; are_runs(scenario.runs.as_slice(), wanted), "at {text}");
-    }
-    Ok(())
+fn surface_of_runs(rt: HostRuntime) {
+    let text = "script a\ndone\nrun a\nrun a\n";
+    text_has_runs(&rt, rt.alloc(), text, &[(0, &[]), (0, &[])]);
+    let text = "script a\ndone\nscript b\ndone\nscript c\ndone\nrun c\n\
+        run a with b c b\n";
+    text_has_runs(&rt, rt.alloc(), text, &[(2, &[]), (0, &[1, 2, 1])]);
+    let text = "script a\ndone\nscript run\ndone\nrun run with a\n\n# again\n\
+        run a with run\nrun run\n";
+    text_has_runs(&rt, rt.alloc(), text, &[(1, &[0]), (0, &[1]), (1, &[])]);
 }
 
+const READ_LINES_OF_SUPERVISION: &str = "\
+catch off|timeout 1|script a|done|run a| => read
+script a|done|script b|spawn abcdefghijklmnopqrstuvwxyzabcdef a|done|run b with a a b| => read
+script with|done|run with with with with| => read
+script a|abort nobody|drop nobody|join nobody|until 0|panic #!~|done|run a| => read
+script a|done|script b|spawn h a|spawn h a|spawn self a|abort self|join self|done|run b| => read
+script a|within 340282366920938463463374607431768211455 within|done|run a| => read
+";
+
 #[test]
-fn read_lines_of_supervision(rt: HostRuntime) -> Result<(), Fail> {
-    for text in [
-        "catch off\ntimeout 1\nscript a\ndone\nrun a\n",
-        "script a\ndone\nscript b\nspawn abcdefghijklmnopqrstuvwxyzabcdef a\ndone\nrun b with a a b\n",
-        "script with\ndone\nrun with with with with\n",
-        "script a\nabort nobody\ndrop nobody\njoin nobody\nuntil 0\npanic #!~\ndone\nrun a\n",
-        "script a\ndone\nscript b\nspawn h a\nspawn h a\nspawn self a\nabort self\njoin self\ndone\nrun b\n",
-        "script a\nwithin 340282366920938463463374607431768211455 within\ndone\nrun a\n",
-    ] {
-        expect_read(&rt, rt.alloc(), text);
-    }
-    Ok(())
+fn read_lines_of_supervision(rt: HostRuntime) {
+    each_comes_to(&rt, rt.alloc(), READ_LINES_OF_SUPERVISION);
 }
 
-const LINES_OF_SUPERVISION: &[(&str, u64, &str)] = &[
-    ("catch on", 1, "cut"),
-    ("catch  on\n", 1, "space"),
-    ("script a\nspawn h  a\n", 2, "space"),
-    ("script a\njoin  h\n", 2, "space"),
-    ("script a\nend 1 \n", 2, "space"),
-    ("script a\ndone \n", 2, "space"),
-    ("script a\ncatch on\n", 2, "place"),
-    ("script a\ndone\ncatch on\n", 3, "place"),
-    ("script a\ndone\nrun a\ncatch on\n", 4, "place"),
-    ("until 1\n", 1, "place"),
-    ("panic x\n", 1, "place"),
-    ("spawn\n", 1, "place"),
-    ("script a\ndone\njoin h\n", 3, "place"),
-    ("script a\ndone\nrun a with a\ndrop h\n", 4, "place"),
-    ("catches on\n", 1, "unknown"),
-    ("script a\nAbort h\n", 2, "unknown"),
-    ("catch\n", 1, "count"),
-    ("catch on off\n", 1, "count"),
-    ("script a\nuntil\n", 2, "count"),
-    ("script a\nuntil x 1\n", 2, "count"),
-    ("script a\npanic\n", 2, "count"),
-    ("script a\npanic two words\n", 2, "count"),
-    ("script a\nspawn 9\n", 2, "count"),
-    ("script a\nspawn h a b\n", 2, "count"),
-    ("script a\nabort\n", 2, "count"),
-    ("script a\nabort self h\n", 2, "count"),
-    ("script a\ndrop\n", 2, "count"),
-    ("script a\njoin h i\n", 2, "count"),
-    ("script a\nwithin 1\n", 2, "count"),
-    ("script a\nwithin 1 h i\n", 2, "count"),
-    ("run\n", 1, "count"),
-    ("script a\ndone\nrun a with\n", 3, "count"),
-    ("script a\ndone\nrun a\nrun a with\n", 4, "count"),
-    ("script a\ndone\nrun a a\n", 3, "count"),
-    ("script a\ndone\nrun a and a\n", 3, "count"),
-    ("run 9 a with a\n", 1, "count"),
-    ("catch maybe\n", 1, "name"),
-    ("catch On\n", 1, "name"),
-    ("catch 1\n", 1, "name"),
-    (
-        "script a\nuntil 340282366920938463463374607431768211456\n",
-        2,
-        "number",
-    ),
-    ("script a\nuntil 01\n", 2, "number"),
-    ("catch on\ncatch on\n", 2, "twice"),
-    ("catch on\ntimeout 1\ncatch off\n", 3, "twice"),
-    ("catch on\ncatch maybe\n", 2, "name"),
-    (
-        "script a\nspawn abcdefghijklmnopqrstuvwxyzabcdefg a\n",
-        2,
-        "name",
-    ),
-    ("script a\nspawn 9 none\n", 2, "name"),
-    ("script a\nspawn h 9\n", 2, "name"),
-    ("script a\nabort 9\n", 2, "name"),
-    ("script a\ndrop a-b\n", 2, "name"),
-    ("script a\njoin _h\n", 2, "name"),
-    ("script a\nwithin x 9\n", 2, "name"),
-    ("script a\nwithin x h\n", 2, "number"),
-    ("run none with a-b\n", 1, "name"),
-    ("run 9 with none\n", 1, "name"),
-    ("script a\nspawn h a\n", 2, "missing"),
-    ("script a\nspawn h b\ndone\nscript b\ndone\n", 2, "missing"),
-    ("script a\ndone\nrun a with a b\n", 3, "missing"),
-    ("script a\ndone\nrun a\nrun a with a b\n", 4, "missing"),
-    ("script a\ndone\nrun b with a\n", 3, "missing"),
-    ("script a\nspawn h a\ndone\n", 2, "missing"),
-];
+const LINES_OF_SUPERVISION: &str = "\
+catch on => 1 cut
+catch  on| => 1 space
+script a|spawn h  a| => 2 space
+script a|join  h| => 2 space
+script a|end 1 | => 2 space
+script a|done | => 2 space
+script a|catch on| => 2 place
+script a|done|catch on| => 3 place
+script a|done|run a|catch on| => 4 place
+until 1| => 1 place
+panic x| => 1 place
+spawn| => 1 place
+script a|done|join h| => 3 place
+script a|done|run a with a|drop h| => 4 place
+catches on| => 1 unknown
+script a|Abort h| => 2 unknown
+catch| => 1 count
+catch on off| => 1 count
+script a|until| => 2 count
+script a|until x 1| => 2 count
+script a|panic| => 2 count
+script a|panic two words| => 2 count
+script a|spawn 9| => 2 count
+script a|spawn h a b| => 2 count
+script a|abort| => 2 count
+script a|abort self h| => 2 count
+script a|drop| => 2 count
+script a|join h i| => 2 count
+script a|within 1| => 2 count
+script a|within 1 h i| => 2 count
+run| => 1 count
+script a|done|run a with| => 3 count
+script a|done|run a|run a with| => 4 count
+script a|done|run a a| => 3 count
+script a|done|run a and a| => 3 count
+run 9 a with a| => 1 count
+catch maybe| => 1 name
+catch On| => 1 name
+catch 1| => 1 name
+script a|until 340282366920938463463374607431768211456| => 2 number
+script a|until 01| => 2 number
+catch on|catch on| => 2 twice
+catch on|timeout 1|catch off| => 3 twice
+catch on|catch maybe| => 2 name
+script a|spawn abcdefghijklmnopqrstuvwxyzabcdefg a| => 2 name
+script a|spawn 9 none| => 2 name
+script a|spawn h 9| => 2 name
+script a|abort 9| => 2 name
+script a|drop a-b| => 2 name
+script a|join _h| => 2 name
+script a|within x 9| => 2 name
+script a|within x h| => 2 number
+run none with a-b| => 1 name
+run 9 with none| => 1 name
+script a|spawn h a| => 2 missing
+script a|spawn h b|done|script b|done| => 2 missing
+script a|done|run a with a b| => 3 missing
+script a|done|run a|run a with a b| => 4 missing
+script a|done|run b with a| => 3 missing
+script a|spawn h a|done| => 2 missing
+";
 
 #[test]
-fn refused_lines_of_supervision(rt: HostRuntime) -> Result<(), Fail> {
-    for &(text, line, word) in LINES_OF_SUPERVISION {
-        expect_broken(&rt, rt.alloc(), text, line, word)?;
-    }
-    Ok(())
+fn refused_lines_of_supervision(rt: HostRuntime) {
+    each_comes_to(&rt, rt.alloc(), LINES_OF_SUPERVISION);
 }
 
 const STOPPING: &[Line] = &[
@@ -474,91 +459,77 @@ const STOPPING: &[Line] = &[
 ];
 
 #[test]
-fn surface_of_shutdown(rt: HostRuntime) -> Result<(), Fail> {
+fn surface_of_shutdown(rt: HostRuntime) {
     let text =
-        b"script idle\ndone\nscript main\nstopped wait\nspawn g idle\nstopped B\nwait wait\nwait nothing\nstop 2147483647\nstop -2147483648 340282366920938463463374607431768211455\nstop 0 0\nstopped g\njoin wait\ndone\nrun main\n";
-    let scenario = read_scenario(rt.alloc(), text)?;
+        "script idle\ndone\nscript main\nstopped wait\nspawn g idle\nstopped B\nwait wait\nwait nothing\n\
+        stop 2147483647\nstop -2147483648 340282366920938463463374607431768211455\nstop 0 0\nstopped g\n\
+        join wait\ndone\nrun main\n";
+    let scenario = read(&rt, rt.alloc(), text);
     let scripts = &scenario.scripts;
     assert!(rt; scripts.len() == 2);
-    assert!(rt; scripts.lines(1) == STOPPING);
-    let names = scripts.handles(1);
-    assert!(rt; names.len() == 4);
-    for (held, name) in names.iter().zip(["B", "g", "nothing", "wait"]) {
-        assert!(rt; held.as_str() == name);
-    }
-    Ok(())
+    has_lines(&rt, scripts.lines(1), STOPPING);
+    has_names(&rt, scripts.handles(1), &["B", "g", "nothing", "wait"]);
 }
 
+const READ_LINES_OF_SHUTDOWN: &str = "\
+script a|stopped g|stopped g|wait g|wait g|done|run a| => read
+script a|wait nothing|done|run a| => read
+script stop|stopped stop|wait stopped|stop -1 1|done|script wait|done|run stop with wait stop| => read
+script a|stopped abcdefghijklmnopqrstuvwxyzabcdef|done|run a| => read
+script a|stop 2147483647|stop -2147483648|stop 0 18446744073709551616|done|run a| => read
+";
+
 #[test]
-fn read_lines_of_shutdown(rt: HostRuntime) -> Result<(), Fail> {
-    for text in [
-        "script a\nstopped g\nstopped g\nwait g\nwait g\ndone\nrun a\n",
-        "script a\nwait nothing\ndone\nrun a\n",
-        "script stop\nstopped stop\nwait stopped\nstop -1 1\ndone\nscript wait\ndone\nrun stop with wait stop\n",
-        "script a\nstopped abcdefghijklmnopqrstuvwxyzabcdef\ndone\nrun a\n",
-        "script a\nstop 2147483647\nstop -2147483648\nstop 0 18446744073709551616\ndone\nrun a\n",
-    ] {
-        expect_read(&rt, rt.alloc(), text);
-    }
-    Ok(())
+fn read_lines_of_shutdown(rt: HostRuntime) {
+    each_comes_to(&rt, rt.alloc(), READ_LINES_OF_SHUTDOWN);
 }
 
-const LINES_OF_SHUTDOWN: &[(&str, u64, &str)] = &[
-    ("script a\nstop 1", 2, "cut"),
-    ("script a\nwait g\t\n", 2, "byte"),
-    ("script a\nstop 1  2\n", 2, "space"),
-    ("script a\nwait g \n", 2, "space"),
-    ("stopped g\n", 1, "place"),
-    ("wait\n", 1, "place"),
-    ("script a\ndone\nstop x\n", 3, "place"),
-    ("script a\nStop 1\n", 2, "unknown"),
-    ("waits g\n", 1, "unknown"),
-    ("script a\nstopped\n", 2, "count"),
-    ("script a\nstopped g h\n", 2, "count"),
-    ("script a\nwait\n", 2, "count"),
-    ("script a\nwait 9 1\n", 2, "count"),
-    ("script a\nstop\n", 2, "count"),
-    ("script a\nstop x 1 2\n", 2, "count"),
-    ("script a\nstopped 9\n", 2, "name"),
-    (
-        "script a\nstopped abcdefghijklmnopqrstuvwxyzabcdefg\n",
-        2,
-        "name",
-    ),
-    ("script a\nwait _g\n", 2, "name"),
-    ("script a\nstop 1\n", 3, "norun"),
-];
+const LINES_OF_SHUTDOWN: &str = "\
+script a|stop 1 => 2 cut
+script a|wait g\t| => 2 byte
+script a|stop 1  2| => 2 space
+script a|wait g | => 2 space
+stopped g| => 1 place
+wait| => 1 place
+script a|done|stop x| => 3 place
+script a|Stop 1| => 2 unknown
+waits g| => 1 unknown
+script a|stopped| => 2 count
+script a|stopped g h| => 2 count
+script a|wait| => 2 count
+script a|wait 9 1| => 2 count
+script a|stop| => 2 count
+script a|stop x 1 2| => 2 count
+script a|stopped 9| => 2 name
+script a|stopped abcdefghijklmnopqrstuvwxyzabcdefg| => 2 name
+script a|wait _g| => 2 name
+script a|stop 1| => 3 norun
+";
 
 #[test]
-fn refused_lines_of_shutdown(rt: HostRuntime) -> Result<(), Fail> {
-    for &(text, line, word) in LINES_OF_SHUTDOWN {
-        expect_broken(&rt, rt.alloc(), text, line, word)?;
-    }
-    Ok(())
+fn refused_lines_of_shutdown(rt: HostRuntime) {
+    each_comes_to(&rt, rt.alloc(), LINES_OF_SHUTDOWN);
 }
 
-const VALUES_OF_SHUTDOWN: &[&str] = &[
-    "script a\nstop last\n",
-    "script a\nstop 2147483648\n",
-    "script a\nstop -2147483649\n",
-    "script a\nstop 4294967296\n",
-    "script a\nstop 9223372036854775808\n",
-    "script a\nstop -0\n",
-    "script a\nstop -\n",
-    "script a\nstop 01\n",
-    "script a\nstop +1\n",
-    "script a\nstop 2147483648 1\n",
-    "script a\nstop 1 340282366920938463463374607431768211456\n",
-    "script a\nstop 1 -1\n",
-    "script a\nstop 1 01\n",
-];
+const VALUES_OF_SHUTDOWN: &str = "\
+script a|stop last| => 2 number
+script a|stop 2147483648| => 2 number
+script a|stop -2147483649| => 2 number
+script a|stop 4294967296| => 2 number
+script a|stop 9223372036854775808| => 2 number
+script a|stop -0| => 2 number
+script a|stop -| => 2 number
+script a|stop 01| => 2 number
+script a|stop +1| => 2 number
+script a|stop 2147483648 1| => 2 number
+script a|stop 1 340282366920938463463374607431768211456| => 2 number
+script a|stop 1 -1| => 2 number
+script a|stop 1 01| => 2 number
+";
 
 #[test]
-fn refused_values_of_shutdown(rt: HostRuntime) -> Result<(), Fail> {
-    for &text in VALUES_OF_SHUTDOWN {
-        expect_broken(&rt, rt.alloc(), text, 2, "number")?;
-    }
-    Ok(())
+fn refused_values_of_shutdown(rt: HostRuntime) {
+    each_comes_to(&rt, rt.alloc(), VALUES_OF_SHUTDOWN);
 }
 
 const SELECTING: &[Line] = &[
@@ -570,208 +541,232 @@ const SELECTING: &[Line] = &[
 ];
 
 #[test]
-fn surface_of_select(rt: HostRuntime) -> Result<(), Fail> {
+fn surface_of_select(rt: HostRuntime) {
     let text =
-        b"script idle\ndone\nscript main\nspawn k idle\nselect z\nselect k B k\njoin B\nselect a z\ndone\nrun main\n";
-    let scenario = read_scenario(rt.alloc(), text)?;
+        "script idle\ndone\nscript main\nspawn k idle\nselect z\nselect k B k\njoin B\nselect a z\ndone\n\
+        run main\n";
+    let scenario = read(&rt, rt.alloc(), text);
     let scripts = &scenario.scripts;
     assert!(rt; scripts.len() == 2);
-    assert!(rt; scripts.choices(0).len() == 0);
-    assert!(rt; scripts.lines(1) == SELECTING);
-    assert!(rt; scripts.choices(1) == [3usize, 2, 0, 2, 1, 3].as_slice());
-    let names = scripts.handles(1);
-    assert!(rt; names.len() == 4);
-    for (held, name) in names.iter().zip(["B", "a", "k", "z"]) {
-        assert!(rt; held.as_str() == name);
-    }
-    Ok(())
+    has_places(&rt, scripts.choices(0), &[]);
+    has_lines(&rt, scripts.lines(1), SELECTING);
+    has_places(&rt, scripts.choices(1), &[3, 2, 0, 2, 1, 3]);
+    has_names(&rt, scripts.handles(1), &["B", "a", "k", "z"]);
 }
 
-const READ_LINES_OF_SELECT: &[&str] = &[
-    "script a\nselect abcdefghijklmnopqrstuvwxyzabcdef\nselect self self\ndone\nrun a\n",
-    "script select\nselect select with last\nselect g\nstopped g\ndone\nrun select\n",
-];
+/// Stops where the places of choices are others.
+fn has_places(rt: &impl Abort, seen: &[usize], wanted: &[usize]) {
+    assert!(rt; seen == wanted);
+}
 
-const LINES_OF_SELECT: &[(&str, u64, &str)] = &[
-    ("script a\nselect h", 2, "cut"),
-    ("script a\nselect h  i\n", 2, "space"),
-    ("select\n", 1, "place"),
-    ("script a\nselects h\n", 2, "unknown"),
-    ("script a\nselect\n", 2, "count"),
-    ("script a\nselect 9\n", 2, "name"),
-    ("script a\nselect h i 9\n", 2, "name"),
-    (
-        "script a\nselect abcdefghijklmnopqrstuvwxyzabcdefg h\n",
-        2,
-        "name",
-    ),
-    ("script a\nselect h\n", 3, "norun"),
-];
+const READ_LINES_OF_SELECT: &str = "\
+script a|select abcdefghijklmnopqrstuvwxyzabcdef|select self self|done|run a| => read
+script select|select select with last|select g|stopped g|done|run select| => read
+";
+
+const LINES_OF_SELECT: &str = "\
+script a|select h => 2 cut
+script a|select h  i| => 2 space
+select| => 1 place
+script a|selects h| => 2 unknown
+script a|select| => 2 count
+script a|select 9| => 2 name
+script a|select h i 9| => 2 name
+script a|select abcdefghijklmnopqrstuvwxyzabcdefg h| => 2 name
+script a|select h| => 3 norun
+";
 
 #[test]
-fn lines_of_select(rt: HostRuntime) -> Result<(), Fail> {
-    for &text in READ_LINES_OF_SELECT {
-        expect_read(&rt, rt.alloc(), text);
-    }
-    for &(text, line, word) in LINES_OF_SELECT {
-        expect_broken(&rt, rt.alloc(), text, line, word)?;
-    }
-    Ok(())
+fn lines_of_select(rt: HostRuntime) {
+    each_comes_to(&rt, rt.alloc(), READ_LINES_OF_SELECT);
+    each_comes_to(&rt, rt.alloc(), LINES_OF_SELECT);
 }
 
-/// The kind of the line that a comment of so many bytes is, or of the line after it.
-fn kind_at(alloc: Global, length: usize) -> Result<Option<Kind>, AllocError> {
-    let mut text = vec![in alloc; b'#'; length]?;
-    text.extend_from_slice(b"\n")?;
-    Ok(match read_scenario(alloc, text.as_slice()) {
-        Err(Refusal::Broken(broken)) => Some(broken.kind),
+/// A comment of so many bytes, as a text.
+fn comment(rt: &impl Abort, alloc: Global, length: usize) -> Vec<u8> {
+    let mut text = vec![in alloc; b'#'; length].expect(rt, "room");
+    text.push(b'\n').expect(rt, "room");
+    text
+}
+
+/// Stops where that line, or the one after it, is broken otherwise.
+fn is_broken(rt: &impl Abort, text: Vec<u8>, alloc: Global, wanted: Kind) {
+    let seen = match read_scenario(alloc, text.as_slice()).err() {
+        Some(Refusal::Broken(broken)) => Some(broken.kind),
         _ => None,
-    })
+    };
+    same(rt, "how it is broken", seen, Some(wanted));
 }
 
 #[test]
-fn line_limit(rt: HostRuntime) -> Result<(), Fail> {
-    assert!(rt; kind_at(rt.alloc(), 4096)? == Some(Kind::NoRun));
-    assert!(rt; kind_at(rt.alloc(), 4097)? == Some(Kind::Long));
-    Ok(())
+fn line_limit(rt: HostRuntime) {
+    is_broken(&rt, comment(&rt, rt.alloc(), 4096), rt.alloc(), Kind::NoRun);
+    is_broken(&rt, comment(&rt, rt.alloc(), 4097), rt.alloc(), Kind::Long);
 }
 
 /// A script of so many sleeps.
-fn sleeps(alloc: Global, steps: usize) -> Result<Vec<u8>, AllocError> {
-    let mut text = Vec::from_slice(alloc, b"script a\n")?;
+fn sleeps(rt: &impl Abort, alloc: Global, steps: usize) -> String {
+    let mut text = String::from_str(alloc, "script a\n").expect(rt, "room");
     for _ in 0..steps {
-        text.extend_from_slice(b"sleep 1\n")?;
+        text.push_str("sleep 1\n").expect(rt, "room");
     }
-    text.extend_from_slice(b"done\nrun a\n")?;
-    Ok(text)
+    text.push_str("done\nrun a\n").expect(rt, "room");
+    text
 }
 
 /// How many lines the first script has.
-fn lines_read(alloc: Global, text: &[u8]) -> Result<usize, Refusal> {
-    let scenario = read_scenario(alloc, text)?;
-    if scenario.scripts.is_empty() {
-        return Ok(0);
+fn lines_read(scripts: &ScriptTexts) -> usize {
+    if scripts.is_empty() {
+        return 0;
     }
-    Ok(scenario.scripts.lines(0).len())
+    scripts.lines(0).len()
 }
 
 #[test]
-fn a_mebibyte(rt: HostRuntime) -> Result<(), Fail> {
-    let text = sleeps(rt.alloc(), 131_069)?;
-    assert!(rt; text.len() == 1_048_572);
-    assert!(rt; lines_read(rt.alloc(), text.as_slice())? == 131_069);
-    Ok(())
+fn a_mebibyte(rt: HostRuntime) {
+    let text = sleeps(&rt, rt.alloc(), 131_069);
+    same(&rt, "bytes", text.len(), 1_048_572);
+    let scenario = read(&rt, rt.alloc(), text.as_str());
+    same(&rt, "lines", lines_read(&scenario.scripts), 131_069);
+}
+
+/// Adds a script that spawns the one before it so often.
+fn add_spawns(rt: &impl Abort, text: &mut String, script: u32, times: u32) {
+    write!(text, "script s{script}\n").expect(rt, "room");
+    let before = script.saturating_sub(1);
+    for handle in 0..times {
+        write!(text, "spawn h{handle} s{before}\n").expect(rt, "room");
+    }
+    text.push_str("done\n").expect(rt, "room");
 }
 
 /// So many scripts, of which each but the first spawns the one before it so often; the last is run, and then the first
 /// so often.
-fn spawns(alloc: Global, scripts: u32, times: u32, with: u32) -> Result<String, AllocError> {
-    let mut text = String::from_str(alloc, "script s0\nend 0\ndone\n")?;
+fn spawns(rt: &impl Abort, alloc: Global, scripts: u32, times: u32, with: u32) -> String {
+    let mut text = String::from_str(alloc, "script s0\nend 0\ndone\n").expect(rt, "room");
     for script in 1..scripts {
-        text.push_str(format!(in alloc; "script s{script}\n")?.as_str())?;
-        for handle in 0..times {
-            text.push_str(format!(in alloc; "spawn h{handle} s{}\n", script - 1)?.as_str())?;
-        }
-        text.push_str("done\n")?;
+        add_spawns(rt, &mut text, script, times);
     }
-    text.push_str(format!(in alloc; "run s{}", scripts.saturating_sub(1))?.as_str())?;
+    let last = scripts.saturating_sub(1);
+    write!(text, "run s{last}").expect(rt, "room");
     for name in 0..with {
-        text.push_str(if name == 0 { " with s0" } else { " s0" })?;
+        let word = if name == 0 { " with s0" } else { " s0" };
+        text.push_str(word).expect(rt, "room");
     }
-    text.push_str("\n")?;
-    Ok(text)
+    text.push_str("\n").expect(rt, "room");
+    text
+}
+
+/// Such a text, behind a line and before one.
+fn spawned(
+    rt: &impl Abort,
+    alloc: Global,
+    first: &str,
+    counts: (u32, u32, u32),
+    last: &str,
+) -> String {
+    let (scripts, times, with) = counts;
+    let spawns = spawns(rt, alloc, scripts, times, with);
+    let mut text = String::from_str(alloc, first).expect(rt, "room");
+    text.push_str(spawns.as_str()).expect(rt, "room");
+    text.push_str(last).expect(rt, "room");
+    text
+}
+
+/// A line before; how many scripts, spawns of each and names behind the run; a line behind; and what comes of that.
+type Spawned = (&'static str, (u32, u32, u32), &'static str, &'static str);
+
+const SPAWNED: &[Spawned] = &[
+    ("", (4, 46, 501), "", "read"),
+    ("", (4, 46, 502), "", "148 tasks"),
+    ("", (16, 2, 0), "", "read"),
+    ("", (16, 2, 0), "run s15\n", "read"),
+    ("", (16, 2, 0), "run s15\nrun s15 with s15\n", "66 tasks"),
+    ("", (17, 2, 0), "", "68 tasks"),
+    ("", (3_000, 2, 0), "", "12000 tasks"),
+];
+
+/// Takes the rows one by one.
+fn each_spawned(rt: &impl Abort, alloc: Global, rows: &[Spawned]) {
+    for &(first, counts, last, wanted) in rows {
+        let text = spawned(rt, alloc, first, counts, last);
+        let seen = outcome(rt, alloc, text.as_bytes());
+        is_outcome(rt, seen, wanted);
+    }
+}
+
+fn is_outcome(rt: &impl Abort, seen: String, wanted: &str) {
+    assert!(rt; seen.as_str() == wanted, "{seen}, not {wanted}");
 }
 
 #[test]
-fn too_many_tasks(rt: HostRuntime) -> Result<(), Fail> {
-    let alloc = rt.alloc();
-    expect_read(&rt, alloc, spawns(alloc, 4, 46, 501)?.as_str());
-    expect_broken(
-        &rt,
-        alloc,
-        spawns(alloc, 4, 46, 502)?.as_str(),
-        148,
-        "tasks",
-    )?;
-    expect_read(&rt, alloc, spawns(alloc, 16, 2, 0)?.as_str());
-    let mut text = spawns(alloc, 16, 2, 0)?;
-    text.push_str("run s15\n")?;
-    expect_read(&rt, alloc, text.as_str());
-    text.push_str("run s15 with s15\n")?;
-    expect_broken(&rt, alloc, text.as_str(), 66, "tasks")?;
-    expect_broken(&rt, alloc, spawns(alloc, 17, 2, 0)?.as_str(), 68, "tasks")?;
-    expect_broken(
-        &rt,
-        alloc,
-        spawns(alloc, 3_000, 2, 0)?.as_str(),
-        12_000,
-        "tasks",
-    )?;
-    Ok(())
+fn too_many_tasks(rt: HostRuntime) {
+    each_spawned(&rt, rt.alloc(), SPAWNED);
 }
 
+const LATE: &str = "timeout 9223372036854775808000000000\n";
+
+const LATE_ONES: &[Spawned] = &[
+    (LATE, (17, 2, 0), "", "69 tasks"),
+    (LATE, (16, 2, 0), "", "65 config"),
+];
+
 #[test]
-fn tasks_before_config(rt: HostRuntime) -> Result<(), Fail> {
-    let alloc = rt.alloc();
-    let late = String::from_str(alloc, "timeout 9223372036854775808000000000\n")?;
-    let mut text = late.clone()?;
-    text.push_str(spawns(alloc, 17, 2, 0)?.as_str())?;
-    expect_broken(&rt, alloc, text.as_str(), 69, "tasks")?;
-    let mut text = late;
-    text.push_str(spawns(alloc, 16, 2, 0)?.as_str())?;
-    expect_broken(&rt, alloc, text.as_str(), 65, "config")?;
-    Ok(())
+fn tasks_before_config(rt: HostRuntime) {
+    each_spawned(&rt, rt.alloc(), LATE_ONES);
 }
 
 /// A script of so many scripts, each with a spawn and a join of a handle of its own, in no order.
-fn many_handles(alloc: Global, handles: u32) -> Result<String, AllocError> {
-    let mut text = String::from_str(alloc, "script idle\ndone\nscript main\n")?;
+fn many_handles(rt: &impl Abort, alloc: Global, handles: u32) -> String {
+    let mut text = String::from_str(alloc, "script idle\ndone\nscript main\n").expect(rt, "room");
     for number in 0..handles {
         let handle = number.wrapping_mul(7_919) % 10_007;
-        text.push_str(format!(in alloc; "spawn h{handle} idle\n")?.as_str())?;
+        write!(text, "spawn h{handle} idle\n").expect(rt, "room");
     }
     for number in 0..handles {
-        text.push_str(format!(in alloc; "join h{number}\n")?.as_str())?;
+        write!(text, "join h{number}\n").expect(rt, "room");
     }
-    text.push_str("done\nrun main\n")?;
-    Ok(text)
+    text.push_str("done\nrun main\n").expect(rt, "room");
+    text
+}
+
+/// Stops where a line is another one than a join of the handle of this number.
+fn joins(rt: &impl Abort, alloc: Global, line: &Line, handles: &[ShortName], number: usize) {
+    let seen = match *line {
+        Line::Join(place) => handles.get(place),
+        _ => None,
+    };
+    let name = format!(in alloc; "h{number}").expect(rt, "room");
+    let joined = match seen {
+        Some(handle) => handle.as_str() == name.as_str(),
+        None => false,
+    };
+    assert!(rt; joined, "at {number}");
 }
 
 #[test]
-fn ten_thousand_handles(rt: HostRuntime) -> Result<(), Fail> {
-    let text = many_handles(rt.alloc(), 10_007)?;
-    let scenario = read_scenario(rt.alloc(), text.as_bytes())?;
+fn ten_thousand_handles(rt: HostRuntime) {
+    let text = many_handles(&rt, rt.alloc(), 10_007);
+    let scenario = read(&rt, rt.alloc(), text.as_str());
+    drop(text);
     let scripts = &scenario.scripts;
     assert!(rt; scripts.len() == 2);
     let handles = scripts.handles(1);
-    assert!(rt; handles.len() == 10_007);
-    assert!(rt; handles.is_sorted());
+    same(&rt, "handles", handles.len(), 10_007);
+    same(&rt, "handles in order", handles.is_sorted(), true);
     let lines = scripts.lines(1);
     assert!(rt; lines.len() == 20_014);
-    assert!(rt; lines[0] == Line::Spawn(0, 0));
+    same(&rt, "the first line", lines[0], Line::Spawn(0, 0));
     for number in 0..10_007usize {
-        let Line::Join(place) = lines[10_007 + number] else {
-            panic!(rt; "at {number}");
-        };
-        let Some(handle) = handles.get(place) else {
-            panic!(rt; "at {number}");
-        };
-        let name = format!(in rt.alloc(); "h{number}")?;
-        assert!(rt; handle.as_str() == name.as_str());
+        joins(&rt, rt.alloc(), &lines[10_007 + number], handles, number);
     }
-    Ok(())
 }
 
 #[test]
-fn ten_thousand_scripts(rt: HostRuntime) -> Result<(), Fail> {
-    let text = spawns(rt.alloc(), 10_000, 1, 0)?;
-    let scenario = read_scenario(rt.alloc(), text.as_bytes())?;
-    assert!(rt; scenario.scripts.len() == 10_000);
-    assert!(rt;
-        are_runs(
-            scenario.runs.as_slice(),
-            [(9_999usize, [].as_slice())].as_slice()
-        )
-    );
-    Ok(())
+fn ten_thousand_scripts(rt: HostRuntime) {
+    let text = spawns(&rt, rt.alloc(), 10_000, 1, 0);
+    let scenario = read(&rt, rt.alloc(), text.as_str());
+    drop(text);
+    same(&rt, "scripts", scenario.scripts.len(), 10_000);
+    has_runs(&rt, scenario.runs.as_slice(), &[(9_999, &[])]);
 }
