@@ -1,6 +1,6 @@
 // Whole runs of chiefs.
 
-use crate::told::{Ending, Root, Run, Settings, plays};
+use crate::told::{Ending, Root, Run, Settings, plays, plays_one};
 use rt_errand::Plan;
 
 /// Up to where a chief has polled its worker for the first time.
@@ -164,4 +164,14 @@ fn waits_in_ways_of_its_own(rt: HostRuntime) {
     for run in RUNS {
         plays(&rt, rt.alloc(), run);
     }
+}
+
+#[test]
+fn timeout_of_a_ready_state(rt: HostRuntime) {
+    plays_one(&rt, rt.alloc(), RUNS, "timeout_of_a_ready_state");
+}
+
+#[test]
+fn select_of_ready_and_pending(rt: HostRuntime) {
+    plays_one(&rt, rt.alloc(), RUNS, "select_of_ready_and_pending");
 }

@@ -1,6 +1,6 @@
 // Whole runs of errands, retries, crews and heirs, and settings that are refused.
 
-use crate::told::{Begins, Ending, Root, Run, Settings, config_of, plays};
+use crate::told::{Begins, Ending, Root, Run, Settings, config_of, plays, plays_one};
 use rand_chacha::ChaCha12Rng;
 use rt_core::{Config, ConfigError, MAX_TIME, Runner};
 use std::test::Fail;
@@ -561,6 +561,41 @@ fn whole_runs(rt: HostRuntime) {
     for run in RUNS {
         plays(&rt, rt.alloc(), run);
     }
+}
+
+#[test]
+fn one_ready_root(rt: HostRuntime) {
+    plays_one(&rt, rt.alloc(), RUNS, "one_ready_root");
+}
+
+#[test]
+fn sleeps_to_its_alarm(rt: HostRuntime) {
+    plays_one(&rt, rt.alloc(), RUNS, "sleeps_to_its_alarm");
+}
+
+#[test]
+fn sleeps_less_than_a_cycle(rt: HostRuntime) {
+    plays_one(&rt, rt.alloc(), RUNS, "sleeps_less_than_a_cycle");
+}
+
+#[test]
+fn deadline_before_the_alarm(rt: HostRuntime) {
+    plays_one(&rt, rt.alloc(), RUNS, "deadline_before_the_alarm");
+}
+
+#[test]
+fn deadline_of_zero(rt: HostRuntime) {
+    plays_one(&rt, rt.alloc(), RUNS, "deadline_of_zero");
+}
+
+#[test]
+fn pending_root_stalls(rt: HostRuntime) {
+    plays_one(&rt, rt.alloc(), RUNS, "pending_root_stalls");
+}
+
+#[test]
+fn spawn_on_an_ended_node(rt: HostRuntime) {
+    plays_one(&rt, rt.alloc(), RUNS, "spawn_on_an_ended_node");
 }
 
 /// Why settings are refused, if they are.

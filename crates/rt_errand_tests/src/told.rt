@@ -233,3 +233,15 @@ pub fn plays(rt: &impl Abort, alloc: Global, run: &Run) {
         Err(_refusal) => panic!(rt; "{name}: refused settings"),
     }
 }
+
+/// Stops where the run of this name is not as it should be, or isn't there.
+pub fn plays_one(rt: &impl Abort, alloc: Global, runs: &[Run], name: &str) {
+    let mut found = false;
+    for run in runs {
+        if run.name == name {
+            plays(rt, alloc, run);
+            found = true;
+        }
+    }
+    assert!(rt; found, "{name}: no such run");
+}
