@@ -323,7 +323,7 @@ fn draws_bytes<G: Rng>(context: &Context, world: &mut Making<G>) -> bool
     filled && told
 }
 
-/// Draws by each call, asks for the digest, and closes the context. Returns whether all were made.
+/// Draws by each call and asks for the digest. Returns whether all were made.
 #[tactic(auto, using(rt_world::proofs::Walked::close_laws))]
 fn draws<G: Rng>(context: &Context, world: &mut Making<G>) -> bool
     requires { MayCall world.old.told.state world.old.out }

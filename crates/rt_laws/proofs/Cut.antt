@@ -1,5 +1,6 @@
 -- What is no run that was cut off.
 use Rattle.std.proofs.Common.{◌≡◌, ℕ, inl, inr, true, false, List, [], ◌∷◌, ◌++◌, Some, None, refl, rules, arith, take, drop, Ok}
+use Rattle.std.proofs.lemmas.List.Sorted.{IsPermutation-refl}
 use Rattle.rt_base.specs.declared.execution.Execution.TheVariants.{Dedicated}
 use Rattle.rt_audit.specs.declared.answer.AnswerKind.TheVariants.{Ready as AnswersReady, NoMemory as LacksMemory, Ended}
 use Rattle.rt_audit.specs.declared.finish.FinishCause.TheVariants.{NoMemory}
@@ -130,6 +131,10 @@ lacks_within call reply lawful =
       );
     }
 
+pub lacks_lawfully : IsLawful (begun small_begin) (lacking_journal (CloseNode 0) Done)
+unfolding begun after
+lacks_lawfully = search (rules, IsPermutation-refl)
+
 -- a maker that makes no call
 pub none_by_the_maker : (number : ℕ) (call : CallOf) (reply : CallReply) → IsCutOff (ready_root number) small_begin (called_by_maker call reply) → ⊥
 unfolding begun after
@@ -172,6 +177,10 @@ lacks_in_maker call reply lawful =
         ),
       );
     }
+
+pub called_lawfully : IsLawful (begun small_begin) (called_by_maker (CloseNode 0) Done)
+unfolding begun after
+called_lawfully = search rules
 
 -- and one that makes none
 pub lacks_without_call : IsCutOff asking_maker small_begin maker_lacks

@@ -36,6 +36,7 @@ pub mod Runs
 pub mod Same
 pub mod Signals
 pub mod Small
+pub mod Spawned
 pub mod Stands
 pub mod Starts
 pub mod Stays

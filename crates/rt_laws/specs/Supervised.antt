@@ -1,12 +1,13 @@
 -- Small runs with spawned tasks.
-use Rattle.std.specs.Prelude.{ℕ, List, [], ◌∷◌, ◌++◌, Some, codes, false}
+use Rattle.std.specs.Prelude.{ℕ, List, [], ◌∷◌, ◌++◌, Some, None, codes, false}
+use Rattle.rt_base.specs.declared.error.Error.TheVariants.{Closed}
 use Rattle.rt_base.specs.declared.execution.Execution.TheVariants.{Shared}
 use Rattle.rt_audit.specs.declared.call.Call.TheVariants.{Child, CloseNode, Spawn, AbortTask, Join, GiveUp}
 use Rattle.rt_audit.specs.declared.reply.CallReply.TheVariants.{Done, NodeAt, TaskAt, Pending as StillPending, Ready as IsReady, Refused}
 use Rattle.rt_audit.specs.declared.answer.AnswerKind.TheVariants.{Pending as AnswersPending, Ready as AnswersReady, NoMemory as LacksMemory, Ended}
 use Rattle.rt_audit.specs.declared.finish.FinishCause.TheVariants.{Completed, NoMemory}
 use Rattle.rt_audit.specs.declared.entry.Entry.{Entry}
-use Rattle.rt_audit.specs.declared.entry.Entry.TheVariants.{Call, Event, Round, Visit, Answer as Answered, NodeEnd, Advance, Cleanup}
+use Rattle.rt_audit.specs.declared.entry.Entry.TheVariants.{Start, Call, Event, Wake, Root, Round, Visit, Answer as Answered, NodeEnd, Advance, Cleanup}
 use Rattle.rt_model.specs.declared.answer.Answer.{Answer}
 use Rattle.rt_model.specs.declared.answer.Answer.TheVariants.{Pending, Ready}
 use Rattle.rt_model.specs.Events.{process_task, task_fields}
@@ -52,6 +53,35 @@ with_side =
     with_first
     (record { next = λ prompt now task. Gives (Ready prompt.value) prompt; last = λ prompt now task. closes prompt.node })
     (λ now. Does (Plainly (Child 0 side)) child_heard)
+
+-- the maker's calls, up to the first round
+abbrev pub side_spawned : List Entry
+side_spawned =
+    Start 0 0 None 1000000
+    ∷ Call None (Child 0 side) (NodeAt 1 false)
+    ∷ Call None (Spawn 1) (TaskAt 0 2)
+    ∷ Call None (GiveUp 0) Done
+    ∷ Root 1
+    ∷ Round (0 ∷ 1 ∷ [])
+    ∷ []
+
+-- the task is ready
+abbrev pub side_ready : List Entry
+side_ready = Visit 0 ∷ Event process_task (task_fields 0 side) ∷ Answered 0 AnswersReady ∷ []
+
+-- it ends, with its node
+abbrev pub side_ends : List Entry
+side_ends = Call (Some 0) (CloseNode 2) Done ∷ Answered 0 Ended ∷ NodeEnd 1 ∷ []
+
+-- the root is ready, and ends
+abbrev pub second_ready : List Entry
+second_ready = Visit 1 ∷ Event process_task (task_fields 1 []) ∷ Answered 1 AnswersReady ∷ []
+
+abbrev pub second_ends : List Entry
+second_ends = Cleanup ∷ NodeEnd 0 ∷ Call (Some 1) (CloseNode 0) Done ∷ Answered 1 Ended ∷ []
+
+abbrev pub side_journal : List Entry
+side_journal = side_spawned ++ side_ready ++ side_ends ++ second_ready ++ second_ends ++ finishing Completed
 
 -- a task that aborts itself
 
@@ -110,8 +140,16 @@ aborter_spawned = Call (Some 0) (Child 0 handle) (NodeAt 1 false) ∷ Call (Some
 abbrev pub aborter_joined : List Entry
 aborter_joined = opening ++ visiting_root ++ aborter_spawned ++ (Call (Some 0) (Join 1) StillPending ∷ Answered 0 AnswersPending ∷ Advance 1000000 ∷ Round (1 ∷ []) ∷ [])
 
+-- the task aborts itself
+abbrev pub aborts_itself : List Entry
+aborts_itself = Visit 1 ∷ Event process_task (task_fields 1 handle) ∷ Call (Some 1) (AbortTask 1) Done ∷ []
+
 abbrev pub aborter_closes : List Entry
 aborter_closes = Call (Some 1) (CloseNode 2) Done ∷ Answered 1 Ended ∷ []
+
+-- it is ready, ends and wakes the root
+abbrev pub aborter_ends : List Entry
+aborter_ends = (Answered 1 AnswersReady ∷ []) ++ aborter_closes ++ (Wake 0 ∷ NodeEnd 1 ∷ Advance 2000000 ∷ Round (0 ∷ []) ∷ [])
 
 -- the result is handed out
 abbrev pub joined : List Entry
@@ -119,6 +157,24 @@ joined = Call (Some 0) (Join 1) IsReady ∷ []
 
 abbrev pub parent_ends : List Entry
 parent_ends = (Call (Some 0) (GiveUp 1) Done ∷ Answered 0 AnswersReady ∷ Cleanup ∷ NodeEnd 0 ∷ Call (Some 0) (CloseNode 0) Done ∷ Answered 0 Ended ∷ []) ++ finishing Completed
+
+abbrev pub aborting_journal : List Entry
+aborting_journal = aborter_joined ++ aborts_itself ++ aborter_ends ++ visiting_root ++ joined ++ parent_ends
+
+-- it is left pending, and ends in the same visit without a result, and then its node
+abbrev pub aborter_stops : List Entry
+aborter_stops = (Answered 1 AnswersPending ∷ []) ++ aborter_closes ++ (NodeEnd 1 ∷ [])
+
+-- the end of the node wakes the task that it flags, and then who joins it. The task is ended, and isn't visited any more
+abbrev pub both_woken : List Entry
+both_woken = Wake 1 ∷ Wake 0 ∷ Advance 2000000 ∷ Round (1 ∷ 0 ∷ []) ∷ []
+
+-- there is no result
+abbrev pub refused : List Entry
+refused = Call (Some 0) (Join 1) (Refused Closed) ∷ []
+
+abbrev pub stopping_journal : List Entry
+stopping_journal = aborter_joined ++ aborts_itself ++ aborter_stops ++ both_woken ++ visiting_root ++ refused ++ parent_ends
 
 -- the root ends while it waits for its task
 abbrev pub joiner_ends : List Entry

@@ -6,7 +6,9 @@ ghost use Rattle.rt_base.specs.declared.error.Error.{Error};
 ghost use Rattle.rt_base.specs.declared.execution.Execution.TheVariants.{Shared};
 ghost use Rattle.rt_base.specs.declared.time.TheConstants.{MAX_TIME};
 ghost use Rattle.rt_audit.specs.declared.call.Call.{Call};
+ghost use Rattle.rt_audit.specs.declared.call.Call.TheVariants.{CloseNode};
 ghost use Rattle.rt_audit.specs.declared.reply.CallReply.{CallReply};
+ghost use Rattle.rt_audit.specs.declared.reply.CallReply.TheVariants.{Done};
 ghost use Rattle.rt_audit.specs.declared.entry.Entry.TheVariants.{Wake};
 ghost use Rattle.rt_audit.specs.declared.finish.FinishCause.{FinishCause};
 ghost use Rattle.rt_audit.specs.declared.finish.FinishCause.TheVariants.{Completed, Timeout, Stalled, TimeOverflow, TooManyTasks, NoMemory};
@@ -47,11 +49,13 @@ pub fn a_sleeping_root_has_its_run()
 pub fn a_run_that_lacked_memory_is_cut_off()
     ensures at_once { (due : ℕ) → IsCutOff (sleeping_root due) small_begin cut_journal }
     ensures within { (call : Call) (reply : CallReply) → IsLawful (begun small_begin) (lacking_journal call reply) → IsCutOff busy_root small_begin (lacking_journal call reply) }
+    ensures lawful { IsLawful (begun small_begin) (lacking_journal (CloseNode 0) Done) }
     ensures beside { IsCutOff (aborting_root Pending) small_begin beside_journal }
     ensures spawned { IsCutOff (aborting_root Pending) small_begin (lacking_join 2) }
     ensures free { IsCutOff (aborting_root Pending) small_begin (lacking_join 1) }
     ensures sent { (sent : Result ℕ Error) → IsCutOff (sending_root sent) small_begin sending_journal }
     ensures maker { (call : Call) (reply : CallReply) → IsLawful (begun small_begin) (called_by_maker call reply) → IsCutOff asking_maker small_begin (called_by_maker call reply) }
+    ensures lawful_maker { IsLawful (begun small_begin) (called_by_maker (CloseNode 0) Done) }
     ensures maker_at_once { IsCutOff asking_maker small_begin maker_lacks }
 {}
 
@@ -92,7 +96,7 @@ pub fn near_misses_are_not_lawful()
 {}
 
 /// Two of those with what may come there: an alarm with its wake (`wake`), and one that is due within the cycle (`fire`). What
-/// the others differ from is in the runs above.
+/// the others differ from is in the runs above, but for `early_sleep`: a sleep that is due at once is ready at once.
 pub fn near_misses_are_lawful_but_for_one_place()
     ensures wake { (due : ℕ) → 1000000 < due → due ≤ MAX_TIME → IsLawful (begun small_begin) (fires_with due (Wake 0 ∷ [])) }
     ensures fire { (due : ℕ) → 0 < due → due ≤ 1000000 → IsLawful (begun small_begin) (early_fire due) }

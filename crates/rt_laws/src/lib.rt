@@ -66,7 +66,7 @@ pub use examples::{
     a_ready_root_has_its_run, a_run_that_lacked_memory_is_cut_off, a_sleeping_root_has_its_run,
     each_other_cause_ends_a_run, near_misses_are_lawful_but_for_one_place, near_misses_are_no_runs,
     near_misses_are_not_cut_off, near_misses_are_not_lawful, small_inputs_are_valid,
-    small_rounds_are_not_drawn,
+    small_rounds_are_not_drawn, what_was_made_before_a_lack_is_held,
 };
 pub use giving::{
     a_counting_stream_gives_its_counts, a_draw_orders_two_numbers,
@@ -81,7 +81,10 @@ pub use panics::{
 pub use refusals::near_misses_of_refusals_are_not_lawful;
 pub use signaling::{a_signal_shows_its_value, each_signal_of_the_shutdown_shows_the_first_value};
 pub use slotting::{near_misses_of_slots_are_no_runs, what_was_sent_into_a_slot_is_received};
-pub use supervised::inputs_with_spawned_tasks_are_valid;
+pub use supervised::{
+    a_task_of_the_maker_has_its_run, a_task_that_aborts_itself_and_is_pending_has_its_run,
+    a_task_that_aborts_itself_has_its_run, inputs_with_spawned_tasks_are_valid,
+};
 pub use twice::{
     a_round_is_drawn, a_task_that_is_woken_twice_has_its_run, near_misses_of_draws_are_not_drawn,
 };

@@ -1,4 +1,4 @@
-//! Laws of reports and checkpoints, in the words of the definitions. Each function does nothing: its contract is the law.
+//! Laws of reports, checkpoints and small scripts, in the words of the definitions. Each function does nothing: its contract is the law.
 
 ghost use Rattle.std.specs.Prelude.{◌≡◌, ◌≤◌, ◌<◌, ◌+◌, ◌++◌, ◌∷◌, [], Bool, List, Some, ℕ, ℤ, length, true};
 ghost use Rattle.rand_chacha.specs.ChaCha.{ChaCha};
@@ -41,14 +41,15 @@ pub fn a_journal_decides_its_checkpoint<A, O, G>()
     ensures { (stream : G → Stream) (p : Steps A O) (s : Starting G) (one two : O) (kept other : Kept G) → Completes stream p s one kept → Completes stream p s two other → kept.journal ≡ other.journal → (other ≡ record kept { rng = other.rng }) × (stream other.rng ≡ stream kept.rng) }
 {}
 
-/// A script that ends at its first line, and one that sleeps first, have the journals of a root that does so, and give their number.
+/// A script that ends at its first line gives its number and has the journal of a root that does so (`ready`), and so has one that
+/// sleeps first: for more than a cycle (`skipped`) or less (`short`).
 pub fn small_scripts_have_their_runs()
     ensures ready { (m : Maker) → m.with ≡ [] → (number : ℤ) → (text_at m.program m.root).lines ≡ End number ∷ [] → IsRun (root_steps m) small_begin ready_journal Completed (after_all (begun small_begin) ready_journal) (record nothing { output = Some number }) }
     ensures skipped { (m : Maker) → m.with ≡ [] → (number : ℤ) (due : ℕ) → (text_at m.program m.root).lines ≡ Sleep due ∷ End number ∷ [] → 1000000 < due → due ≤ MAX_TIME → IsRun (root_steps m) small_begin (skipped_journal due) Completed (after_all (begun small_begin) (skipped_journal due)) (record nothing { output = Some number }) }
     ensures short { (m : Maker) → m.with ≡ [] → (number : ℤ) (due : ℕ) → (text_at m.program m.root).lines ≡ Sleep due ∷ End number ∷ [] → 0 < due → due ≤ 1000000 → IsRun (root_steps m) small_begin (short_journal due) Completed (after_all (begun small_begin) (short_journal due)) (record nothing { output = Some number }) }
 {}
 
-/// Each run of these scripts completes.
+/// Each run of a script that ends at its first line completes (`ready`), and each of one that sleeps first (`sleeping`).
 pub fn small_scripts_are_valid()
     ensures ready { (m : Maker) → m.with ≡ [] → (number : ℤ) → (text_at m.program m.root).lines ≡ End number ∷ [] → IsValidInput (root_steps m) small_begin }
     ensures sleeping { (m : Maker) → m.with ≡ [] → (number : ℤ) (due : ℕ) → (text_at m.program m.root).lines ≡ Sleep due ∷ End number ∷ [] → 0 < due → due ≤ MAX_TIME → IsValidInput (root_steps m) small_begin }

@@ -39,7 +39,7 @@ const REPORTS: &[(bool, &str)] = &[
     (false, SELECT_TAKES_THE_FIRST),
 ];
 
-/// The journals of a report's runs, each after its head and before its result.
+/// The journal of one run of a report: what is after its head and before its result.
 fn journal_in(block: &str) -> Option<&str> {
     let (_, rest) = block.split_once('\n')?;
     let (journal, _) = rest.split_once("result ")?;

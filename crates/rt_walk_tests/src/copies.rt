@@ -256,6 +256,7 @@ pub const COPIES: &str = "\
 = root-first
 # Over a cleanup of three tasks.
 11 instead visit 0 | a visit once the root is ready
+13 instead answer 1 ended | the root's end before any other
 13 instead call 1 close-node 0 -> ok | the root's call first
 13 instead call 2 close-node 4 -> ok | the last task's call first
 14 instead answer 1 ended | the root's end first
@@ -263,6 +264,9 @@ pub const COPIES: &str = "\
 16 instead answer 1 ended | the root's end before the last task's
 16 missing | a task that doesn't end
 20 instead nodeend 0 | a second end of the first node
+= two-panics
+# Over a task that is polled once another's panic is kept.
+21 instead answer 2 ended | the end of a task that nothing ends
 = node-ended
 # Over a first node that ended before the cleanup.
 9 instead cleanup | a cleanup before the node's end

@@ -227,16 +227,15 @@ aborts | begin | 24 before call 0 join 1 -> err 2 | - | a second join, which is 
 caught | catching | 22 before answer 0 pending | 23 | a root that is pending after a caught panic
 unmade | begin | 1 before call - auditor -> 00000001 | - | another digest, of which no entry says that it's wrong";
 
-/// The lines of these journals, with a change.
-fn lines_in(
-    alloc: Global,
-    names: &str,
-    change: &'static str,
-) -> Result<Vec<&'static str>, NoMemory> {
+/// The lines of these journals with a change, where `-` is none. Unread where the change isn't one or is past their end.
+fn lines_in(alloc: Global, names: &str, change: &'static str) -> Result<Vec<&'static str>, Unread> {
     let lines = lines_of_all(alloc, names)?;
+    if change == "-" {
+        return Ok(lines);
+    }
     match change_of(change) {
-        Some((at, change)) => changed(lines, at, change),
-        None => Ok(lines),
+        Some((at, change)) if at <= lines.len() => Ok(changed(lines, at, change)?),
+        _ => Err(Unread::Line(0)),
     }
 }
 
@@ -244,8 +243,26 @@ fn lines_in(
 fn first_in(alloc: Global, begins: &[Begin], lines: &[&str]) -> Result<Option<usize>, Unread> {
     match begins.split_first() {
         Some((begin, later)) => first_of(alloc, *begin, later, lines),
-        None => Ok(None),
+        None => Err(Unread::Line(0)),
     }
+}
+
+/// Whether each of these names is that of a beginning.
+fn are_beginnings(names: &str) -> bool {
+    for name in names.split(' ') {
+        if begin_of(name).is_none() {
+            return false;
+        }
+    }
+    true
+}
+
+/// The place that a word says, where `-` is none.
+fn place_in(word: &str) -> Option<Option<usize>> {
+    if word == "-" {
+        return Some(None);
+    }
+    Some(Some(word.parse::<usize>().ok()?))
 }
 
 /// The place of the line of a row that is refused.
@@ -269,10 +286,10 @@ fn places_of(
     let (begins, rest) = rest.split_once(" | ")?;
     let (change, rest) = rest.split_once(" | ")?;
     let (first, _) = rest.split_once(" | ")?;
-    Some((
-        first.parse::<usize>().ok(),
-        walked(alloc, names, begins, change),
-    ))
+    if !are_beginnings(begins) {
+        return None;
+    }
+    Some((place_in(first)?, walked(alloc, names, begins, change)))
 }
 
 /// Whether a row comes to what it says.
