@@ -40,6 +40,7 @@ impl<G: Rng> Env for AuditEnv<G> {
 
     ghost spare = { λ _. 18446744073709551616 };
 
+    /// Always succeeds, and changes nothing.
     fn reserve(&mut self, entries: usize) -> Result<(), NoMemory>
         ensures room { OnOk result (entries ≤ 18446744073709551616) }
         ensures unchanged { self.new ≡ self.old }
@@ -49,6 +50,7 @@ impl<G: Rng> Env for AuditEnv<G> {
         Ok(())
     }
 
+    /// Takes the event into the digest, and draws nothing.
     fn event(&mut self, event: Event)
         ensures auditor { self.new.auditor ≡ event_digest self.old.auditor event.label event.fields }
         ensures rng { self.new.rng ≡ self.old.rng }
@@ -56,6 +58,7 @@ impl<G: Rng> Env for AuditEnv<G> {
         self.auditor.event(&event);
     }
 
+    /// Returns the generator's next number of 64 bits, and leaves the digest as it was.
     fn draw(&mut self) -> u64
         ensures auditor { self.new.auditor ≡ self.old.auditor }
         ensures rng { (result, G.stream self.new.rng) ≡ next_u64 (G.stream self.old.rng) }

@@ -21,7 +21,7 @@ pub type Caller = PackedOption;
 /// and while calls are in place, no other part behind a pointer makes an entry smaller.
 #[derive(Debug, Drop)]
 pub enum Entry {
-    /// A run begins at `now`. The first task of this run gets the number `next`.
+    /// A run begins at `now`. The first task of this run gets the number `next`. The line has the times first.
     Start {
         next: Packed,
         now: Moment,

@@ -42,6 +42,7 @@ impl Env for NoEnv {
 
     ghost spare = { λ _. 18446744073709551616 };
 
+    /// Always succeeds.
     fn reserve(&mut self, entries: usize) -> Result<(), NoMemory>
         ensures room { OnOk result (entries ≤ ⟦<NoEnv as Env>⟧.spare self.new) }
         ensures succeeds { result ≡ Ok tt }
@@ -54,6 +55,7 @@ impl Env for NoEnv {
         let _ = event;
     }
 
+    /// Returns 0.
     fn draw(&mut self) -> u64
         ensures { result ≡ 0 }
     {

@@ -58,6 +58,8 @@ impl Sink8 for ListSink {
 
     ghost faults = { λ s. s.faults };
 
+    /// Appends the first bytes of the piece, at most `most` of them, and fails where the number of the call is listed
+    /// or memory runs out.
     fn write(&mut self, piece: &[u8]) -> Result<usize, Failed>
         ensures exact { WritesInMemory self.old piece.now result self.new }
         ensures some { IfOk result (λ n. 0 < length piece.now → 0 < n) }

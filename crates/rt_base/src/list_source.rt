@@ -53,6 +53,8 @@ impl Source for ListSource {
 
     ghost faults = { λ s. s.faults };
 
+    /// Gives the next bytes, as many as there are, as fit and at most `most`, and fails exactly where the number of the
+    /// call is listed.
     fn read(&mut self, buf: &mut [u8]) -> Result<usize, Failed>
         ensures exact { ReadsInMemory self.old (length buf.old) result buf.new self.new }
         ensures some { IfOk result (λ n. 0 < length buf.old → 0 < length self.old.bytes → 0 < n) }

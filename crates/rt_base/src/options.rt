@@ -4,13 +4,13 @@ ghost use Rattle.rt_base.specs.Options.{bit, HasReadOptions, HasWriteOptions, wi
 
 use std::ops::{BitOr, BitOrAssign};
 
-/// Hints for a read.
+/// Hints for a read of a blob.
 #[derive(Clone, Copy, Debug, PartialEq, Eq, Default)]
 pub struct ReadOptions {
     dont_cache: bool,
 }
 
-/// Demands on a write, and hints for it.
+/// Demands on a write of a blob, and hints for it.
 #[derive(Clone, Copy, Debug, PartialEq, Eq, Default)]
 pub struct WriteOptions {
     sync: bool,

@@ -47,6 +47,7 @@ impl Sink8 for SafeSink {
 
     ghost faults = { λ _. 0 };
 
+    /// Takes the whole piece, and never fails.
     fn write(&mut self, piece: &[u8]) -> Result<usize, Failed>
         ensures whole { result ≡ Ok (length piece.now) }
         ensures appended { Appends self.old piece.now self.new }

@@ -38,6 +38,7 @@ impl Source for SafeSource {
 
     ghost faults = { λ _. 0 };
 
+    /// Gives the next bytes, as many as there are and as fit, and never fails.
     fn read(&mut self, buf: &mut [u8]) -> Result<usize, Failed>
         ensures taken { IsOkAnd result (λ n. (n ≡ min (length buf.old) (length self.old)) × (self.new ≡ drop n self.old) × (take n buf.new ≡ take n self.old)) }
     {

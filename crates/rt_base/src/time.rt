@@ -1,6 +1,6 @@
 // Virtual time.
 
-/// Nanoseconds since the epoch.
+/// A time in nanoseconds since the epoch, or a duration in nanoseconds.
 pub type Nanos = u128;
 
 /// The last moment of virtual time: `2^63` seconds less one nanosecond.

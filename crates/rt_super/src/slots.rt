@@ -82,8 +82,8 @@ impl<V> Slots<V> {
         }
     }
 
-    /// Asks for the value of a slot in the name of a task, which waits where neither a value nor the closing came yet,
-    /// in the place of who waited before. `NOBODY` asks in nobody's name, and then nobody waits. A value is given once;
+    /// Takes the value of a slot, in the name of a task, which waits where neither a value nor the closing came yet, in
+    /// the place of who waited before. `NOBODY` asks in nobody's name, and then nobody waits. A value is given once;
     /// after it, after the closing and after an abort, the result is `None`.
     pub fn poll(&mut self, slot: u64, task: u64) -> Poll<Option<V>>
         requires held { IsTrue (is_held (slice_get self.old slot)) }

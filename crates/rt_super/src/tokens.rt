@@ -118,7 +118,7 @@ impl Tokens {
         self.live.push_reserved(1);
     }
 
-    /// No number from the next one on has a token.
+    /// States by its clause that no number from the next one on has a token.
     pub fn facts(&self)
         ensures { (number : ℕ) → self.now.next ≤ number → find number self.now.items ≡ None }
     {
@@ -149,7 +149,7 @@ impl Tokens {
         Ok(())
     }
 
-    /// Whom one waits for.
+    /// Sets who waits by one.
     pub fn wait(&mut self, number: u64, waits: Option<u64>)
         ensures items { self.new.items ≡ replaced (waiting_as waits) number self.old.items }
         ensures next { self.new.next ≡ self.old.next }
@@ -170,7 +170,7 @@ impl Tokens {
         }
     }
 
-    /// Lets nobody wait by those of a group any more, and notes who did.
+    /// Takes out who waits by those of a group, and notes who did.
     pub fn meet(&mut self, group: u64, woken: &mut VecDeque<u64>)
         requires room { length woken.old.items + self.old.next ≤ deque_capacity woken.old }
         ensures items { self.new.items ≡ unwaited group self.old.items }
