@@ -29,6 +29,9 @@ module _ (child : ℕ) (fresh : is_known first_record child ≡ false) where
   pub free : is_free (one_child child) child ≡ true
   free = rw (root-child, child-child) refl
 
+  pub alive : is_live (one_child child) child ≡ true
+  alive = rw (root-child, child-child) refl
+
   pub not_ended : is_ended (one_child child) child ≡ false
   not_ended = rw (root-child, child-child) refl
 

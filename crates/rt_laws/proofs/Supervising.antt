@@ -2,6 +2,7 @@
 use Rattle.std.proofs.Common.{◌≡◌, ◌≢◌, ◌⊎◌, inl, inr, ℕ, zero, suc, List, [], ◌∷◌, Option, Some, None, Bool, true, false, Contains, option_map, is_some, leb, ◌-◌, ◌^◌, refl, ap, ◌∙◌, arith}
 use Rattle.std.specs.List.Sorted.{IsPermutation}
 use Rattle.std.proofs.lemmas.List.Sorted.{Contains-permutation, length_permutation}
+use Rattle.rt_base.specs.declared.error.Error.{Error}
 use Rattle.rt_base.specs.declared.execution.Execution.{Execution}
 use Rattle.rt_audit.specs.declared.call.Call.{Call}
 use Rattle.rt_audit.specs.declared.call.Call.TheVariants.{Child, Spawn, AbortTask, Join}
@@ -23,7 +24,7 @@ use Rattle.rt_model.specs.Effects.{after, label_at}
 use Rattle.rt_model.specs.Events.{announced_by}
 use Rattle.rt_model.specs.Rules.{Answers, OutcomeAnswers, ChildAnswers, SpawnAnswers, label_refusal, is_free}
 use Rattle.rt_model.specs.Lists.{find}
-use Rattle.rt_model.specs.Turns.{Held, Ask, Plainly, Spawning, Heard, Asks, Fits, call_of, put, has_place}
+use Rattle.rt_model.specs.Turns.{Held, Ask, Plainly, Spawning, Heard, Plain, Asks, Fits, call_of, put, has_place}
 use Rattle.rt_model.specs.Walk.{Step, Does, Spends, Gives, Gave, Walks}
 use Rattle.rt_model.specs.Tied.{Steps, Value, Polls, EndsState, EndsTask, taken}
 use Rattle.rt_laws.proofs.Completing.{Rest, Completes, IsFine, IsQuiet, Continues, continues, further, cleanup, called, gave, made, silent, making_silent, strays}
@@ -59,6 +60,21 @@ module _ (a b : ℕ) (n : a ≢ b) where
 
 pub never : {C : Type 0} (b : Bool) → b ≡ true → b ≡ false → C
 never b h k = absurd (cc)
+
+-- what follows the next call once this was heard; and that this is the next call
+abbrev pub behind : {A L O R : Type 0} → Step A L O R → Heard O → Step A L O R
+behind (Does ask on) heard = on heard
+behind step heard = step
+
+abbrev pub Calls : {A L O R : Type 0} → Step A L O R → Ask A O → Type 0
+Calls step ask = step ≡ Does ask (behind step)
+
+-- what follows once a child is made, and once a task is spawned on it
+abbrev pub placed : {A L O R : Type 0} → Step A L O R → ℕ → Step A L O R
+placed step child = behind step (Plain (NodeAt child false))
+
+abbrev pub told : {A L O R : Type 0} → Step A L O R → ℕ → ℕ → ℕ → Step A L O R
+told step child task own = behind (placed step child) (Plain (TaskAt task own))
 
 module _ {A O : Type 0} (p : Steps A O) where
   -- a state in another form
@@ -111,15 +127,15 @@ module _ {A O : Type 0} (p : Steps A O) where
   Replied s v by ask =
       (reply : CallReply) → Answers s (call_of ask) reply → (held : Held A O) → Fits held ask (record { call = call_of ask; reply = reply; stood = stood_in s }) → Completes p (after s (CallEntry by (call_of ask) reply)) v
 
-  -- what is replied to the calls of supervision where nothing is amiss
+  -- what is replied to the calls of supervision; of a child also its refusal
 
   module _ (s : State) (v : Value A O) (by : Option ℕ) where
-    pub child_told : (node : ℕ) (label : List ℕ) → is_live s.nodes node ≡ true → label_refusal (label_at s.labels node) label ≡ None → ((number : ℕ) → is_known s.nodes number ≡ false → Completes p (after s (CallEntry by (Child node label) (NodeAt number (is_ended s.nodes node)))) v) → Replied s v by (Plainly (Child node label))
-    child_told node label live fit more reply m held f = tells reply (rw live at m)
+    pub child_told : (node : ℕ) (label : List ℕ) → is_live s.nodes node ≡ true → ((number : ℕ) → is_known s.nodes number ≡ false → Completes p (after s (CallEntry by (Child node label) (NodeAt number (is_ended s.nodes node)))) v) → ((error : Error) → Some error ≡ label_refusal (label_at s.labels node) label → Completes p (after s (CallEntry by (Child node label) (Refused error))) v) → Replied s v by (Plainly (Child node label))
+    child_told node label live more refused reply m held f = tells reply (rw live at m)
       where
         tells : (reply : CallReply) → ChildAnswers s node label reply → Completes p (after s (CallEntry by (Child node label) reply)) v
         tells (NodeAt number over) m = rw m.2 (more number m.1)
-        tells (Refused error) m = let e : Some error ≡ None = m ∙ fit in absurd (cc)
+        tells (Refused error) m = refused error m
         tells _ m = absurd m
 
     pub spawn_told : (node : ℕ) (execution : Execution) (made : ℕ → A) → is_free s.nodes node ≡ true → is_ended s.nodes node ≡ false → leb (2 ^ 64 - 1) s.numbers.next ≡ false → ((own : ℕ) → is_known s.nodes own ≡ false → Completes p (after s (CallEntry by (Spawn node) (TaskAt s.numbers.next own))) v) → Replied s v by (Spawning node execution made)

@@ -30,20 +30,20 @@ only k (x ∷ y ∷ rest) perm = let e = length_permutation (k ∷ []) (x ∷ y 
 
 -- a root that is made at once, in its first poll
 
-abbrev pub with_state : {A : Type 0} → A → Value A ℕ
+abbrev pub with_state : {A O : Type 0} → A → Value A O
 with_state root = record nothing { held = put 0 root nothing.held }
 
 abbrev pub first_polled : State
 first_polled = after_all (begun small_begin) (opening ++ visiting_root)
 
-pub first_poll : {A : Type 0} (p : Steps A ℕ) (root : A) → p.first 0 ≡ Gives tt root → Completes p first_polled (with_state root) → IsValidInput p small_begin
+pub first_poll : {A O : Type 0} (p : Steps A O) (root : A) → p.first 0 ≡ Gives tt root → Completes p first_polled (with_state root) → IsValidInput p small_begin
 unfolding begun after
-first_poll {A = A} p root makes more =
+first_poll {A = A} {O = O} p root makes more =
     let s1 = after (begun small_begin) (Start 0 0 None 1000000) in
     let s2 = after s1 (Root 0) in
     let s3 = after s2 (Round (0 ∷ [])) in
-    let v = with_state root in
-    let now : Held A ℕ = nothing.held in
+    let v : Value A O = with_state root in
+    let now : Held A O = nothing.held in
     let visits : Completes p s3 v = visiting p s3 v refl 0 (0 ∷ []) [] refl refl tt (entered p (after s3 (Visit 0)) v refl 0 [] refl more) in
     begins p small_begin
     (making_gives p s1 nothing refl root now refl (makes, refl) tt

@@ -78,7 +78,8 @@ pub fn small_rounds_are_not_drawn()
     ensures drawn { (value : ℕ) → AreDrawn (begun small_begin) (drawn value) → ⊥ }
 {}
 
-/// Each run of a root that is ready or sleeps completes, whatever its number. Not each run of one that is never ready does.
+/// Each run of a root that is ready or sleeps completes, whatever its number. (One that sleeps past the last moment has no run.) Not
+/// each run of one that is never ready does.
 pub fn small_inputs_are_valid()
     ensures ready { (number : ℕ) → IsValidInput (ready_root number) small_begin }
     ensures sleeping { (due : ℕ) → IsValidInput (sleeping_root due) small_begin }

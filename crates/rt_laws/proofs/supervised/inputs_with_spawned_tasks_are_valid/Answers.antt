@@ -1,4 +1,4 @@
-use Rattle.rt_laws.proofs.ValidAborting.{aborting_valid, stopping_valid}
+use Rattle.rt_laws.proofs.ValidAborting.{aborting_valid, pending_valid}
 use Rattle.rt_laws.proofs.ValidSide.{side_valid}
 use Rattle.rt_laws.proofs.supervised.inputs_with_spawned_tasks_are_valid.Goals as goal
 
@@ -9,4 +9,4 @@ pub returns-clause-aborting : goal.returns-clause-aborting
 returns-clause-aborting c = aborting_valid
 
 pub returns-clause-stopping : goal.returns-clause-stopping
-returns-clause-stopping c = stopping_valid
+returns-clause-stopping c = pending_valid
