@@ -9,3 +9,4 @@ pub mod Runs
 pub mod Scripts
 pub mod Written
 pub mod Worked
+pub mod WorkedTasks

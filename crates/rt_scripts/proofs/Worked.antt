@@ -8,9 +8,9 @@ use Rattle.rt_audit.specs.declared.answer.AnswerKind.TheVariants.{Pending as Ans
 use Rattle.rt_audit.specs.declared.call.Call.TheVariants.{SleepPoll}
 use Rattle.rt_audit.specs.declared.reply.CallReply.TheVariants.{PendingAt, Ready as IsOver}
 use Rattle.rt_audit.specs.declared.finish.FinishCause.TheVariants.{Completed}
-use Rattle.rt_audit.specs.declared.entry.Entry.TheVariants.{Answer as Answered, Advance, Skip, Start, Root, Round, Visit, Event, Call, Fire, Wake}
+use Rattle.rt_audit.specs.declared.entry.Entry.TheVariants.{Answer as Answered, Advance, Skip, Round, Visit, Event, Call, Fire, Wake}
 use Rattle.rt_model.specs.declared.answer.Answer.TheVariants.{Pending, Ready}
-use Rattle.rt_model.specs.State.{State, begun as from_begin}
+use Rattle.rt_model.specs.State.{begun as from_begin}
 use Rattle.rt_model.specs.Events.{process_task, task_fields}
 use Rattle.rt_model.specs.Effects.{after, after_all}
 use Rattle.rt_model.specs.Turns.{Held, put}
@@ -19,8 +19,8 @@ use Rattle.rt_model.specs.Tied.{Value, nothing, taken, IsTied}
 use Rattle.rt_model.specs.Run.{IsRun, IsValidInput}
 use Rattle.rt_laws.specs.Examples.{small_begin, closes_node, opening, visiting_root, still_asleep, awake as awake_then, alarm_fires, root_ends, finishing, ready_journal, skipped_journal, short_journal}
 use Rattle.rt_laws.proofs.Runs.{ends-tied, skipped_run, short_run}
-use Rattle.rt_laws.proofs.Completing.{Completes, begins, making_gives, rounds, visiting, entered, visited, polling_gives, polling_sleeps, polling_wakes, fired, skips, woken}
-use Rattle.rt_laws.proofs.Valid.{asleep as asleep_at, only}
+use Rattle.rt_laws.proofs.Completing.{Completes, rounds, visiting, entered, visited, polling_gives, polling_sleeps, polling_wakes, fired, skips, woken}
+use Rattle.rt_laws.proofs.Valid.{asleep as asleep_at, first_poll, first_polled, only, with_state}
 use Rattle.rt_model.proofs.Append.{IsTied-append}
 use Rattle.rt_core.specs.Pollers.{sleep_for, sleep_heard, sleep_polls}
 use Rattle.rt_core.specs.Sleeper.{Sleeper}
@@ -33,7 +33,7 @@ use Rattle.rt_scripts.specs.Script.{Script, Next, aborted_in, aborts_chosen, fre
 
 -- a root without scripts beside it
 module _ (m : Maker) (alone : m.with ≡ []) where
-  made : making m ≡ Gives tt (begun m)
+  pub made : making m ≡ Gives tt (begun m)
   unfolding besides
   made = rw alone refl
 
@@ -65,19 +65,9 @@ module _ (m : Maker) (alone : m.with ≡ []) where
     pub ready-valid : IsValidInput (root_steps m) small_begin
     unfolding from_begin after
     ready-valid =
-        let p = root_steps m in
-        let s1 = after (from_begin small_begin) (Start 0 0 None 1000000) in
-        let s2 = after s1 (Root 0) in
-        let s3 = after s2 (Round (0 ∷ [])) in
-        let s4 = after s3 (Visit 0) in
-        let s5 = after s4 (Event process_task (task_fields 0 [])) in
         let held : Held Script ℤ = nothing.held in
-        let v : Value Script ℤ = record nothing { held = put 0 (begun m) held } in
-        let answers : Completes p s5 v = polling_gives p s5 v refl 0 [] (begun m) refl refl held (Ready number) (begun m) refl (λ text e. cc) (rw (polls 0 0) (refl, refl)) (λ e. absurd (cc)) in
-        let visits : Completes p s3 v = visiting p s3 v refl 0 (0 ∷ []) [] refl refl tt (entered p s4 v refl 0 [] refl answers) in
-        begins p small_begin
-        (making_gives p s1 nothing refl (begun m) held refl (rw made (refl, refl)) tt
-        (rounds p s2 v (inl refl) tt (λ order perm. rw (only 0 order perm) visits) refl refl))
+        first_poll (root_steps m) (begun m) made
+        (polling_gives (root_steps m) first_polled (with_state (begun m)) refl 0 [] (begun m) refl refl held (Ready number) (begun m) refl (λ text e. cc) (rw (polls 0 0) (refl, refl)) (λ e. absurd (cc)))
 
   -- one that sleeps first gives its number once the sleep is over
 
@@ -111,7 +101,7 @@ module _ (m : Maker) (alone : m.with ≡ []) where
     spends-awake = refl
 
     abbrev holding : Script → Value Script ℤ
-    holding s = record nothing { held = put 0 s nothing.held }
+    holding s = with_state s
 
     asleep-tied : due ≤ MAX_TIME → IsTied (root_steps m) (from_begin small_begin) nothing (opening ++ visiting_root ++ still_asleep due ++ (Advance 1000000 ∷ [])) (holding asleep)
     unfolding from_begin after then sleep_polls
@@ -158,34 +148,16 @@ module _ (m : Maker) (alone : m.with ≡ []) where
           whole = refl;
         }
 
-    -- in its first poll
-
-    abbrev in_poll : State
-    in_poll = after_all (from_begin small_begin) (opening ++ visiting_root)
-
-    first-poll : Completes (root_steps m) in_poll (holding (begun m)) → IsValidInput (root_steps m) small_begin
-    unfolding from_begin after
-    first-poll more =
-        let p = root_steps m in
-        let s1 = after (from_begin small_begin) (Start 0 0 None 1000000) in
-        let s2 = after s1 (Root 0) in
-        let s3 = after s2 (Round (0 ∷ [])) in
-        let v = holding (begun m) in
-        let visits : Completes p s3 v = visiting p s3 v refl 0 (0 ∷ []) [] refl refl tt (entered p (after s3 (Visit 0)) v refl 0 [] refl more) in
-        begins p small_begin
-        (making_gives p s1 nothing refl (begun m) nothing.held refl (rw made (refl, refl)) tt
-        (rounds p s2 v (inl refl) tt (λ order perm. rw (only 0 order perm) visits) refl refl))
-
-    falls-asleep : 0 < due → due ≤ MAX_TIME → Completes (root_steps m) (asleep_at due 1000000) (holding asleep) → Completes (root_steps m) in_poll (holding (begun m))
+    falls-asleep : 0 < due → due ≤ MAX_TIME → Completes (root_steps m) (asleep_at due 1000000) (holding asleep) → Completes (root_steps m) first_polled (holding (begun m))
     unfolding from_begin after then sleep_polls
     falls-asleep later within more =
         let p = root_steps m in
-        let s = after in_poll (Call (Some 0) (SleepPoll due) (PendingAt 0)) in
+        let s = after first_polled (Call (Some 0) (SleepPoll due) (PendingAt 0)) in
         let v = holding (begun m) in
         let w = holding asleep in
         let steps : Completes p (after s (Answered 0 AnswersPending)) w = visited p (after s (Answered 0 AnswersPending)) w refl [] refl refl tt more in
         let answers : Completes p s v = polling_gives p s v refl 0 [] (begun m) refl refl nothing.held Pending asleep refl (λ text e. cc) (rw (sleeps-first within) ((refl, refl), (refl, refl))) (λ e. steps) in
-        polling_sleeps p in_poll v refl 0 [] (begun m) refl refl nothing.held due None (λ heard. then (sleep_heard (sleeper None) heard) (slept (begun m) (on 0 0))) (rw (sleeps-first within) (refl, refl)) later answers
+        polling_sleeps p first_polled v refl 0 [] (begun m) refl refl nothing.held due None (λ heard. then (sleep_heard (sleeper None) heard) (slept (begun m) (on 0 0))) (rw (sleeps-first within) (refl, refl)) later answers
 
     -- where its alarm goes off
 
@@ -220,6 +192,6 @@ module _ (m : Maker) (alone : m.with ≡ []) where
 
     pub sleeping-valid : 0 < due → due ≤ MAX_TIME → IsValidInput (root_steps m) small_begin
     sleeping-valid later within = elim (cases_Bool (leb due 1000000)) [
-      | inl soon ↦ first-poll (falls-asleep later within (wakes-up 1000000 (grind arith)))
-      | inr late ↦ first-poll (falls-asleep later within (skipped (grind arith)))
+      | inl soon ↦ first_poll (root_steps m) (begun m) made (falls-asleep later within (wakes-up 1000000 (grind arith)))
+      | inr late ↦ first_poll (root_steps m) (begun m) made (falls-asleep later within (skipped (grind arith)))
     ]

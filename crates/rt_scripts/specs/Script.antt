@@ -298,8 +298,7 @@ unfoldable pub stops : Script → (Script → Next) → ℤ → Option ℕ → �
 stops s on value limit time task = stops_by (record s { stop = None }) on value limit time task s.stop
 
 -- whether these names all hold handles, and what they hold once each was taken out and put back. A name that is there twice
--- holds none
--- at its second place
+-- holds none at its second place
 abbrev pub tried_by : ℕ → Option (TaskHandle ℤ) → List (ℕ × Held) → Bool × List (ℕ × Held) → Bool × List (ℕ × Held)
 tried_by at None held more = (false, held)
 tried_by at (Some handle) held (all, rest) = (all, with_task at (Handle handle) rest)

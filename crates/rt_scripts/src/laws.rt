@@ -18,7 +18,7 @@ ghost use Rattle.rt_model.specs.Runs.{AreLawful, runs_from};
 ghost use Rattle.rt_model.specs.State.{begun};
 ghost use Rattle.rt_model.specs.Tied.{Steps, nothing};
 ghost use Rattle.rt_scenario.specs.Texts.{text_at};
-ghost use Rattle.rt_scenario.specs.declared.line.Line.TheVariants.{End, Sleep};
+ghost use Rattle.rt_scenario.specs.declared.line.Line.TheVariants.{AbortSelf, End, EndLast, Join, Pend, Sleep, Spawn, Stop, StopWithin};
 ghost use Rattle.rt_scenario.specs.declared.scenario.RunLine.{RunLine};
 ghost use Rattle.rt_scenario.specs.declared.scenario.ScriptText.{ScriptText};
 ghost use Rattle.rt_scripts.specs.declared.outcome.RunReport.{RunReport};
@@ -49,10 +49,23 @@ pub fn small_scripts_have_their_runs()
     ensures short { (m : Maker) → m.with ≡ [] → (number : ℤ) (due : ℕ) → (text_at m.program m.root).lines ≡ Sleep due ∷ End number ∷ [] → 0 < due → due ≤ 1000000 → IsRun (root_steps m) small_begin (short_journal due) Completed (after_all (begun small_begin) (short_journal due)) (record nothing { output = Some number }) }
 {}
 
-/// Each run of a script that ends at its first line completes (`ready`), and each of one that sleeps first (`sleeping`).
+/// With the default settings and nothing beside the root, each run completes of a script that ends at its first line (`ready`), or
+/// that first sleeps, for more than 0 and not past the last moment (`sleeping`), or stops its run (`stopping`), maybe within a limit
+/// that isn't past the last moment (`stopping_within`). That there are such runs is a law for the first two, and tested for the others.
 pub fn small_scripts_are_valid()
     ensures ready { (m : Maker) → m.with ≡ [] → (number : ℤ) → (text_at m.program m.root).lines ≡ End number ∷ [] → IsValidInput (root_steps m) small_begin }
     ensures sleeping { (m : Maker) → m.with ≡ [] → (number : ℤ) (due : ℕ) → (text_at m.program m.root).lines ≡ Sleep due ∷ End number ∷ [] → 0 < due → due ≤ MAX_TIME → IsValidInput (root_steps m) small_begin }
+    ensures stopping { (m : Maker) → m.with ≡ [] → (value number : ℤ) → (text_at m.program m.root).lines ≡ Stop value ∷ End number ∷ [] → IsValidInput (root_steps m) small_begin }
+    ensures stopping_within { (m : Maker) → m.with ≡ [] → (value number : ℤ) (limit : ℕ) → (text_at m.program m.root).lines ≡ StopWithin value limit ∷ End number ∷ [] → limit ≤ MAX_TIME → IsValidInput (root_steps m) small_begin }
+{}
+
+/// With the default settings, each run of a script with one other task completes: where both end at their first lines (`beside`), and
+/// where the root spawns the task, joins it and ends with what that gave, while the task aborts itself and then ends (`aborting`) or
+/// stays pending (`pending`). The labels may be any, also ones that are refused. That there are such runs is tested.
+pub fn scripts_with_tasks_are_valid()
+    ensures beside { (m : Maker) (at : ℕ) → m.with ≡ at ∷ [] → (number other : ℤ) → (text_at m.program m.root).lines ≡ End number ∷ [] → (text_at m.program at).lines ≡ End other ∷ [] → IsValidInput (root_steps m) small_begin }
+    ensures aborting { (m : Maker) → m.with ≡ [] → (at script : ℕ) → (text_at m.program m.root).lines ≡ Spawn at script ∷ Join at ∷ EndLast ∷ [] → (number : ℤ) → (text_at m.program script).lines ≡ AbortSelf ∷ End number ∷ [] → IsValidInput (root_steps m) small_begin }
+    ensures pending { (m : Maker) → m.with ≡ [] → (at script : ℕ) → (text_at m.program m.root).lines ≡ Spawn at script ∷ Join at ∷ EndLast ∷ [] → (text_at m.program script).lines ≡ AbortSelf ∷ Pend ∷ [] → IsValidInput (root_steps m) small_begin }
 {}
 
 /// The entries of a scenario's runs are lawful one run after another, and no run begins before the end of the one before it.

@@ -20,6 +20,7 @@ ghost use Rattle.rt_scripts.specs.Script.{Next, Script, started, sleeps, yields,
 use crate::Program;
 use crate::held::Held;
 use crate::holdings::Holdings;
+use crate::waited::Waited;
 use rt_core::utils::reschedule;
 use rt_core::{
     Answer, Context, Cx, Depth, Error, Handle, NoMemory, Outcome, Poll, Poller, Refused,
@@ -155,16 +156,16 @@ impl Script {
             self.pass(-11);
             return None;
         };
-        match sleep.poll(world, cx) {
-            Poll::Pending => {
+        match Waited::of(sleep.poll(world, cx)) {
+            Waited::Pending => {
                 self.waits = Waits::Sleeps(sleep);
                 Some(Answer::Pending)
             }
-            Poll::Ready(Ok(())) => {
+            Waited::Over => {
                 self.pass(0);
                 None
             }
-            Poll::Ready(Err(_)) => Some(Answer::NoMemory),
+            Waited::NoMemory => Some(Answer::NoMemory),
         }
     }
 
@@ -183,16 +184,16 @@ impl Script {
         ensures steps { (on : Script → Next) → Advanced (yields self.old on cx.now.task) (on self.new) world.old world.new result self.new }
     {
         let mut turn = turn_in(mem::replace(&mut self.waits, Waits::Nothing));
-        match turn.poll(world, cx) {
-            Poll::Pending => {
+        match Waited::of(turn.poll(world, cx)) {
+            Waited::Pending => {
                 self.waits = Waits::Yields(turn);
                 Some(Answer::Pending)
             }
-            Poll::Ready(Ok(())) => {
+            Waited::Over => {
                 self.pass(0);
                 None
             }
-            Poll::Ready(Err(_)) => Some(Answer::NoMemory),
+            Waited::NoMemory => Some(Answer::NoMemory),
         }
     }
 
@@ -531,17 +532,17 @@ impl Script {
         ensures steps { (on : Script → Next) → Advanced (limited self.old on at sleep IsPending handle) (on self.new) world.old world.new result self.new }
     {
         let mut sleep = sleep;
-        match sleep.poll(world, cx) {
-            Poll::Pending => {
+        match Waited::of(sleep.poll(world, cx)) {
+            Waited::Pending => {
                 self.keep(at, Held::Handle(handle));
                 self.waits = Waits::Limits(at, sleep);
                 Some(Answer::Pending)
             }
-            Poll::Ready(Ok(())) => {
+            Waited::Over => {
                 handle.give_up(world);
                 self.refuse(Error::Timeout)
             }
-            Poll::Ready(Err(_)) => {
+            Waited::NoMemory => {
                 self.keep(at, Held::Handle(handle));
                 Some(Answer::NoMemory)
             }
