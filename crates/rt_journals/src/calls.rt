@@ -1,7 +1,7 @@
 //! The calls of a journal's lines.
 
 use crate::replies::reply_of;
-use crate::words::{moment, number, signed};
+use crate::words::{moment, number, number_or_none, signed};
 use rt_audit::{Call, Caller, Entry, Label};
 use rt_base::NoMemory;
 use std::alloc::Global;
@@ -11,11 +11,14 @@ pub fn called(alloc: Global, words: &[&str]) -> Result<Option<Entry>, NoMemory> 
     let Some((by, words)) = words.split_first() else {
         return Ok(None);
     };
+    let Some(by) = number_or_none(by) else {
+        return Ok(None);
+    };
     let (asked, told) = halves(words);
     let Some(call) = call_in(alloc, asked)? else {
         return Ok(None);
     };
-    with_reply(alloc, number(by), call, told)
+    with_reply(alloc, by, call, told)
 }
 
 /// The words before the arrow, and those after it.

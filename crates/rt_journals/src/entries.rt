@@ -1,7 +1,7 @@
 //! The entries of a journal's lines.
 
 use crate::calls::called;
-use crate::words::{hex_bytes, moment, number, words_of};
+use crate::words::{hex_bytes, hex_number, moment, number, words_of};
 use rt_audit::{AnswerKind, Entry, EventFields, EventLabel, FinishCause, Label, Moment, Order};
 use rt_base::{Choice, Items, NoMemory, Packed};
 use std::alloc::Global;
@@ -196,6 +196,7 @@ fn round(alloc: Global, words: &[&str]) -> Result<Option<Entry>, NoMemory> {
 
 fn event(alloc: Global, words: &[&str]) -> Result<Option<Entry>, NoMemory> {
     match words {
+        ["", ..] => Ok(None),
         ["process_task", task, label] => visit_event(alloc, task, label),
         [label, values @ ..] => call_event(alloc, label, values),
         [] => Ok(None),
@@ -205,9 +206,13 @@ fn event(alloc: Global, words: &[&str]) -> Result<Option<Entry>, NoMemory> {
 /// A visit's event. Its number is written plainly with the label as it is, or in 32 digits of hex with the label in hex.
 fn visit_event(alloc: Global, task: &str, label: &str) -> Result<Option<Entry>, NoMemory> {
     if task.len() == 32 {
-        return printed_visit_event(alloc, u64::from_str_radix(task, 16).ok(), label);
+        return printed_visit_event(alloc, hex_number(task), label);
     }
-    let label = if label == "-" { "" } else { label };
+    let label = match label {
+        "" => return Ok(None),
+        "-" => "",
+        label => label,
+    };
     visit_event_of(alloc, number(task), label)
 }
 

@@ -1,4 +1,4 @@
-//! Whole journals of small runs, a line for each entry, how each run begins, and the reader of a journal's lines.
+//! Whole journals of small runs, a line for each entry, how each run begins, and how a journal's lines are read and printed.
 //!
 //! A journal follows its head, `== NAME BEGIN.. | WHAT`, whose beginnings are those under which it is lawful. Its lines are
 //! those of [`Entry`], but for the event of a visit, whose number is written plainly and whose label as it is. A line
@@ -61,6 +61,21 @@ pub fn lines_of<'a>(alloc: Global, text: &'a str) -> Result<Vec<&'a str>, NoMemo
         }
     }
     Ok(lines)
+}
+
+/// Adds the line of an entry, with its end.
+pub fn add_line(alloc: Global, text: &mut String, entry: &Entry) -> Result<(), NoMemory> {
+    entry.add_to(alloc, text)?;
+    Ok(text.push('\n')?)
+}
+
+/// The lines that a journal of these entries has.
+pub fn text_of(alloc: Global, entries: &[Entry]) -> Result<String, NoMemory> {
+    let mut text = String::new(alloc);
+    for entry in entries {
+        add_line(alloc, &mut text, entry)?;
+    }
+    Ok(text)
 }
 
 /// The entries of the lines of a journal.

@@ -2,7 +2,7 @@
 
 use crate::words::{hex_bytes, number, signed};
 use rt_audit::{Call, CallReply, Payload, Refusal};
-use rt_base::{Error, MetricError, NoMemory};
+use rt_base::{Error, MetricError, NoMemory, is_label};
 use std::alloc::Global;
 
 /// The reply to a call. Bytes and a drawn number may stand alone where the call asks for them.
@@ -104,14 +104,16 @@ fn refusal(alloc: Global, error: Option<Error>) -> Result<Option<CallReply>, NoM
     }
 }
 
-/// Why a label is refused: at the top it is reserved if it begins so.
+/// Why a label is refused: at the top it is reserved if it begins so, and is a label at all.
 fn label_error(call: &Call) -> MetricError {
     match call {
-        Call::Child { node: 0, label } if label.as_str().starts_with("runtime") => {
-            MetricError::Reserved
-        }
+        Call::Child { node: 0, label } if is_reserved(label.as_str()) => MetricError::Reserved,
         _ => MetricError::BadLabel,
     }
+}
+
+fn is_reserved(label: &str) -> bool {
+    is_label(label.as_bytes()) && label.starts_with("runtime")
 }
 
 /// The error of this number, if it is all that the number says.

@@ -1,12 +1,12 @@
 // Runs by the calls of the machine, beside their journals.
 
-use crate::replay::{Said, journal_of};
+use crate::replay::journal_of;
 use crate::said::said_in;
 use crate::steady::STEADY_DRAW;
-use rt_audit::{AnswerKind, Entry, Journal};
+use rt_audit::{Entry, Journal};
 use rt_base::{MAX_TIME, NoMemory};
 use rt_journals::{
-    BEGIN, TASKS, Unread, WAITS, begin_of, entries_and_silent_in, entries_in, parts_of,
+    BEGIN, TASKS, Unread, WAITS, add_line, begin_of, entries_and_silent_in, entries_in, parts_of,
 };
 use rt_machine::Machine;
 use rt_model::Begin;
@@ -23,322 +23,187 @@ fn journal_again(alloc: Global, begin: Begin, entries: &[Entry]) -> Result<Journ
     journal_of(alloc, begin, said.as_slice())
 }
 
-/// The lines that such a run writes. The rounds of the journal have their plain order, and the draws before them aren't in it.
-fn wanted_lines(alloc: Global, entries: &[Entry]) -> Result<Vec<String>, NoMemory> {
-    let mut wanted = Vec::new(alloc);
+/// The lines of these entries, and before each round those of its draws.
+fn lines_with_draws(alloc: Global, entries: &[Entry]) -> Result<String, NoMemory> {
+    let mut lines = String::new(alloc);
     for entry in entries {
-        add_wanted(alloc, &mut wanted, entry)?;
+        add_draws(&mut lines, entry)?;
+        add_line(alloc, &mut lines, entry)?;
     }
-    Ok(wanted)
+    Ok(lines)
 }
 
-fn add_wanted(alloc: Global, wanted: &mut Vec<String>, entry: &Entry) -> Result<(), NoMemory> {
+/// Adds the draws of a round in plain order, one for each number but the first.
+fn add_draws(lines: &mut String, entry: &Entry) -> Result<(), NoMemory> {
     if let Entry::Round { order } = entry {
-        add_draws(alloc, wanted, order.as_slice())?;
-    }
-    let line = line_of(alloc, entry)?;
-    Ok(wanted.push(line)?)
-}
-
-/// Adds the draws of a round, one for each number but the first.
-fn add_draws(alloc: Global, wanted: &mut Vec<String>, order: &[u64]) -> Result<(), NoMemory> {
-    for _ in order.iter().skip(1) {
-        wanted.push(STEADY_DRAW.to_owned(alloc)?)?;
+        for _ in order.as_slice().iter().skip(1) {
+            lines.push_str(STEADY_DRAW)?;
+        }
     }
     Ok(())
 }
 
-/// The line of an entry.
-fn line_of(alloc: Global, entry: &Entry) -> Result<String, NoMemory> {
-    let mut line = String::new(alloc);
-    entry.add_to(alloc, &mut line)?;
-    Ok(line)
-}
-
-/// The line of an entry, if it is another one than this.
-fn other_than(
-    alloc: Global,
-    entry: &Entry,
-    wanted: Option<&String>,
-) -> Result<Option<String>, NoMemory> {
-    let line = line_of(alloc, entry)?;
-    match wanted {
-        Some(text) if text.as_str() == line.as_str() => Ok(None),
-        _ => Ok(Some(line)),
-    }
-}
-
-/// The first line of these entries that isn't the one that is wanted there.
-fn first_other_of(
-    alloc: Global,
-    entries: &[Entry],
-    wanted: &[String],
-) -> Result<Option<String>, NoMemory> {
-    for (place, entry) in entries.iter().enumerate() {
-        let other = other_than(alloc, entry, wanted.get(place))?;
-        if other.is_some() {
-            return Ok(other);
-        }
-    }
-    if entries.len() == wanted.len() {
-        return Ok(None);
-    }
-    Ok(Some("a line is lacking".to_owned(alloc)?))
-}
-
-/// The first line that a run writes otherwise than these, which makes the calls and gives the answers of these entries.
-fn first_other_again(
-    alloc: Global,
-    begin: Begin,
-    entries: &[Entry],
-    wanted: &[String],
-) -> Result<Option<String>, NoMemory> {
-    let journal = journal_again(alloc, begin, entries)?;
-    first_other_of(alloc, journal.entries(), wanted)
-}
-
-/// The lines that a run writes which makes the calls and gives the answers of a journal.
-fn wanted_in(alloc: Global, text: &str) -> Result<Vec<String>, Unread> {
+/// The lines that a run writes that makes the calls and gives the answers of a journal. The journal's rounds are in plain order
+/// and the draws before them aren't in it, so they are added.
+fn wanted_in(alloc: Global, text: &str) -> Result<String, Unread> {
     let entries = entries_in(alloc, text)?;
-    let wanted = wanted_lines(alloc, entries.as_slice());
+    let wanted = lines_with_draws(alloc, entries.as_slice());
     drop(entries);
     Ok(wanted?)
 }
 
-/// The first line that such a run writes otherwise than these.
-fn first_other_than(
-    alloc: Global,
-    begin: Begin,
-    text: &str,
-    wanted: &[String],
-) -> Result<Option<String>, Unread> {
+/// The journal of such a run.
+fn journal_in(alloc: Global, begin: Begin, text: &str) -> Result<Journal, Unread> {
     let entries = entries_and_silent_in(alloc, text)?;
-    let other = first_other_again(alloc, begin, entries.as_slice(), wanted);
+    let journal = journal_again(alloc, begin, entries.as_slice());
     drop(entries);
-    Ok(other?)
+    Ok(journal?)
 }
 
-/// The first line that such a run writes otherwise than the journal.
-fn first_other(alloc: Global, begin: Begin, text: &str) -> Result<Option<String>, Unread> {
-    let wanted = wanted_in(alloc, text)?;
-    let other = first_other_than(alloc, begin, text, wanted.as_slice());
-    drop(wanted);
-    other
-}
-
-/// Runs a journal again that begins so.
-fn replays(rt: &impl Abort, alloc: Global, name: &str, begin: &str, text: &str) {
-    let Some(begin) = begin_of(begin) else {
-        panic!(rt; "{name}: {begin}");
-    };
-    let other = first_other(alloc, begin, text).expect(rt, "lines of a journal");
-    if let Some(line) = other {
-        panic!(rt; "another line in {name}: {}", line.as_str());
+/// Stops at the first entry with another line.
+fn has_lines(rt: &impl Abort, alloc: Global, run: &str, entries: &[Entry], wanted: &str) {
+    let mut rest = wanted;
+    for entry in entries {
+        let mut line = String::new(alloc);
+        add_line(alloc, &mut line, entry).expect(rt, "room");
+        match rest.strip_prefix(line.as_str()) {
+            Some(tail) => rest = tail,
+            None => panic!(rt; "{run} writes {line}"),
+        }
     }
+    assert!(rt; rest.is_empty(), "{run} doesn't write {rest}");
+}
+
+/// Runs a journal again, which begins by the beginning of this word.
+fn replays_under(rt: &impl Abort, alloc: Global, name: &str, word: &str, text: &str) {
+    let begin = begin_of(word).expect(rt, word);
+    let wanted = wanted_in(alloc, text).expect(rt, "lines of a journal");
+    let journal = journal_in(alloc, begin, text).expect(rt, "lines of a journal");
+    let run = format!(in alloc; "{name} {word}").expect(rt, "room");
+    has_lines(rt, alloc, run.as_str(), journal.entries(), wanted.as_str());
 }
 
 /// Runs the journal of a head again, under each of its beginnings.
-fn replays_under_each(rt: &impl Abort, alloc: Global, block: &'static str) {
-    let Some((name, begins, text)) = parts_of(block) else {
-        panic!(rt; "{block}");
-    };
-    for begin in begins.split(' ') {
-        replays(rt, alloc, name, begin, text);
+fn replays(rt: &impl Abort, alloc: Global, block: &'static str) {
+    let (name, begins, text) = parts_of(block).expect(rt, block);
+    for word in begins.split(' ') {
+        replays_under(rt, alloc, name, word, text);
     }
 }
 
 #[test]
 fn journals_of_runs(rt: HostRuntime) {
     for text in [TASKS, WAITS] {
-        for block in text.split("== ").skip(1) {
-            replays_under_each(&rt, rt.alloc(), block);
+        for block in text.strip_prefix("== ").unwrap_or("").split("\n== ") {
+            replays(&rt, rt.alloc(), block);
         }
     }
 }
 
-/// Of what a run has many.
-#[derive(Clone, Copy)]
-enum Many {
-    /// The root spawns so many tasks, each of which is ready at its first visit, and waits for ever.
-    Tasks,
-    /// Each of so many tasks spawns the next. The last wakes the root, which aborts the first, and all of them end.
-    Links,
-    /// The root sets so many alarms at once, and is visited for each.
-    Alarms,
-    /// The root makes a chain of so many nodes, and closes them.
-    Nodes,
-    /// So many tasks wait for one value, which the root gives once they all wait, and for whose completion it waits then.
-    Waiters,
+/// Runs that have many of something: how many of it and how many entries, for each of two sizes or for one, and what they have.
+///
+/// Below that is what the root and its tasks call and answer, once, or once for each number from 0 on, in which `A+B` is A and
+/// B times the number. Who calls or answers and what is replied isn't looked at, but for a sleep's alarm and a slot's failed
+/// send.
+const MANY: &str = "\
+== 2 31, 3000 27013 | The root spawns tasks, each of which is ready at its first visit, and waits for ever.
+each call 0 child 0 t -> ok; call 0 spawn 1+2 -> ok
+once answer 0 pending
+each answer 0 ready; call 0 close-node 2+2 -> ok; answer 0 ended
+== 2 47, 1000 12023 | Each task spawns the next. The last wakes the root, which aborts the first, and all of them end.
+each call 0 child 0+2 t -> ok; call 0 spawn 1+2 -> ok; answer 0 pending
+once call 0 wake 0 -> ok; answer 0 pending; call 0 abort 1 -> ok; answer 0 pending
+== 1 21, 3000 21014 | The root sets alarms at once, and is visited for each.
+each call 0 sleep-poll 5000000 -> ok
+== 3000 6012 | The root makes a chain of nodes, and closes them.
+each call 0 child 0+1 n -> ok
+each call 0 close-node 0+1 -> ok
+== 1 53, 3000 60033 | Tasks wait for a value, which the root gives once they all wait, and for whose completion it waits then.
+once call 0 signaler -> ok
+each call 0 clone-signal 1 -> ok; call 0 child 0 t -> ok; call 0 spawn 1+2 -> ok
+once call 0 sleep-poll 5000000 -> ok; answer 0 pending
+each call 0 signal-poll 2+1 -> ok; answer 0 pending
+once call 0 signal 1 5 -> ok; call 0 completion-poll 1 -> ok; call 0 signal-close 1 -> ok; answer 0 pending
+each call 0 signal-poll 2+1 -> ok; answer 0 ready; call 0 signal-close 2+1 -> ok; call 0 close-node 2+2 -> ok; answer 0 ended
+once call 0 completion-poll 1 -> ok; answer 0 ready";
+
+/// The number that a word says for this one.
+fn number_in(word: &str, number: u64) -> Option<u64> {
+    let (first, step) = word.split_once('+')?;
+    let step = step.parse::<u64>().ok()?;
+    Some(
+        first
+            .parse::<u64>()
+            .ok()?
+            .wrapping_add(step.wrapping_mul(number)),
+    )
 }
 
-fn say_tasks(said: &mut Vec<Said<'static>>, tasks: u64) -> Result<(), NoMemory> {
-    let mut node = 1u64;
-    for _ in 0..tasks {
-        said.extend_from_slice(&[Said::Child(0, "t"), Said::Spawn(node)])?;
-        node = node.wrapping_add(2);
-    }
-    said.push(Said::Answer(AnswerKind::Pending))?;
-    for task in 0..tasks {
-        say_end(said, task)?;
-    }
-    Ok(())
-}
-
-/// The end of one of these tasks, which is ready.
-fn say_end(said: &mut Vec<Said<'static>>, task: u64) -> Result<(), NoMemory> {
-    let node = task.wrapping_mul(2).wrapping_add(2);
-    Ok(said.extend_from_slice(&[
-        Said::Answer(AnswerKind::Ready),
-        Said::CloseNode(node),
-        Said::Answer(AnswerKind::Ended),
-    ])?)
-}
-
-/// What is said behind the spawns of a chain.
-const ABORT: &[Said<'static>] = &[
-    Said::Wake(0),
-    Said::Answer(AnswerKind::Pending),
-    Said::Abort(1),
-    Said::Answer(AnswerKind::Pending),
-];
-
-fn say_links(said: &mut Vec<Said<'static>>, tasks: u64) -> Result<(), NoMemory> {
-    for task in 0..tasks {
-        let node = task.wrapping_mul(2);
-        said.extend_from_slice(&[
-            Said::Child(node, "t"),
-            Said::Spawn(node.wrapping_add(1)),
-            Said::Answer(AnswerKind::Pending),
-        ])?;
-    }
-    Ok(said.extend_from_slice(ABORT)?)
-}
-
-fn say_alarms(said: &mut Vec<Said<'static>>, alarms: u64) -> Result<(), NoMemory> {
-    for _ in 0..alarms {
-        said.push(Said::SleepPoll(5_000_000, None))?;
-    }
-    Ok(())
-}
-
-fn say_nodes(said: &mut Vec<Said<'static>>, nodes: u64) -> Result<(), NoMemory> {
-    for node in 0..nodes {
-        said.push(Said::Child(node, "n"))?;
-    }
-    for node in 0..nodes {
-        said.push(Said::CloseNode(node))?;
-    }
-    Ok(())
-}
-
-/// The root makes a signal and a task for each waiter.
-fn say_waiters(said: &mut Vec<Said<'static>>, tasks: u64) -> Result<(), NoMemory> {
-    said.push(Said::Signaler)?;
-    for task in 0..tasks {
-        let node = task.wrapping_mul(2).wrapping_add(1);
-        said.extend_from_slice(&[Said::CloneSignal(1), Said::Child(0, "t"), Said::Spawn(node)])?;
-    }
-    Ok(())
-}
-
-/// The root and each waiter wait.
-fn say_waits(said: &mut Vec<Said<'static>>, tasks: u64) -> Result<(), NoMemory> {
-    said.extend_from_slice(&[
-        Said::SleepPoll(5_000_000, None),
-        Said::Answer(AnswerKind::Pending),
-    ])?;
-    for task in 0..tasks {
-        said.extend_from_slice(&[
-            Said::SignalPoll(task.wrapping_add(2)),
-            Said::Answer(AnswerKind::Pending),
-        ])?;
-    }
-    Ok(())
-}
-
-/// The root gives the value.
-const GIVE: &[Said<'static>] = &[
-    Said::Signal(1, 5),
-    Said::CompletionPoll(1),
-    Said::SignalClose(1),
-    Said::Answer(AnswerKind::Pending),
-];
-
-/// The root finds all waiters done.
-const DONE: &[Said<'static>] = &[Said::CompletionPoll(1), Said::Answer(AnswerKind::Ready)];
-
-/// The end of a waiter, which has the value.
-fn say_waiter_end(said: &mut Vec<Said<'static>>, task: u64) -> Result<(), NoMemory> {
-    let signal = task.wrapping_add(2);
-    let node = task.wrapping_mul(2).wrapping_add(2);
-    Ok(said.extend_from_slice(&[
-        Said::SignalPoll(signal),
-        Said::Answer(AnswerKind::Ready),
-        Said::SignalClose(signal),
-        Said::CloseNode(node),
-        Said::Answer(AnswerKind::Ended),
-    ])?)
-}
-
-/// The root gives the value, and each waiter and the root end.
-fn say_gives(said: &mut Vec<Said<'static>>, tasks: u64) -> Result<(), NoMemory> {
-    said.extend_from_slice(GIVE)?;
-    for task in 0..tasks {
-        say_waiter_end(said, task)?;
-    }
-    Ok(said.extend_from_slice(DONE)?)
-}
-
-/// Says what a run has many of, behind a maker that makes no calls.
-fn say_many(said: &mut Vec<Said<'static>>, many: Many, count: u64) -> Result<(), NoMemory> {
-    said.push(Said::Answer(AnswerKind::Ready))?;
-    match many {
-        Many::Tasks => say_tasks(said, count),
-        Many::Links => say_links(said, count),
-        Many::Alarms => say_alarms(said, count),
-        Many::Nodes => say_nodes(said, count),
-        Many::Waiters => {
-            say_waiters(said, count)?;
-            say_waits(said, count)?;
-            say_gives(said, count)
+/// Adds a line that is said, for this number.
+fn add_said(lines: &mut String, line: &str, number: u64) -> Result<(), NoMemory> {
+    for word in line.split(' ') {
+        match number_in(word, number) {
+            Some(number) => write!(lines, "{number}")?,
+            None => lines.push_str(word)?,
         }
+        lines.push(' ')?;
+    }
+    let _ = lines.pop();
+    Ok(lines.push('\n')?)
+}
+
+/// Adds the lines that are said, which `; ` parts, for this number.
+fn add_each(rt: &impl Abort, lines: &mut String, said: &str, number: u64) {
+    for line in said.split("; ") {
+        add_said(lines, line, number).expect(rt, "room");
     }
 }
 
-/// How many entries a run has in which this is said.
-fn entries_said(alloc: Global, said: &[Said]) -> Result<usize, NoMemory> {
-    Ok(journal_of(alloc, BEGIN, said)?.len())
+/// Adds the lines of a row, once or for each number before this one.
+fn add_row(rt: &impl Abort, lines: &mut String, row: &str, count: u64) {
+    let (times, said) = match row.split_once(' ') {
+        Some(("once", said)) => (1, said),
+        Some(("each", said)) => (count, said),
+        _ => panic!(rt; "{row}"),
+    };
+    for number in 0..times {
+        add_each(rt, lines, said, number);
+    }
 }
 
-/// How many entries a run has that has so many of these.
-fn entries_of(alloc: Global, many: Many, count: u64) -> Result<usize, NoMemory> {
-    let mut said = Vec::new(alloc);
-    say_many(&mut said, many, count)?;
-    entries_said(alloc, said.as_slice())
+/// How many entries a run has that says these rows with so many numbers, behind a maker that makes no calls.
+fn entries_of(rt: &impl Abort, alloc: Global, rows: &str, count: u64) -> usize {
+    let mut lines = String::new(alloc);
+    add_row(rt, &mut lines, "once answer 0 ready", 1);
+    for row in rows.lines() {
+        add_row(rt, &mut lines, row, count);
+    }
+    let journal = journal_in(alloc, BEGIN, lines.as_str()).expect(rt, "lines of a journal");
+    journal.len()
 }
 
-/// Of what a run has how many, and how many entries it has then.
-const MANY: &[(Many, u64, usize)] = &[
-    (Many::Tasks, 2, 31),
-    (Many::Tasks, 3000, 27_013),
-    (Many::Links, 2, 47),
-    (Many::Links, 1000, 12_023),
-    (Many::Alarms, 1, 21),
-    (Many::Alarms, 3000, 21_014),
-    (Many::Nodes, 3000, 6_012),
-    (Many::Waiters, 1, 53),
-    (Many::Waiters, 3000, 60_033),
-];
+/// How many of something a run has, and how many entries.
+fn size_in(size: &str) -> Option<(u64, usize)> {
+    let (count, entries) = size.split_once(' ')?;
+    Some((count.parse::<u64>().ok()?, entries.parse::<usize>().ok()?))
+}
+
+/// Takes each size of a run.
+fn runs_each(rt: &impl Abort, alloc: Global, block: &str) {
+    let (head, rows) = block.split_once('\n').expect(rt, block);
+    let (sizes, what) = head.split_once(" | ").expect(rt, head);
+    for size in sizes.split(", ") {
+        let (count, entries) = size_in(size).expect(rt, head);
+        let seen = entries_of(rt, alloc, rows, count);
+        assert!(rt; seen == entries, "{seen} entries with {count}: {what}");
+    }
+}
 
 #[test]
-fn many_of_each(rt: HostRuntime) -> Result<(), Fail> {
-    for (place, &(many, count, entries)) in MANY.iter().enumerate() {
-        assert!(rt;
-            entries_of(rt.alloc(), many, count)? == entries,
-            "in row {place}"
-        );
+fn many_of_each(rt: HostRuntime) {
+    for block in MANY.strip_prefix("== ").unwrap_or("").split("\n== ") {
+        runs_each(&rt, rt.alloc(), block);
     }
-    Ok(())
 }
 
 #[test]

@@ -12,7 +12,7 @@ ghost use Rattle.rt_machine.specs.Ends.{open_in};
 
 use crate::numbers::{add_number, ends_next, has_number, remove_number};
 use crate::steady::Steady;
-use rt_audit::{AnswerKind, FinishCause, Journal};
+use rt_audit::{AnswerKind, Call, FinishCause, Journal};
 use rt_base::{Error, MAX_TIME, Nanos, NoMemory};
 use rt_machine::Machine;
 use rt_model::{Begin, Outcome};
@@ -22,33 +22,11 @@ use std::marker::Model;
 /// What a journal says: a call, or that a part is over and how it is answered.
 #[derive(Clone, Copy)]
 pub enum Said<'a> {
-    Child(u64, &'a str),
-    CloseNode(u64),
-    Spawn(u64),
-    Abort(u64),
-    AbortTask(u64),
-    Wake(u64),
-    Join(u64),
-    GiveUp(u64),
+    Call(&'a Call),
     /// A sleep, with its alarm where it has one.
-    SleepPoll(Nanos, Option<u64>),
-    Slot,
-    SlotSend(u64),
-    SlotClose(u64),
+    Sleep(Nanos, Option<u64>),
     /// A poll of a slot, into which a value was sent, or else `SendFailed`.
     SlotPoll(u64, bool),
-    SlotGiveUp(u64),
-    AbortWait(u64),
-    Signaler,
-    CloneSignal(u64),
-    Signal(u64, i32),
-    SignalPoll(u64),
-    SignalClose(u64),
-    SignalerClose(u64),
-    CompletionPoll(u64),
-    CompletionClose(u64),
-    Stop(i32),
-    Stopped,
     Answer(AnswerKind),
 }
 
@@ -121,7 +99,7 @@ impl<'a> Replay<'a> {
         }
     }
 
-    /// Makes a call on a node or on the time.
+    /// Makes a call.
     fn call(&mut self, by: Option<u64>, said: Said<'a>) -> Result<(), NoMemory>
         requires calling { MayCall self.old.told.state by }
         requires runs { IfSome by (λ task. has_number task self.old.told.state.running ≡ true) }
@@ -131,22 +109,37 @@ impl<'a> Replay<'a> {
         ensures runs { IfSome by (λ task. has_number task self.new.told.state.running ≡ true) }
     {
         match said {
-            Said::Child(node, label) => told(self.machine.child(by, node, label)),
-            Said::Spawn(node) => self.spawn(by, node),
-            Said::SleepPoll(due, alarm) if due <= MAX_TIME => {
+            Said::Sleep(due, alarm) if due <= MAX_TIME => {
                 let _ = self.machine.sleep_poll(by, due, alarm)?;
                 Ok(())
             }
-            Said::CloseNode(node) => {
-                self.machine.close_node(by, node);
-                Ok(())
-            }
-            said => self.call_on_task(by, said),
+            Said::SlotPoll(slot, value) => self.poll_slot(by, slot, value),
+            Said::Call(call) => self.call_on_node(by, call),
+            _ => Err(NoMemory),
+        }
+    }
+
+    /// Makes a call on a node or on the shutdown.
+    fn call_on_node(&mut self, by: Option<u64>, call: &Call) -> Result<(), NoMemory>
+        requires calling { MayCall self.old.told.state by }
+        requires runs { IfSome by (λ task. has_number task self.old.told.state.running ≡ true) }
+        ensures phase { self.new.told.state.phase ≡ self.old.told.state.phase }
+        ensures root { self.new.told.state.root ≡ self.old.told.state.root }
+        ensures calling { MayCall self.new.told.state by }
+        ensures runs { IfSome by (λ task. has_number task self.new.told.state.running ≡ true) }
+    {
+        match call {
+            Call::Child { node, label } => told(self.machine.child(by, *node, label.as_str())),
+            Call::Spawn { node } => self.spawn(by, *node),
+            Call::CloseNode { node } => Ok(self.machine.close_node(by, *node)),
+            Call::Stop { value } => Ok(drop(self.machine.stop(by, *value)?)),
+            Call::Stopped => Ok(drop(self.machine.stopped(by)?)),
+            call => self.call_on_task(by, call),
         }
     }
 
     /// Makes a call on a task.
-    fn call_on_task(&mut self, by: Option<u64>, said: Said<'a>) -> Result<(), NoMemory>
+    fn call_on_task(&mut self, by: Option<u64>, call: &Call) -> Result<(), NoMemory>
         requires calling { MayCall self.old.told.state by }
         requires runs { IfSome by (λ task. has_number task self.old.told.state.running ≡ true) }
         ensures phase { self.new.told.state.phase ≡ self.old.told.state.phase }
@@ -154,24 +147,18 @@ impl<'a> Replay<'a> {
         ensures calling { MayCall self.new.told.state by }
         ensures runs { IfSome by (λ task. has_number task self.new.told.state.running ≡ true) }
     {
-        match said {
-            Said::Abort(task) => {
-                self.machine.abort(by, task);
-                Ok(())
-            }
-            Said::AbortTask(task) => told(self.machine.abort_task(by, task)),
-            Said::Wake(task) => told(self.machine.wake(by, task)),
-            Said::Join(task) => told(self.machine.join(by, task)),
-            Said::GiveUp(task) => {
-                self.machine.give_up(by, task);
-                Ok(())
-            }
-            said => self.call_on_slot(by, said),
+        match call {
+            Call::Abort { task } => Ok(self.machine.abort(by, *task)),
+            Call::AbortTask { task } => told(self.machine.abort_task(by, *task)),
+            Call::Wake { task } => told(self.machine.wake(by, *task)),
+            Call::Join { task } => told(self.machine.join(by, *task)),
+            Call::GiveUp { task } => Ok(self.machine.give_up(by, *task)),
+            call => self.call_on_slot(by, call),
         }
     }
 
-    /// Makes a call on the sender of a slot.
-    fn call_on_slot(&mut self, by: Option<u64>, said: Said<'a>) -> Result<(), NoMemory>
+    /// Makes a call on a slot.
+    fn call_on_slot(&mut self, by: Option<u64>, call: &Call) -> Result<(), NoMemory>
         requires calling { MayCall self.old.told.state by }
         requires runs { IfSome by (λ task. has_number task self.old.told.state.running ≡ true) }
         ensures phase { self.new.told.state.phase ≡ self.old.told.state.phase }
@@ -179,48 +166,18 @@ impl<'a> Replay<'a> {
         ensures calling { MayCall self.new.told.state by }
         ensures runs { IfSome by (λ task. has_number task self.new.told.state.running ≡ true) }
     {
-        match said {
-            Said::Slot => {
-                let _ = self.machine.slot(by)?;
-                Ok(())
-            }
-            Said::SlotSend(slot) => {
-                self.machine.slot_send(by, slot);
-                Ok(())
-            }
-            Said::SlotClose(slot) => {
-                self.machine.slot_close(by, slot);
-                Ok(())
-            }
-            said => self.call_on_receiver(by, said),
-        }
-    }
-
-    /// Makes a call on the receiver of a slot.
-    fn call_on_receiver(&mut self, by: Option<u64>, said: Said<'a>) -> Result<(), NoMemory>
-        requires calling { MayCall self.old.told.state by }
-        requires runs { IfSome by (λ task. has_number task self.old.told.state.running ≡ true) }
-        ensures phase { self.new.told.state.phase ≡ self.old.told.state.phase }
-        ensures root { self.new.told.state.root ≡ self.old.told.state.root }
-        ensures calling { MayCall self.new.told.state by }
-        ensures runs { IfSome by (λ task. has_number task self.new.told.state.running ≡ true) }
-    {
-        match said {
-            Said::SlotPoll(slot, value) => self.poll_slot(by, slot, value),
-            Said::SlotGiveUp(slot) => {
-                self.machine.slot_give_up(by, slot);
-                Ok(())
-            }
-            Said::AbortWait(slot) => {
-                self.machine.abort_wait(by, slot);
-                Ok(())
-            }
-            said => self.call_on_signal(by, said),
+        match call {
+            Call::Slot => Ok(drop(self.machine.slot(by)?)),
+            Call::SlotSend { slot } => Ok(self.machine.slot_send(by, *slot)),
+            Call::SlotClose { slot } => Ok(self.machine.slot_close(by, *slot)),
+            Call::SlotGiveUp { slot } => Ok(self.machine.slot_give_up(by, *slot)),
+            Call::AbortWait { slot } => Ok(self.machine.abort_wait(by, *slot)),
+            call => self.call_on_signal(by, call),
         }
     }
 
     /// Makes a call on a signal.
-    fn call_on_signal(&mut self, by: Option<u64>, said: Said<'a>) -> Result<(), NoMemory>
+    fn call_on_signal(&mut self, by: Option<u64>, call: &Call) -> Result<(), NoMemory>
         requires calling { MayCall self.old.told.state by }
         requires runs { IfSome by (λ task. has_number task self.old.told.state.running ≡ true) }
         ensures phase { self.new.told.state.phase ≡ self.old.told.state.phase }
@@ -228,19 +185,17 @@ impl<'a> Replay<'a> {
         ensures calling { MayCall self.new.told.state by }
         ensures runs { IfSome by (λ task. has_number task self.new.told.state.running ≡ true) }
     {
-        match said {
-            Said::CloneSignal(signal) => told(self.machine.clone_signal(by, signal)),
-            Said::SignalPoll(signal) => told(self.machine.poll_signal(by, signal)),
-            Said::SignalClose(signal) => {
-                self.machine.close_signal(by, signal);
-                Ok(())
-            }
-            said => self.call_on_signaler(by, said),
+        match call {
+            Call::Signaler => Ok(drop(self.machine.signaler(by)?)),
+            Call::CloneSignal { signal } => told(self.machine.clone_signal(by, *signal)),
+            Call::SignalPoll { signal } => told(self.machine.poll_signal(by, *signal)),
+            Call::SignalClose { signal } => Ok(self.machine.close_signal(by, *signal)),
+            call => self.call_on_group(by, call),
         }
     }
 
-    /// Makes a call on a signaler.
-    fn call_on_signaler(&mut self, by: Option<u64>, said: Said<'a>) -> Result<(), NoMemory>
+    /// Makes a call on a signaler or on a completion.
+    fn call_on_group(&mut self, by: Option<u64>, call: &Call) -> Result<(), NoMemory>
         requires calling { MayCall self.old.told.state by }
         requires runs { IfSome by (λ task. has_number task self.old.told.state.running ≡ true) }
         ensures phase { self.new.told.state.phase ≡ self.old.told.state.phase }
@@ -248,20 +203,16 @@ impl<'a> Replay<'a> {
         ensures calling { MayCall self.new.told.state by }
         ensures runs { IfSome by (λ task. has_number task self.new.told.state.running ≡ true) }
     {
-        match said {
-            Said::Signaler => {
-                let _ = self.machine.signaler(by)?;
-                Ok(())
-            }
-            Said::Signal(signaler, value) => {
-                self.give(by, signaler, value);
-                Ok(())
-            }
-            Said::SignalerClose(signaler) => {
-                self.machine.close_signaler(by, signaler);
-                Ok(())
-            }
-            said => self.call_on_completion(by, said),
+        match call {
+            Call::Signal { signaler, value } => Ok(self.give(by, *signaler, *value)),
+            Call::SignalerClose { signaler } => Ok(self.machine.close_signaler(by, *signaler)),
+            Call::CompletionPoll { completion } => told(
+                self.machine.poll_completion(by, *completion),
+            ),
+            Call::CompletionClose { completion } => Ok(
+                self.machine.close_completion(by, *completion),
+            ),
+            _ => Err(NoMemory),
         }
     }
 
@@ -275,33 +226,6 @@ impl<'a> Replay<'a> {
         ensures runs { IfSome by (λ task. has_number task self.new.told.state.running ≡ true) }
     {
         self.machine.signal(by, signaler, value)
-    }
-
-    /// Makes a call on a completion or on the shutdown.
-    fn call_on_completion(&mut self, by: Option<u64>, said: Said<'a>) -> Result<(), NoMemory>
-        requires calling { MayCall self.old.told.state by }
-        requires runs { IfSome by (λ task. has_number task self.old.told.state.running ≡ true) }
-        ensures phase { self.new.told.state.phase ≡ self.old.told.state.phase }
-        ensures root { self.new.told.state.root ≡ self.old.told.state.root }
-        ensures calling { MayCall self.new.told.state by }
-        ensures runs { IfSome by (λ task. has_number task self.new.told.state.running ≡ true) }
-    {
-        match said {
-            Said::CompletionPoll(completion) => told(self.machine.poll_completion(by, completion)),
-            Said::CompletionClose(completion) => {
-                self.machine.close_completion(by, completion);
-                Ok(())
-            }
-            Said::Stop(value) => {
-                let _ = self.machine.stop(by, value)?;
-                Ok(())
-            }
-            Said::Stopped => {
-                let _ = self.machine.stopped(by)?;
-                Ok(())
-            }
-            _ => Err(NoMemory),
-        }
     }
 
     /// Polls a slot.
@@ -323,7 +247,7 @@ impl<'a> Replay<'a> {
         }
     }
 
-    /// Makes the calls of a part. Answers how it is answered.
+    /// Makes the calls of a part. Returns how it is answered.
     fn part(&mut self, by: Option<u64>) -> Result<AnswerKind, NoMemory>
         requires calling { MayCall self.old.told.state by }
         requires runs { IfSome by (λ task. has_number task self.old.told.state.running ≡ true) }
@@ -371,7 +295,7 @@ impl<'a> Replay<'a> {
         Ok(())
     }
 
-    /// Ends a task that is ready. Answers the cause, where the run ends there.
+    /// Ends a task that is ready. Returns the cause, where the run ends there.
     fn end_ready(&mut self, task: u64) -> Result<Option<FinishCause>, NoMemory>
         requires phase { self.old.told.state.phase ≡ Polling task (left_of self.old.told.state.phase) }
         requires runs { has_number task self.old.told.state.running ≡ true }
@@ -388,7 +312,7 @@ impl<'a> Replay<'a> {
         Ok(None)
     }
 
-    /// Ends a task that panicked. Answers the cause, where the run ends there.
+    /// Ends a task that panicked. Returns the cause, where the run ends there.
     fn end_panicked(&mut self, task: u64) -> Result<Option<FinishCause>, NoMemory>
         requires phase { self.old.told.state.phase ≡ Polling task (left_of self.old.told.state.phase) }
         requires runs { has_number task self.old.told.state.running ≡ true }
@@ -405,7 +329,7 @@ impl<'a> Replay<'a> {
         Ok(None)
     }
 
-    /// Polls a task. Answers the cause, where the run ends there.
+    /// Polls a task. Returns the cause, where the run ends there.
     fn poll(&mut self, task: u64) -> Result<Option<FinishCause>, NoMemory>
         requires phase { self.old.told.state.phase ≡ Polling task (left_of self.old.told.state.phase) }
         requires runs { has_number task self.old.told.state.running ≡ true }
@@ -427,7 +351,7 @@ impl<'a> Replay<'a> {
         }
     }
 
-    /// Visits a task that runs. Answers the cause, where the run ends there.
+    /// Visits a task that runs. Returns the cause, where the run ends there.
     fn visit(&mut self, task: u64) -> Result<Option<FinishCause>, NoMemory>
         requires phase { self.old.told.state.phase ≡ Visiting (left_of self.old.told.state.phase) }
         requires next { from_running self.old.told.state.running (left_of self.old.told.state.phase) ≡ task ∷ drop 1 (from_running self.old.told.state.running (left_of self.old.told.state.phase)) }
@@ -448,7 +372,7 @@ impl<'a> Replay<'a> {
         self.poll(task)
     }
 
-    /// Visits the tasks of a round. Answers the cause, where the run ends there.
+    /// Visits the tasks of a round. Returns the cause, where the run ends there.
     fn round(&mut self, order: &[u64]) -> Result<Option<FinishCause>, NoMemory>
         requires phase { self.old.told.state.phase ≡ Visiting order.now }
         ensures goes { IfOk result (λ cause. cause ≡ None → self.new.told.state.phase ≡ Visiting (left_of self.new.told.state.phase)) }
@@ -467,7 +391,7 @@ impl<'a> Replay<'a> {
         Ok(None)
     }
 
-    /// Goes through the rounds, and keeps the order of each in a list. Answers why the run ends.
+    /// Goes through the rounds, and keeps the order of each in a list. Returns why the run ends.
     fn rounds(&mut self, order: &mut Vec<u64>) -> Result<FinishCause, NoMemory>
         requires { MayRound self.old.told.state.phase self.old.told.state }
         ensures closes { IfOk result (λ cause. MayClose self.new.told.state.phase) }
@@ -486,7 +410,7 @@ impl<'a> Replay<'a> {
         Err(NoMemory)
     }
 
-    /// Takes the root in, and goes through the rounds. Answers why the run ends.
+    /// Takes the root in, and goes through the rounds. Returns why the run ends.
     fn go(&mut self) -> Result<FinishCause, NoMemory>
         requires { self.old.told.state.phase ≡ Making }
         ensures closes { IfOk result (λ cause. MayClose self.new.told.state.phase) }

@@ -36,7 +36,7 @@ fn said_by<'a>(entry: &'a Entry, made: &mut bool) -> Option<Said<'a>> {
         // a maker without a root has made its calls here
         Entry::Cleanup if !*made => Some(Said::Answer(AnswerKind::Ready)),
         Entry::Answer { task: _, kind } => answered(*kind),
-        Entry::Call { by: _, call, reply } => called(call, reply),
+        Entry::Call { by: _, call, reply } => Some(called(call, reply)),
         _ => None,
     }
 }
@@ -49,16 +49,13 @@ fn answered<'a>(kind: AnswerKind) -> Option<Said<'a>> {
     }
 }
 
-/// A call whose reply tells what it is about, or another one.
-fn called<'a>(call: &'a Call, reply: &CallReply) -> Option<Said<'a>> {
-    Some(match call {
-        Call::Child { node, label } => Said::Child(*node, label.as_str()),
-        Call::SleepPoll { due } => Said::SleepPoll(due.nanos(), alarm_in(reply)),
+/// A call, with what its reply tells of it.
+fn called<'a>(call: &'a Call, reply: &CallReply) -> Said<'a> {
+    match call {
+        Call::SleepPoll { due } => Said::Sleep(due.nanos(), alarm_in(reply)),
         Call::SlotPoll { slot } => Said::SlotPoll(*slot, !is_failed(reply)),
-        Call::Signal { signaler, value } => Said::Signal(*signaler, *value),
-        Call::Stop { value } => Said::Stop(*value),
-        call => return called_on_task(call),
-    })
+        call => Said::Call(call),
+    }
 }
 
 /// The alarm of a sleep that isn't over.
@@ -75,42 +72,4 @@ fn is_failed(reply: &CallReply) -> bool {
         CallReply::Refused { error } => matches!(error.error(), Error::SendFailed),
         _ => false,
     }
-}
-
-fn called_on_task<'a>(call: &Call) -> Option<Said<'a>> {
-    Some(match call {
-        Call::CloseNode { node } => Said::CloseNode(*node),
-        Call::Spawn { node } => Said::Spawn(*node),
-        Call::Abort { task } => Said::Abort(*task),
-        Call::AbortTask { task } => Said::AbortTask(*task),
-        Call::Wake { task } => Said::Wake(*task),
-        Call::Join { task } => Said::Join(*task),
-        Call::GiveUp { task } => Said::GiveUp(*task),
-        call => return called_on_slot(call),
-    })
-}
-
-fn called_on_slot<'a>(call: &Call) -> Option<Said<'a>> {
-    Some(match call {
-        Call::Slot => Said::Slot,
-        Call::SlotSend { slot } => Said::SlotSend(*slot),
-        Call::SlotClose { slot } => Said::SlotClose(*slot),
-        Call::SlotGiveUp { slot } => Said::SlotGiveUp(*slot),
-        Call::AbortWait { slot } => Said::AbortWait(*slot),
-        call => return called_on_signal(call),
-    })
-}
-
-fn called_on_signal<'a>(call: &Call) -> Option<Said<'a>> {
-    Some(match call {
-        Call::Signaler => Said::Signaler,
-        Call::Stopped => Said::Stopped,
-        Call::CloneSignal { signal } => Said::CloneSignal(*signal),
-        Call::SignalPoll { signal } => Said::SignalPoll(*signal),
-        Call::SignalClose { signal } => Said::SignalClose(*signal),
-        Call::SignalerClose { signaler } => Said::SignalerClose(*signaler),
-        Call::CompletionPoll { completion } => Said::CompletionPoll(*completion),
-        Call::CompletionClose { completion } => Said::CompletionClose(*completion),
-        _ => return None,
-    })
 }

@@ -5,7 +5,7 @@ use rand_core::{Rng, utils};
 
 /// What it draws, as a line: one less than a number that all from 1 to 22 divide, so that each number of a round of at most 22
 /// stays in its place.
-pub const STEADY_DRAW: &str = "draw 662580340005664079";
+pub const STEADY_DRAW: &str = "draw 662580340005664079\n";
 
 /// Draws one and the same word.
 #[derive(Drop)]

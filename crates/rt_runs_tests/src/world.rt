@@ -8,10 +8,12 @@ ghost use Rattle.rt_world.specs.Calls.{Kept};
 use crate::steady::Steady;
 use rand_core::Rng;
 use rt_audit::{FinishCause, Journal};
-use rt_base::{Error, Execution, NoMemory, Poll, Text};
+use rt_base::{Error, Execution, MAX_TIME, Nanos, NoMemory, Poll, Text};
+use rt_journals::BEGIN;
 use rt_model::Begin;
 use rt_world::{Answer, Cx, Outcome, Task, World, WorldOf};
 use std::alloc::Global;
+use std::process::Abort;
 use std::test::Fail;
 
 /// A task that is ready at once.
@@ -41,23 +43,14 @@ impl Task for Probe {
 }
 
 /// A run that is over: its output, its last cause, and how many entries it has.
-#[derive(Clone, Copy, PartialEq, Eq)]
-struct Came {
-    output: Option<u64>,
-    cause: FinishCause,
-    entries: usize,
-}
+type Came = (Option<u64>, FinishCause, usize);
 
 /// What a world came to that was cleaned up.
 fn taken_apart(world: WorldOf<Probe, Steady>, output: Option<u64>, cause: FinishCause) -> Came
     requires { world.held.tasks ≡ [] }
 {
     let (journal, _, _) = world.into_parts();
-    Came {
-        output,
-        cause,
-        entries: journal.len(),
-    }
+    (output, cause, journal.len())
 }
 
 /// Runs a root that was taken in to its end.
@@ -83,14 +76,7 @@ fn run_root(mut world: WorldOf<Probe, Steady>) -> Came
 /// Runs a root from before a run to its end. A root that can't be taken in is ended.
 #[tactic(auto, unfolding(rt_model::specs::Effects::after, rt_model::specs::State::begun))]
 fn run(alloc: Global, taken_in: bool) -> Result<Came, NoMemory> {
-    let begin = Begin {
-        start: 0,
-        cycle: 1_000_000,
-        deadline: None,
-        first: 0,
-        catch: false,
-    };
-    let Ok(mut world) = WorldOf::<Probe, Steady>::begin(alloc, Journal::new(alloc), begin, Steady)
+    let Ok(mut world) = WorldOf::<Probe, Steady>::begin(alloc, Journal::new(alloc), BEGIN, Steady)
     else {
         return Err(NoMemory);
     };
@@ -118,9 +104,20 @@ fn spawns<G: Rng>(world: &mut WorldOf<Probe, G>, node: u64) -> Result<Option<(u6
     }
 }
 
-/// A call on a slot or a signal, or one that draws no byte.
+/// A call of a world.
 enum WorldCall {
-    Make,
+    Now,
+    Sleep(Nanos),
+    Wake(u64),
+    Child(u64),
+    CloseNode(u64),
+    Spawn(u64),
+    Executions,
+    Join(u64),
+    Abort(u64),
+    AbortTask(u64),
+    GiveUpTask(u64),
+    Slot,
     Send(u64, u64),
     SendError(u64),
     SendText(u64),
@@ -142,10 +139,12 @@ const NO_HOST: &str = "no such host";
 #[derive(Clone, Copy, PartialEq, Eq)]
 enum Heard {
     Done,
-    Slot(u64),
-    Signal(u64),
+    Time(Nanos),
+    Alarm(Option<u64>),
+    Number(u64),
     Node(u64, bool),
     Task(u64, u64),
+    Dedicated(u64),
     Pending,
     Value(u64),
     Shown(i32),
@@ -157,21 +156,40 @@ enum Heard {
     Other,
 }
 
+/// Calls on nodes, tasks and the time, in a world that begins at 3.
+const CALLS: &[(WorldCall, Heard)] = &[
+    (WorldCall::Sleep(3), Heard::Alarm(None)),
+    (WorldCall::Sleep(5), Heard::Alarm(Some(0))),
+    (WorldCall::Wake(9), Heard::Unknown),
+    (WorldCall::Child(0), Heard::Node(1, false)),
+    (WorldCall::Spawn(1), Heard::Task(0, 2)),
+    (WorldCall::Spawn(1), Heard::Unknown),
+    (WorldCall::Executions, Heard::Dedicated(0)),
+    (WorldCall::Join(0), Heard::Pending),
+    (WorldCall::AbortTask(0), Heard::Done),
+    (WorldCall::AbortTask(1), Heard::Unknown),
+    (WorldCall::Abort(0), Heard::Done),
+    (WorldCall::GiveUpTask(0), Heard::Done),
+    (WorldCall::Join(0), Heard::Unknown),
+    (WorldCall::CloseNode(0), Heard::Done),
+    (WorldCall::Now, Heard::Time(3)),
+];
+
 /// Calls on slots. The last four find spent what they spend, and write nothing.
 const SLOT_CALLS: &[(WorldCall, Heard)] = &[
-    (WorldCall::Make, Heard::Slot(0)),
+    (WorldCall::Slot, Heard::Number(0)),
     (WorldCall::Poll(0), Heard::Pending),
     (WorldCall::Send(0, 9), Heard::Done),
     (WorldCall::Poll(0), Heard::Value(9)),
     (WorldCall::Poll(0), Heard::Closed),
-    (WorldCall::Make, Heard::Slot(1)),
+    (WorldCall::Slot, Heard::Number(1)),
     (WorldCall::SendError(1), Heard::Done),
     (WorldCall::Poll(1), Heard::SendFailed),
     (WorldCall::Poll(1), Heard::SendFailed),
-    (WorldCall::Make, Heard::Slot(2)),
+    (WorldCall::Slot, Heard::Number(2)),
     (WorldCall::Close(2), Heard::Done),
     (WorldCall::Poll(2), Heard::Closed),
-    (WorldCall::Make, Heard::Slot(3)),
+    (WorldCall::Slot, Heard::Number(3)),
     (WorldCall::AbortWait(3), Heard::Done),
     (WorldCall::Poll(3), Heard::Aborted),
     (WorldCall::GiveUp(3), Heard::Done),
@@ -185,15 +203,29 @@ const SLOT_CALLS: &[(WorldCall, Heard)] = &[
 /// An error with a text is handed out, a copy of a signal shows the value that came before it was made, and drawing no byte is
 /// noted as any draw.
 const SHOWN: &[(WorldCall, Heard)] = &[
-    (WorldCall::Make, Heard::Slot(0)),
+    (WorldCall::Slot, Heard::Number(0)),
     (WorldCall::SendText(0), Heard::Done),
     (WorldCall::Poll(0), Heard::NoHost),
-    (WorldCall::Signaler, Heard::Signal(1)),
+    (WorldCall::Signaler, Heard::Number(1)),
     (WorldCall::Signal(1, 5), Heard::Done),
-    (WorldCall::CloneSignal(1), Heard::Signal(2)),
+    (WorldCall::CloneSignal(1), Heard::Number(2)),
     (WorldCall::PollSignal(2), Heard::Shown(5)),
     (WorldCall::FillNothing, Heard::Done),
 ];
+
+fn slept(answer: Result<Option<u64>, NoMemory>) -> Heard {
+    match answer {
+        Ok(alarm) => Heard::Alarm(alarm),
+        Err(NoMemory) => Heard::Other,
+    }
+}
+
+fn hinted(executions: &[(u64, Execution)]) -> Heard {
+    match executions {
+        [(task, Execution::Dedicated)] => Heard::Dedicated(*task),
+        _ => Heard::Other,
+    }
+}
 
 fn polled(answer: Result<Option<u64>, Error>) -> Heard {
     match answer {
@@ -227,14 +259,14 @@ fn spawned(answer: Result<Option<(u64, u64)>, Error>) -> Heard {
 
 fn numbered(answer: Result<u64, NoMemory>) -> Heard {
     match answer {
-        Ok(signal) => Heard::Signal(signal),
+        Ok(number) => Heard::Number(number),
         Err(NoMemory) => Heard::Other,
     }
 }
 
 fn cloned(answer: Result<u64, Error>) -> Heard {
     match answer {
-        Ok(signal) => Heard::Signal(signal),
+        Ok(number) => Heard::Number(number),
         Err(error) => refused(error),
     }
 }
@@ -297,17 +329,37 @@ fn fills_nothing<G: Rng>(world: &mut WorldOf<Probe, G>) -> Heard
     }
 }
 
-/// Makes a call.
+/// Makes a call: here one on a node, on a task or on the time.
 #[tactic(auto, using(rt_world::proofs::Walked::close_laws))]
 fn makes<G: Rng>(alloc: Global, world: &mut WorldOf<Probe, G>, call: &WorldCall) -> Heard
     requires { MayCall world.old.told.state world.old.out }
     ensures { Kept G.stream world.old world.new }
 {
     match *call {
-        WorldCall::Make => match world.slot() {
-            Ok(slot) => return Heard::Slot(slot),
-            Err(NoMemory) => return Heard::Other,
-        },
+        WorldCall::Now => return Heard::Time(world.now()),
+        WorldCall::Sleep(due) if due <= MAX_TIME => return slept(world.sleep_poll(due, None)),
+        WorldCall::Wake(task) => return answered(world.wake(task)),
+        WorldCall::Child(node) => return made(world.child(node, "left")),
+        WorldCall::CloseNode(node) => world.close_node(node),
+        WorldCall::Spawn(node) => return spawned(spawns(world, node)),
+        WorldCall::Executions => return hinted(world.executions()),
+        WorldCall::Join(task) => return polled(world.join(task)),
+        WorldCall::Abort(task) => world.abort(task),
+        WorldCall::AbortTask(task) => return answered(world.abort_task(task)),
+        WorldCall::GiveUpTask(task) => world.give_up(task),
+        _ => return makes_on_slot(alloc, world, call),
+    }
+    Heard::Done
+}
+
+/// Makes a call on a slot or a signal, or one that draws no byte.
+#[tactic(auto, using(rt_world::proofs::Walked::close_laws))]
+fn makes_on_slot<G: Rng>(alloc: Global, world: &mut WorldOf<Probe, G>, call: &WorldCall) -> Heard
+    requires { MayCall world.old.told.state world.old.out }
+    ensures { Kept G.stream world.old world.new }
+{
+    match *call {
+        WorldCall::Slot => return numbered(world.slot()),
         WorldCall::Poll(slot) => return polled(world.slot_poll(slot)),
         WorldCall::Send(slot, value) => world.slot_send(slot, Ok(value)),
         WorldCall::SendError(slot) => world.slot_send(slot, Err(Error::SendFailed)),
@@ -320,129 +372,68 @@ fn makes<G: Rng>(alloc: Global, world: &mut WorldOf<Probe, G>, call: &WorldCall)
         WorldCall::CloneSignal(signal) => return cloned(world.clone_signal(signal)),
         WorldCall::PollSignal(signal) => return shown(world.poll_signal(signal)),
         WorldCall::FillNothing => return fills_nothing(world),
+        _ => return Heard::Other,
     }
     Heard::Done
 }
 
-/// Whether calls are answered as they should be.
+/// How many calls are answered as they should be, up to the first that isn't.
 #[tactic(auto, using(rt_world::proofs::Walked::loop_laws))]
 fn answers_each<G: Rng>(
     alloc: Global,
     world: &mut WorldOf<Probe, G>,
     calls: &[(WorldCall, Heard)],
-) -> bool
+) -> usize
     requires { MayCall world.old.told.state world.old.out }
     ensures { Kept G.stream world.old world.new }
 {
+    let mut answered = 0usize;
     for (call, wanted) in calls {
         if makes(alloc, world, call) != *wanted {
-            return false;
+            return answered;
         }
+        answered = answered.wrapping_add(1);
     }
-    true
+    answered
 }
 
-/// How a world of calls before a root begins.
-const BEGIN: Begin = Begin {
-    start: 3,
-    cycle: 1_000_000,
-    deadline: None,
-    first: 0,
-    catch: false,
-};
-
-/// Whether calls before a root are answered as they should be, and are written.
+/// How many of these calls are answered as they should be, in a world of their own, and how many entries it has.
 #[tactic(auto, using(rt_world::proofs::Walked::close_laws), unfolding(rt_model::specs::Effects::after, rt_model::specs::State::begun))]
-fn answers_calls(alloc: Global) -> Result<bool, NoMemory> {
-    let Ok(mut world) = WorldOf::<Probe, Steady>::begin(alloc, Journal::new(alloc), BEGIN, Steady)
-    else {
-        return Err(NoMemory);
-    };
-    let over = world.sleep_poll(3, None);
-    let waits = world.sleep_poll(5, None);
-    let woken = answered(world.wake(9));
-    let child = made(world.child(0, "left"));
-    let task = spawned(spawns(&mut world, 1));
-    let again = spawned(spawns(&mut world, 1));
-    let hinted = world.executions() == [(0, Execution::Dedicated)].as_slice();
-    let waits_for = polled(world.join(0));
-    let flagged = answered(world.abort_task(0));
-    let unknown = answered(world.abort_task(1));
-    world.abort(0);
-    world.give_up(0);
-    let gone = polled(world.join(0));
-    world.close_node(0);
-    let now = world.now();
-    let cause = world.cleanup_unmade(None, FinishCause::NoMemory);
-    let came = taken_apart(world, None, cause);
-    Ok(
-        now == 3
-            && over == Ok(None)
-            && waits == Ok(Some(0))
-            && woken == Heard::Unknown
-            && child == Heard::Node(1, false)
-            && task == Heard::Task(0, 2)
-            && again == Heard::Unknown
-            && hinted
-            && waits_for == Heard::Pending
-            && flagged == Heard::Done
-            && unknown == Heard::Unknown
-            && gone == Heard::Unknown
-            && came.entries == 19,
-    )
-}
-
-/// Whether these calls are answered as they should be, in a world of their own, and how many entries it has.
-#[tactic(auto, using(rt_world::proofs::Walked::close_laws), unfolding(rt_model::specs::Effects::after, rt_model::specs::State::begun))]
-fn answer(alloc: Global, calls: &[(WorldCall, Heard)]) -> Result<(bool, usize), NoMemory> {
-    let Ok(mut world) = WorldOf::<Probe, Steady>::begin(alloc, Journal::new(alloc), BEGIN, Steady)
+fn answer(alloc: Global, calls: &[(WorldCall, Heard)]) -> Result<(usize, usize), NoMemory> {
+    let begin = Begin { start: 3, ..BEGIN };
+    let Ok(mut world) = WorldOf::<Probe, Steady>::begin(alloc, Journal::new(alloc), begin, Steady)
     else {
         return Err(NoMemory);
     };
     let answered = answers_each(alloc, &mut world, calls);
     let cause = world.cleanup_unmade(None, FinishCause::NoMemory);
-    let came = taken_apart(world, None, cause);
-    Ok((answered, came.entries))
+    let (_, _, entries) = taken_apart(world, None, cause);
+    Ok((answered, entries))
+}
+
+/// Stops where one of these calls is answered otherwise, or another number of entries is written.
+fn answers(rt: &impl Abort, alloc: Global, calls: &[(WorldCall, Heard)], wanted: usize) {
+    let (answered, entries) = answer(alloc, calls).expect(rt, "room");
+    assert!(rt; answered == calls.len(), "call {answered}");
+    assert!(rt; entries == wanted, "{entries} entries");
 }
 
 #[test]
-fn slots(rt: HostRuntime) -> Result<(), Fail> {
-    assert!(rt; answer(rt.alloc(), SLOT_CALLS)? == (true, 22));
-    Ok(())
+fn slots(rt: HostRuntime) {
+    answers(&rt, rt.alloc(), SLOT_CALLS, 22);
 }
 
 #[test]
-fn what_came_is_shown(rt: HostRuntime) -> Result<(), Fail> {
+fn what_came_is_shown(rt: HostRuntime) {
     // the start, an entry for each call and a second for the draw, and four of the cleanup
-    assert!(rt; answer(rt.alloc(), SHOWN)? == (true, 14));
-    Ok(())
+    answers(&rt, rt.alloc(), SHOWN, 14);
 }
-
-/// Whether the root of a run is taken in, and what comes of it.
-const RUNS: &[(bool, Came)] = &[
-    (
-        true,
-        Came {
-            output: Some(7),
-            cause: FinishCause::Completed,
-            entries: 12,
-        },
-    ),
-    (
-        false,
-        Came {
-            output: None,
-            cause: FinishCause::NoMemory,
-            entries: 6,
-        },
-    ),
-];
 
 #[test]
 fn surface(rt: HostRuntime) -> Result<(), Fail> {
-    for &(taken_in, wanted) in RUNS {
-        assert!(rt; run(rt.alloc(), taken_in)? == wanted);
-    }
-    assert!(rt; answers_calls(rt.alloc())?);
+    let alloc = rt.alloc();
+    assert!(rt; run(alloc, true)? == (Some(7), FinishCause::Completed, 12));
+    assert!(rt; run(alloc, false)? == (None, FinishCause::NoMemory, 6));
+    answers(&rt, alloc, CALLS, 19);
     Ok(())
 }

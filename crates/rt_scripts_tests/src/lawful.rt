@@ -14,7 +14,7 @@ use crate::supervised::{
 };
 use rt_audit::Entry;
 use rt_base::NoMemory;
-use rt_journals::{Unread, entries_in};
+use rt_journals::{Unread, entries_in, text_of};
 use rt_model::Begin;
 use rt_walk::first_unlawful;
 use std::alloc::Global;
@@ -73,19 +73,9 @@ fn are_lawful(alloc: Global, catch: bool, entries: &[Entry]) -> Result<bool, NoM
     Ok(first_unlawful(alloc, begin, &[], entries)?.is_none())
 }
 
-/// The lines of these entries.
-fn lines_of(alloc: Global, entries: &[Entry]) -> Result<String, NoMemory> {
-    let mut lines = String::new(alloc);
-    for entry in entries {
-        entry.add_to(alloc, &mut lines)?;
-        lines.push('\n')?;
-    }
-    Ok(lines)
-}
-
 /// Whether the lines of these entries are these.
 fn print_as(alloc: Global, entries: &[Entry], text: &str) -> Result<bool, NoMemory> {
-    let lines = lines_of(alloc, entries)?;
+    let lines = text_of(alloc, entries)?;
     Ok(lines.as_str() == text)
 }
 
@@ -109,7 +99,10 @@ fn is_lawful(alloc: Global, catch: bool, text: &str) -> Result<bool, Unread> {
 
 /// Takes the journal of each run of a report.
 fn takes_each(rt: &impl Abort, alloc: Global, catch: bool, report: &str) {
-    for block in report.split("run ").skip(1) {
+    let Some((_, runs)) = report.split_once("run ") else {
+        panic!(rt; "no run in {report}");
+    };
+    for block in runs.split("run ") {
         let Some(journal) = journal_in(block) else {
             panic!(rt; "no journal in {block}");
         };
@@ -120,6 +113,7 @@ fn takes_each(rt: &impl Abort, alloc: Global, catch: bool, report: &str) {
 
 #[test]
 fn reports_are_lawful(rt: HostRuntime) {
+    assert!(rt; !REPORTS.is_empty(), "no report");
     for &(catch, report) in REPORTS {
         takes_each(&rt, rt.alloc(), catch, report);
     }

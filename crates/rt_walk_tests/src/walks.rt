@@ -6,7 +6,7 @@ use rt_audit::Entry;
 use rt_base::NoMemory;
 use rt_journals::{
     BEGIN, OTHERS, TASKS, Unread, WAITS, begin_of, entries_in, entries_of, journal, lines_of,
-    parts_of,
+    parts_of, text_of,
 };
 use rt_model::Begin;
 use rt_walk::{Walker, first_unlawful};
@@ -100,14 +100,6 @@ fn change_of(words: &'static str) -> Option<(usize, Change)> {
     }
 }
 
-/// Stops where this isn't read.
-fn read<T: Drop>(rt: &impl Abort, row: &str, value: Option<T>) -> T {
-    match value {
-        Some(value) => value,
-        None => panic!(rt; "{row}"),
-    }
-}
-
 /// The end of the first front of these entries that isn't lawful.
 fn first_front(alloc: Global, begin: Begin, entries: &[Entry]) -> Result<Option<usize>, NoMemory> {
     for end in 0..entries.len() {
@@ -128,13 +120,14 @@ fn unlawful_front(alloc: Global, begin: Begin, text: &str) -> Result<Option<usiz
 
 /// Whether no front of a journal that begins so is unlawful.
 fn is_lawful(rt: &impl Abort, alloc: Global, begin: &str, text: &str) -> bool {
-    let front = unlawful_front(alloc, read(rt, begin, begin_of(begin)), text);
+    let begin = begin_of(begin).expect(rt, begin);
+    let front = unlawful_front(alloc, begin, text);
     front.expect(rt, "lines of a journal").is_none()
 }
 
 /// Takes a journal with its head, under each of its beginnings.
 fn is_lawful_under_each(rt: &impl Abort, alloc: Global, block: &'static str) {
-    let (name, begins, lines) = read(rt, block, parts_of(block));
+    let (name, begins, lines) = parts_of(block).expect(rt, block);
     for begin in begins.split(' ') {
         assert!(rt; is_lawful(rt, alloc, begin, lines), "{name} {begin}");
     }
@@ -143,7 +136,7 @@ fn is_lawful_under_each(rt: &impl Abort, alloc: Global, block: &'static str) {
 #[test]
 fn whole_journals_and_their_fronts(rt: HostRuntime) {
     for text in [TASKS, WAITS, OTHERS] {
-        for block in text.split("== ").skip(1) {
+        for block in text.strip_prefix("== ").unwrap_or("").split("\n== ") {
             is_lawful_under_each(&rt, rt.alloc(), block);
         }
     }
@@ -169,29 +162,29 @@ fn is_refused(
     text: &'static str,
     row: &'static str,
 ) -> bool {
-    let (words, _) = read(rt, row, row.split_once(" | "));
-    let (at, change) = read(rt, row, change_of(words));
+    let (words, _) = row.split_once(" | ").expect(rt, row);
+    let (at, change) = change_of(words).expect(rt, row);
     let first = first_changed(alloc, begin, text, at, change);
     first.expect(rt, "lines of a journal") == Some(at)
 }
 
 /// Takes the copies of a journal, whose name comes before them. It begins by the first of its beginnings.
 fn refuses_each(rt: &impl Abort, alloc: Global, copies: &'static str) {
-    if let Some((name, rows)) = copies.split_once('\n') {
-        let (begins, text) = read(rt, name, journal(name));
-        let (begin, _) = begins.split_once(' ').unwrap_or((begins, ""));
-        let begin = read(rt, begins, begin_of(begin));
-        for row in rows.lines() {
-            if !row.starts_with("#") {
-                assert!(rt; is_refused(rt, alloc, begin, text, row), "{name}: {row}");
-            }
+    let (name, rows) = copies.split_once('\n').expect(rt, copies);
+    assert!(rt; !rows.is_empty(), "no row of {name}");
+    let (begins, text) = journal(name).expect(rt, name);
+    let (begin, _) = begins.split_once(' ').unwrap_or((begins, ""));
+    let begin = begin_of(begin).expect(rt, begins);
+    for row in rows.lines() {
+        if !row.starts_with("#") {
+            assert!(rt; is_refused(rt, alloc, begin, text, row), "{name}: {row}");
         }
     }
 }
 
 #[test]
 fn damaged_copies(rt: HostRuntime) {
-    for copies in COPIES.split("= ") {
+    for copies in COPIES.strip_prefix("= ").unwrap_or("").split("\n= ") {
         refuses_each(&rt, rt.alloc(), copies);
     }
 }
@@ -222,6 +215,8 @@ late ready | timed begin | - | 15 | a run after one that failed
 stall ready | begin begin | - | 26 | a run after one that stalled
 ready | begin | 5 before call 0 sleep-poll 0 -> ready | - | a sleep that is over at once
 refused | begin | 6 before call 0 child 0  -> err label | - | an empty label, which is bad
+refused | begin | 6 before call 0 child 0 runtime-9 -> err 14 | - | a word that begins as what is reserved, and is no label
+refused | begin | 6 before call 0 child 0 runtime-9 -> err reserved | 6 | what is no label isn't reserved
 signals | begin | 24 before call 1 completion-poll 1 -> pending | - | a completion with one of two signals open
 aborts | begin | 24 before call 0 join 1 -> err 2 | - | a second join, which is refused
 caught | catching | 22 before answer 0 pending | 23 | a root that is pending after a caught panic
@@ -294,14 +289,80 @@ fn places_of(
 
 /// Whether a row comes to what it says.
 fn comes_so(rt: &impl Abort, alloc: Global, row: &'static str) -> bool {
-    let (wanted, first) = read(rt, row, places_of(alloc, row));
+    let (wanted, first) = places_of(alloc, row).expect(rt, row);
     first.expect(rt, "lines of journals") == wanted
 }
 
 #[test]
 fn several_runs(rt: HostRuntime) {
-    for row in WALKS.lines() {
+    for row in WALKS.split('\n') {
         assert!(rt; comes_so(&rt, rt.alloc(), row), "{row}");
+    }
+}
+
+/// Lines that no journal writes, the line that it writes, and what is wrong.
+const UNREAD: &str = "\
+call x wake 0 -> ok | call - wake 0 -> ok | a word for the maker that isn't its own
+call -0 wake 0 -> ok | call 0 wake 0 -> ok | a zero with a sign for who calls
+wake +7 | wake 7 | a number with a sign
+wake 00 | wake 0 | a zero before a number
+wake 07 | wake 7 | a zero before another digit
+round 0 +1 | round 0 1 | a round of a number with a sign
+skip +7 | skip 7 | a moment with a sign
+skip 07 | skip 7 | a zero before a moment
+start 0 +7 1000000 0 | start 0 7 1000000 0 | a deadline with a sign
+call 0 stop +7 -> closed 7 | call 0 stop 7 -> closed 7 | a value with a sign
+call 0 stop 7 -> closed 07 | call 0 stop 7 -> closed 7 | a zero before a value
+call 0 stop -07 -> closed 7 | call 0 stop -7 -> closed 7 | a zero before a value below zero
+call 0 stop -0 -> closed 7 | call 0 stop 0 -> closed 7 | a zero with a sign
+call 0 u32 -> +7 | call 0 u32 -> 7 | a drawn number with a sign
+call 0 fill 1 -> AB | call 0 fill 1 -> ab | a byte in capital hex
+event stop 0000000A | event stop 0000000a | a field in capital hex
+event process_task 0000000000000000000000000000000A - | event process_task 0000000000000000000000000000000a - | a task in capital hex
+event process_task +000000000000000000000000000000a - | event process_task 0000000000000000000000000000000a - | a task with a sign
+event process_task 00000000000000000000000000000000 4A | event process_task 00000000000000000000000000000000 4a | a label in capital hex
+crash p+7 | crash p7 | a prefix of a length with a sign
+crash p07 | crash p7 | a zero before the length of a prefix
+event stop  | event stop - | no word where a field is
+event process_task 00000000000000000000000000000000  | event process_task 00000000000000000000000000000000 - | no word where a label is
+event process_task 0  | event process_task 00000000000000000000000000000000 - | no word where a label is, behind a plain number
+event  | event stop | no word where the name of an event is
+call 0 fill 0 ->  | call 0 fill 0 -> - | no word where bytes are
+wake 18446744073709551616 | wake 18446744073709551615 | a number too large
+call 0 stop 2147483648 -> closed 7 | call 0 stop 2147483647 -> closed 7 | a value too large";
+
+/// The line of the entry that a line is read as, if it is read.
+fn printed(alloc: Global, line: &str) -> Result<Option<String>, NoMemory> {
+    let entries = match entries_of(alloc, &[line]) {
+        Ok(entries) => entries,
+        Err(Unread::Line(_)) => return Ok(None),
+        Err(Unread::NoMemory) => return Err(NoMemory),
+    };
+    let text = text_of(alloc, entries.as_slice());
+    drop(entries);
+    Ok(Some(text?))
+}
+
+/// Stops where a line isn't read, or isn't what its entry prints.
+fn is_printed(rt: &impl Abort, alloc: Global, line: &str) {
+    let text = printed(alloc, line).expect(rt, "room").expect(rt, line);
+    let seen = text.as_str().strip_suffix('\n').unwrap_or("");
+    assert!(rt; seen == line, "{line} prints as {text}");
+}
+
+/// Takes a row of a line that isn't read, and of one that is and prints as it is.
+fn reads_second(rt: &impl Abort, alloc: Global, row: &str) {
+    let (unread, rest) = row.split_once(" | ").expect(rt, row);
+    let (line, _) = rest.split_once(" | ").expect(rt, row);
+    let read = printed(alloc, unread).expect(rt, "room");
+    assert!(rt; read.is_none(), "{row}");
+    is_printed(rt, alloc, line);
+}
+
+#[test]
+fn unread_lines(rt: HostRuntime) {
+    for row in UNREAD.split('\n') {
+        reads_second(&rt, rt.alloc(), row);
     }
 }
 
