@@ -1,34 +1,18 @@
 // Worked examples on the network in memory. Each body is over any network, so it is proved from the trait alone.
 
-use crate::line::{Line, Step, Taken, poll_put, takes};
+use crate::line::{Line, close, numbered, poll_put, receive_next, step_in};
 use rt_base::{Addr, Env, Error, Ip, NoEnv, Poll};
-use rt_bufs::{IoBuf, IoBufs};
+use rt_bufs::IoBufs;
 use rt_fixtures::{
     Ending, Notebook, Noting, NotingSink, NotingStream, got, seen, seen_error, take_room_of_calls,
 };
-use rt_net::{Channel, Net, Network, Receiving, Reply, Sending, Sink, Stream};
+use rt_net::{Channel, Net, Network, Receiving, Reply, Sending};
 use std::alloc::Global;
 use std::process::Abort;
 
 // A network in memory.
 fn memory(rt: &impl Abort, alloc: Global) -> Net {
     Net::new(alloc).expect(rt, "room")
-}
-
-// As many bytes of 7.
-fn bytes(alloc: Global, count: usize) -> Result<IoBufs, Error> {
-    let mut list = Vec::new(alloc);
-    list.resize(count, 7)?;
-    Ok(IoBufs::from_buf(alloc, IoBuf::from_vec(list)?)?)
-}
-
-// As many pieces of as many bytes.
-fn pieces(alloc: Global, count: usize, size: usize) -> Result<IoBufs, Error> {
-    let mut all = IoBufs::new(alloc);
-    for _ in 0..count {
-        all.append_all(bytes(alloc, size)?)?;
-    }
-    Ok(all)
 }
 
 fn here(port: u16) -> Addr {
@@ -77,162 +61,123 @@ fn get<N: Network, E: Env>(
     }
 }
 
-// Closes both halves, and answers the tasks that this wakes.
-fn close<N: Network>(net: &mut N, sink: N::Sink, stream: N::Stream) -> (Option<u64>, Option<u64>) {
-    (net.close_sink(sink), net.close_stream(stream))
-}
-
 // A channel with this buffer size.
-fn line_of(
-    rt: &impl Abort,
-    alloc: Global,
-    net: &mut Net,
-    buffer_size: usize,
-) -> Line<Sink, Stream> {
-    let (sink, stream) = Channel::init_with_buffer_size(net, buffer_size).expect(rt, "room");
+fn line_of(rt: &impl Abort, alloc: Global, net: &mut Net, size: usize) -> Line<Net> {
+    let opened = Channel::init_with_buffer_size(net, size);
+    let (sink, stream) = opened.expect(rt, "room");
     Line::new(alloc, sink, stream)
 }
 
-// Closes both halves, which wakes these tasks.
-fn hangs_up<N: Network>(
-    rt: &impl Abort,
-    net: &mut N,
-    line: Line<N::Sink, N::Stream>,
-    woken: (Option<u64>, Option<u64>),
-) {
-    let Line {
-        alloc: _,
-        sink,
-        stream,
-        sent: _,
-        received: _,
-    } = line;
-    assert!(rt; close(net, sink, stream) == woken);
-}
-
-// Takes the steps on a channel that is closed then, which wakes no task.
-fn takes_all<N: Network, E: Env>(
-    rt: &impl Abort,
-    net: &mut N,
-    env: &mut E,
-    mut line: Line<N::Sink, N::Stream>,
-    steps: &[Taken],
-) {
-    takes(rt, net, env, &mut line, steps);
-    hangs_up(rt, net, line, (None, None));
-}
-
-// Takes the steps on one more channel, which has this buffer size.
-fn takes_on_new(
-    rt: &impl Abort,
-    alloc: Global,
-    net: &mut Net,
-    buffer_size: usize,
-    steps: &[Taken],
-) {
-    let line = line_of(rt, alloc, net, buffer_size);
-    takes_all(rt, net, &mut NoEnv, line, steps);
-}
-
-// Takes the steps on the one channel of a network.
-fn takes_alone(rt: &impl Abort, alloc: Global, buffer_size: usize, steps: &[Taken]) {
-    let mut net = memory(rt, alloc);
-    takes_on_new(rt, alloc, &mut net, buffer_size, steps);
-    drop(net);
+// A channel with the buffer size of this word.
+fn line_in(rt: &impl Abort, alloc: Global, net: &mut Net, size: &str) -> Line<Net> {
+    if size == "default" {
+        let (sink, stream) = Channel::init(net).expect(rt, "room");
+        return Line::new(alloc, sink, stream);
+    }
+    line_of(rt, alloc, net, size.parse::<usize>().expect(rt, size))
 }
 
 // A `recv` and a `send` that block each other.
-const BLOCK: &[Taken] = &[
-    (Step::Recv(100), Ending::Waits, None),
-    (Step::Send(50), Ending::Waits, None),
-];
+const BLOCK: &str = "recv 100 -> waits; send 50 -> waits";
 
 #[test]
 fn long_halves_block(rt: HostRuntime) {
     let mut net = memory(&rt, rt.alloc());
     let mut line = line_of(&rt, rt.alloc(), &mut net, 10);
-    takes(&rt, &mut net, &mut NoEnv, &mut line, BLOCK);
+    line.takes(&rt, &mut net, &mut NoEnv, BLOCK);
     assert!(rt; net.waiting_halves(0) == (Some(2), Some(1)));
-    hangs_up(&rt, &mut net, line, (Some(2), None));
+    line.hangs_up(&rt, &mut net, (Some(2), None));
+    drop(net);
+}
+
+// What a channel shows, the buffer sizes of channels that follow one another on one network, and the steps on each. Where
+// receives follow, they come once the sink has closed, and `-` is no step.
+const STORIES: &str = "\
+calls after a given up receive, whose sink goes on, and whose stream is spent | 10 | recv 1 -> waits; give-up-recv -> done; send 5 -> done; recv 1 -> closed
+bytes left over | 100 | send 2 -> done; recv 9 -> waits; peek 9 -> got 2; send 3 -> done; send 10 -> done wakes 2; send 1 -> done; poll-recv -> got 9; peek 9 -> got 6
+bytes left by a closed sink: all, then too few, then nothing more | 10 | send 5 -> done | recv 3 -> got 3; recv 3 -> fails; recv 1 -> closed
+small buffers | 3 0 | send 4 -> waits; poll-send -> waits; recv 4 -> got 4 wakes 1; poll-send -> done; recv 2 -> waits; send 2 -> done wakes 2; poll-recv -> got 2
+a mebibyte in pieces | default | send-256s 4096 -> waits; 14 times recv 65536 -> got 65536; recv 65536 -> got 65536 wakes 1; recv 65536 -> got 65536; poll-send -> done
+many pieces in one receive | default | recv 90000 -> waits; send-30000s 3 -> done wakes 2; poll-recv -> got 90000
+a mebibyte in one receive | 1048576 | recv 1048576 -> waits; 15 times send 65536 -> done; send 65536 -> done wakes 2; poll-recv -> got 1048576";
+
+// Takes the steps of a row on a network of its own.
+fn takes_row(rt: &impl Abort, alloc: Global, row: &str) {
+    let (_, rest) = row.split_once(" | ").expect(rt, row);
+    let (sizes, steps) = rest.split_once(" | ").expect(rt, row);
+    let mut net = memory(rt, alloc);
+    for size in sizes.split(' ') {
+        let line = line_in(rt, alloc, &mut net, size);
+        match steps.split_once(" | ") {
+            Some((steps, receives)) => {
+                outlives(rt, &mut net, &mut NoEnv, line, steps, None, receives)
+            }
+            None => line.takes_all(rt, &mut net, &mut NoEnv, steps),
+        }
+    }
     drop(net);
 }
 
 #[test]
 fn empty_receive(rt: HostRuntime) {
-    takes_alone(
-        &rt,
-        rt.alloc(),
-        10,
-        &[(Step::Recv(0), Ending::Got(0), None)],
-    );
+    let row = "an empty receive | 10 | recv 0 -> got 0";
+    takes_row(&rt, rt.alloc(), row);
 }
 
-const SENDS_AFTER: &[Taken] = &[
-    (Step::Send(20), Ending::Waits, None),
-    (Step::GiveUpSend, Ending::Done, None),
-    (Step::Recv(20), Ending::Got(20), None),
-    (Step::Send(1), Ending::Closed, None),
-    (Step::Send(1), Ending::Closed, None),
-];
+const SENDS_AFTER: &str = "\
+a send after a given up one, whose bytes stay, and whose sink is spent | 10 | send 20 -> waits; give-up-send -> done; \
+recv 20 -> got 20; send 1 -> closed; send 1 -> closed";
 
-// Its bytes stay, and the sink is spent.
 #[test]
 fn send_after_a_given_up_send(rt: HostRuntime) {
-    takes_alone(&rt, rt.alloc(), 10, SENDS_AFTER);
+    takes_row(&rt, rt.alloc(), SENDS_AFTER);
 }
 
-const CALLS_AFTER: &[Taken] = &[
-    (Step::Recv(1), Ending::Waits, None),
-    (Step::GiveUpRecv, Ending::Done, None),
-    (Step::Send(5), Ending::Done, None),
-    (Step::Recv(1), Ending::Closed, None),
-];
-
-// The sink goes on, and the stream is spent.
 #[test]
-fn calls_after_a_given_up_receive(rt: HostRuntime) {
-    takes_alone(&rt, rt.alloc(), 10, CALLS_AFTER);
+fn receive_after_the_sink_closed(rt: HostRuntime) {
+    let row = "a receive after the sink closed | 10 | - | recv 1 -> fails; recv 1 -> closed";
+    takes_row(&rt, rt.alloc(), row);
+}
+
+const SMALL_SENDS: &str = "\
+small sends behind a mebibyte, all of which is peeked at | 2097152 | send 1048576 -> done; \
+65536 times recv 16 -> got 16, send 16 -> done; peek 1048576 -> got 1048560; recv 1048576 -> got 1048576";
+
+#[test]
+fn small_sends_behind_a_mebibyte(rt: HostRuntime) {
+    takes_row(&rt, rt.alloc(), SMALL_SENDS);
+}
+
+#[test]
+fn stories_of_channels(rt: HostRuntime) {
+    for row in STORIES.split('\n') {
+        takes_row(&rt, rt.alloc(), row);
+    }
 }
 
 // Calls with a token whose number no live object has.
-const REFUSED: &[Taken] = &[
-    (Step::PollSend, Ending::UnknownToken, None),
-    (Step::PollRecv, Ending::UnknownToken, None),
-    (Step::GiveUpRecv, Ending::Done, None),
-    (Step::Recv(1), Ending::UnknownToken, None),
-    (Step::Peek(1), Ending::UnknownToken, None),
-];
+const REFUSED: &str =
+    "poll-send -> unknown; poll-recv -> unknown; give-up-recv -> done; recv 1 -> unknown; peek 1 -> unknown";
 
-const WAITING_SEND: &[Taken] = &[(Step::Send(20), Ending::Waits, None)];
-
-const GIVEN_UP_SEND: &[Taken] = &[
-    (Step::Recv(20), Ending::Got(20), Some(3)),
-    (Step::PollSend, Ending::Done, None),
-    (Step::Send(20), Ending::Waits, None),
-    (Step::GiveUpSend, Ending::Done, None),
-];
+const GIVEN_UP_SEND: &str =
+    "recv 20 -> got 20 wakes 3; poll-send -> done; send 20 -> waits; give-up-send -> done";
 
 // The halves of a channel that wait in their own network are refused in the other one.
-fn refuses<N: Network>(
-    rt: &impl Abort,
-    there: &mut N,
-    net: &mut N,
-    other: &mut Line<N::Sink, N::Stream>,
-) {
-    takes(rt, there, &mut NoEnv, other, BLOCK);
-    takes(rt, net, &mut NoEnv, other, REFUSED);
+fn refuses<N: Network>(rt: &impl Abort, there: &mut N, net: &mut N, other: &mut Line<N>) {
+    other.takes(rt, there, &mut NoEnv, BLOCK);
+    other.takes(rt, net, &mut NoEnv, REFUSED);
 }
 
 // The other network's `send` waits in the place of the channel's own, and for nothing where that was given up.
 fn polls_in_its_place<N: Network>(
     rt: &impl Abort,
     net: &mut N,
-    line: &mut Line<N::Sink, N::Stream>,
-    other: &mut Line<N::Sink, N::Stream>,
+    line: &mut Line<N>,
+    other: &mut Line<N>,
 ) {
-    takes(rt, net, &mut NoEnv, line, WAITING_SEND);
+    line.takes(rt, net, &mut NoEnv, "send 20 -> waits");
     let started = poll_put(net, &mut NoEnv, &mut other.sink, 3);
-    takes(rt, net, &mut NoEnv, line, GIVEN_UP_SEND);
+    line.takes(rt, net, &mut NoEnv, GIVEN_UP_SEND);
     let given_up = poll_put(net, &mut NoEnv, &mut other.sink, 3);
     assert!(rt; (started, given_up) == (Ending::Waits, Ending::Done));
 }
@@ -242,14 +187,14 @@ fn hangs_up_both<N: Network>(
     rt: &impl Abort,
     there: &mut N,
     net: &mut N,
-    line: Line<N::Sink, N::Stream>,
-    mut other: Line<N::Sink, N::Stream>,
+    line: Line<N>,
+    mut other: Line<N>,
 ) {
     let empty = IoBufs::new(line.alloc);
-    hangs_up(rt, net, line, (None, None));
+    line.hangs_up(rt, net, (None, None));
     let closed = put(net, &mut NoEnv, &mut other.sink, empty, 1);
     assert!(rt; closed == Ending::UnknownToken);
-    hangs_up(rt, there, other, (Some(2), None));
+    other.hangs_up(rt, there, (Some(2), None));
 }
 
 // Another network's token, whose halves wait there, is refused where no channel has its number, and its channel goes on
@@ -270,71 +215,28 @@ fn calls_by_the_tokens_of_another_network(rt: HostRuntime) {
     drop(there);
 }
 
-const LEFT_OVER: &[Taken] = &[
-    (Step::Send(2), Ending::Done, None),
-    (Step::Recv(9), Ending::Waits, None),
-    (Step::Peek(9), Ending::Got(2), None),
-    (Step::Send(3), Ending::Done, None),
-    (Step::Send(10), Ending::Done, Some(2)),
-    (Step::Send(1), Ending::Done, None),
-    (Step::PollRecv, Ending::Got(9), None),
-    (Step::Peek(9), Ending::Got(6), None),
-];
-
-#[test]
-fn bytes_left_over(rt: HostRuntime) {
-    takes_alone(&rt, rt.alloc(), 100, LEFT_OVER);
-}
-
-// Takes the steps. Then the sink closes, which wakes this task, and the stream gives this.
+// Takes the steps, where `-` is none. Then the sink closes, which wakes this task, and these receives follow.
 fn outlives<N: Network, E: Env>(
     rt: &impl Abort,
     net: &mut N,
     env: &mut E,
-    mut line: Line<N::Sink, N::Stream>,
-    steps: &[Taken],
+    mut line: Line<N>,
+    steps: &str,
     woken: Option<u64>,
-    receives: &[(usize, Ending)],
+    receives: &str,
 ) {
-    takes(rt, net, env, &mut line, steps);
-    let Line {
-        alloc: _,
-        sink,
-        mut stream,
-        sent: _,
-        received: _,
-    } = line;
+    if steps != "-" {
+        line.takes(rt, net, env, steps);
+    }
+    let (sink, mut stream, mut received) = line.into_halves();
     assert!(rt; net.close_sink(sink) == woken);
-    for (len, ending) in receives {
-        assert!(rt; get(net, env, &mut stream, *len, 2) == *ending);
+    for step in receives.split("; ") {
+        let ((word, len), wanted) = step_in(step).expect(rt, receives);
+        let seen = receive_next(net, env, &mut stream, len, &mut received);
+        let are_same = word == "recv" && seen == wanted;
+        assert!(rt; are_same, "{step} of {receives}");
     }
     let _ = net.close_stream(stream);
-}
-
-// The stream outlives its sink on the one channel of a network, and no task is woken.
-fn outlives_alone(rt: &impl Abort, alloc: Global, steps: &[Taken], receives: &[(usize, Ending)]) {
-    let mut net = memory(rt, alloc);
-    let line = line_of(rt, alloc, &mut net, 10);
-    outlives(rt, &mut net, &mut NoEnv, line, steps, None, receives);
-    drop(net);
-}
-
-#[test]
-fn receive_after_the_sink_closed(rt: HostRuntime) {
-    let receives = [(1, Ending::RecvFailed), (1, Ending::Closed)];
-    outlives_alone(&rt, rt.alloc(), &[], &receives);
-}
-
-// All bytes, then too few, then nothing more.
-#[test]
-fn bytes_left_by_a_closed_sink(rt: HostRuntime) {
-    let steps = [(Step::Send(5), Ending::Done, None)];
-    let receives = [
-        (3, Ending::Got(3)),
-        (3, Ending::RecvFailed),
-        (1, Ending::Closed),
-    ];
-    outlives_alone(&rt, rt.alloc(), &steps, &receives);
 }
 
 // Dials, closes what was dialed, and says how that was refused.
@@ -453,53 +355,12 @@ fn bound_addresses(rt: HostRuntime) {
     drop(net);
 }
 
-// Receives pieces of so many bytes, and says how many bytes came.
-fn drains<N: Network>(net: &mut N, stream: &mut N::Stream, pieces: usize, size: usize) -> usize {
-    let mut all = 0usize;
-    for _ in 0..pieces {
-        if let Ending::Got(count) = get(net, &mut NoEnv, stream, size, 2) {
-            all = all.saturating_add(count);
-        }
-    }
-    all
-}
-
-fn passes<N: Network>(
-    net: &mut N,
-    mut sink: N::Sink,
-    mut stream: N::Stream,
-    bufs: IoBufs,
-) -> (Ending, usize, Ending) {
-    let first = put(net, &mut NoEnv, &mut sink, bufs, 1);
-    let all = drains(net, &mut stream, 16, 65536);
-    let last = poll_put(net, &mut NoEnv, &mut sink, 1);
-    let _ = close(net, sink, stream);
-    (first, all, last)
-}
-
-#[test]
-fn a_mebibyte_through_one_channel(rt: HostRuntime) {
-    let bufs = pieces(rt.alloc(), 4096, 256).expect(&rt, "room");
-    let mut net = memory(&rt, rt.alloc());
-    let (sink, stream) = Channel::init(&mut net).expect(&rt, "room");
-    let passed = passes(&mut net, sink, stream, bufs);
-    drop(net);
-    assert!(rt; passed == (Ending::Waits, 1048576, Ending::Done));
-}
-
 // Sends, receives, peeks, waits and gives up.
-const EACH_STEP: &[Taken] = &[
-    (Step::Send(9), Ending::Waits, None),
-    (Step::Recv(5), Ending::Got(5), Some(1)),
-    (Step::PollSend, Ending::Done, None),
-    (Step::Peek(1), Ending::Got(1), None),
-    (Step::Recv(90), Ending::Waits, None),
-    (Step::PollRecv, Ending::Waits, None),
-    (Step::GiveUpSend, Ending::Done, None),
-    (Step::GiveUpRecv, Ending::Done, None),
-];
+const EACH_STEP: &str = "\
+send 9 -> waits; recv 5 -> got 5 wakes 1; poll-send -> done; peek 1 -> got 1; recv 90 -> waits; poll-recv -> waits; \
+give-up-send -> done; give-up-recv -> done";
 
-// Accepts a connection, closes it, and answers its dialer's port, or 0 where none waits, or how that was refused.
+// Accepts a connection, closes it, and returns its dialer's port, or 0 where none waits, or how that was refused.
 fn accept<N: Network, E: Env>(
     net: &mut N,
     env: &mut E,
@@ -541,8 +402,8 @@ fn listens<N: Network>(net: &mut N, socket: Addr) -> Heard {
 }
 
 // Takes each step on a channel of 7 bytes of buffer, and then listens.
-fn exercise<N: Network>(rt: &impl Abort, net: &mut N, line: Line<N::Sink, N::Stream>) {
-    takes_all(rt, net, &mut NoEnv, line, EACH_STEP);
+fn exercise<N: Network>(rt: &impl Abort, net: &mut N, line: Line<N>) {
+    line.takes_all(rt, net, &mut NoEnv, EACH_STEP);
     let heard = listens(net, here(4000));
     assert!(rt; heard == (4000, Ok(0), Ending::Done, Ok(32768)));
 }
@@ -579,14 +440,9 @@ fn surface(rt: HostRuntime) {
 }
 
 // The halves of a channel of what the wrapper passes calls on to.
-fn noted<K, M>(line: Line<K, M>, remote: Addr) -> Line<NotingSink<K>, NotingStream<M>> {
-    let Line {
-        alloc,
-        sink,
-        stream,
-        sent: _,
-        received: _,
-    } = line;
+fn noted<N: Network>(line: Line<N>, remote: Addr) -> Line<Noting<N>> {
+    let alloc = line.alloc;
+    let (sink, stream, _) = line.into_halves();
     let sink = NotingSink {
         inner: sink,
         remote,
@@ -599,12 +455,7 @@ fn noted<K, M>(line: Line<K, M>, remote: Addr) -> Line<NotingSink<K>, NotingStre
 }
 
 // The same through a wrapper, which counts the bytes.
-fn passes_on<N: Network>(
-    rt: &impl Abort,
-    alloc: Global,
-    inner: N,
-    line: Line<N::Sink, N::Stream>,
-) -> N {
+fn passes_on<N: Network>(rt: &impl Abort, alloc: Global, inner: N, line: Line<N>) -> N {
     let mut net = Noting::new(alloc, inner);
     exercise(rt, &mut net, noted(line, here(4000)));
     let (inner, sent, received) = net.into_parts();
@@ -659,24 +510,22 @@ fn dials_and_waits<N: Network>(
     (sink, stream)
 }
 
-const WOKEN: &[Option<u64>] = &[Some(7), Some(1), Some(8), Some(2), None];
-
 // In the order of their dials, each one's receiver before its sender. The second waits to receive alone, the third to send.
 fn wakes_dialers<N: Network>(rt: &impl Abort, alloc: Global, net: &mut N) {
     let at = here(4000);
     let listener = net.bind(&mut NoEnv, at).expect(rt, "the address is free");
-    let long = bytes(alloc, 65537).expect(rt, "room");
+    let long = numbered(rt, alloc, 0, 65537);
     let waits = (Ending::Waits, Ending::Waits);
     let (sink, stream) = dials_and_waits(rt, net, at, 1, long, (7, 1), waits);
-    let short = bytes(alloc, 1).expect(rt, "room");
+    let short = numbered(rt, alloc, 0, 1);
     let receives = (Ending::Waits, Ending::Done);
     let (second_sink, second_stream) = dials_and_waits(rt, net, at, 1, short, (8, 3), receives);
-    let long = bytes(alloc, 65537).expect(rt, "room");
+    let long = numbered(rt, alloc, 0, 65537);
     let sends = (Ending::Got(0), Ending::Waits);
     let (third_sink, third_stream) = dials_and_waits(rt, net, at, 0, long, (9, 2), sends);
     net.close_listener(listener);
-    for task in WOKEN {
-        assert!(rt; net.next_woken() == *task);
+    for task in [Some(7), Some(1), Some(8), Some(2), None] {
+        assert!(rt; net.next_woken() == task);
     }
     let _ = close(net, sink, stream);
     let _ = close(net, second_sink, second_stream);
@@ -699,7 +548,7 @@ fn connects<N: Network, E: Env>(
     env: &mut E,
     listener: &mut N::Listener,
     socket: Addr,
-) -> (Line<N::Sink, N::Stream>, Line<N::Sink, N::Stream>, u16) {
+) -> (Line<N>, Line<N>, u16) {
     assert!(rt; accept(net, env, listener, true) == Ok(0));
     let reply = net.dial(env, socket).expect(rt, "a listener is there");
     let Reply {
@@ -725,32 +574,13 @@ fn connects<N: Network, E: Env>(
 }
 
 // What the dialer says to the listener.
-const SPOKEN_THERE: &[Taken] = &[
-    (Step::Peek(9), Ending::Got(0), None),
-    (Step::Recv(5), Ending::Waits, None),
-    (Step::Send(0), Ending::Done, None),
-    (Step::Send(3), Ending::Done, None),
-    (Step::Send(4), Ending::Done, Some(2)),
-    (Step::PollRecv, Ending::Got(5), None),
-    (Step::Peek(0), Ending::Got(0), None),
-    (Step::Peek(9), Ending::Got(2), None),
-    (Step::Send(1), Ending::Done, None),
-    (Step::Send(0), Ending::Done, None),
-    (Step::Recv(0), Ending::Got(0), None),
-    (Step::Recv(2), Ending::Got(2), None),
-    (Step::Recv(1), Ending::Got(1), None),
-    (Step::Recv(0), Ending::Got(0), None),
-];
+const SPOKEN_THERE: &str = "\
+peek 9 -> got 0; recv 5 -> waits; send 0 -> done; send 3 -> done; send 4 -> done wakes 2; poll-recv -> got 5; peek 0 -> got 0; \
+peek 9 -> got 2; send 1 -> done; send 0 -> done; recv 0 -> got 0; recv 2 -> got 2; recv 1 -> got 1; recv 0 -> got 0";
 
 // What the listener says to the dialer.
-const SPOKEN_BACK: &[Taken] = &[
-    (Step::Send(2), Ending::Done, None),
-    (Step::Peek(1), Ending::Got(0), None),
-    (Step::Recv(1), Ending::Got(1), None),
-    (Step::Recv(2), Ending::Waits, None),
-    (Step::Send(1), Ending::Done, Some(2)),
-    (Step::PollRecv, Ending::Got(2), None),
-];
+const SPOKEN_BACK: &str =
+    "send 2 -> done; peek 1 -> got 0; recv 1 -> got 1; recv 2 -> waits; send 1 -> done wakes 2; poll-recv -> got 2";
 
 // One listener and one dialer after the other, and what they say to each other.
 fn serves<N: Network, E: Env>(
@@ -762,8 +592,8 @@ fn serves<N: Network, E: Env>(
     socket: Addr,
 ) -> u16 {
     let (there, back, port) = connects(rt, alloc, net, env, listener, socket);
-    takes_all(rt, net, env, there, SPOKEN_THERE);
-    takes_all(rt, net, env, back, SPOKEN_BACK);
+    there.takes_all(rt, net, env, SPOKEN_THERE);
+    back.takes_all(rt, net, env, SPOKEN_BACK);
     port
 }
 
@@ -830,22 +660,17 @@ fn server_and_client_over_two_wrappers(rt: HostRuntime) {
     drop(wraps_twice(&rt, rt.alloc(), net));
 }
 
-const WAITS: &[Taken] = &[
-    (Step::Send(2), Ending::Done, None),
-    (Step::Recv(3), Ending::Waits, None),
-    (Step::Send(1), Ending::Done, Some(2)),
-    (Step::PollRecv, Ending::Got(3), None),
-];
+const WAITS: &str = "send 2 -> done; recv 3 -> waits; send 1 -> done wakes 2; poll-recv -> got 3";
 
 // Takes the steps on each of two channels, which stay.
 fn takes_on_both<N: Network>(
     rt: &impl Abort,
     net: &mut N,
-    first: &mut Line<N::Sink, N::Stream>,
-    second: &mut Line<N::Sink, N::Stream>,
+    first: &mut Line<N>,
+    second: &mut Line<N>,
 ) {
-    takes(rt, net, &mut NoEnv, first, WAITS);
-    takes(rt, net, &mut NoEnv, second, WAITS);
+    first.takes(rt, net, &mut NoEnv, WAITS);
+    second.takes(rt, net, &mut NoEnv, WAITS);
 }
 
 #[test]
@@ -855,114 +680,26 @@ fn channels_side_by_side(rt: HostRuntime) {
     let mut first = line_of(&rt, alloc, &mut net, 65536);
     let mut second = line_of(&rt, alloc, &mut net, 65536);
     takes_on_both(&rt, &mut net, &mut first, &mut second);
-    takes_on_new(&rt, alloc, &mut net, usize::MAX, WAITS);
-    hangs_up(&rt, &mut net, first, (None, None));
-    hangs_up(&rt, &mut net, second, (None, None));
-    drop(net);
-}
-
-const DRAINS: &[Taken] = &[
-    (Step::Send(4), Ending::Waits, None),
-    (Step::PollSend, Ending::Waits, None),
-    (Step::Recv(4), Ending::Got(4), Some(1)),
-    (Step::PollSend, Ending::Done, None),
-    (Step::Recv(2), Ending::Waits, None),
-    (Step::Send(2), Ending::Done, Some(2)),
-    (Step::PollRecv, Ending::Got(2), None),
-];
-
-#[test]
-fn small_buffers(rt: HostRuntime) {
-    let mut net = memory(&rt, rt.alloc());
-    takes_on_new(&rt, rt.alloc(), &mut net, 3, DRAINS);
-    takes_on_new(&rt, rt.alloc(), &mut net, 0, DRAINS);
-    drop(net);
-}
-
-// Takes the first steps, the next ones so many times, and the last ones on a channel that is closed then.
-fn takes_many<N: Network>(
-    rt: &impl Abort,
-    net: &mut N,
-    mut line: Line<N::Sink, N::Stream>,
-    first: &[Taken],
-    next: &[Taken],
-    count: usize,
-    last: &[Taken],
-) {
-    takes(rt, net, &mut NoEnv, &mut line, first);
-    for _ in 0..count {
-        takes(rt, net, &mut NoEnv, &mut line, next);
-    }
-    takes_all(rt, net, &mut NoEnv, line, last);
-}
-
-const WHOLE: &[Taken] = &[(Step::Recv(1048576), Ending::Waits, None)];
-
-const PIECE: &[Taken] = &[(Step::Send(65536), Ending::Done, None)];
-
-const LAST_PIECE: &[Taken] = &[
-    (Step::Send(65536), Ending::Done, Some(2)),
-    (Step::PollRecv, Ending::Got(1048576), None),
-];
-
-#[test]
-fn a_mebibyte_in_one_receive(rt: HostRuntime) {
-    let mut net = memory(&rt, rt.alloc());
-    let line = line_of(&rt, rt.alloc(), &mut net, 1048576);
-    takes_many(&rt, &mut net, line, WHOLE, PIECE, 15, LAST_PIECE);
-    drop(net);
-}
-
-const LARGE: &[Taken] = &[(Step::Send(1048576), Ending::Done, None)];
-
-const SMALL: &[Taken] = &[
-    (Step::Recv(16), Ending::Got(16), None),
-    (Step::Send(16), Ending::Done, None),
-];
-
-const HELD: &[Taken] = &[
-    (Step::Peek(1048576), Ending::Got(1048560), None),
-    (Step::Recv(1048576), Ending::Got(1048576), None),
-];
-
-// All that is held can be peeked at.
-#[test]
-fn small_sends_behind_a_mebibyte(rt: HostRuntime) {
-    let mut net = memory(&rt, rt.alloc());
-    let line = line_of(&rt, rt.alloc(), &mut net, 2097152);
-    takes_many(&rt, &mut net, line, LARGE, SMALL, 65536, HELD);
+    let third = line_of(&rt, alloc, &mut net, usize::MAX);
+    third.takes_all(&rt, &mut net, &mut NoEnv, WAITS);
+    first.hangs_up(&rt, &mut net, (None, None));
+    second.hangs_up(&rt, &mut net, (None, None));
     drop(net);
 }
 
 // The stream closes first, and then a `send` fails.
-fn fails_to_send<N: Network, E: Env>(
-    rt: &impl Abort,
-    net: &mut N,
-    env: &mut E,
-    line: Line<N::Sink, N::Stream>,
-) {
-    let Line {
-        alloc,
-        mut sink,
-        stream,
-        sent: _,
-        received: _,
-    } = line;
+fn fails_to_send<N: Network, E: Env>(rt: &impl Abort, net: &mut N, env: &mut E, line: Line<N>) {
+    let alloc = line.alloc;
+    let (mut sink, stream, _) = line.into_halves();
     let _ = net.close_stream(stream);
     let refused = put(net, env, &mut sink, IoBufs::new(alloc), 1);
     assert!(rt; refused == Ending::SendFailed);
     let _ = net.close_sink(sink);
 }
 
-const LOSES_BYTES: &[Taken] = &[
-    (Step::Recv(2), Ending::Waits, None),
-    (Step::Send(3), Ending::Done, Some(2)),
-    (Step::PollRecv, Ending::Got(2), None),
-    (Step::Send(65537), Ending::Waits, None),
-    (Step::Recv(2), Ending::Got(2), Some(1)),
-    (Step::PollSend, Ending::Done, None),
-    (Step::Recv(70000), Ending::Waits, None),
-];
+const LOSES_BYTES: &str = "\
+recv 2 -> waits; send 3 -> done wakes 2; poll-recv -> got 2; send 65537 -> waits; recv 2 -> got 2 wakes 1; poll-send -> done; \
+recv 70000 -> waits";
 
 // Calls that succeed, wait and fail.
 fn ends_each_way<N: Network, E: Env>(
@@ -976,8 +713,7 @@ fn ends_each_way<N: Network, E: Env>(
     assert!(rt; bind(net, env, socket) == Ending::BindFailed);
     assert!(rt; dial(net, env, v6(1)) == Ending::ConnectionFailed);
     let (there, back, _) = connects(rt, alloc, net, env, &mut listener, socket);
-    let lost = [(1, Ending::RecvFailed)];
-    outlives(rt, net, env, there, LOSES_BYTES, Some(2), &lost);
+    outlives(rt, net, env, there, LOSES_BYTES, Some(2), "recv 1 -> fails");
     fails_to_send(rt, net, env, back);
     net.close_listener(listener);
 }
@@ -1004,30 +740,6 @@ fn notes_endings<N: Network>(rt: &impl Abort, alloc: Global, inner: N) -> N {
 fn notes_of_each_ending(rt: HostRuntime) {
     let net = memory(&rt, rt.alloc());
     drop(notes_endings(&rt, rt.alloc(), net));
-}
-
-// Many pieces complete a `recv` that waits.
-fn completes<N: Network>(
-    net: &mut N,
-    mut sink: N::Sink,
-    mut stream: N::Stream,
-    bufs: IoBufs,
-) -> (Ending, Ending, Ending) {
-    let first = get(net, &mut NoEnv, &mut stream, 90000, 2);
-    let second = put(net, &mut NoEnv, &mut sink, bufs, 1);
-    let third = get(net, &mut NoEnv, &mut stream, 90000, 2);
-    let _ = close(net, sink, stream);
-    (first, second, third)
-}
-
-#[test]
-fn many_pieces_in_one_receive(rt: HostRuntime) {
-    let bufs = pieces(rt.alloc(), 3, 30000).expect(&rt, "room");
-    let mut net = memory(&rt, rt.alloc());
-    let (sink, stream) = Channel::init(&mut net).expect(&rt, "room");
-    let completed = completes(&mut net, sink, stream, bufs);
-    drop(net);
-    assert!(rt; completed == (Ending::Waits, Ending::Done, Ending::Got(90000)));
 }
 
 // An address of another host.
@@ -1058,29 +770,16 @@ fn binds_many<N: Network>(net: &mut N, left: u8) -> Ending {
 // is closed.
 fn opens_many(rt: &impl Abort, alloc: Global, net: &mut Net, left: u16) {
     let mut line = line_of(rt, alloc, net, 3);
-    line.sent = left as usize;
-    line.received = left as usize;
-    let sends = [(Step::Send(2), Ending::Done, None)];
-    takes(rt, net, &mut NoEnv, &mut line, &sends);
+    line.begin_at(left as usize);
+    line.takes(rt, net, &mut NoEnv, "send 2 -> done");
     if left > 0 {
         opens_many(rt, alloc, net, left - 1);
     }
-    let receives = [(Step::Recv(2), Ending::Got(2), None)];
-    takes_all(rt, net, &mut NoEnv, line, &receives);
+    line.takes_all(rt, net, &mut NoEnv, "recv 2 -> got 2");
 }
 
-// A byte of its own is sent on each way of a connection, and received once the later connections are closed.
-const SENDS_ONE: &[Taken] = &[(Step::Send(1), Ending::Done, None)];
-
-const RECEIVES_ONE: &[Taken] = &[(Step::Recv(1), Ending::Got(1), None)];
-
-// The bytes of a channel have these numbers.
-fn begins_at<K, M>(line: &mut Line<K, M>, number: usize) {
-    line.sent = number;
-    line.received = number;
-}
-
-// As many connections at once through one listener, each of which sends a byte each way.
+// As many connections at once through one listener. A byte of its own is sent on each way of each, and received once the
+// later connections are closed.
 fn connects_many<N: Network>(
     rt: &impl Abort,
     alloc: Global,
@@ -1092,13 +791,13 @@ fn connects_many<N: Network>(
         return;
     }
     let (mut there, mut back, _) = connects(rt, alloc, net, &mut NoEnv, listener, here(4000));
-    begins_at(&mut there, left as usize);
-    begins_at(&mut back, left as usize);
-    takes(rt, net, &mut NoEnv, &mut there, SENDS_ONE);
-    takes(rt, net, &mut NoEnv, &mut back, SENDS_ONE);
+    there.begin_at(left as usize);
+    back.begin_at(left as usize);
+    there.takes(rt, net, &mut NoEnv, "send 1 -> done");
+    back.takes(rt, net, &mut NoEnv, "send 1 -> done");
     connects_many(rt, alloc, net, listener, left - 1);
-    takes_all(rt, net, &mut NoEnv, there, RECEIVES_ONE);
-    takes_all(rt, net, &mut NoEnv, back, RECEIVES_ONE);
+    there.takes_all(rt, net, &mut NoEnv, "recv 1 -> got 1");
+    back.takes_all(rt, net, &mut NoEnv, "recv 1 -> got 1");
 }
 
 #[test]
