@@ -42,75 +42,31 @@ pub enum Part {
 
 /// Contexts are named, refused and spawned on, and handles are given up.
 const CONTEXTS: &str = "\
-start 3 - 1000000 0
-call - child 0 runtime -> err 14
-call - child 0 left -> node 1
-call - spawn 1 -> task 0 node 2
-call - abort 0 -> ok
-call - give-up 0 -> ok
-call - child 0 stop -> node 3
-call - close-node 3 -> ok
-call - close-node 0 -> ok
-call - abort-task 9 -> err 12
-cleanup
-nodeend 0
-call 0 close-node 2 -> ok
-answer 0 ended
-crash
-finish nomemory
+start 3 - 1000000 0; call - child 0 runtime -> err 14; call - child 0 left -> node 1; call - spawn 1 -> task 0 node 2
+call - abort 0 -> ok; call - give-up 0 -> ok; call - child 0 stop -> node 3; call - close-node 3 -> ok
+call - close-node 0 -> ok; call - abort-task 9 -> err 12; cleanup; nodeend 0; call 0 close-node 2 -> ok; answer 0 ended
+crash; finish nomemory
 ";
 
 /// A number of each width and three bytes are drawn, and the digest is told.
 const DRAWS: &str = "\
-start 3 - 1000000 0
-event rand 6e6578745f753332
-call - u32 -> 3543144545
-event rand 6e6578745f753634
-call - u64 -> 14703524129167383140
-event rand 66696c6c5f6279746573
-call - fill 3 -> 25d1f4
-call - auditor -> 4b937da9
-call - close-node 0 -> ok
-cleanup
-nodeend 0
-crash
-finish nomemory
+start 3 - 1000000 0; event rand 6e6578745f753332; call - u32 -> 3543144545; event rand 6e6578745f753634
+call - u64 -> 14703524129167383140; event rand 66696c6c5f6279746573; call - fill 3 -> 25d1f4; call - auditor -> 4b937da9
+call - close-node 0 -> ok; cleanup; nodeend 0; crash; finish nomemory
 ";
 
 /// A group of signals with a value, one without, and the shutdown.
 const SIGNALS: &str = "\
-start 3 - 1000000 0
-call - signaler -> signal 1
-call - clone-signal 1 -> signal 2
-call - signal 1 5 -> ok
-call - signal-close 1 -> ok
-call - signal-close 2 -> ok
-call - completion-close 1 -> ok
-call - signaler -> signal 3
-call - signaler-close 3 -> ok
-call - signal-close 3 -> ok
-event stopped
-call - stopped -> signal 4
-call - signal-close 4 -> ok
-event stop 00000009
-call - stop 9 -> completion 5
-call - completion-close 5 -> ok
-event stopped
-call - stopped -> closed 9
-call - close-node 0 -> ok
-cleanup
-nodeend 0
-crash
-finish nomemory
+start 3 - 1000000 0; call - signaler -> signal 1; call - clone-signal 1 -> signal 2; call - signal 1 5 -> ok
+call - signal-close 1 -> ok; call - signal-close 2 -> ok; call - completion-close 1 -> ok; call - signaler -> signal 3
+call - signaler-close 3 -> ok; call - signal-close 3 -> ok; event stopped; call - stopped -> signal 4
+call - signal-close 4 -> ok; event stop 00000009; call - stop 9 -> completion 5; call - completion-close 5 -> ok
+event stopped; call - stopped -> closed 9; call - close-node 0 -> ok; cleanup; nodeend 0; crash; finish nomemory
 ";
 
 /// A maker that makes no root and no call.
 const NO_ROOT: &str = "\
-start 0 - 1000000 0
-cleanup
-nodeend 0
-crash
-finish nomemory
+start 0 - 1000000 0; cleanup; nodeend 0; crash; finish nomemory
 ";
 
 /// Drops the error of a call that should not be refused.

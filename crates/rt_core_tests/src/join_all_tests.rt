@@ -222,86 +222,34 @@ impl<R: Abort + Drop> RootMaker<Gatherer> for RootParent<R> {
 
 /// A group of three numbers gives them in their order, without a call.
 const IN_ORDER: &str = "\
-start 0 - 1000000 0
-root 0
-round 0
-visit 0
-event process_task 00000000000000000000000000000000 -
-answer 0 ready
-cleanup
-nodeend 0
-call 0 close-node 0 -> ok
-answer 0 ended
-crash
-finish ok
+start 0 - 1000000 0; root 0; round 0
+visit 0; event process_task 00000000000000000000000000000000 -; answer 0 ready; cleanup; nodeend 0
+call 0 close-node 0 -> ok; answer 0 ended; crash; finish ok
 ";
 
 /// The first failure aborts the task that is left, and is the answer once that has ended.
 const ABORTED: &str = "\
-start 0 - 1000000 0
-call - child 0 left -> node 1
-call - spawn 1 -> task 0 node 2
-root 1
-draw 17971643333364160609
+start 0 - 1000000 0; call - child 0 left -> node 1; call - spawn 1 -> task 0 node 2; root 1; draw 17971643333364160609
 round 0 1
-visit 0
-event process_task 00000000000000000000000000000000 6c656674
-answer 0 pending
-visit 1
-event process_task 00000000000000000000000000000001 -
-call 1 abort 0 -> ok
-wake 0
-call 1 join 0 -> pending
+visit 0; event process_task 00000000000000000000000000000000 6c656674; answer 0 pending
+visit 1; event process_task 00000000000000000000000000000001 -; call 1 abort 0 -> ok; wake 0; call 1 join 0 -> pending
 answer 1 pending
-advance 1000000
-round 0
-visit 0
-event process_task 00000000000000000000000000000000 6c656674
-call 0 close-node 2 -> ok
-answer 0 ended
-nodeend 1
+advance 1000000; round 0
+visit 0; event process_task 00000000000000000000000000000000 6c656674; call 0 close-node 2 -> ok; answer 0 ended; nodeend 1
 wake 1
-advance 2000000
-round 1
-visit 1
-event process_task 00000000000000000000000000000001 -
-call 1 join 0 -> err 2
-call 1 give-up 0 -> ok
-answer 1 ready
-cleanup
-nodeend 0
-call 1 close-node 0 -> ok
-answer 1 ended
-crash
-finish ok
+advance 2000000; round 1
+visit 1; event process_task 00000000000000000000000000000001 -; call 1 join 0 -> err 2; call 1 give-up 0 -> ok
+answer 1 ready; cleanup; nodeend 0; call 1 close-node 0 -> ok; answer 1 ended; crash; finish ok
 ";
 
 /// A group that waits is aborted and given up at its task's end.
 const GIVEN_UP: &str = "\
-start 0 - 1000000 0
-call - child 0 left -> node 1
-call - spawn 1 -> task 0 node 2
-root 1
-draw 17971643333364160609
+start 0 - 1000000 0; call - child 0 left -> node 1; call - spawn 1 -> task 0 node 2; root 1; draw 17971643333364160609
 round 0 1
-visit 0
-event process_task 00000000000000000000000000000000 6c656674
-answer 0 pending
-visit 1
-event process_task 00000000000000000000000000000001 -
-call 1 join 0 -> pending
-answer 1 pending
-advance 1000000
-cleanup
-nodeend 0
-call 0 close-node 2 -> ok
-answer 0 ended
-call 1 abort 0 -> ok
-call 1 give-up 0 -> ok
-call 1 close-node 0 -> ok
-answer 1 ended
-crash
-finish stalled
+visit 0; event process_task 00000000000000000000000000000000 6c656674; answer 0 pending
+visit 1; event process_task 00000000000000000000000000000001 -; call 1 join 0 -> pending; answer 1 pending
+advance 1000000; cleanup; nodeend 0; call 0 close-node 2 -> ok; answer 0 ended; call 1 abort 0 -> ok; call 1 give-up 0 -> ok
+call 1 close-node 0 -> ok; answer 1 ended; crash; finish stalled
 ";
 
 /// What a run gives.

@@ -229,112 +229,40 @@ fn probing(calls: bool) -> RootProbe {
 
 /// A poll that breaks off keeps its calls, and is cleaned up.
 const BREAKS_OFF: &str = "\
-start 0 - 1000000 0
-root 0
-round 0
-visit 0
-event process_task 00000000000000000000000000000000 -
-call 0 sleep-poll 5 -> pending 0
-call 0 wake 0 -> ok
-wake 0
-answer 0 nomemory
-cleanup
-nodeend 0
-call 0 close-node 0 -> ok
-answer 0 ended
-crash
-finish nomemory
+start 0 - 1000000 0; root 0; round 0
+visit 0; event process_task 00000000000000000000000000000000 -; call 0 sleep-poll 5 -> pending 0; call 0 wake 0 -> ok
+wake 0; answer 0 nomemory; cleanup; nodeend 0; call 0 close-node 0 -> ok; answer 0 ended; crash; finish nomemory
 ";
 
 /// A maker that makes no root is cleaned up too.
 const UNMADE: &str = "\
-start 0 - 1000000 0
-call - close-node 0 -> ok
-cleanup
-nodeend 0
-crash
-finish nomemory
+start 0 - 1000000 0; call - close-node 0 -> ok; cleanup; nodeend 0; crash; finish nomemory
 ";
 
 /// A task that is queued twice is visited twice, and its sleeps keep their alarms.
 const VISITED_TWICE: &str = "\
-start 0 2000000 1000000 0
-root 0
-round 0
-visit 0
-event process_task 00000000000000000000000000000000 -
-call 0 sleep-poll 5000000 -> pending 0
-call 0 sleep-poll 5000000 -> pending 1
-call 0 wake 0 -> ok
-wake 0
-call 0 wake 0 -> ok
-wake 0
-answer 0 pending
-advance 1000000
-draw 9713269763989775522
-round 0 0
-visit 0
-event process_task 00000000000000000000000000000000 -
-call 0 sleep-poll 5000000 -> pending 0
-call 0 sleep-poll 5000000 -> pending 1
-call 0 wake 0 -> ok
-wake 0
-call 0 wake 0 -> ok
-wake 0
-answer 0 pending
-visit 0
-event process_task 00000000000000000000000000000000 -
-call 0 sleep-poll 5000000 -> pending 0
-call 0 sleep-poll 5000000 -> pending 1
-call 0 wake 0 -> ok
-wake 0
-call 0 wake 0 -> ok
-wake 0
-answer 0 pending
-advance 2000000
-cleanup
-nodeend 0
-call 0 close-node 0 -> ok
-answer 0 ended
-crash
-finish timeout
+start 0 2000000 1000000 0; root 0; round 0
+visit 0; event process_task 00000000000000000000000000000000 -; call 0 sleep-poll 5000000 -> pending 0
+call 0 sleep-poll 5000000 -> pending 1; call 0 wake 0 -> ok; wake 0; call 0 wake 0 -> ok; wake 0; answer 0 pending
+advance 1000000; draw 9713269763989775522; round 0 0
+visit 0; event process_task 00000000000000000000000000000000 -; call 0 sleep-poll 5000000 -> pending 0
+call 0 sleep-poll 5000000 -> pending 1; call 0 wake 0 -> ok; wake 0; call 0 wake 0 -> ok; wake 0; answer 0 pending
+visit 0; event process_task 00000000000000000000000000000000 -; call 0 sleep-poll 5000000 -> pending 0
+call 0 sleep-poll 5000000 -> pending 1; call 0 wake 0 -> ok; wake 0; call 0 wake 0 -> ok; wake 0; answer 0 pending
+advance 2000000; cleanup; nodeend 0; call 0 close-node 0 -> ok; answer 0 ended; crash; finish timeout
 ";
 
 /// A limit is polled where its state isn't ready, and is over in time, and its handle polls it no more then.
 const LIMITED: &str = "\
-start 0 - 1000000 0
-root 0
-round 0
-visit 0
-event process_task 00000000000000000000000000000000 -
-call 0 sleep-poll 5000000 -> pending 0
-call 0 sleep-poll 3000000 -> pending 1
-answer 0 pending
-advance 1000000
-skip 3000000
-fire 1
-wake 0
-round 0
-visit 0
-event process_task 00000000000000000000000000000000 -
-call 0 sleep-poll 5000000 -> pending 0
-call 0 sleep-poll 3000000 -> ready
-answer 0 pending
-advance 4000000
-skip 5000000
-fire 0
-wake 0
-round 0
-visit 0
-event process_task 00000000000000000000000000000000 -
-answer 0 pending
-advance 6000000
-cleanup
-nodeend 0
-call 0 close-node 0 -> ok
-answer 0 ended
-crash
-finish stalled
+start 0 - 1000000 0; root 0; round 0
+visit 0; event process_task 00000000000000000000000000000000 -; call 0 sleep-poll 5000000 -> pending 0
+call 0 sleep-poll 3000000 -> pending 1; answer 0 pending
+advance 1000000; skip 3000000; fire 1; wake 0; round 0
+visit 0; event process_task 00000000000000000000000000000000 -; call 0 sleep-poll 5000000 -> pending 0
+call 0 sleep-poll 3000000 -> ready; answer 0 pending
+advance 4000000; skip 5000000; fire 0; wake 0; round 0
+visit 0; event process_task 00000000000000000000000000000000 -; answer 0 pending
+advance 6000000; cleanup; nodeend 0; call 0 close-node 0 -> ok; answer 0 ended; crash; finish stalled
 ";
 
 /// Whether a poll that breaks off, and a maker that makes no root, are cleaned up.

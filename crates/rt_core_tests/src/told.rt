@@ -16,10 +16,13 @@ fn lines(alloc: Global, journal: &Journal) -> Result<String, NoMemory> {
     Ok(text)
 }
 
-/// Whether a journal has these lines.
+/// Whether a journal has these lines, of which `; ` parts those of one part of a run.
 pub fn has_lines(alloc: Global, journal: &Journal, expected: &str) -> bool {
+    let Some(wanted) = expected.replace(alloc, "; ", "\n").ok() else {
+        return false;
+    };
     match lines(alloc, journal) {
-        Ok(text) => text.as_str() == expected,
+        Ok(text) => text.as_str() == wanted.as_str(),
         Err(NoMemory) => false,
     }
 }

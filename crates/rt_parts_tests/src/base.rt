@@ -18,15 +18,6 @@ fn text(rt: &impl Abort, alloc: Global, bytes: &str) -> Text {
     Text::of(String::from_str(alloc, bytes).expect(rt, "room"))
 }
 
-/// Whether a call came to this.
-pub fn came<T: Drop + PartialEq, E: Drop>(answer: Result<T, E>, wanted: T) -> bool {
-    match answer {
-        Ok(seen) => seen == wanted,
-        Err(_) => false,
-    }
-}
-
-/// Whether a call failed so.
 fn failed<T: Drop, E: Drop + PartialEq>(answer: Result<T, E>, why: E) -> bool {
     match answer {
         Ok(_) => false,
@@ -36,31 +27,34 @@ fn failed<T: Drop, E: Drop + PartialEq>(answer: Result<T, E>, why: E) -> bool {
 
 #[test]
 fn surface(rt: HostRuntime) {
-    texts(&rt, rt.alloc());
-    items(&rt, rt.alloc());
+    let alloc = rt.alloc();
+    copies(&rt, alloc, "ab");
+    items(&rt, alloc);
     small_types(&rt);
     read_options(&rt);
     write_options(&rt);
-    holds(&rt, "layouts and versions", layouts() & versions());
-    shows(&rt, rt.alloc(), BlobVersion::new(65535), "65535");
-    errors(&rt, rt.alloc());
-    names(&rt, rt.alloc());
-    environment(&rt, rt.alloc());
-    sources(&rt, rt.alloc());
-    sinks(&rt, rt.alloc());
+    holds(&rt, "layouts and versions", layouts_and_versions());
+    version_is_printed(&rt, alloc);
+    errors(&rt, alloc);
+    same(&rt, "a label", validate_label("a_1"), Ok(()));
+    names(&rt, alloc);
+    environment(&rt, alloc);
+    sources(&rt, alloc);
+    keeps(&rt, alloc, b"run");
+    keeps_two_of_three(&rt, alloc);
 }
 
-/// Ends a text, which is this one.
-fn reads(rt: &impl Abort, text: Text, wanted: &str) {
-    holds(rt, wanted, text.as_str() == wanted);
-    same(rt, wanted, text.into_inner().len(), wanted.len());
+fn reads(rt: &impl Abort, seen: &str, wanted: &str) {
+    assert!(rt; seen == wanted, "{wanted}");
 }
 
-fn texts(rt: &impl Abort, alloc: Global) {
-    let word = text(rt, alloc, "ab");
+/// Makes and copies a text.
+fn copies(rt: &impl Abort, alloc: Global, letters: &str) {
+    let word = text(rt, alloc, letters);
+    reads(rt, word.as_str(), letters);
     let copy = word.clone_value().expect(rt, "room");
-    same(rt, "a copy", text(rt, alloc, "ab"), copy);
-    reads(rt, word, "ab");
+    same(rt, "a copy", text(rt, alloc, letters), copy);
+    same(rt, "its letters", word.into_inner().len(), letters.len());
 }
 
 fn items(rt: &impl Abort, alloc: Global) {
@@ -72,35 +66,20 @@ fn items(rt: &impl Abort, alloc: Global) {
 fn small_types(rt: &impl Abort) {
     holds(rt, "a poll", Poll::Ready(3u64) != Poll::Pending);
     holds(rt, "a choice", Choice::Kept != Choice::Prefix(0));
-    same(
-        rt,
-        "by default",
-        Execution::default(),
-        Execution::Shared(false),
-    );
-    same(
-        rt,
-        "the last second",
-        MAX_TIME / 1_000_000_000,
-        9223372036854775807,
-    );
+    let own = Execution::Shared(false);
+    same(rt, "by default", Execution::default(), own);
+    let seconds = MAX_TIME / 1_000_000_000;
+    same(rt, "the last second", seconds, 9223372036854775807);
 }
 
 fn read_options(rt: &impl Abort) {
-    let mut read = ReadOptions::default();
-    holds(
-        rt,
-        "none",
-        (read.bits() == 0) & !read.contains(ReadOptions::DONT_CACHE),
-    );
+    let none = ReadOptions::default();
+    let mut read = none;
+    let lacks = !read.contains(ReadOptions::DONT_CACHE);
+    holds(rt, "none", (read.bits() == 0) & lacks);
     read |= ReadOptions::DONT_CACHE;
-    same(
-        rt,
-        "one",
-        read,
-        ReadOptions::DONT_CACHE | ReadOptions::default(),
-    );
-    same(rt, "none again", read.without(read), ReadOptions::default());
+    same(rt, "one", read, ReadOptions::DONT_CACHE | none);
+    same(rt, "none again", read.without(read), none);
 }
 
 /// Whether options don't have this one, and come to these bits with it.
@@ -114,41 +93,27 @@ fn write_options(rt: &impl Abort) {
     let mut write = WriteOptions::default();
     holds(rt, "one", adds(&mut write, WriteOptions::SYNC, 1));
     holds(rt, "two", adds(&mut write, WriteOptions::DONT_CACHE, 3));
-    same(
-        rt,
-        "both",
-        write,
-        WriteOptions::SYNC | WriteOptions::DONT_CACHE,
-    );
+    let both = WriteOptions::SYNC | WriteOptions::DONT_CACHE;
+    same(rt, "both", write, both);
     same(rt, "the other", write.without(WriteOptions::SYNC).bits(), 2);
 }
 
-/// Whether pages and layouts are these.
-fn layouts() -> bool {
+fn layouts_and_versions() -> bool {
     let paged = (BLOB_PAGE_SIZE == 4096) & (DEFAULT_BLOB_LAYOUT == BlobLayout::ALL.1);
-    paged & (BlobLayout::ALL.0 < BlobLayout::V1)
-}
-
-fn versions() -> bool {
     let version = BlobVersion::new(65535);
     let greater = (DEFAULT_BLOB_VERSION < version) & (version.get() == 65535);
-    greater & (BlobVersion::default() == DEFAULT_BLOB_VERSION)
+    let own = BlobVersion::default() == DEFAULT_BLOB_VERSION;
+    paged & (BlobLayout::ALL.0 < BlobLayout::V1) & greater & own
 }
 
-/// Stops where a version has another text.
-fn shows(rt: &impl Abort, alloc: Global, version: BlobVersion, words: &str) {
-    let line = format!(in alloc; "{version}").expect(rt, "room");
-    holds(rt, words, line.as_str() == words);
+fn version_is_printed(rt: &impl Abort, alloc: Global) {
+    let version = BlobVersion::new(65535);
+    let printed = format!(in alloc; "{version}").expect(rt, "room");
+    reads(rt, printed.as_str(), "65535");
 }
 
 fn missing(rt: &impl Abort, alloc: Global) -> Error {
     Error::BlobMissing(text(rt, alloc, "p"), text(rt, alloc, "62"))
-}
-
-/// A copy of an error is the same.
-fn is_cloned(rt: &impl Abort, error: Error) {
-    let copy = error.clone_value().expect(rt, "room");
-    same(rt, "a copy", copy, error);
 }
 
 /// The parts of a refusal are those that it was made of.
@@ -158,22 +123,17 @@ fn is_given_back(rt: &impl Abort, refused: Refused<u64>, wanted: Error) {
     same(rt, "what was given", back, 7);
 }
 
-fn errors(rt: &impl Abort, alloc: Global) {
-    is_cloned(rt, missing(rt, alloc));
-    let error = missing(rt, alloc);
-    is_given_back(rt, Refused { back: 7, error }, missing(rt, alloc));
-    let other = Error::from(MetricError::OtherHelp);
-    differ(rt, missing(rt, alloc), other);
-    are_made_of_causes(rt);
-}
-
-/// Stops where these are the same.
 fn differ<T: Drop + PartialEq>(rt: &impl Abort, seen: T, other: T) {
     assert!(rt; seen != other);
 }
 
-/// Causes make errors of their kinds.
-fn are_made_of_causes(rt: &impl Abort) {
+fn errors(rt: &impl Abort, alloc: Global) {
+    let error = missing(rt, alloc);
+    let copy = error.clone_value().expect(rt, "room");
+    same(rt, "a copy", copy, missing(rt, alloc));
+    is_given_back(rt, Refused { back: 7, error }, missing(rt, alloc));
+    let other = Error::from(MetricError::OtherHelp);
+    differ(rt, missing(rt, alloc), other);
     let failure = Error::from(IoKind::InjectedSyncFailure);
     differ(rt, failure, Error::Io(IoKind::InjectedStorageFault));
     same(rt, "a cause", Error::from(NoMemory), Error::NoMemory);
@@ -181,21 +141,16 @@ fn are_made_of_causes(rt: &impl Abort) {
 
 const ATTRIBUTES: &[(&str, &str)] = &[("b", "1"), ("a", "2"), ("c", "3"), ("b", "4")];
 
-fn attributes(rt: &impl Abort, alloc: Global) -> Items<(Text, Text)> {
+fn name(rt: &impl Abort, alloc: Global) -> Name {
+    let label = Text::of(child_label(alloc, "p", "c").expect(rt, "room"));
     let mut attributes = Vec::new(alloc);
     for &(key, value) in ATTRIBUTES {
         add_attribute(alloc, &mut attributes, key, value).expect(rt, "room");
     }
-    Items::of(attributes)
-}
-
-fn name(rt: &impl Abort, alloc: Global) -> Name {
-    let label = Text::of(child_label(alloc, "p", "c").expect(rt, "room"));
-    let attributes = attributes(rt, alloc);
+    let attributes = Items::of(attributes);
     Name { label, attributes }
 }
 
-/// The text of a name.
 fn line_of(rt: &impl Abort, alloc: Global, name: &Name) -> String {
     let mut line = prefixed_name(alloc, "", name.label.as_str()).expect(rt, "room");
     for (key, value) in name.attributes.as_slice() {
@@ -204,16 +159,11 @@ fn line_of(rt: &impl Abort, alloc: Global, name: &Name) -> String {
     line
 }
 
-/// Stops where a line is another one.
-fn is_line(rt: &impl Abort, line: String, wanted: &str) {
-    holds(rt, wanted, line.as_str() == wanted);
-}
-
 fn names(rt: &impl Abort, alloc: Global) {
-    same(rt, "a label", validate_label("a_1"), Ok(()));
     let name = name(rt, alloc);
     let copy = name.clone_value().expect(rt, "room");
-    is_line(rt, line_of(rt, alloc, &name), "p_c a=2 b=4 c=3");
+    let line = line_of(rt, alloc, &name);
+    reads(rt, line.as_str(), "p_c a=2 b=4 c=3");
     same(rt, "a copy", copy, name);
 }
 
@@ -230,35 +180,20 @@ fn three_bytes(rt: &impl Abort, alloc: Global) -> Vec<u8> {
     vec![in alloc; 1u8, 2, 3].expect(rt, "room")
 }
 
-/// What reading a source whole comes to.
-fn read_up<S: Source + Drop>(alloc: Global, source: S, limit: usize) -> Result<Vec<u8>, Unread> {
-    let mut source = source;
-    read_whole(alloc, &mut source, limit)
-}
-
-/// Stops where these are other bytes.
 fn are(rt: &impl Abort, seen: &[u8], wanted: &[u8]) {
     assert!(rt; seen == wanted);
 }
 
 /// All is read of a source.
-fn is_read<S: Source + Drop>(rt: &impl Abort, alloc: Global, source: S, wanted: &[u8]) {
-    let read = read_up(alloc, source, wanted.len()).expect(rt, "all bytes");
+fn is_read<S: Source + Drop>(rt: &impl Abort, alloc: Global, mut source: S, wanted: &[u8]) {
+    let read = read_whole(alloc, &mut source, wanted.len()).expect(rt, "all bytes");
     are(rt, read.as_slice(), wanted);
 }
 
 /// A source has more than so many bytes.
-fn is_too_long<S: Source + Drop>(rt: &impl Abort, alloc: Global, source: S, limit: usize) {
-    let refused = failed(read_up(alloc, source, limit), Unread::TooLong);
+fn is_too_long<S: Source + Drop>(rt: &impl Abort, alloc: Global, mut source: S, limit: usize) {
+    let refused = failed(read_whole(alloc, &mut source, limit), Unread::TooLong);
     holds(rt, "a long source", refused);
-}
-
-fn sources(rt: &impl Abort, alloc: Global) {
-    let safe = SafeSource::new(three_bytes(rt, alloc));
-    is_read(rt, alloc, safe, &[1, 2, 3]);
-    let long = SafeSource::new(three_bytes(rt, alloc));
-    is_too_long(rt, alloc, long, 2);
-    pieces(rt, alloc);
 }
 
 /// Reads at most four bytes.
@@ -267,7 +202,11 @@ fn gives<S: Source>(rt: &impl Abort, source: &mut S, wanted: Result<usize, Faile
     same(rt, "a piece", source.read(&mut piece), wanted);
 }
 
-fn pieces(rt: &impl Abort, alloc: Global) {
+fn sources(rt: &impl Abort, alloc: Global) {
+    let safe = SafeSource::new(three_bytes(rt, alloc));
+    is_read(rt, alloc, safe, &[1, 2, 3]);
+    let long = SafeSource::new(three_bytes(rt, alloc));
+    is_too_long(rt, alloc, long, 2);
     let failing = vec![in alloc; 2u64].expect(rt, "room");
     let mut list = ListSource::new(three_bytes(rt, alloc), failing, 2);
     gives(rt, &mut list, Ok(2));
@@ -276,47 +215,50 @@ fn pieces(rt: &impl Abort, alloc: Global) {
     gives(rt, &mut list, Ok(0));
 }
 
-/// Writes bytes to a safe sink.
 fn keeps(rt: &impl Abort, alloc: Global, bytes: &[u8]) {
     let mut safe = SafeSink::new(alloc);
     same(rt, "a write", write_whole(&mut safe, bytes), Ok(()));
     are(rt, safe.as_slice(), bytes);
 }
 
-fn sinks(rt: &impl Abort, alloc: Global) {
-    keeps(rt, alloc, b"run");
+/// Writes three bytes to a sink of single ones, whose third write fails.
+fn keeps_two_of_three(rt: &impl Abort, alloc: Global) {
     let failing = vec![in alloc; 3u64].expect(rt, "room");
     let mut list = ListSink::new(alloc, failing, 1);
     same(rt, "a write", write_whole(&mut list, b"run"), Err(Failed));
     are(rt, list.as_slice(), b"ru");
-    same(rt, "one byte more", list.write(b"n"), Ok(1));
+    takes(rt, &mut list, b"n", 1);
+}
+
+/// Writes bytes to a sink, which takes so many.
+fn takes<S: Sink8>(rt: &impl Abort, sink: &mut S, bytes: &[u8], taken: usize) {
+    same(rt, "a write", sink.write(bytes), Ok(taken));
 }
 
 #[test]
 fn standard_input_and_output(rt: HostRuntime) {
     let mut input = StdSource::new(&rt);
-    let mut piece = [0u8; 4];
-    assert!(rt; input.read(&mut piece) == Ok(0));
+    gives(&rt, &mut input, Ok(0));
     let mut output = StdSink::new(&rt);
-    assert!(rt; output.write(b"") == Ok(0));
-    assert!(rt; output.write(b"\n") == Ok(1));
+    takes(&rt, &mut output, b"", 0);
+    takes(&rt, &mut output, b"\n", 1);
 }
 
-/// A reader or a writer whose first calls fail with this number of the system.
+/// A reader or a writer whose next `left` calls fail with this number of the system.
 #[derive(Drop)]
 struct Failing<T> {
     inner: T,
-    first: u8,
-    number: i32,
+    left: u8,
+    code: i32,
 }
 
 impl<T> Failing<T> {
     fn fail(&mut self) -> io::Result<()> {
-        match self.first.checked_sub(1) {
+        match self.left.checked_sub(1) {
             None => Ok(()),
             Some(left) => {
-                self.first = left;
-                Err(io::Error::from_raw_os_error(self.number))
+                self.left = left;
+                Err(io::Error::from_raw_os_error(self.code))
             }
         }
     }
@@ -340,11 +282,13 @@ impl<W: Write> Write for Failing<W> {
     }
 }
 
-/// How many calls fail first, and with which number of the system; what is answered, and how many failures are counted.
+/// How many calls fail first, with which number of the system, what is returned, and how many failures are counted.
 type CutShort = (u8, i32, Result<usize, Failed>, u64);
 
+/// The number of a call that a signal cut short.
 const CUT_SHORT: i32 = 4;
 
+/// The number of a call that fails otherwise.
 const BROKEN: i32 = 5;
 
 const CALLS: &[CutShort] = &[
@@ -355,41 +299,29 @@ const CALLS: &[CutShort] = &[
     (1, BROKEN, Err(Failed), 1),
 ];
 
-/// What a read comes to.
-fn reads_again(first: u8, number: i32) -> (Result<usize, Failed>, u64) {
-    let mut reader = Failing {
-        inner: b"run".as_slice(),
-        first,
-        number,
-    };
+/// Reads and writes three bytes.
+fn is_made_again(rt: &impl Abort, alloc: Global, call: CutShort) {
+    let (left, code, answer, counted) = call;
+    let inner = b"run".as_slice();
+    let mut reader = Failing { inner, left, code };
     let mut errors = 0;
     let mut piece = [0u8; 4];
     let read = read_retried(&mut reader, &mut errors, &mut piece);
-    (read, errors)
-}
-
-/// What a write comes to, and how many bytes are written.
-fn writes_again(alloc: Global, first: u8, number: i32) -> (Result<usize, Failed>, u64, usize) {
-    let mut writer = Failing {
-        inner: Vec::new(alloc),
-        first,
-        number,
-    };
+    let was_read = read == answer && errors == counted;
+    let inner = Vec::new(alloc);
+    let mut writer = Failing { inner, left, code };
     let mut errors = 0;
     let written = write_retried(&mut writer, &mut errors, b"run");
-    (written, errors, writer.inner.len())
+    let was_written = written == answer && errors == counted;
+    let was_kept = writer.inner.len() == answer.unwrap_or(0);
+    let all = was_read && was_written && was_kept;
+    assert!(rt; all, "{left} failures of {code}");
 }
 
 #[test]
 fn calls_that_a_signal_cut_short_are_made_again(rt: HostRuntime) {
-    for &(first, number, answer, counted) in CALLS {
-        let read = reads_again(first, number);
-        assert!(rt; read == (answer, counted), "reads at {first}");
-        let written = writes_again(rt.alloc(), first, number);
-        assert!(rt;
-            written == (answer, counted, answer.unwrap_or(0)),
-            "writes at {first}"
-        );
+    for &call in CALLS {
+        is_made_again(&rt, rt.alloc(), call);
     }
 }
 
@@ -400,7 +332,6 @@ fn keeps_pieces(rt: &impl Abort, alloc: Global, bytes: &[u8]) {
     are(rt, list.as_slice(), bytes);
 }
 
-/// Reads bytes in one call.
 fn reads_once(rt: &impl Abort, alloc: Global, bytes: &[u8]) {
     let size = bytes.len();
     let mut reader = bytes;
@@ -411,7 +342,6 @@ fn reads_once(rt: &impl Abort, alloc: Global, bytes: &[u8]) {
     are(rt, read.as_slice(), bytes);
 }
 
-/// Writes bytes in one call.
 fn writes_once(rt: &impl Abort, alloc: Global, bytes: &[u8]) {
     let mut errors = 0;
     let mut writer = Vec::new(alloc);
@@ -420,22 +350,11 @@ fn writes_once(rt: &impl Abort, alloc: Global, bytes: &[u8]) {
     are(rt, writer.as_slice(), bytes);
 }
 
-/// Copies a long text.
-fn copy_text(rt: &impl Abort, alloc: Global, bytes: &[u8]) {
-    let word = text(rt, alloc, str::from_utf8(bytes).expect(rt, "letters"));
-    let copy = word.clone_value().expect(rt, "room");
-    same(rt, "a copy", copy, word);
-}
-
 /// Reads a copy by pieces of a thousand bytes.
 fn reads_pieces(rt: &impl Abort, alloc: Global, bytes: &[u8]) {
     let copy = Vec::from_slice(alloc, bytes).expect(rt, "room");
-    is_read(
-        rt,
-        alloc,
-        ListSource::new(copy, Vec::new(alloc), 1000),
-        bytes,
-    );
+    let list = ListSource::new(copy, Vec::new(alloc), 1000);
+    is_read(rt, alloc, list, bytes);
 }
 
 #[test]
@@ -447,166 +366,132 @@ fn a_mebibyte(rt: HostRuntime) {
     keeps_pieces(&rt, alloc, bytes.as_slice());
     reads_once(&rt, alloc, bytes.as_slice());
     writes_once(&rt, alloc, bytes.as_slice());
-    copy_text(&rt, alloc, bytes.as_slice());
+    let letters = str::from_utf8(bytes.as_slice());
+    copies(&rt, alloc, letters.expect(&rt, "letters"));
     reads_pieces(&rt, alloc, bytes.as_slice());
     is_too_long(&rt, alloc, SafeSource::new(bytes), size - 1);
 }
 
-/// Stops where an error has other words.
-fn says(rt: &impl Abort, alloc: Global, error: Error, words: &str) {
-    let line = format!(in alloc; "{error}").expect(rt, "room");
+/// What errors and addresses say, in the order in which they are added.
+const WORDS: &str = "\
+exited|closed|aborted|timeout|unknown token|clock overflow|too many tasks|no memory|\
+bind failed|connection failed|write failed|read failed|send failed|recv failed|ports exhausted|\
+blob insufficient length|invalid or missing checksum|offset overflow|\
+blob layout mismatch: expected one of V0..=V1, found V0|\
+blob version mismatch: expected one of 1..=20, found 300|\
+metric error: bad label|metric error: reserved|metric error: other type|metric error: other help|\
+io error: injected storage fault|io error: injected sync failure|\
+io error: injected write failure|io error: injected partition sync fault|\
+dns resolution failed: a|partition name invalid, must only contain alphanumeric, dash ('-'), or underscore ('_') characters: a|\
+partition creation failed: a|partition missing: a|partition corrupt: a|\
+blob already open: a/b|blob missing: a/b|blob corrupt: a/b reason: c|\
+blob open failed: a/b error: injected storage fault|\
+blob resize failed: a/b error: injected write failure|\
+blob sync failed: a/b error: injected sync failure|\
+127.0.0.1:4000|[2001:db8:0:0:0:0:0:1f]:0|";
+
+/// Adds the words of an error, which come next.
+fn add(rt: &impl Abort, said: &mut String, error: Error) {
+    let added = write!(said, "{error}|");
     drop(error);
-    assert!(rt; line.as_str() == words, "{words}");
+    added.expect(rt, "room");
+    let text = said.as_str();
+    assert!(rt; WORDS.starts_with(text), "{text}");
 }
 
-fn call_words(rt: &impl Abort, alloc: Global) {
-    says(rt, alloc, Error::Exited, "exited");
-    says(rt, alloc, Error::Closed, "closed");
-    says(rt, alloc, Error::Aborted, "aborted");
-    says(rt, alloc, Error::Timeout, "timeout");
-    says(rt, alloc, Error::UnknownToken, "unknown token");
-    says(rt, alloc, Error::ClockOverflow, "clock overflow");
-    says(rt, alloc, Error::TooManyTasks, "too many tasks");
-    says(rt, alloc, Error::NoMemory, "no memory");
+fn add_plain(rt: &impl Abort, said: &mut String) {
+    add(rt, said, Error::Exited);
+    add(rt, said, Error::Closed);
+    add(rt, said, Error::Aborted);
+    add(rt, said, Error::Timeout);
+    add(rt, said, Error::UnknownToken);
+    add(rt, said, Error::ClockOverflow);
+    add(rt, said, Error::TooManyTasks);
+    add(rt, said, Error::NoMemory);
+    add(rt, said, Error::BindFailed);
+    add(rt, said, Error::ConnectionFailed);
+    add(rt, said, Error::WriteFailed);
+    add(rt, said, Error::ReadFailed);
+    add(rt, said, Error::SendFailed);
+    add(rt, said, Error::RecvFailed);
+    add(rt, said, Error::PortsExhausted);
+    add(rt, said, Error::BlobInsufficientLength);
+    add(rt, said, Error::InvalidChecksum);
+    add(rt, said, Error::OffsetOverflow);
 }
 
-fn network_words(rt: &impl Abort, alloc: Global) {
-    says(rt, alloc, Error::BindFailed, "bind failed");
-    says(rt, alloc, Error::ConnectionFailed, "connection failed");
-    says(rt, alloc, Error::WriteFailed, "write failed");
-    says(rt, alloc, Error::ReadFailed, "read failed");
-    says(rt, alloc, Error::SendFailed, "send failed");
-    says(rt, alloc, Error::RecvFailed, "recv failed");
-    says(rt, alloc, Error::PortsExhausted, "ports exhausted");
+fn add_mismatches_and_causes(rt: &impl Abort, said: &mut String) {
+    let (expected, found) = (BlobLayout::ALL, BlobLayout::V0);
+    add(rt, said, Error::BlobLayoutMismatch { expected, found });
+    let expected = (BlobVersion::new(1), BlobVersion::new(20));
+    let found = BlobVersion::new(300);
+    add(rt, said, Error::BlobVersionMismatch { expected, found });
+    add(rt, said, Error::Metric(MetricError::BadLabel));
+    add(rt, said, Error::Metric(MetricError::Reserved));
+    add(rt, said, Error::Metric(MetricError::OtherType));
+    add(rt, said, Error::Metric(MetricError::OtherHelp));
+    add(rt, said, Error::Io(IoKind::InjectedStorageFault));
+    add(rt, said, Error::Io(IoKind::InjectedSyncFailure));
+    add(rt, said, Error::Io(IoKind::InjectedWriteFailure));
+    add(rt, said, Error::Io(IoKind::InjectedPartitionSyncFault));
 }
 
-fn storage_words(rt: &impl Abort, alloc: Global) {
-    let words = "blob insufficient length";
-    says(rt, alloc, Error::BlobInsufficientLength, words);
-    let words = "invalid or missing checksum";
-    says(rt, alloc, Error::InvalidChecksum, words);
-    says(rt, alloc, Error::OffsetOverflow, "offset overflow");
-    let mismatch = Error::BlobLayoutMismatch {
-        expected: BlobLayout::ALL,
-        found: BlobLayout::V0,
-    };
-    let words = "blob layout mismatch: expected one of V0..=V1, found V0";
-    says(rt, alloc, mismatch, words);
-    let mismatch = Error::BlobVersionMismatch {
-        expected: (BlobVersion::new(1), BlobVersion::new(20)),
-        found: BlobVersion::new(300),
-    };
-    let words = "blob version mismatch: expected one of 1..=20, found 300";
-    says(rt, alloc, mismatch, words);
+fn partition_name(rt: &impl Abort, alloc: Global) -> Text {
+    text(rt, alloc, "a")
 }
 
-const METRIC_WORDS: &[(MetricError, &str)] = &[
-    (MetricError::BadLabel, "metric error: bad label"),
-    (MetricError::Reserved, "metric error: reserved"),
-    (MetricError::OtherType, "metric error: other type"),
-    (MetricError::OtherHelp, "metric error: other help"),
-];
-
-const IO_WORDS: &[(IoKind, &str)] = &[
-    (
-        IoKind::InjectedStorageFault,
-        "io error: injected storage fault",
-    ),
-    (
-        IoKind::InjectedSyncFailure,
-        "io error: injected sync failure",
-    ),
-    (
-        IoKind::InjectedWriteFailure,
-        "io error: injected write failure",
-    ),
-    (
-        IoKind::InjectedPartitionSyncFault,
-        "io error: injected partition sync fault",
-    ),
-];
-
-#[test]
-fn error_words(rt: HostRuntime) {
-    let alloc = rt.alloc();
-    call_words(&rt, alloc);
-    network_words(&rt, alloc);
-    storage_words(&rt, alloc);
-    for &(kind, words) in METRIC_WORDS {
-        says(&rt, alloc, Error::Metric(kind), words);
-    }
-    for &(kind, words) in IO_WORDS {
-        says(&rt, alloc, Error::Io(kind), words);
-    }
-}
-
-#[test]
-fn error_texts(rt: HostRuntime) {
-    partition_texts(&rt, rt.alloc());
-    blob_texts(&rt, rt.alloc());
-    failure_texts(&rt, rt.alloc());
-}
-
-fn partition_texts(rt: &impl Abort, alloc: Global) {
-    let bad =
-        "partition name invalid, must only contain alphanumeric, dash ('-'), or underscore ('_') characters: a";
-    let error = Error::ResolveFailed(text(rt, alloc, "a"));
-    says(rt, alloc, error, "dns resolution failed: a");
-    let error = Error::PartitionNameInvalid(text(rt, alloc, "a"));
-    says(rt, alloc, error, bad);
-    let error = Error::PartitionCreationFailed(text(rt, alloc, "a"));
-    says(rt, alloc, error, "partition creation failed: a");
-    let error = Error::PartitionMissing(text(rt, alloc, "a"));
-    says(rt, alloc, error, "partition missing: a");
-    let error = Error::PartitionCorrupt(text(rt, alloc, "a"));
-    says(rt, alloc, error, "partition corrupt: a");
-}
-
-fn blob_texts(rt: &impl Abort, alloc: Global) {
-    let (partition, name) = both(rt, alloc);
-    let error = Error::BlobAlreadyOpen(partition, name);
-    says(rt, alloc, error, "blob already open: a/b");
-    let (partition, name) = both(rt, alloc);
-    let error = Error::BlobMissing(partition, name);
-    says(rt, alloc, error, "blob missing: a/b");
-    let (partition, name) = both(rt, alloc);
-    let error = Error::BlobCorrupt(partition, name, text(rt, alloc, "c"));
-    says(rt, alloc, error, "blob corrupt: a/b reason: c");
-}
-
-/// The names of a partition and a blob.
 fn both(rt: &impl Abort, alloc: Global) -> (Text, Text) {
-    (text(rt, alloc, "a"), text(rt, alloc, "b"))
+    (partition_name(rt, alloc), text(rt, alloc, "b"))
 }
 
-fn failure_texts(rt: &impl Abort, alloc: Global) {
-    let (partition, name) = both(rt, alloc);
-    let error = Error::BlobOpenFailed(partition, name, IoKind::InjectedStorageFault);
-    let words = "blob open failed: a/b error: injected storage fault";
-    says(rt, alloc, error, words);
-    let (partition, name) = both(rt, alloc);
-    let error = Error::BlobResizeFailed(partition, name, IoKind::InjectedWriteFailure);
-    let words = "blob resize failed: a/b error: injected write failure";
-    says(rt, alloc, error, words);
-    let (partition, name) = both(rt, alloc);
-    let error = Error::BlobSyncFailed(partition, name, IoKind::InjectedSyncFailure);
-    let words = "blob sync failed: a/b error: injected sync failure";
-    says(rt, alloc, error, words);
+fn add_named(rt: &impl Abort, alloc: Global, said: &mut String) {
+    add(rt, said, Error::ResolveFailed(text(rt, alloc, "a")));
+    let partition = partition_name(rt, alloc);
+    add(rt, said, Error::PartitionNameInvalid(partition));
+    let partition = partition_name(rt, alloc);
+    add(rt, said, Error::PartitionCreationFailed(partition));
+    let partition = partition_name(rt, alloc);
+    add(rt, said, Error::PartitionMissing(partition));
+    let partition = partition_name(rt, alloc);
+    add(rt, said, Error::PartitionCorrupt(partition));
 }
 
-/// Stops where an address has another text.
-fn is_written(rt: &impl Abort, alloc: Global, ip: Ip, port: u16, words: &str) {
+fn add_of_blobs(rt: &impl Abort, alloc: Global, said: &mut String) {
+    let (partition, name) = both(rt, alloc);
+    add(rt, said, Error::BlobAlreadyOpen(partition, name));
+    let (partition, name) = both(rt, alloc);
+    add(rt, said, Error::BlobMissing(partition, name));
+    let (partition, name) = both(rt, alloc);
+    let why = text(rt, alloc, "c");
+    add(rt, said, Error::BlobCorrupt(partition, name, why));
+    let (partition, name) = both(rt, alloc);
+    let kind = IoKind::InjectedStorageFault;
+    add(rt, said, Error::BlobOpenFailed(partition, name, kind));
+    let (partition, name) = both(rt, alloc);
+    let kind = IoKind::InjectedWriteFailure;
+    add(rt, said, Error::BlobResizeFailed(partition, name, kind));
+    let (partition, name) = both(rt, alloc);
+    let kind = IoKind::InjectedSyncFailure;
+    add(rt, said, Error::BlobSyncFailed(partition, name, kind));
+}
+
+fn add_addr(rt: &impl Abort, said: &mut String, ip: Ip, port: u16) {
     let addr = Addr { ip, port };
-    let line = format!(in alloc; "{addr}").expect(rt, "room");
-    assert!(rt; line.as_str() == words, "{words}");
+    write!(said, "{addr}|").expect(rt, "room");
 }
 
 #[test]
-fn address_texts(rt: HostRuntime) {
-    let here = Ip::V4([127, 0, 0, 1]);
-    is_written(&rt, rt.alloc(), here, 4000, "127.0.0.1:4000");
-    let there = Ip::V6([0x2001, 0xdb8, 0, 0, 0, 0, 0, 0x1f]);
-    is_written(&rt, rt.alloc(), there, 0, "[2001:db8:0:0:0:0:0:1f]:0");
+fn words_of_errors_and_addresses(rt: HostRuntime) {
+    let alloc = rt.alloc();
+    let mut said = String::new(alloc);
+    add_plain(&rt, &mut said);
+    add_mismatches_and_causes(&rt, &mut said);
+    add_named(&rt, alloc, &mut said);
+    add_of_blobs(&rt, alloc, &mut said);
+    add_addr(&rt, &mut said, Ip::V4([127, 0, 0, 1]), 4000);
+    let ip = Ip::V6([0x2001, 0xdb8, 0, 0, 0, 0, 0, 0x1f]);
+    add_addr(&rt, &mut said, ip, 0);
+    assert!(rt; said.as_str() == WORDS, "{said}");
 }
 
 const BAD_LABELS: &[&str] = &["", "9a", "_a", "a-b", "a b", "\u{e9}"];
@@ -619,7 +504,6 @@ const REFUSED_LABELS: &[(&str, &str, MetricError)] = &[
     ("runtime", "9a", MetricError::BadLabel),
 ];
 
-/// A child's label is refused so.
 fn refuses_child(rt: &impl Abort, alloc: Global, prefix: &str, label: &str, kind: MetricError) {
     same(rt, label, check_child_label(prefix, label), Err(kind));
     let refused = failed(child_label(alloc, prefix, label), Error::Metric(kind));
@@ -629,30 +513,23 @@ fn refuses_child(rt: &impl Abort, alloc: Global, prefix: &str, label: &str, kind
 #[test]
 fn refused_labels(rt: HostRuntime) {
     for label in BAD_LABELS {
-        same(
-            &rt,
-            label,
-            validate_label(label),
-            Err(MetricError::BadLabel),
-        );
+        let why = Err(MetricError::BadLabel);
+        same(&rt, label, validate_label(label), why);
     }
     for &(prefix, label, kind) in REFUSED_LABELS {
         refuses_child(&rt, rt.alloc(), prefix, label, kind);
     }
 }
 
-/// A prefix, a name, the prefixed name, and whether it stands in place.
+const LONG: &str = "abcdefghijk";
+
+/// A prefix, a name, the prefixed name, and whether it is kept in place.
 const SMALL_TEXTS: &[(&str, &str, &str, bool)] = &[
     ("", "", "", true),
     ("", "c", "c", true),
     ("p", "c", "p_c", true),
-    ("abcdefghijk", "abcdefghij", "abcdefghijk_abcdefghij", true),
-    (
-        "abcdefghijk",
-        "abcdefghijk",
-        "abcdefghijk_abcdefghijk",
-        false,
-    ),
+    (LONG, "abcdefghij", "abcdefghijk_abcdefghij", true),
+    (LONG, LONG, "abcdefghijk_abcdefghijk", false),
 ];
 
 /// Stops where a prefixed name has another text, or isn't so kept.

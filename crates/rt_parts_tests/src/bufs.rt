@@ -14,7 +14,6 @@ fn buf(rt: &impl Abort, alloc: Global, bytes: &[u8]) -> IoBuf
     IoBuf::from_vec(copy).expect(rt, "room")
 }
 
-// The bytes of all chunks in order.
 fn joined(alloc: Global, bufs: &IoBufs) -> Result<Vec<u8>, NoMemory>
     ensures { IfOk result (λ v. v.items ≡ bufs.now.bytes) }
 {
@@ -25,20 +24,25 @@ fn joined(alloc: Global, bufs: &IoBufs) -> Result<Vec<u8>, NoMemory>
     Ok(all)
 }
 
-// Buffers of one chunk.
 fn one_chunk(rt: &impl Abort, alloc: Global, bytes: &[u8]) -> IoBufs
     ensures { result.bytes ≡ bytes.now }
 {
     IoBufs::from_buf(alloc, buf(rt, alloc, bytes)).expect(rt, "room")
 }
 
+// A chunk for each of these texts that isn't empty.
+pub fn chunks(rt: &impl Abort, alloc: Global, texts: &[&str]) -> IoBufs {
+    let mut bufs = IoBufs::new(alloc);
+    for text in texts {
+        bufs.append(buf(rt, alloc, text.as_bytes()))
+            .expect(rt, "room");
+    }
+    bufs
+}
+
 // "abcde" in the chunks "ab", "c" and "de".
 fn three_chunks(rt: &impl Abort, alloc: Global) -> IoBufs {
-    let mut bufs = one_chunk(rt, alloc, b"ab");
-    bufs.append(buf(rt, alloc, b"")).expect(rt, "room");
-    bufs.append(buf(rt, alloc, b"c")).expect(rt, "room");
-    bufs.append(buf(rt, alloc, b"de")).expect(rt, "room");
-    bufs
+    chunks(rt, alloc, &["ab", "", "c", "de"])
 }
 
 #[test]
@@ -59,17 +63,14 @@ fn is(bytes: &[u8], text: &str) -> bool {
     bytes == text.as_bytes()
 }
 
-// Whether a buffer has this text.
 fn reads(buf: IoBuf, text: &str) -> bool {
     is(buf.as_slice(), text)
 }
 
-// Whether all chunks together have this text.
 fn coalesces(rt: &impl Abort, bufs: IoBufs, text: &str) -> bool {
     reads(bufs.coalesce().expect(rt, "room"), text)
 }
 
-// Whether the first chunk has this text.
 fn begins(bufs: IoBufs, text: &str) -> bool {
     is(bufs.chunk(), text)
 }

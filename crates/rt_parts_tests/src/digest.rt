@@ -1,16 +1,16 @@
 // Published checksums, and digests that another program has worked out.
 
+use crate::bufs::chunks;
+use crate::told::{holds, same};
 use rand_chacha::ChaCha12Rng;
 use rand_core::{Rng, SeedableRng};
 use rt_audit::{
     AuditEnv, AuditHasher, Auditor, Crc32c, Entry, EventFields, EventLabel, Journal, Label, Order,
     ShortLabel,
 };
-use rt_base::{Env, Event, Items, NoMemory, Text};
-use rt_bufs::{IoBuf, IoBufs};
+use rt_base::{Env, Event, Items, Text};
 use std::alloc::Global;
 use std::process::Abort;
-use std::test::Fail;
 
 fn checksum(bytes: &[u8]) -> u32 {
     let mut checksum = Crc32c::new();
@@ -34,7 +34,6 @@ fn bit_by_bit(bytes: &[u8]) -> u32 {
     register ^ u32::MAX
 }
 
-// The bytes 0 to 31.
 const RISING: [u8; 32] = [
     0, 1, 2, 3, 4, 5, 6, 7, 8, 9, 10, 11, 12, 13, 14, 15, 16, 17, 18, 19, 20, 21, 22, 23, 24, 25,
     26, 27, 28, 29, 30, 31,
@@ -42,7 +41,7 @@ const RISING: [u8; 32] = [
 
 // The check value of the checksum's catalogue, and the examples of RFC 3720, appendix B.4.
 #[test]
-fn checksum_of_nine_digits(rt: HostRuntime) -> Result<(), Fail> {
+fn checksum_of_nine_digits(rt: HostRuntime) {
     let published: [(&[u8], u32); 5] = [
         (b"123456789", 0xe306_9283),
         (&[0; 32], 0x8a91_36aa),
@@ -51,61 +50,49 @@ fn checksum_of_nine_digits(rt: HostRuntime) -> Result<(), Fail> {
         (b"", 0),
     ];
     for (bytes, wanted) in published {
-        assert!(rt; checksum(bytes) == wanted);
+        assert!(rt; checksum(bytes) == wanted, "{wanted}");
     }
-    Ok(())
+}
+
+fn checksum_of_two(front: &[u8], back: &[u8]) -> u32 {
+    let mut pieces = Crc32c::new();
+    pieces.update(front);
+    pieces.update(back);
+    pieces.finish()
 }
 
 #[test]
-fn words_as_bit_by_bit(rt: HostRuntime) -> Result<(), Fail> {
+fn words_as_bit_by_bit(rt: HostRuntime) {
     for first in 0..RISING.len() {
         let (front, back) = RISING.split_at(first);
         assert!(rt; checksum(back) == bit_by_bit(back), "from {first}");
-        let mut pieces = Crc32c::new();
-        pieces.update(front);
-        pieces.update(back);
-        assert!(rt; pieces.finish() == bit_by_bit(&RISING), "cut at {first}");
+        let pieces = checksum_of_two(front, back);
+        assert!(rt; pieces == bit_by_bit(&RISING), "cut at {first}");
     }
-    Ok(())
 }
 
-fn hash(fields: &[&[u8]]) -> [u8; 4] {
+fn hashes(rt: &impl Abort, what: &str, fields: &[&[u8]], wanted: [u8; 4]) {
     let mut hasher = AuditHasher::new();
     for field in fields {
         hasher.update(field);
     }
-    hasher.finalize()
+    same(rt, what, hasher.finalize(), wanted);
 }
 
 #[test]
-fn lengths_keep_fields_apart(rt: HostRuntime) -> Result<(), Fail> {
-    assert!(rt; hash(&[]) == [0; 4]);
-    assert!(rt; hash(&[b""]) == [0x8c, 0x28, 0xb2, 0x8a]);
-    assert!(rt; hash(&[b"a", b"bc"]) == [0x41, 0x3c, 0x92, 0x58]);
-    assert!(rt; hash(&[b"ab", b"c"]) == [0x59, 0x72, 0xdf, 0x7a]);
-    Ok(())
-}
-
-const CHUNKS: &[&str] = &["ab", "c", "de"];
-
-/// A buffer for each of these texts.
-fn chunks(rt: &impl Abort, alloc: Global, texts: &[&str]) -> IoBufs {
-    let mut bufs = IoBufs::new(alloc);
-    for text in texts {
-        let bytes = Vec::from_slice(alloc, text.as_bytes()).expect(rt, "room");
-        let chunk = IoBuf::from_vec(bytes).expect(rt, "room");
-        bufs.append(chunk).expect(rt, "room");
-    }
-    bufs
+fn lengths_keep_fields_apart(rt: HostRuntime) {
+    hashes(&rt, "none", &[], [0; 4]);
+    hashes(&rt, "an empty one", &[b""], [0x8c, 0x28, 0xb2, 0x8a]);
+    hashes(&rt, "a, bc", &[b"a", b"bc"], [0x41, 0x3c, 0x92, 0x58]);
+    hashes(&rt, "ab, c", &[b"ab", b"c"], [0x59, 0x72, 0xdf, 0x7a]);
 }
 
 #[test]
 fn chunks_are_one_field(rt: HostRuntime) {
-    let bufs = chunks(&rt, rt.alloc(), CHUNKS);
+    let bufs = chunks(&rt, rt.alloc(), &["ab", "c", "de"]);
     let mut hasher = AuditHasher::new();
     hasher.update_bufs(&bufs);
-    drop(bufs);
-    assert!(rt; hasher.finalize() == [0x60, 0xbc, 0x59, 0x28]);
+    same(&rt, "a hash", hasher.finalize(), [0x60, 0xbc, 0x59, 0x28]);
 }
 
 /// Fields of zeros, of these sizes.
@@ -130,125 +117,118 @@ fn entry(rt: &impl Abort, alloc: Global, label: &str, sizes: &[usize]) -> Entry 
     Entry::Event { label, fields }
 }
 
-/// Tells an auditor of an event.
 fn tell(auditor: &mut Auditor, event: Event) {
     auditor.event(&event);
 }
 
-/// Whether an auditor shows this state.
-fn has_state(rt: &impl Abort, alloc: Global, auditor: &Auditor, wanted: &str) -> bool {
+fn has_state(rt: &impl Abort, alloc: Global, auditor: &Auditor, wanted: &str) {
     let state = auditor.state(alloc).expect(rt, "room");
-    state.as_str() == wanted
+    holds(rt, wanted, state.as_str() == wanted);
 }
 
 #[test]
 fn fresh_auditor(rt: HostRuntime) {
     let alloc = rt.alloc();
     let mut auditor = Auditor::new();
-    assert!(rt; has_state(&rt, alloc, &auditor, "00000000"));
-    assert!(rt; has_state(&rt, alloc, &Auditor::default(), "00000000"));
+    has_state(&rt, alloc, &auditor, "00000000");
+    has_state(&rt, alloc, &Auditor::default(), "00000000");
     tell(&mut auditor, event(&rt, alloc, "process_task", &[16, 0]));
-    assert!(rt; has_state(&rt, alloc, &auditor, "32ffd0c0"));
+    has_state(&rt, alloc, &auditor, "32ffd0c0");
     tell(&mut auditor, event(&rt, alloc, "ok", &[]));
-    assert!(rt; has_state(&rt, alloc, &auditor, "07b84907"));
+    has_state(&rt, alloc, &auditor, "07b84907");
+}
+
+fn has_digest(rt: &impl Abort, what: &str, journal: &Journal, wanted: [u8; 4]) {
+    same(rt, what, journal.digest(), wanted);
 }
 
 #[test]
 fn digest_of_a_journal(rt: HostRuntime) {
     let alloc = rt.alloc();
-    let visit = entry(&rt, alloc, "process_task", &[16, 0]);
-    let end = entry(&rt, alloc, "ok", &[]);
     let mut journal = Journal::new(alloc);
-    assert!(rt; journal.digest() == [0; 4]);
+    has_digest(&rt, "no event", &journal, [0; 4]);
     journal.reserve(4).expect(&rt, "room");
-    journal.push(Entry::Wake { task: 1 });
-    journal.push(visit);
-    journal.push(Entry::Draw { value: 1 });
-    assert!(rt; journal.digest() == [0x32, 0xff, 0xd0, 0xc0]);
-    journal.push(end);
-    assert!(rt; has_state(&rt, alloc, &journal.auditor(), "07b84907"));
+    push(&rt, &mut journal, Entry::Wake { task: 1 });
+    let visit = entry(&rt, alloc, "process_task", &[16, 0]);
+    push(&rt, &mut journal, visit);
+    push(&rt, &mut journal, Entry::Draw { value: 1 });
+    has_digest(&rt, "one event", &journal, [0x32, 0xff, 0xd0, 0xc0]);
+    push(&rt, &mut journal, entry(&rt, alloc, "ok", &[]));
+    has_state(&rt, alloc, &journal.auditor(), "07b84907");
+}
+
+fn push_round(rt: &impl Abort, alloc: Global, journal: &mut Journal, numbers: &[u64]) {
+    let order = Order::of(alloc, numbers).expect(rt, "room");
+    push(rt, journal, Entry::Round { order });
 }
 
 #[test]
 fn rounds_of_a_journal(rt: HostRuntime) {
-    let alloc = rt.alloc();
-    let first = round(&rt, alloc, &[0]);
-    let second = round(&rt, alloc, &[1, 0]);
-    let mut journal = Journal::new(alloc);
-    assert!(rt; journal.rounds() == 0);
-    push(&rt, &mut journal, first);
+    let mut journal = Journal::new(rt.alloc());
+    same(&rt, "no round", journal.rounds(), 0);
+    push_round(&rt, rt.alloc(), &mut journal, &[0]);
     push(&rt, &mut journal, Entry::Cleanup);
-    push(&rt, &mut journal, second);
-    assert!(rt; journal.rounds() == 2);
-}
-
-/// A round in this order.
-fn round(rt: &impl Abort, alloc: Global, numbers: &[u64]) -> Entry {
-    let order = Order::of(alloc, numbers).expect(rt, "room");
-    Entry::Round { order }
+    push_round(&rt, rt.alloc(), &mut journal, &[1, 0]);
+    same(&rt, "two rounds", journal.rounds(), 2);
 }
 
 /// The fields of a visit, with the label behind a pointer.
-fn kept(rt: &impl Abort, alloc: Global, task: u64, label: &str) -> EventFields {
+pub fn kept(rt: &impl Abort, alloc: Global, task: u64, label: &str) -> EventFields {
     EventFields::of_task(task, Label::of(alloc, label).expect(rt, "room"))
 }
 
 /// The same with a short label.
-fn in_place(rt: &impl Abort, task: u64, label: &str) -> EventFields {
+pub fn in_place(rt: &impl Abort, task: u64, label: &str) -> EventFields {
     EventFields::of_short_task(task, ShortLabel::of(label).expect(rt, "at most 22 bytes"))
 }
 
-/// The fields of a visit, in a list.
-fn listed(rt: &impl Abort, alloc: Global, task: u64, label: &str) -> EventFields {
-    let fields = kept(rt, alloc, task, label);
-    let list = in_a_list(alloc, &fields);
-    drop(fields);
-    list.expect(rt, "room")
+/// Adds a copy of a field.
+fn push_field(rt: &impl Abort, alloc: Global, list: &mut Vec<Items<u8>>, field: &[u8]) {
+    let copy = field.to_vec(alloc).expect(rt, "room");
+    list.push(Items::of(copy)).expect(rt, "room");
 }
 
-/// An entry of a visit.
-fn visit(fields: EventFields) -> Entry {
-    let label = EventLabel::process_task();
-    Entry::Event { label, fields }
+/// The fields of a visit, in a list.
+pub fn listed(rt: &impl Abort, alloc: Global, task: u64, label: &str) -> EventFields {
+    let fields = kept(rt, alloc, task, label);
+    let mut list = Vec::new(alloc);
+    for place in 0..fields.len() {
+        let field = fields.get(place).expect(rt, "a field");
+        push_field(rt, alloc, &mut list, field);
+    }
+    EventFields::listed(Items::of(list))
 }
 
 /// Makes room for an entry in a journal, and adds it.
-fn push(rt: &impl Abort, journal: &mut Journal, entry: Entry) {
+pub fn push(rt: &impl Abort, journal: &mut Journal, entry: Entry) {
     journal.reserve(1).expect(rt, "room");
     journal.push(entry);
 }
 
-/// The digest of a journal of these two entries.
-fn digest_of(rt: &impl Abort, alloc: Global, first: Entry, second: Entry) -> [u8; 4] {
-    let mut journal = Journal::new(alloc);
-    push(rt, &mut journal, first);
-    push(rt, &mut journal, second);
-    journal.digest()
+fn push_visit(rt: &impl Abort, journal: &mut Journal, fields: EventFields) {
+    let label = EventLabel::process_task();
+    push(rt, journal, Entry::Event { label, fields });
 }
 
-/// The same fields in a list.
-pub fn in_a_list(alloc: Global, fields: &EventFields) -> Result<EventFields, NoMemory> {
-    let mut list = Vec::new(alloc);
-    for place in 0..fields.len() {
-        if let Some(field) = fields.get(place) {
-            list.push(Items::of(field.to_vec(alloc)?))?;
-        }
-    }
-    Ok(EventFields::listed(Items::of(list)))
+/// Stops where a journal of two visits has another digest than is known of them.
+fn are_digested(rt: &impl Abort, alloc: Global, what: &str, visits: (EventFields, EventFields)) {
+    let mut journal = Journal::new(alloc);
+    push_visit(rt, &mut journal, visits.0);
+    push_visit(rt, &mut journal, visits.1);
+    has_digest(rt, what, &journal, [0xec, 0x89, 0x45, 0x7e]);
 }
 
 #[test]
 fn visits_are_digested_alike(rt: HostRuntime) {
     let alloc = rt.alloc();
-    let first = visit(kept(&rt, alloc, 258, "ab"));
-    let second = visit(kept(&rt, alloc, 70_000, ""));
-    assert!(rt; digest_of(&rt, alloc, first, second) == [0xec, 0x89, 0x45, 0x7e]);
-    let first = visit(in_place(&rt, 258, "ab"));
-    let second = visit(in_place(&rt, 70_000, ""));
-    assert!(rt; digest_of(&rt, alloc, first, second) == [0xec, 0x89, 0x45, 0x7e]);
-    let first = visit(listed(&rt, alloc, 258, "ab"));
-    let second = visit(listed(&rt, alloc, 70_000, ""));
-    assert!(rt; digest_of(&rt, alloc, first, second) == [0xec, 0x89, 0x45, 0x7e]);
+    let first = kept(&rt, alloc, 258, "ab");
+    let visits = (first, kept(&rt, alloc, 70_000, ""));
+    are_digested(&rt, alloc, "kept", visits);
+    let visits = (in_place(&rt, 258, "ab"), in_place(&rt, 70_000, ""));
+    are_digested(&rt, alloc, "in place", visits);
+    let first = listed(&rt, alloc, 258, "ab");
+    let visits = (first, listed(&rt, alloc, 70_000, ""));
+    are_digested(&rt, alloc, "listed", visits);
 }
 
 /// What an environment that is told an event has for its auditor, and draws next.
@@ -260,7 +240,6 @@ fn told_env(rt: &impl Abort, event: Event) -> (Auditor, u64) {
     (env.auditor(), drawn)
 }
 
-/// The auditor of a journal that is told an event.
 fn told_journal(rt: &impl Abort, alloc: Global, entry: Entry) -> Auditor {
     let mut journal = Journal::new(alloc);
     push(rt, &mut journal, entry);

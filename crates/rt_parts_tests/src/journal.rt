@@ -1,11 +1,12 @@
 // The line of each entry, and each call once.
 
-use crate::digest::{agree_on_an_event, in_a_list};
+use crate::digest::{agree_on_an_event, in_place, kept, listed, push};
+use crate::told::{holds, same};
 use rt_audit::{
     AnswerKind, Call, CallReply, Caller, Entry, EventFields, EventLabel, FinishCause, Journal,
     Label, Moment, Order, Payload, Refusal, ShortLabel, error_code,
 };
-use rt_base::{Choice, Error, Items, NoMemory, Packed};
+use rt_base::{Choice, Error, Items, Packed};
 use std::alloc::Global;
 use std::mem::size_of;
 use std::process::Abort;
@@ -13,254 +14,199 @@ use std::process::Abort;
 // a run keeps all its entries, so what one takes is most of what the run takes
 const _: () = prove!(size_of::<Entry>() == 64);
 
-/// Adds the line of an entry.
-fn add(rt: &impl Abort, alloc: Global, text: &mut String, entry: Entry) {
-    let added = entry.add_to(alloc, text);
-    drop(entry);
-    added.expect(rt, "room");
-    text.push('\n').expect(rt, "room");
+/// Adds the line of an entry, and `|` behind it.
+fn add_line(rt: &impl Abort, alloc: Global, text: &mut String, entry: &Entry) {
+    entry.add_to(alloc, text).expect(rt, "room");
+    text.push('|').expect(rt, "room");
 }
 
-/// Adds the lines of two starts, with a deadline and with none.
-fn add_starts(rt: &impl Abort, alloc: Global, text: &mut String) {
-    let bounded = Entry::Start {
-        next: Packed::new(3),
-        now: Moment::new(5),
-        deadline: Some(Moment::new(90)),
-        cycle: Moment::new(1_000_000),
-    };
-    add(rt, alloc, text, bounded);
-    let unbounded = Entry::Start {
-        next: Packed::new(0),
-        now: Moment::new(0),
-        deadline: None,
-        cycle: Moment::new(1),
-    };
-    add(rt, alloc, text, unbounded);
+/// Stops at the first entry with another line.
+fn has_lines(rt: &impl Abort, alloc: Global, journal: &Journal, wanted: &str) {
+    let mut text = String::new(alloc);
+    for entry in journal.entries() {
+        add_line(rt, alloc, &mut text, entry);
+        assert!(rt; wanted.starts_with(text.as_str()), "{text}");
+    }
+    same(rt, "all lines", text.len(), wanted.len());
 }
 
-fn add_call(
-    rt: &impl Abort,
-    alloc: Global,
-    text: &mut String,
-    by: Option<u64>,
-    call: Call,
-    reply: CallReply,
-) {
-    add(
-        rt,
-        alloc,
-        text,
-        Entry::Call {
-            by: Caller::of(by),
-            call,
-            reply,
-        },
-    );
+fn start(next: u64, now: u128, deadline: Option<Moment>, cycle: u128) -> Entry {
+    Entry::Start {
+        next: Packed::new(next),
+        now: Moment::new(now),
+        deadline,
+        cycle: Moment::new(cycle),
+    }
 }
 
-/// Adds the line of a poll of a sleep.
-fn add_sleep(rt: &impl Abort, alloc: Global, text: &mut String, by: u64, reply: CallReply) {
+fn add_call(rt: &impl Abort, list: &mut Journal, by: Option<u64>, call: Call, reply: CallReply) {
+    let by = Caller::of(by);
+    push(rt, list, Entry::Call { by, call, reply });
+}
+
+/// Adds a call of the fourth task.
+fn add(rt: &impl Abort, list: &mut Journal, call: Call, reply: CallReply) {
+    add_call(rt, list, Some(4), call, reply);
+}
+
+fn add_sleep(rt: &impl Abort, list: &mut Journal, by: u64, reply: CallReply) {
     let due = Moment::new(7);
-    add_call(rt, alloc, text, Some(by), Call::SleepPoll { due }, reply);
+    add_call(rt, list, Some(by), Call::SleepPoll { due }, reply);
 }
 
-/// Adds the line of a call that is refused.
-fn add_refused(rt: &impl Abort, alloc: Global, text: &mut String, error: Error) {
+fn add_refused(rt: &impl Abort, alloc: Global, list: &mut Journal, error: Error) {
     let error = Refusal::new(alloc, error).expect(rt, "room");
     let reply = CallReply::Refused { error };
-    add_call(rt, alloc, text, Some(0), Call::Wake { task: 9 }, reply);
+    add_call(rt, list, Some(0), Call::Wake { task: 9 }, reply);
 }
 
-fn add_calls(rt: &impl Abort, alloc: Global, text: &mut String) {
-    add_sleep(rt, alloc, text, 3, CallReply::Ready);
+/// Adds two starts, with a deadline and with none, and calls that are answered, refused and left pending.
+fn add_calls(rt: &impl Abort, alloc: Global, list: &mut Journal) {
+    push(rt, list, start(3, 5, Some(Moment::new(90)), 1_000_000));
+    push(rt, list, start(0, 0, None, 1));
+    add_sleep(rt, list, 3, CallReply::Ready);
     let close = Call::CloseNode { node: 0 };
-    add_call(rt, alloc, text, None, close, CallReply::Done);
-    add_refused(rt, alloc, text, Error::UnknownToken);
-    add_sleep(rt, alloc, text, 0, CallReply::PendingAt { alarm: 2 });
+    add_call(rt, list, None, close, CallReply::Done);
+    add_refused(rt, alloc, list, Error::UnknownToken);
+    add_sleep(rt, list, 0, CallReply::PendingAt { alarm: 2 });
 }
 
-/// Adds the line of a new child.
-fn add_child(rt: &impl Abort, alloc: Global, text: &mut String, node: u64, ended: bool) {
+fn add_child(rt: &impl Abort, alloc: Global, list: &mut Journal, node: u64, ended: bool) {
     let label = Label::of(alloc, "p_c").expect(rt, "room");
-    let call = Call::Child { node: 0, label };
     let reply = CallReply::NodeAt { node, ended };
-    add_call(rt, alloc, text, Some(4), call, reply);
+    add(rt, list, Call::Child { node: 0, label }, reply);
 }
 
-/// Adds the line of a call of the fourth task.
-fn add_fourth(rt: &impl Abort, alloc: Global, text: &mut String, call: Call, reply: CallReply) {
-    add_call(rt, alloc, text, Some(4), call, reply);
-}
-
-fn add_spawns(rt: &impl Abort, alloc: Global, text: &mut String) {
-    add_child(rt, alloc, text, 1, false);
-    add_child(rt, alloc, text, 2, true);
+fn add_spawns(rt: &impl Abort, alloc: Global, list: &mut Journal) {
+    add_child(rt, alloc, list, 1, false);
+    add_child(rt, alloc, list, 2, true);
     let reply = CallReply::TaskAt { task: 0, node: 3 };
-    add_fourth(rt, alloc, text, Call::Spawn { node: 1 }, reply);
-    add_fourth(rt, alloc, text, Call::Spawn { node: 2 }, CallReply::Closed);
-    add_fourth(rt, alloc, text, Call::Join { task: 0 }, CallReply::Pending);
-    add_fourth(rt, alloc, text, Call::Abort { task: 0 }, CallReply::Done);
-    let abort = Call::AbortTask { task: 5 };
-    add_fourth(rt, alloc, text, abort, CallReply::Done);
-    add_fourth(rt, alloc, text, Call::GiveUp { task: 0 }, CallReply::Done);
+    add(rt, list, Call::Spawn { node: 1 }, reply);
+    add(rt, list, Call::Spawn { node: 2 }, CallReply::Closed);
+    add(rt, list, Call::Join { task: 0 }, CallReply::Pending);
+    add(rt, list, Call::Abort { task: 0 }, CallReply::Done);
+    add(rt, list, Call::AbortTask { task: 5 }, CallReply::Done);
+    add(rt, list, Call::GiveUp { task: 0 }, CallReply::Done);
 }
 
-/// Adds the line of a call that is answered with bytes.
-fn add_bytes(rt: &impl Abort, alloc: Global, text: &mut String, call: Call, bytes: &[u8]) {
+fn add_bytes(rt: &impl Abort, alloc: Global, list: &mut Journal, call: Call, bytes: &[u8]) {
     let bytes = Payload::of(alloc, bytes).expect(rt, "room");
-    add_fourth(rt, alloc, text, call, CallReply::Bytes { bytes });
+    add(rt, list, call, CallReply::Bytes { bytes });
 }
 
-fn add_draws(rt: &impl Abort, alloc: Global, text: &mut String) {
-    let number = CallReply::Number { number: u64::MAX };
-    add_fourth(rt, alloc, text, Call::NextU64, number);
-    let number = CallReply::Number { number: 7 };
-    add_call(rt, alloc, text, None, Call::NextU32, number);
-    let drawn = [0, 255, 16];
-    add_bytes(rt, alloc, text, Call::FillBytes { len: 3 }, &drawn);
-    add_bytes(rt, alloc, text, Call::FillBytes { len: 0 }, &[]);
-    add_bytes(rt, alloc, text, Call::Auditor, &[171; 40]);
-}
-
-/// Fields of so many bytes, and of none.
-fn fields(alloc: Global, size: usize) -> Result<EventFields, NoMemory> {
-    let filled = Items::of(vec![in alloc; 171u8; size]?);
-    let fields = vec![in alloc; filled, Items::of(Vec::new(alloc))]?;
-    Ok(EventFields::listed(Items::of(fields)))
+fn add_draws(rt: &impl Abort, alloc: Global, list: &mut Journal) {
+    let number = u64::MAX;
+    add(rt, list, Call::NextU64, CallReply::Number { number });
+    let reply = CallReply::Number { number: 7 };
+    add_call(rt, list, None, Call::NextU32, reply);
+    let fill = Call::FillBytes { len: 3 };
+    add_bytes(rt, alloc, list, fill, &[0, 255, 16]);
+    add_bytes(rt, alloc, list, Call::FillBytes { len: 0 }, &[]);
+    add_bytes(rt, alloc, list, Call::Auditor, &[171; 40]);
 }
 
 /// An event with a field of so many bytes, and an empty one.
-fn add_event(rt: &impl Abort, alloc: Global, text: &mut String, size: usize) {
-    let fields = fields(alloc, size).expect(rt, "room");
+fn event(rt: &impl Abort, alloc: Global, size: usize) -> Entry {
+    let filled = Items::of(vec![in alloc; 171u8; size].expect(rt, "room"));
+    let fields = vec![in alloc; filled, Items::of(Vec::new(alloc))];
+    let fields = EventFields::listed(Items::of(fields.expect(rt, "room")));
     let label = EventLabel::process_task();
-    add(rt, alloc, text, Entry::Event { label, fields });
+    Entry::Event { label, fields }
 }
 
-/// A round that visits these numbers.
-fn add_order(rt: &impl Abort, alloc: Global, text: &mut String, numbers: &[u64]) {
+fn round(rt: &impl Abort, alloc: Global, numbers: &[u64]) -> Entry {
     let order = Order::of(alloc, numbers).expect(rt, "room");
-    add(rt, alloc, text, Entry::Round { order });
+    Entry::Round { order }
 }
 
 /// A round that visits a number so many times.
-fn add_round(rt: &impl Abort, alloc: Global, text: &mut String, task: u64, times: usize) {
+fn round_of_one(rt: &impl Abort, alloc: Global, task: u64, times: usize) -> Entry {
     let numbers = vec![in alloc; task; times].expect(rt, "room");
-    add_order(rt, alloc, text, numbers.as_slice());
+    round(rt, alloc, numbers.as_slice())
 }
 
 /// The least and the greatest numbers of one to four digits, and a greater one.
 const DIGITS: &[u64] = &[9, 10, 99, 100, 999, 1000, 9999, 10_000];
 
-fn add_tasks(rt: &impl Abort, alloc: Global, text: &mut String) {
-    add(rt, alloc, text, Entry::Wake { task: 9 });
-    add(rt, alloc, text, Entry::Draw { value: u64::MAX });
-    add(rt, alloc, text, Entry::Root { task: 10 });
-    add(rt, alloc, text, Entry::Visit { task: 3 });
+fn add_rounds(rt: &impl Abort, alloc: Global, list: &mut Journal) {
+    push(rt, list, event(rt, alloc, 2));
+    push(rt, list, round_of_one(rt, alloc, 4, 3));
+    push(rt, list, round_of_one(rt, alloc, 4, 0));
+    push(rt, list, round(rt, alloc, DIGITS));
+}
+
+/// Adds what takes no memory, up to the cleanup.
+fn add_plain(rt: &impl Abort, list: &mut Journal) {
+    push(rt, list, Entry::Wake { task: 9 });
+    push(rt, list, Entry::Draw { value: u64::MAX });
+    push(rt, list, Entry::Root { task: 10 });
+    push(rt, list, Entry::Visit { task: 3 });
     let kind = AnswerKind::Pending;
-    add(rt, alloc, text, Entry::Answer { task: 3, kind });
-    add(rt, alloc, text, Entry::NodeEnd { node: 0 });
-}
-
-fn add_times(rt: &impl Abort, alloc: Global, text: &mut String) {
+    push(rt, list, Entry::Answer { task: 3, kind });
+    push(rt, list, Entry::NodeEnd { node: 0 });
     let now = Moment::new(1_000_005);
-    add(rt, alloc, text, Entry::Advance { now });
+    push(rt, list, Entry::Advance { now });
     let now = Moment::new(1 << 100);
-    add(rt, alloc, text, Entry::Skip { now });
-    add(rt, alloc, text, Entry::Fire { alarm: 0 });
+    push(rt, list, Entry::Skip { now });
+    push(rt, list, Entry::Fire { alarm: 0 });
+    push(rt, list, Entry::Cleanup);
 }
 
-/// Adds the line of a crash.
-fn add_crash(rt: &impl Abort, alloc: Global, text: &mut String, choices: Vec<Choice>) {
-    let choices = Items::of(choices);
-    add(rt, alloc, text, Entry::Crash { choices });
-}
-
-fn add_ends(rt: &impl Abort, alloc: Global, text: &mut String) {
-    add(rt, alloc, text, Entry::Cleanup);
+/// Adds two crashes, with choices and with none, and a finish.
+fn add_ends(rt: &impl Abort, alloc: Global, list: &mut Journal) {
     let choices = vec![in alloc; Choice::Kept, Choice::Dropped, Choice::Prefix(12)];
-    add_crash(rt, alloc, text, choices.expect(rt, "room"));
-    add_crash(rt, alloc, text, Vec::new(alloc));
+    let choices = Items::of(choices.expect(rt, "room"));
+    push(rt, list, Entry::Crash { choices });
+    let choices = Items::of(Vec::new(alloc));
+    push(rt, list, Entry::Crash { choices });
     let cause = FinishCause::Completed;
-    add(rt, alloc, text, Entry::Finish { cause });
+    push(rt, list, Entry::Finish { cause });
 }
+
+/// The lines, each of which ends with `|`.
+const LINES: &str = "\
+start 5 90 1000000 3|start 0 - 1 0|call 3 sleep-poll 7 -> ready|call - close-node 0 -> ok|\
+call 0 wake 9 -> err 12|call 0 sleep-poll 7 -> pending 2|call 4 child 0 p_c -> node 1|\
+call 4 child 0 p_c -> node 2 ended|call 4 spawn 1 -> task 0 node 3|call 4 spawn 2 -> closed|\
+call 4 join 0 -> pending|call 4 abort 0 -> ok|call 4 abort-task 5 -> ok|call 4 give-up 0 -> ok|\
+call 4 u64 -> 18446744073709551615|call - u32 -> 7|call 4 fill 3 -> 00ff10|call 4 fill 0 -> -|\
+call 4 auditor -> abababababababababababababababababababababababababababababababababababababababab|\
+event process_task abab -|round 4 4 4|round|round 9 10 99 100 999 1000 9999 10000|wake 9|\
+draw 18446744073709551615|root 10|visit 3|answer 3 pending|nodeend 0|advance 1000005|\
+skip 1267650600228229401496703205376|fire 0|cleanup|crash k d p12|crash|finish ok|";
 
 #[test]
 fn line_of_each_entry(rt: HostRuntime) {
     let alloc = rt.alloc();
-    let mut text = String::new(alloc);
-    add_starts(&rt, alloc, &mut text);
-    add_calls(&rt, alloc, &mut text);
-    add_spawns(&rt, alloc, &mut text);
-    add_draws(&rt, alloc, &mut text);
-    add_event(&rt, alloc, &mut text, 2);
-    add_round(&rt, alloc, &mut text, 4, 3);
-    add_round(&rt, alloc, &mut text, 4, 0);
-    add_order(&rt, alloc, &mut text, DIGITS);
-    add_tasks(&rt, alloc, &mut text);
-    add_times(&rt, alloc, &mut text);
-    add_ends(&rt, alloc, &mut text);
-    assert!(rt;
-        text.as_str()
-            == "\
-start 5 90 1000000 3
-start 0 - 1 0
-call 3 sleep-poll 7 -> ready
-call - close-node 0 -> ok
-call 0 wake 9 -> err 12
-call 0 sleep-poll 7 -> pending 2
-call 4 child 0 p_c -> node 1
-call 4 child 0 p_c -> node 2 ended
-call 4 spawn 1 -> task 0 node 3
-call 4 spawn 2 -> closed
-call 4 join 0 -> pending
-call 4 abort 0 -> ok
-call 4 abort-task 5 -> ok
-call 4 give-up 0 -> ok
-call 4 u64 -> 18446744073709551615
-call - u32 -> 7
-call 4 fill 3 -> 00ff10
-call 4 fill 0 -> -
-call 4 auditor -> abababababababababababababababababababababababababababababababababababababababab
-event process_task abab -
-round 4 4 4
-round
-round 9 10 99 100 999 1000 9999 10000
-wake 9
-draw 18446744073709551615
-root 10
-visit 3
-answer 3 pending
-nodeend 0
-advance 1000005
-skip 1267650600228229401496703205376
-fire 0
-cleanup
-crash k d p12
-crash
-finish ok
-"
-    );
+    let mut list = Journal::new(alloc);
+    add_calls(&rt, alloc, &mut list);
+    add_spawns(&rt, alloc, &mut list);
+    add_draws(&rt, alloc, &mut list);
+    add_rounds(&rt, alloc, &mut list);
+    add_plain(&rt, &mut list);
+    add_ends(&rt, alloc, &mut list);
+    has_lines(&rt, alloc, &list, LINES);
 }
 
-/// Adds an event and a round of this size, whose lines are long.
+/// Stops where lines don't have this many bytes for each of the size, beside those of the rest.
+fn is_long(rt: &impl Abort, lines: &str, size: usize, bytes: usize, rest: &str) {
+    let wanted = size.wrapping_mul(bytes).wrapping_add(rest.len());
+    assert!(rt; lines.len() == wanted, "{rest} at {size}");
+}
+
+/// Adds an event and a round of this size, one behind the other in one text.
 fn add_long(rt: &impl Abort, alloc: Global, size: usize) {
     let mut text = String::new(alloc);
-    add_event(rt, alloc, &mut text, size);
-    let event = "event process_task  -\n".len();
-    let long = size.wrapping_mul(2).wrapping_add(event);
-    assert!(rt; text.len() == long, "at {size}");
-    add_round(rt, alloc, &mut text, u64::MAX, size);
-    let lines = "event process_task  -\nround\n".len();
-    let long = size.wrapping_mul(23).wrapping_add(lines);
-    assert!(rt; text.len() == long, "at {size}");
+    add_line(rt, alloc, &mut text, &event(rt, alloc, size));
+    is_long(rt, text.as_str(), size, 2, "event process_task  -|");
+    let round = round_of_one(rt, alloc, u64::MAX, size);
+    add_line(rt, alloc, &mut text, &round);
+    is_long(rt, text.as_str(), size, 23, "event process_task  -|round|");
 }
-
-const SIZES: &[usize] = &[32, 33, 524_288];
 
 #[test]
 fn long_lines(rt: HostRuntime) {
-    for &size in SIZES {
+    for size in [32, 33, 524_288] {
         add_long(&rt, rt.alloc(), size);
     }
 }
@@ -282,19 +228,13 @@ const CAUSES: &[(FinishCause, &str)] = &[
     (FinishCause::NoMemory, "nomemory"),
 ];
 
-/// Whether the words of kinds and causes are these.
-fn have_words() -> bool {
+fn have_words(rt: &impl Abort) {
     for &(kind, word) in KINDS {
-        if kind.word() != word {
-            return false;
-        }
+        same(rt, word, kind.word(), word);
     }
     for &(cause, word) in CAUSES {
-        if cause.word() != word {
-            return false;
-        }
+        same(rt, word, cause.word(), word);
     }
-    true
 }
 
 /// Whether a journal with room keeps an entry and its time.
@@ -306,18 +246,17 @@ fn keeps_entries(rt: &impl Abort, alloc: Global) -> bool {
     journal.push(Entry::Advance { now });
     journal.push(Entry::Cleanup);
     let counted = (journal.len() == 2) & (journal.entries().len() == 2);
-    let last = journal.last_time();
-    drop(journal);
-    was_empty & counted & (last == 7)
+    was_empty & counted & (journal.last_time() == 7)
 }
 
-/// Whether these are two fields, of the visit of this task alone.
-fn are_of_task(fields: &EventFields, task: u64, label: &str) -> bool {
+/// Whether these are the two fields of the visit of task 258 with this label, and of no other.
+fn are_shown(fields: EventFields, label: &str) -> bool {
     let counted = (fields.len() == 2) & !fields.is_empty() & fields.get(2).is_none();
-    counted & fields.are_of_task(task, label) & !fields.are_of_task(7, label)
+    let shown = fields.are_of_task(258, label) & !fields.are_of_task(7, label);
+    counted & shown & !fields.are_of_task(258, "a")
 }
 
-/// Labels, and whether each stands in place.
+/// Labels, and whether each is kept in place.
 const LABELS: &[(&str, bool)] = &[
     ("", true),
     ("ab", true),
@@ -325,89 +264,56 @@ const LABELS: &[(&str, bool)] = &[
     ("abcdefghijklmnopqrstuvw", false),
 ];
 
-/// Whether these are the fields of the visit of task 258 with this label.
-fn are_shown(fields: EventFields, label: &str) -> bool {
-    let seen = are_of_task(&fields, 258, label) & !fields.are_of_task(258, "a");
-    drop(fields);
-    seen
-}
-
-/// The fields of a visit with this label.
-fn visit(rt: &impl Abort, alloc: Global, label: &str) -> EventFields {
-    EventFields::of_task(258, Label::of(alloc, label).expect(rt, "room"))
-}
-
-/// The same in a list.
-fn listed(rt: &impl Abort, alloc: Global, label: &str) -> EventFields {
-    let kept = visit(rt, alloc, label);
-    let list = in_a_list(alloc, &kept);
-    drop(kept);
-    list.expect(rt, "room")
-}
-
-/// Whether a label stands in place, and fields that take it show it.
-fn is_in_place(label: &str) -> bool {
-    let Some(short) = ShortLabel::of(label) else {
-        return false;
-    };
-    let told = short.as_str() == label;
-    told & are_shown(EventFields::of_short_task(258, short), label)
-}
-
-/// Whether fields show the visits that they were made of, however they are kept.
-fn fields_are_shown(rt: &impl Abort, alloc: Global) -> bool {
-    let mut all = true;
-    for &(label, in_place) in LABELS {
-        all &= are_shown(visit(rt, alloc, label), label);
-        all &= are_shown(listed(rt, alloc, label), label);
-        all &= is_in_place(label) == in_place;
+/// Whether a label is kept in place, or isn't, as is said, and shows its text.
+fn is_short(label: &str, in_place: bool) -> bool {
+    match ShortLabel::of(label) {
+        Some(short) => in_place & (short.as_str() == label),
+        None => !in_place,
     }
-    all
 }
 
-/// A label of its own text.
+/// Stops where fields don't show the visits that they were made of, however they are kept.
+fn fields_are_shown(rt: &impl Abort, alloc: Global) {
+    for &(label, short) in LABELS {
+        holds(rt, label, are_shown(kept(rt, alloc, 258, label), label));
+        holds(rt, label, are_shown(listed(rt, alloc, 258, label), label));
+        holds(rt, label, is_short(label, short));
+        if short {
+            holds(rt, label, are_shown(in_place(rt, 258, label), label));
+        }
+    }
+}
+
+fn shows(rt: &impl Abort, label: EventLabel, text: &str) {
+    holds(rt, text, label.as_str() == text);
+}
+
 fn label(rt: &impl Abort, alloc: Global, text: &str) -> EventLabel {
     EventLabel::named(alloc, text).expect(rt, "room")
 }
 
-/// Whether labels show the texts that they were made of.
-fn labels_are_shown(rt: &impl Abort, alloc: Global) -> bool {
-    let own = EventLabel::process_task();
-    let named = label(rt, alloc, "process_task");
-    let alike = named.as_str() == own.as_str();
-    drop(own);
-    drop(named);
-    let other = label(rt, alloc, "stop");
-    let shown = other.as_str() == "stop";
-    drop(other);
-    alike & shown
-}
-
-/// Whether an order shows the numbers that it was made of.
-fn is_order_shown(rt: &impl Abort, alloc: Global, numbers: &[u64]) -> bool {
+fn is_order_shown(rt: &impl Abort, alloc: Global, numbers: &[u64]) {
     let order = Order::of(alloc, numbers).expect(rt, "room");
-    let shown = order.as_slice() == numbers;
-    drop(order);
-    shown
+    holds(rt, "an order", order.as_slice() == numbers);
 }
 
-/// Whether a refusal has the number of its error.
-fn is_numbered(rt: &impl Abort, alloc: Global, error: Error, number: u64) -> bool {
+fn is_numbered(rt: &impl Abort, alloc: Global, error: Error, number: u64) {
     let refusal = Refusal::new(alloc, error).expect(rt, "room");
-    let seen = error_code(refusal.error());
-    drop(refusal);
-    seen == number
+    same(rt, "a number", error_code(refusal.error()), number);
 }
 
 #[test]
 fn surface(rt: HostRuntime) {
     let alloc = rt.alloc();
-    assert!(rt; is_numbered(&rt, alloc, Error::ClockOverflow, 11));
-    assert!(rt; have_words());
-    assert!(rt; keeps_entries(&rt, alloc));
-    assert!(rt; agree_on_an_event(&rt, alloc));
-    assert!(rt; fields_are_shown(&rt, alloc));
-    assert!(rt; labels_are_shown(&rt, alloc));
-    assert!(rt; is_order_shown(&rt, alloc, &[7]));
-    assert!(rt; is_order_shown(&rt, alloc, &[7, 8]));
+    is_numbered(&rt, alloc, Error::ClockOverflow, 11);
+    have_words(&rt);
+    holds(&rt, "entries", keeps_entries(&rt, alloc));
+    holds(&rt, "an event", agree_on_an_event(&rt, alloc));
+    fields_are_shown(&rt, alloc);
+    shows(&rt, EventLabel::process_task(), "process_task");
+    let named = label(&rt, alloc, "process_task");
+    shows(&rt, named, "process_task");
+    shows(&rt, label(&rt, alloc, "stop"), "stop");
+    is_order_shown(&rt, alloc, &[7]);
+    is_order_shown(&rt, alloc, &[7, 8]);
 }

@@ -1,316 +1,257 @@
-// Calls on signals and on a shutdown with what each answers, and many of each.
-use crate::base::came;
-use rt_base::{Error, NoMemory, Poll};
+// Calls on signals and on a shutdown with what each returns, and many of each.
+
+use crate::told::holds;
+use rt_base::{Error, Poll};
 use rt_super::{NOBODY, Signals, Stopped, Stopper};
 use std::alloc::Global;
 use std::process::Abort;
 
-/// A call. Those on a shutdown are of the one that the signals begin with, by the number 0.
-enum Step {
-    Add,
-    Clone(u64),
-    Signal(u64, i32),
-    PollSignal(u64, u64),
-    PollCompletion(u64, u64),
-    CloseSignal(u64),
-    CloseSignaler(u64),
-    CloseCompletion(u64),
-    Stop(i32),
-    Stopped,
-    NextWoken,
+/// What a call comes to: a word and a number, which is 0 where there is none.
+type Came<'a> = (&'a str, i128);
+
+/// Signals, and a shutdown that is the first among them.
+#[derive(Drop)]
+struct Shutdown {
+    signals: Signals,
+    stopper: Stopper,
 }
 
-/// What a call came to.
-#[derive(Drop, PartialEq, Eq)]
-enum Came {
-    Done,
-    Number(u64),
-    Pending,
-    Value(i32),
-    Complete,
-    Nobody,
-    Closed,
-    Unknown,
-    Other,
+impl Shutdown {
+    fn new(rt: &impl Abort, alloc: Global) -> Shutdown {
+        let mut signals = Signals::new(alloc);
+        let stopper = Stopper::new(&mut signals).expect(rt, "room");
+        Shutdown { signals, stopper }
+    }
 }
 
-/// Makes a call.
-fn make(signals: &mut Signals, stopper: &mut Stopper, step: &Step) -> Result<Came, NoMemory> {
-    match *step {
-        Step::Add => Ok(Came::Number(signals.add()?)),
-        Step::Clone(signal) => Ok(cloned(signals.clone_signal(signal))),
-        Step::PollSignal(signal, task) => Ok(shown(signals.poll_signal(signal, task))),
-        Step::PollCompletion(completion, task) => {
-            Ok(completes(signals.poll_completion(completion, task)))
+/// Makes a call, which has a word and up to two numbers.
+fn make(rt: &impl Abort, shutdown: &mut Shutdown, call: (&str, &str, &str)) -> Came<'static> {
+    let signals = &mut shutdown.signals;
+    match call {
+        ("add", "", "") => made(signals.add().ok()),
+        ("clone", first, "") => cloned(signals.clone_signal(place(rt, first))),
+        ("poll", first, second) => shown(signals.poll_signal(place(rt, first), place(rt, second))),
+        ("poll-completion", first, second) => {
+            completes(signals.poll_completion(place(rt, first), place(rt, second)))
         }
-        Step::Stop(value) => Ok(Came::Number(stopper.stop(signals, value)?)),
-        Step::Stopped => Ok(met(stopper.stopped(signals)?)),
-        Step::NextWoken => Ok(woken(signals.next_woken())),
-        _ => {
-            change(signals, step);
-            Ok(Came::Done)
+        ("signal", first, second) => {
+            signals.signal(place(rt, first), value(rt, second));
+            DONE
         }
+        ("stop", first, "") => made(shutdown.stopper.stop(signals, value(rt, first)).ok()),
+        ("stopped", "", "") => met(shutdown.stopper.stopped(signals).ok()),
+        ("woken", "", "") => number(signals.next_woken()),
+        call => close(rt, signals, call),
     }
 }
 
-/// Makes a call that has no answer.
-fn change(signals: &mut Signals, step: &Step) {
-    match *step {
-        Step::Signal(signaler, value) => signals.signal(signaler, value),
-        Step::CloseSignal(signal) => signals.close_signal(signal),
-        Step::CloseSignaler(signaler) => signals.close_signaler(signaler),
-        Step::CloseCompletion(completion) => signals.close_completion(completion),
-        _ => {}
+const DONE: Came<'static> = ("done", 0);
+
+/// Gives a signal, a signaler or a completion up.
+fn close(rt: &impl Abort, signals: &mut Signals, call: (&str, &str, &str)) -> Came<'static> {
+    match call {
+        ("close", first, "") => signals.close_signal(place(rt, first)),
+        ("close-signaler", first, "") => signals.close_signaler(place(rt, first)),
+        ("close-completion", first, "") => signals.close_completion(place(rt, first)),
+        (word, first, second) => panic!(rt; "{word} {first} {second}"),
     }
+    DONE
 }
 
-fn cloned(answer: Result<u64, Error>) -> Came {
+/// The number that a word writes.
+fn place(rt: &impl Abort, word: &str) -> u64 {
+    if word == "nobody" {
+        return NOBODY;
+    }
+    word.parse::<u64>().expect(rt, word)
+}
+
+fn value(rt: &impl Abort, word: &str) -> i32 {
+    word.parse::<i32>().expect(rt, word)
+}
+
+fn number(answer: Option<u64>) -> Came<'static> {
     match answer {
-        Ok(signal) => Came::Number(signal),
+        Some(number) => ("number", number as i128),
+        None => ("nobody", 0),
+    }
+}
+
+/// The number of what is made where there is memory.
+fn made(answer: Option<u64>) -> Came<'static> {
+    match answer {
+        Some(_) => number(answer),
+        None => ("no memory", 0),
+    }
+}
+
+fn cloned(answer: Result<u64, Error>) -> Came<'static> {
+    match answer {
+        Ok(signal) => number(Some(signal)),
         Err(error) => refused(error),
     }
 }
 
-fn shown(answer: Result<Poll<i32>, Error>) -> Came {
+fn shown(answer: Result<Poll<i32>, Error>) -> Came<'static> {
     match answer {
-        Ok(Poll::Pending) => Came::Pending,
-        Ok(Poll::Ready(value)) => Came::Value(value),
+        Ok(Poll::Pending) => ("pending", 0),
+        Ok(Poll::Ready(value)) => ("value", value as i128),
         Err(error) => refused(error),
     }
 }
 
-fn completes(answer: Result<Poll<()>, Error>) -> Came {
+fn completes(answer: Result<Poll<()>, Error>) -> Came<'static> {
     match answer {
-        Ok(Poll::Pending) => Came::Pending,
-        Ok(Poll::Ready(())) => Came::Complete,
+        Ok(Poll::Pending) => ("pending", 0),
+        Ok(Poll::Ready(())) => ("complete", 0),
         Err(error) => refused(error),
     }
 }
 
-fn met(stopped: Stopped) -> Came {
+fn met(stopped: Option<Stopped>) -> Came<'static> {
     match stopped {
-        Stopped::Waiting(signal) => Came::Number(signal),
-        Stopped::Resolved(value) => Came::Value(value),
+        Some(Stopped::Waiting(signal)) => number(Some(signal)),
+        Some(Stopped::Resolved(value)) => ("value", value as i128),
+        None => ("no memory", 0),
     }
 }
 
-fn woken(task: Option<u64>) -> Came {
-    match task {
-        Some(task) => Came::Number(task),
-        None => Came::Nobody,
-    }
-}
-
-fn named(error: &Error) -> Came {
+fn named(error: &Error) -> &'static str {
     match error {
-        Error::Closed => Came::Closed,
-        Error::UnknownToken => Came::Unknown,
-        _ => Came::Other,
+        Error::Closed => "closed",
+        Error::UnknownToken => "unknown",
+        _ => "another error",
     }
 }
 
-fn refused(error: Error) -> Came {
-    let came = named(&error);
+fn refused(error: Error) -> Came<'static> {
+    let word = named(&error);
     drop(error);
-    came
+    (word, 0)
 }
 
-/// A value wakes who waits by a signal, and is shown again. The signal that is closed last completes.
-const SIGNALED: &[(Step, Came)] = &[
-    (Step::Add, Came::Number(1)),
-    (Step::Clone(1), Came::Number(2)),
-    (Step::Clone(2), Came::Number(3)),
-    (Step::PollSignal(1, 7), Came::Pending),
-    (Step::PollSignal(2, 8), Came::Pending),
-    (Step::PollSignal(2, 9), Came::Pending),
-    (Step::PollSignal(3, NOBODY), Came::Pending),
-    (Step::PollCompletion(1, 6), Came::Pending),
-    (Step::Signal(2, 5), Came::Done),
-    (Step::NextWoken, Came::Nobody),
-    (Step::PollSignal(3, NOBODY), Came::Pending),
-    (Step::Signal(1, -5), Came::Done),
-    (Step::PollSignal(4, 1), Came::Unknown),
-    (Step::PollCompletion(2, 1), Came::Unknown),
-    (Step::Clone(4), Came::Unknown),
-    (Step::NextWoken, Came::Number(7)),
-    (Step::NextWoken, Came::Number(9)),
-    (Step::NextWoken, Came::Nobody),
-    (Step::PollSignal(1, 7), Came::Value(-5)),
-    (Step::Signal(1, 6), Came::Done),
-    (Step::CloseSignaler(1), Came::Done),
-    (Step::PollSignal(1, 7), Came::Value(-5)),
-    (Step::CloseSignal(1), Came::Done),
-    (Step::PollSignal(1, 7), Came::Unknown),
-    (Step::CloseSignal(2), Came::Done),
-    (Step::NextWoken, Came::Nobody),
-    (Step::PollSignal(3, 7), Came::Value(-5)),
-    (Step::PollCompletion(1, 6), Came::Pending),
-    (Step::CloseSignal(3), Came::Done),
-    (Step::NextWoken, Came::Number(6)),
-    (Step::NextWoken, Came::Nobody),
-    (Step::PollCompletion(1, 6), Came::Complete),
-    (Step::PollCompletion(1, 6), Came::Complete),
-    (Step::CloseCompletion(1), Came::Done),
-    (Step::PollCompletion(1, 6), Came::Unknown),
-];
+/// Runs, each after a line that says what it shows: calls, and behind `->` what each returns. Those on a shutdown are of the one
+/// that the signals begin with, by the number 0.
+const RUNS: &str = "\
+== A value wakes who waits by a signal, and is shown again. The signal that is closed last completes.
+add -> 1; clone 1 -> 2; clone 2 -> 3; poll 1 7 -> pending; poll 2 8 -> pending; poll 2 9 -> pending
+poll 3 nobody -> pending; poll-completion 1 6 -> pending; signal 2 5; woken -> nobody
+poll 3 nobody -> pending; signal 1 -5; poll 4 1 -> unknown; poll-completion 2 1 -> unknown
+clone 4 -> unknown; woken -> 7; woken -> 9; woken -> nobody; poll 1 7 -> value -5; signal 1 6
+close-signaler 1; poll 1 7 -> value -5; close 1; poll 1 7 -> unknown; close 2; woken -> nobody
+poll 3 7 -> value -5; poll-completion 1 6 -> pending; close 3; woken -> 6; woken -> nobody
+poll-completion 1 6 -> complete; poll-completion 1 6 -> complete; close-completion 1
+poll-completion 1 6 -> unknown
+== A signaler that is given up closes its signals. A value that comes to no open signal completes at once. \
+A call that is not refused forgets whom the call before met.
+add -> 1; clone 1 -> 2; poll 1 3 -> pending; poll 2 4 -> pending; poll-completion 1 5 -> pending
+close-signaler 1; poll 2 4 -> closed; poll-completion 1 5 -> unknown; woken -> 3; woken -> 4
+woken -> nobody; signal 1 7; poll 1 3 -> closed; clone 2 -> 3; poll 3 3 -> closed; add -> 4
+poll 4 1 -> pending; close 4; poll-completion 4 2 -> pending; signal 4 0; woken -> 2
+woken -> nobody; poll-completion 4 2 -> complete; add -> 5; poll 5 1 -> pending; signal 5 0
+poll 5 1 -> value 0; woken -> nobody
+== The first stop wakes who waits by a signal of the shutdown, and decides its value. \
+The signal that is closed last completes the later stops too.
+stopped -> 1; stopped -> 2; poll 1 11 -> pending; poll 2 12 -> pending; stop 3 -> 3; woken -> 11
+woken -> 12; woken -> nobody; poll-completion 3 13 -> pending; stop 4 -> 4; woken -> nobody
+poll-completion 4 14 -> pending; poll 1 11 -> value 3; poll 2 12 -> value 3; stopped -> value 3
+close 1; woken -> nobody; stop -2147483648 -> 5; poll-completion 5 15 -> pending
+poll 2 12 -> value 3; close 2; woken -> 13; woken -> 14; woken -> 15; woken -> nobody
+poll-completion 4 14 -> complete; poll 0 1 -> unknown; poll-completion 0 1 -> unknown; stop 5 -> 6
+poll-completion 6 1 -> complete; stopped -> value 3
+== A stop completes at once where nobody has a signal.
+stop 9 -> 1; woken -> nobody; poll-completion 1 1 -> complete
+";
 
-/// A signaler that is given up closes its signals. A value that comes to no open signal completes at once. A call that is
-/// not refused forgets whom the call before met.
-const GIVEN_UP: &[(Step, Came)] = &[
-    (Step::Add, Came::Number(1)),
-    (Step::Clone(1), Came::Number(2)),
-    (Step::PollSignal(1, 3), Came::Pending),
-    (Step::PollSignal(2, 4), Came::Pending),
-    (Step::PollCompletion(1, 5), Came::Pending),
-    (Step::CloseSignaler(1), Came::Done),
-    (Step::PollSignal(2, 4), Came::Closed),
-    (Step::PollCompletion(1, 5), Came::Unknown),
-    (Step::NextWoken, Came::Number(3)),
-    (Step::NextWoken, Came::Number(4)),
-    (Step::NextWoken, Came::Nobody),
-    (Step::Signal(1, 7), Came::Done),
-    (Step::PollSignal(1, 3), Came::Closed),
-    (Step::Clone(2), Came::Number(3)),
-    (Step::PollSignal(3, 3), Came::Closed),
-    (Step::Add, Came::Number(4)),
-    (Step::PollSignal(4, 1), Came::Pending),
-    (Step::CloseSignal(4), Came::Done),
-    (Step::PollCompletion(4, 2), Came::Pending),
-    (Step::Signal(4, 0), Came::Done),
-    (Step::NextWoken, Came::Number(2)),
-    (Step::NextWoken, Came::Nobody),
-    (Step::PollCompletion(4, 2), Came::Complete),
-    (Step::Add, Came::Number(5)),
-    (Step::PollSignal(5, 1), Came::Pending),
-    (Step::Signal(5, 0), Came::Done),
-    (Step::PollSignal(5, 1), Came::Value(0)),
-    (Step::NextWoken, Came::Nobody),
-];
-
-/// The first stop wakes who waits by a signal of the shutdown, and decides its value. The signal that is closed last completes
-/// the later stops too.
-const STOPPED: &[(Step, Came)] = &[
-    (Step::Stopped, Came::Number(1)),
-    (Step::Stopped, Came::Number(2)),
-    (Step::PollSignal(1, 11), Came::Pending),
-    (Step::PollSignal(2, 12), Came::Pending),
-    (Step::Stop(3), Came::Number(3)),
-    (Step::NextWoken, Came::Number(11)),
-    (Step::NextWoken, Came::Number(12)),
-    (Step::NextWoken, Came::Nobody),
-    (Step::PollCompletion(3, 13), Came::Pending),
-    (Step::Stop(4), Came::Number(4)),
-    (Step::NextWoken, Came::Nobody),
-    (Step::PollCompletion(4, 14), Came::Pending),
-    (Step::PollSignal(1, 11), Came::Value(3)),
-    (Step::PollSignal(2, 12), Came::Value(3)),
-    (Step::Stopped, Came::Value(3)),
-    (Step::CloseSignal(1), Came::Done),
-    (Step::NextWoken, Came::Nobody),
-    (Step::Stop(i32::MIN), Came::Number(5)),
-    (Step::PollCompletion(5, 15), Came::Pending),
-    (Step::PollSignal(2, 12), Came::Value(3)),
-    (Step::CloseSignal(2), Came::Done),
-    (Step::NextWoken, Came::Number(13)),
-    (Step::NextWoken, Came::Number(14)),
-    (Step::NextWoken, Came::Number(15)),
-    (Step::NextWoken, Came::Nobody),
-    (Step::PollCompletion(4, 14), Came::Complete),
-    (Step::PollSignal(0, 1), Came::Unknown),
-    (Step::PollCompletion(0, 1), Came::Unknown),
-    (Step::Stop(5), Came::Number(6)),
-    (Step::PollCompletion(6, 1), Came::Complete),
-    (Step::Stopped, Came::Value(3)),
-];
-
-/// A stop completes at once where nobody has a signal.
-const ALONE: &[(Step, Came)] = &[
-    (Step::Stop(9), Came::Number(1)),
-    (Step::NextWoken, Came::Nobody),
-    (Step::PollCompletion(1, 1), Came::Complete),
-];
-
-const RUNS: &[&[(Step, Came)]] = &[SIGNALED, GIVEN_UP, STOPPED, ALONE];
-
-/// Whether a call comes to what is written.
-fn answers(signals: &mut Signals, stopper: &mut Stopper, answer: &(Step, Came)) -> bool {
-    let (step, wanted) = answer;
-    match make(signals, stopper, step).ok() {
-        Some(came) => came == *wanted,
-        None => false,
+/// What is written behind a call.
+fn wanted<'a>(rt: &impl Abort, words: &'a str) -> Came<'a> {
+    match words.split_once(' ') {
+        Some((word, number)) => (word, value(rt, number) as i128),
+        None => wanted_alone(words),
     }
 }
 
-/// Makes the calls of a run.
-fn make_each(rt: &impl Abort, alloc: Global, run: usize, steps: &[(Step, Came)]) {
-    let mut signals = Signals::new(alloc);
-    let mut stopper = Stopper::new(&mut signals).expect(rt, "room");
-    for (place, answer) in steps.iter().enumerate() {
-        let answered = answers(&mut signals, &mut stopper, answer);
-        assert!(rt; answered, "step {} of run {}", place, run);
+fn wanted_alone(word: &str) -> Came<'_> {
+    match word.parse::<u64>() {
+        Ok(number) => ("number", number as i128),
+        Err(_) => (word, 0),
+    }
+}
+
+/// Makes a call of a line, which returns what is written behind it.
+fn answers(rt: &impl Abort, shutdown: &mut Shutdown, step: &str, line: &str) {
+    let (call, words) = step.split_once(" -> ").unwrap_or((step, "done"));
+    let (word, numbers) = call.split_once(' ').unwrap_or((call, ""));
+    let (first, second) = numbers.split_once(' ').unwrap_or((numbers, ""));
+    let came = make(rt, shutdown, (word, first, second));
+    let wanted = wanted(rt, words);
+    let are_same = came.0 == wanted.0 && came.1 == wanted.1;
+    assert!(rt; are_same, "{step} in {line}");
+}
+
+fn answer_each(rt: &impl Abort, shutdown: &mut Shutdown, line: &str) {
+    for step in line.split("; ") {
+        answers(rt, shutdown, step, line);
+    }
+}
+
+/// Makes the calls of a run, whose first line says what it shows.
+fn make_each(rt: &impl Abort, alloc: Global, run: &str) {
+    let (_, lines) = run.split_once('\n').expect(rt, run);
+    holds(rt, run, !lines.is_empty());
+    let mut shutdown = Shutdown::new(rt, alloc);
+    for line in lines.lines() {
+        answer_each(rt, &mut shutdown, line);
     }
 }
 
 #[test]
 fn calls_are_answered(rt: HostRuntime) {
-    for (run, steps) in RUNS.iter().enumerate() {
-        make_each(&rt, rt.alloc(), run, steps);
+    holds(&rt, "runs", RUNS.starts_with("== "));
+    for run in RUNS.split("== ").skip(1) {
+        make_each(&rt, rt.alloc(), run);
     }
 }
 
-/// Whether the tasks of these numbers are woken next, in order, and nobody else.
-fn wakes(signals: &mut Signals, first: u64, end: u64) -> bool {
-    for task in first..end {
-        if signals.next_woken() != Some(task) {
-            return false;
-        }
+/// Makes calls, in which `#` stands for each number from the first to before the end.
+fn repeat(
+    rt: &impl Abort,
+    alloc: Global,
+    shutdown: &mut Shutdown,
+    line: &str,
+    numbers: (u64, u64),
+) {
+    for number in numbers.0..numbers.1 {
+        let number = format!(in alloc; "{number}").expect(rt, "room");
+        let line = line.replace(alloc, "#", number.as_str()).expect(rt, "room");
+        answer_each(rt, shutdown, line.as_str());
     }
-    signals.next_woken().is_none()
 }
 
-/// Whether copies of the shutdown's first signal have these numbers, and wait, each in the name of its own.
-fn wait(signals: &mut Signals, first: u64, end: u64) -> Result<bool, Error> {
-    for number in first..end {
-        let signal = signals.clone_signal(0)?;
-        if signal != number || signals.poll_signal(signal, number)? != Poll::Pending {
-            return Ok(false);
-        }
-    }
-    Ok(true)
-}
-
-/// Whether later stops have completions of these numbers, which wait, each in the name of its own.
-fn stop(signals: &mut Signals, stopper: &mut Stopper, first: u64, end: u64) -> Result<bool, Error> {
-    for number in first..end {
-        let completion = stopper.stop(signals, 2)?;
-        if completion != number || signals.poll_completion(completion, number)? != Poll::Pending {
-            return Ok(false);
-        }
-    }
-    Ok(true)
-}
-
-/// Whether the signals of these numbers show a value, and wake nobody when they are given up.
-fn close(signals: &mut Signals, first: u64, end: u64, value: i32) -> Result<bool, Error> {
-    for signal in first..end {
-        let shown = signals.poll_signal(signal, NOBODY)?;
-        signals.close_signal(signal);
-        if shown != Poll::Ready(value) || signals.next_woken().is_some() {
-            return Ok(false);
-        }
-    }
-    Ok(true)
-}
+/// Lines of calls, each with the first number and the one behind the last of those that `#` stands for.
+const THOUSANDS: &[(&str, (u64, u64))] = &[
+    ("clone 0 -> #; poll # # -> pending", (1, 3_001)),
+    ("stop 1 -> #", (3_001, 3_002)),
+    ("woken -> #", (1, 3_001)),
+    ("woken -> nobody", (0, 1)),
+    (
+        "stop 2 -> #; poll-completion # # -> pending",
+        (3_002, 4_002),
+    ),
+    (
+        "poll # nobody -> value 1; close #; woken -> nobody",
+        (1, 3_000),
+    ),
+    ("close #", (3_000, 3_001)),
+    ("woken -> #", (3_002, 4_002)),
+    ("woken -> nobody", (0, 1)),
+];
 
 #[test]
 fn thousands_wait_for_the_first_of_a_thousand_stops(rt: HostRuntime) {
-    let mut signals = Signals::new(rt.alloc());
-    let mut stopper = Stopper::new(&mut signals).expect(&rt, "room");
-    assert!(rt; came(wait(&mut signals, 1, 3_001), true));
-    assert!(rt; came(stopper.stop(&mut signals, 1), 3_001));
-    assert!(rt; wakes(&mut signals, 1, 3_001));
-    assert!(rt; came(stop(&mut signals, &mut stopper, 3_002, 4_002), true));
-    assert!(rt; came(close(&mut signals, 1, 3_000, 1), true));
-    signals.close_signal(3_000);
-    assert!(rt; wakes(&mut signals, 3_002, 4_002));
+    holds(&rt, "lines", !THOUSANDS.is_empty());
+    let mut shutdown = Shutdown::new(&rt, rt.alloc());
+    for &(line, numbers) in THOUSANDS {
+        repeat(&rt, rt.alloc(), &mut shutdown, line, numbers);
+    }
 }

@@ -5,11 +5,6 @@ use rt_super::{Alarms, NOBODY, Slots, Tree};
 use std::alloc::Global;
 use std::process::Abort;
 
-/// A child, and whether it is ended.
-fn child(rt: &impl Abort, tree: &mut Tree, parent: u64) -> (u64, bool) {
-    tree.child(parent).expect(rt, "room")
-}
-
 /// A child with a task on it.
 fn grow(rt: &impl Abort, tree: &mut Tree, parent: u64, task: u64) -> u64 {
     let (node, _) = tree.child(parent).expect(rt, "room");
@@ -22,15 +17,10 @@ fn tree(rt: &impl Abort, alloc: Global) -> Tree {
 }
 
 /// The next task that is flagged.
-fn flags(rt: &impl Abort, tree: &mut Tree, task: u64) {
-    same(rt, "a flag", tree.next_flag(), Some(task));
+fn flags(rt: &impl Abort, tree: &mut Tree, task: Option<u64>) {
+    same(rt, "a flag", tree.next_flag(), task);
 }
 
-fn flags_no_more(rt: &impl Abort, tree: &mut Tree) {
-    same(rt, "no flag", tree.next_flag(), None);
-}
-
-/// Whether a node is ended.
 fn ends(rt: &impl Abort, tree: &Tree, node: u64, ended: bool) {
     same(rt, "an end", tree.is_ended(node), ended);
 }
@@ -48,7 +38,7 @@ fn surface_of_tree(rt: &impl Abort, alloc: Global) {
     let child = grow(rt, &mut tree, root, 7);
     same(rt, "its task", tree.task_of(child), Some(7));
     tree.end(child);
-    flags(rt, &mut tree, 7);
+    flags(rt, &mut tree, Some(7));
     ends(rt, &tree, child, true);
     holds(rt, "it lives", tree.lives(child));
     tree.release(child);
@@ -81,12 +71,8 @@ fn surface_of_alarms(rt: &impl Abort, alloc: Global) {
     same(rt, "one at 30", alarms.due(30), Some(0));
     pops(rt, &mut alarms, 30, Some((0, 2)));
     set(rt, &mut alarms, 40, NOBODY, 1);
-    same(
-        rt,
-        "set and ever set",
-        (alarms.len(), alarms.count()),
-        (1, 2),
-    );
+    let counts = (alarms.len(), alarms.count());
+    same(rt, "set and ever set", counts, (1, 2));
     pops(rt, &mut alarms, 40, Some((1, NOBODY)));
     set(rt, &mut alarms, 60, 1, 2);
     set(rt, &mut alarms, 50, 3, 3);
@@ -94,12 +80,8 @@ fn surface_of_alarms(rt: &impl Abort, alloc: Global) {
     alarms.rewake(2, 5);
     pops(rt, &mut alarms, 60, Some((3, 3)));
     pops(rt, &mut alarms, 60, Some((2, 5)));
-    same(
-        rt,
-        "the last",
-        (alarms.len(), alarms.due_of(4)),
-        (1, Some(70)),
-    );
+    let last = (alarms.len(), alarms.due_of(4));
+    same(rt, "the last", last, (1, Some(70)));
     alarms.clear();
     holds(rt, "none once more", alarms.is_empty());
 }
@@ -139,11 +121,11 @@ fn child_ends_with_its_parent(rt: HostRuntime) {
     let last = grow(&rt, &mut tree, inner, 4);
     let other = grow(&rt, &mut tree, first, 5);
     tree.end(first);
-    flags(&rt, &mut tree, 1);
-    flags(&rt, &mut tree, 2);
-    flags(&rt, &mut tree, 4);
-    flags(&rt, &mut tree, 5);
-    flags_no_more(&rt, &mut tree);
+    flags(&rt, &mut tree, Some(1));
+    flags(&rt, &mut tree, Some(2));
+    flags(&rt, &mut tree, Some(4));
+    flags(&rt, &mut tree, Some(5));
+    flags(&rt, &mut tree, None);
     ends(&rt, &tree, last, true);
     ends(&rt, &tree, other, true);
     ends(&rt, &tree, second, false);
@@ -158,33 +140,34 @@ fn deep_chain_is_flagged(rt: HostRuntime) {
     }
     tree.end(0);
     for task in 0..50_000 {
-        flags(&rt, &mut tree, task);
+        flags(&rt, &mut tree, Some(task));
     }
-    flags_no_more(&rt, &mut tree);
+    flags(&rt, &mut tree, None);
     ends(&rt, &tree, last, true);
 }
 
 /// A new child of a node, which is ended or not.
-fn comes(rt: &impl Abort, tree: &mut Tree, parent: u64, ended: bool) {
-    let (late, told) = child(rt, tree, parent);
+fn comes(rt: &impl Abort, tree: &mut Tree, parent: u64, ended: bool) -> u64 {
+    let (node, told) = tree.child(parent).expect(rt, "room");
     same(rt, "an ended child", told, ended);
-    ends(rt, tree, late, ended);
+    ends(rt, tree, node, ended);
+    node
 }
 
 #[test]
 fn children_come_while_flags_are_pending(rt: HostRuntime) {
     let mut tree = tree(&rt, rt.alloc());
-    let (first, _) = child(&rt, &mut tree, 0);
+    let first = comes(&rt, &mut tree, 0, false);
     for task in 0..1_000 {
         let _ = grow(&rt, &mut tree, first, task);
     }
     tree.end(first);
     for task in 0..1_000 {
-        comes(&rt, &mut tree, first, true);
-        comes(&rt, &mut tree, 0, false);
-        flags(&rt, &mut tree, task);
+        let _ = comes(&rt, &mut tree, first, true);
+        let _ = comes(&rt, &mut tree, 0, false);
+        flags(&rt, &mut tree, Some(task));
     }
-    flags_no_more(&rt, &mut tree);
+    flags(&rt, &mut tree, None);
 }
 
 /// Whom the alarm of this number wakes.
@@ -193,34 +176,30 @@ fn woken_by(number: u64) -> u64 {
 }
 
 /// When the alarm of this number is due.
-fn due_by(number: u64, factor: u64, mask: u64) -> u64 {
+fn due_by(number: u64, by: (u64, u64)) -> u64 {
+    let (factor, mask) = by;
     number.wrapping_mul(factor) & mask
 }
 
 /// The time and number of the next alarm, which goes off behind the last.
-fn next(
-    rt: &impl Abort,
-    alarms: &mut Alarms,
-    last: (u64, u64),
-    factor: u64,
-    mask: u64,
-) -> (u64, u64) {
+fn next(rt: &impl Abort, alarms: &mut Alarms, last: (u64, u64), by: (u64, u64)) -> (u64, u64) {
     let (number, task) = alarms.pop_due(4_095).expect(rt, "one that is due");
-    let next = (due_by(number, factor, mask), number.wrapping_add(1));
+    let next = (due_by(number, by), number.wrapping_add(1));
     assert!(rt; last < next && task == woken_by(number), "{number}");
     next
 }
 
-fn go_off_in_order(rt: &impl Abort, alloc: Global, factor: u64, mask: u64) {
+/// Sets alarms by a factor and a mask of their numbers.
+fn go_off_in_order(rt: &impl Abort, alloc: Global, by: (u64, u64)) {
     let mut alarms = Alarms::new(alloc);
     for number in 0..2_000 {
-        let due = due_by(number, factor, mask);
-        set(rt, &mut alarms, due as u128, woken_by(number), number);
+        let due = due_by(number, by) as u128;
+        set(rt, &mut alarms, due, woken_by(number), number);
     }
     set(rt, &mut alarms, MAX_TIME, NOBODY, 2_000);
     let mut last = (0, 0);
     for _ in 0..2_000 {
-        last = next(rt, &mut alarms, last, factor, mask);
+        last = next(rt, &mut alarms, last, by);
     }
     pops(rt, &mut alarms, 4_095, None);
     pops(rt, &mut alarms, MAX_TIME, Some((2_000, NOBODY)));
@@ -231,10 +210,10 @@ fn go_off_in_order(rt: &impl Abort, alloc: Global, factor: u64, mask: u64) {
 
 #[test]
 fn many_alarms_go_off_in_order(rt: HostRuntime) {
-    go_off_in_order(&rt, rt.alloc(), 1, 4_095);
-    go_off_in_order(&rt, rt.alloc(), 0, 4_095);
-    go_off_in_order(&rt, rt.alloc(), u64::MAX, 4_095);
-    go_off_in_order(&rt, rt.alloc(), 2_654_435_761, 1_023);
+    go_off_in_order(&rt, rt.alloc(), (1, 4_095));
+    go_off_in_order(&rt, rt.alloc(), (0, 4_095));
+    go_off_in_order(&rt, rt.alloc(), (u64::MAX, 4_095));
+    go_off_in_order(&rt, rt.alloc(), (2_654_435_761, 1_023));
 }
 
 /// What becomes of a slot, by its number, and who waited.

@@ -7,3 +7,5 @@ mod metrics;
 mod scenarios;
 #[cfg(test)]
 mod sizes;
+#[cfg(test)]
+mod told;

@@ -1,8 +1,9 @@
 // Each call once, the worked examples, and the text with all that it may hold.
 //
-// A case is a function that makes its calls and says whether they came to what is written beside them, or how many did. None has a
-// contract, so that the tests' proofs stay small, and a call that wants a metric to be there is made where the registry says so.
+// None of these functions has a contract, so that the tests' proofs stay small, and a call that wants a metric to be there is
+// made behind an assertion that the registry says so.
 
+use crate::told::{holds, same};
 use rt_base::{Error, Execution, MetricError, NoMemory, Text};
 use rt_metrics::status::{CounterGuard, Status};
 use rt_metrics::{
@@ -12,45 +13,27 @@ use rt_metrics::{
 use std::alloc::Global;
 use std::process::Abort;
 
-/// Whether these are the same.
-fn same<T: Drop + PartialEq>(seen: T, wanted: T) -> bool {
-    seen == wanted
+/// A metric of this name and help.
+fn register<M: Metric>(
+    rt: &impl Abort,
+    registry: &mut Registry,
+    name: &str,
+    help: &str,
+) -> Registered<M> {
+    registry.register(name, help, &[]).expect(rt, name)
 }
 
-/// Whether a call came to this.
-pub fn came<T: Drop + PartialEq, E: Drop>(answer: Result<T, E>, wanted: T) -> bool {
-    match answer {
-        Ok(seen) => seen == wanted,
-        Err(_) => false,
-    }
+fn counter(rt: &impl Abort, registry: &mut Registry) -> Counter {
+    register(rt, registry, "votes", "Votes")
 }
 
-/// Whether a call was answered at all.
-pub fn went<T: Drop, E: Drop>(answer: Result<T, E>) -> bool {
-    answer.is_ok()
-}
-
-/// Whether a call failed so.
-fn failed<T: Drop, E: Drop + PartialEq>(answer: Result<T, E>, why: E) -> bool {
-    match answer {
-        Ok(_) => false,
-        Err(error) => error == why,
-    }
-}
-
-/// A counter.
-fn counter(registry: &mut Registry, name: &str, help: &str) -> Result<Counter, Error> {
-    registry.register(name, help, &[])
-}
-
-/// A gauge.
-fn gauge(registry: &mut Registry) -> Result<Gauge, Error> {
-    registry.register("load", "Load", &[])
+fn gauge(rt: &impl Abort, registry: &mut Registry) -> Gauge {
+    register(rt, registry, "load", "Load")
 }
 
 /// A counter by status.
-fn statuses(registry: &mut Registry) -> Result<status::Counter, Error> {
-    registry.register("calls", "Calls", &[])
+fn statuses(rt: &impl Abort, registry: &mut Registry) -> status::Counter {
+    register(rt, registry, "calls", "Calls")
 }
 
 /// Gives a claim up.
@@ -58,148 +41,99 @@ pub fn give_up<M>(registry: &mut Registry, metric: Registered<M>) {
     metric.release(registry);
 }
 
-/// Whether this is the text.
-pub fn reads(registry: &Registry, wanted: &str) -> bool {
-    match registry.encode() {
-        Ok(text) => text.as_str() == wanted,
-        Err(_) => false,
-    }
+/// Stops where the text is another one.
+pub fn reads(rt: &impl Abort, registry: &Registry, wanted: &str) {
+    let text = registry.encode().expect(rt, "room");
+    assert!(rt; text.as_str() == wanted, "{text}");
 }
 
 /// The text of no metric.
 pub const EMPTY: &str = "# EOF\n";
 
-/// Ends a registry, of which this was seen.
-pub fn ends(rt: &impl Abort, registry: Registry, seen: bool) {
-    drop(registry);
-    assert!(rt; seen);
+/// Stops where a number has more or fewer claims, or has a metric without a claim.
+fn claimed(rt: &impl Abort, registry: &Registry, id: u64, claims: u64) {
+    let seen = (registry.claims(id), registry.holds(id));
+    assert!(rt; seen == (claims, claims > 0), "not {claims} claims");
 }
 
-/// Whether the number has so many claims, and a metric exactly where it has some.
-fn claimed(registry: &Registry, id: u64, claims: u64) -> bool {
-    (registry.claims(id) == claims) & (registry.holds(id) == (claims > 0))
+/// Raises a counter, which had this value.
+fn raises(rt: &impl Abort, registry: &mut Registry, counter: &Counter, by: u64, before: u64) {
+    assert!(rt; registry.holds(counter.metric()));
+    let seen = counter.inc_by(registry, by);
+    assert!(rt; seen == before, "{seen} before {by}");
 }
 
-/// Whether a counter had this value, and is raised from it.
-fn raises(registry: &mut Registry, counter: &Counter, by: u64, before: u64) -> bool {
-    if registry.holds(counter.metric()) {
-        return counter.inc_by(registry, by) == before;
-    }
-    false
+fn value_of(rt: &impl Abort, registry: &Registry, counter: &Counter) -> u64 {
+    assert!(rt; registry.holds(counter.metric()));
+    counter.get(registry)
 }
 
-/// Whether a counter has this value.
-fn counts(registry: &Registry, counter: &Counter, value: u64) -> bool {
-    if registry.holds(counter.metric()) {
-        return counter.get(registry) == value;
-    }
-    false
-}
-
-/// Whether a gauge has this value.
-fn is_at(registry: &Registry, gauge: &Gauge, value: i64) -> bool {
-    if registry.holds(gauge.metric()) {
-        return gauge.get(registry) == value;
-    }
-    false
+/// Stops where a gauge has another value.
+fn is_at(rt: &impl Abort, registry: &Registry, gauge: &Gauge, value: i64) {
+    assert!(rt; registry.holds(gauge.metric()));
+    same(rt, "a level", gauge.get(registry), value);
 }
 
 /// The number of a child.
 fn child<M: Metric, L: LabelSet>(
+    rt: &impl Abort,
     registry: &mut Registry,
     family: &Registered<raw::Family<M>>,
     labels: &L,
-) -> Result<u64, NoMemory> {
-    if registry.holds(family.metric()) {
-        return family.get_or_create_by(registry, labels);
-    }
-    Err(NoMemory)
+) -> u64 {
+    assert!(rt; registry.holds(family.metric()));
+    family.get_or_create_by(registry, labels).expect(rt, "room")
 }
 
-/// Whether a child has this value.
+/// Stops where a child has another value.
 fn has_value<M: Metric, L: LabelSet>(
+    rt: &impl Abort,
     registry: &Registry,
     family: &Registered<raw::Family<M>>,
     labels: &L,
     value: Option<i128>,
-) -> bool {
-    came(family.get_by(registry, labels), value)
+) {
+    let seen = family.get_by(registry, labels).expect(rt, "room");
+    same(rt, "a child", seen, value);
 }
 
-/// Whether a child was there, and is removed.
-fn removes<M: Metric, L: LabelSet>(
-    registry: &mut Registry,
-    family: &Registered<raw::Family<M>>,
-    labels: &L,
-    was_there: bool,
-) -> bool {
-    came(family.remove_by(registry, labels), was_there)
+/// Removes the child of timeouts, which was there or not.
+fn removes(rt: &impl Abort, registry: &mut Registry, calls: &status::Counter, was_there: bool) {
+    let seen = calls.remove_by(registry, &TIMEOUT).expect(rt, "room");
+    same(rt, "a removed child", seen, was_there);
 }
 
 const RAISED: &str = "# HELP votes Votes.\n# TYPE votes counter\nvotes_total 3\n# EOF\n";
 
-fn raised_text(registry: &mut Registry) -> Result<bool, Error> {
-    let votes = counter(registry, "votes", "Votes")?;
-    let raised = raises(registry, &votes, 3, 0);
-    let read = reads(registry, RAISED);
-    give_up(registry, votes);
-    Ok(raised & read)
-}
-
 #[test]
 fn text_of_a_counter(rt: HostRuntime) {
     let mut registry = Registry::new(rt.alloc());
-    let seen = came(raised_text(&mut registry), true);
-    ends(&rt, registry, seen);
-}
-
-/// Whether there are two claims with a second one, and one when that is given back.
-fn claim_again(registry: &mut Registry, id: u64) -> Result<bool, Error> {
-    let second = counter(registry, "votes", "Votes")?;
-    let twice = claimed(registry, id, 2);
-    give_up(registry, second);
-    Ok(twice & claimed(registry, id, 1))
-}
-
-/// Whether the name is there again, with another help and under another number.
-fn register_anew(registry: &mut Registry, id: u64) -> Result<bool, Error> {
-    let again = counter(registry, "votes", "Other")?;
-    let new = again.metric();
-    give_up(registry, again);
-    Ok(new != id)
-}
-
-fn claim_and_give_up(registry: &mut Registry) -> Result<bool, Error> {
-    let first = counter(registry, "votes", "Votes")?;
-    let id = first.metric();
-    let again = came(claim_again(registry, id), true);
-    give_up(registry, first);
-    let gone = claimed(registry, id, 0) & reads(registry, EMPTY);
-    Ok(again & gone & came(register_anew(registry, id), true))
+    let votes = counter(&rt, &mut registry);
+    raises(&rt, &mut registry, &votes, 3, 0);
+    reads(&rt, &registry, RAISED);
+    give_up(&mut registry, votes);
 }
 
 #[test]
 fn claims_of_a_counter(rt: HostRuntime) {
     let mut registry = Registry::new(rt.alloc());
-    let seen = came(claim_and_give_up(&mut registry), true);
-    ends(&rt, registry, seen);
+    let first = counter(&rt, &mut registry);
+    let id = first.metric();
+    let second = counter(&rt, &mut registry);
+    claimed(&rt, &registry, id, 2);
+    give_up(&mut registry, second);
+    claimed(&rt, &registry, id, 1);
+    give_up(&mut registry, first);
+    claimed(&rt, &registry, id, 0);
+    reads(&rt, &registry, EMPTY);
+    let again: Counter = register(&rt, &mut registry, "votes", "Other");
+    holds(&rt, "another number", again.metric() != id);
+    give_up(&mut registry, again);
 }
 
 /// Publishes what a batch has, and ends it.
 fn publish<H: Home, M: Batchable>(home: &mut H, batch: Batched<M>) {
     batch.release(home);
-}
-
-/// What a counter and its batch know.
-type Totals = (u64, u64);
-
-fn know(
-    registry: &Registry,
-    votes: &Counter,
-    batch: &Batched<raw::Counter>,
-    totals: Totals,
-) -> bool {
-    counts(registry, votes, totals.0) & (batch.get() == totals.1)
 }
 
 fn raise_by_one<H: Home>(home: &mut H, batch: &mut Batched<raw::Counter>) {
@@ -210,42 +144,44 @@ fn raise_by_five<H: Home>(home: &mut H, batch: &mut Batched<raw::Counter>) {
     batch.inc_by(home, 5);
 }
 
-/// After how many updates by one they know what is written.
+/// Stops where a counter and its batch know other totals.
+fn know(
+    rt: &impl Abort,
+    registry: &Registry,
+    votes: &Counter,
+    batch: &Batched<raw::Counter>,
+    totals: (u64, u64),
+) {
+    let seen = (value_of(rt, registry, votes), batch.get());
+    assert!(rt; seen == totals, "{} of {}", seen.0, seen.1);
+}
+
+/// What a counter and its batch know after updates by one.
+const TICKS: &[(u64, u64)] = &[(0, 1), (0, 2), (3, 3), (3, 4), (3, 5), (6, 6)];
+
 fn ticks_each(
+    rt: &impl Abort,
     registry: &mut Registry,
     votes: &Counter,
     batch: &mut Batched<raw::Counter>,
-    ticks: &[Totals],
-) -> usize {
-    let mut right = 0_usize;
-    for totals in ticks {
+) {
+    for &totals in TICKS {
         raise_by_one(registry, batch);
-        if know(registry, votes, batch, *totals) {
-            right = right.wrapping_add(1);
-        }
+        know(rt, registry, votes, batch, totals);
     }
-    right
-}
-
-const TICKS: &[Totals] = &[(0, 1), (0, 2), (3, 3), (3, 4), (3, 5), (6, 6)];
-
-fn batch_counts(registry: &mut Registry) -> Result<bool, Error> {
-    let votes = counter(registry, "votes", "Votes")?;
-    let mut batch: Batched<raw::Counter> = Batched::new(votes.metric(), 3);
-    let ticked = ticks_each(registry, &votes, &mut batch, TICKS);
-    raise_by_five(registry, &mut batch);
-    let kept = know(registry, &votes, &batch, (6, 11));
-    publish(registry, batch);
-    let published = counts(registry, &votes, 11);
-    give_up(registry, votes);
-    Ok((ticked == 6) & kept & published)
 }
 
 #[test]
 fn batches_of_a_counter(rt: HostRuntime) {
     let mut registry = Registry::new(rt.alloc());
-    let seen = came(batch_counts(&mut registry), true);
-    ends(&rt, registry, seen);
+    let votes = counter(&rt, &mut registry);
+    let mut batch: Batched<raw::Counter> = Batched::new(votes.metric(), 3);
+    ticks_each(&rt, &mut registry, &votes, &mut batch);
+    raise_by_five(&mut registry, &mut batch);
+    know(&rt, &registry, &votes, &batch, (6, 11));
+    publish(&mut registry, batch);
+    same(&rt, "all", value_of(&rt, &registry, &votes), 11);
+    give_up(&mut registry, votes);
 }
 
 fn go_up_and_down<H: Home>(home: &mut H, batch: &mut Batched<raw::Gauge>) {
@@ -267,43 +203,35 @@ fn lower_by_nine<H: Home>(home: &mut H, batch: &mut Batched<raw::Gauge>) {
     batch.inc_by(home, -9);
 }
 
-fn moves(registry: &mut Registry, load: &Gauge, batch: &mut Batched<raw::Gauge>) -> bool {
-    go_up_and_down(registry, batch);
-    let even = is_at(registry, load, 0);
-    go_down_and_up(registry, batch);
-    let lower = is_at(registry, load, -2);
-    set_twice(registry, batch);
-    even & lower & is_at(registry, load, 5) & (batch.get() == 5)
-}
-
 /// The batch ends after its gauge.
-fn batch_moves(registry: &mut Registry) -> Result<bool, Error> {
-    let load = gauge(registry)?;
-    let mut batch: Batched<raw::Gauge> = Batched::new(load.metric(), 2);
-    let moved = moves(registry, &load, &mut batch);
-    lower_by_nine(registry, &mut batch);
-    give_up(registry, load);
-    publish(registry, batch);
-    Ok(moved & reads(registry, EMPTY))
-}
-
 #[test]
 fn batches_of_a_gauge(rt: HostRuntime) {
     let mut registry = Registry::new(rt.alloc());
-    let seen = came(batch_moves(&mut registry), true);
-    ends(&rt, registry, seen);
+    let load = gauge(&rt, &mut registry);
+    let mut batch: Batched<raw::Gauge> = Batched::new(load.metric(), 2);
+    go_up_and_down(&mut registry, &mut batch);
+    is_at(&rt, &registry, &load, 0);
+    go_down_and_up(&mut registry, &mut batch);
+    is_at(&rt, &registry, &load, -2);
+    set_twice(&mut registry, &mut batch);
+    is_at(&rt, &registry, &load, 5);
+    same(&rt, "the batch", batch.get(), 5);
+    lower_by_nine(&mut registry, &mut batch);
+    give_up(&mut registry, load);
+    publish(&mut registry, batch);
+    reads(&rt, &registry, EMPTY);
 }
 
 /// A guard at a status.
 fn guard(
+    rt: &impl Abort,
     registry: &mut Registry,
     calls: &status::Counter,
     status: Status,
-) -> Result<CounterGuard, NoMemory> {
-    if registry.holds(calls.metric()) && registry.claims(calls.metric()) < u64::MAX {
-        return calls.guard(registry, status);
-    }
-    Err(NoMemory)
+) -> CounterGuard {
+    assert!(rt; registry.holds(calls.metric()));
+    assert!(rt; registry.claims(calls.metric()) < u64::MAX);
+    calls.guard(registry, status).expect(rt, "room")
 }
 
 fn finish(registry: &mut Registry, guard: CounterGuard) {
@@ -318,72 +246,48 @@ const GUARDED: &str = "# HELP calls Calls.\n# TYPE calls counter\n\
     calls_total{status=\"Success\"} 1\n\
     calls_total{status=\"Timeout\"} 0\n# EOF\n";
 
-/// A guard that was made with a failure, and went well.
-fn guarded_text(registry: &mut Registry, calls: &status::Counter) -> Result<bool, NoMemory> {
-    let mut guard = guard(registry, calls, Status::Failure)?;
-    let twice = claimed(registry, calls.metric(), 2);
-    guard.set(Status::Success);
-    finish(registry, guard);
-    Ok(twice & claimed(registry, calls.metric(), 1) & reads(registry, GUARDED))
-}
-
-fn guard_calls(registry: &mut Registry) -> Result<bool, Error> {
-    let calls = statuses(registry)?;
-    let guarded = came(guarded_text(registry, &calls), true);
-    give_up(registry, calls);
-    Ok(guarded & reads(registry, EMPTY))
-}
-
+/// A guard is made with a failure, and goes well.
 #[test]
 fn guarded_status(rt: HostRuntime) {
     let mut registry = Registry::new(rt.alloc());
-    let seen = came(guard_calls(&mut registry), true);
-    ends(&rt, registry, seen);
+    let calls = statuses(&rt, &mut registry);
+    let mut guard = guard(&rt, &mut registry, &calls, Status::Failure);
+    claimed(&rt, &registry, calls.metric(), 2);
+    guard.set(Status::Success);
+    finish(&mut registry, guard);
+    claimed(&rt, &registry, calls.metric(), 1);
+    reads(&rt, &registry, GUARDED);
+    give_up(&mut registry, calls);
+    reads(&rt, &registry, EMPTY);
 }
 
 const TIMEOUT: status::Label = status::Label {
     status: Status::Timeout,
 };
 
-/// Finishes a guard whose child is away.
-fn finish_without(registry: &mut Registry, calls: &status::Counter) -> Result<bool, NoMemory> {
-    let guard = guard(registry, calls, Status::Timeout)?;
-    let removed = removes(registry, calls, &TIMEOUT, true);
-    finish(registry, guard);
-    Ok(removed & has_value(registry, calls, &TIMEOUT, None))
-}
-
-/// Finishes a guard whose child was made anew.
-fn finish_anew(registry: &mut Registry, calls: &status::Counter) -> Result<bool, NoMemory> {
-    let guard = guard(registry, calls, Status::Timeout)?;
-    let removed = removes(registry, calls, &TIMEOUT, true);
-    let made = went(child(registry, calls, &TIMEOUT));
-    finish(registry, guard);
-    let raised = has_value(registry, calls, &TIMEOUT, Some(1));
-    Ok(removed & made & registry.holds(calls.metric()) & raised)
-}
-
-fn guard_removed(registry: &mut Registry) -> Result<bool, Error> {
-    let calls = statuses(registry)?;
-    let away = came(finish_without(registry, &calls), true);
-    let anew = came(finish_anew(registry, &calls), true);
-    give_up(registry, calls);
-    Ok(away & anew)
-}
-
+/// The child is away when its guard is finished, and then is made anew before.
 #[test]
 fn guard_of_a_removed_child(rt: HostRuntime) {
     let mut registry = Registry::new(rt.alloc());
-    let seen = came(guard_removed(&mut registry), true);
-    ends(&rt, registry, seen);
+    let calls = statuses(&rt, &mut registry);
+    let first = guard(&rt, &mut registry, &calls, Status::Timeout);
+    removes(&rt, &mut registry, &calls, true);
+    finish(&mut registry, first);
+    has_value(&rt, &registry, &calls, &TIMEOUT, None);
+    let second = guard(&rt, &mut registry, &calls, Status::Timeout);
+    removes(&rt, &mut registry, &calls, true);
+    let _ = child(&rt, &mut registry, &calls, &TIMEOUT);
+    finish(&mut registry, second);
+    holds(&rt, "the family", registry.holds(calls.metric()));
+    has_value(&rt, &registry, &calls, &TIMEOUT, Some(1));
+    give_up(&mut registry, calls);
 }
 
 /// An attribute.
 pub fn attribute(alloc: Global, key: &str, value: &str) -> Result<Vec<(Text, Text)>, NoMemory> {
-    let mut attributes = Vec::new(alloc);
     let key = Text::of(String::from_str(alloc, key)?);
-    attributes.push((key, Text::of(String::from_str(alloc, value)?)))?;
-    Ok(attributes)
+    let value = Text::of(String::from_str(alloc, value)?);
+    Ok(vec![in alloc; (key, value)]?)
 }
 
 /// No label at all.
@@ -418,366 +322,252 @@ pub fn grow(alloc: Global, registry: &mut Registry, host: &str) -> Result<Gauge,
 
 /// Makes a child, and raises it.
 pub fn raises_child<L: LabelSet>(
+    rt: &impl Abort,
     registry: &mut Registry,
     hits: &CounterFamily,
     labels: &L,
     by: u64,
-) -> Result<(), NoMemory> {
-    let id = child(registry, hits, labels)?;
+) {
+    let id = child(rt, registry, hits, labels);
     registry.add_counter(id, by);
-    Ok(())
 }
 
-/// The text with a child that has labels, and one that has none.
-fn fill(alloc: Global, registry: &mut Registry, hits: &CounterFamily) -> bool {
+pub fn hits(rt: &impl Abort, alloc: Global, registry: &mut Registry) -> CounterFamily {
+    let zone = attribute(alloc, "zone", "x").expect(rt, "room");
+    registry.register("hits", "Hits", &zone).expect(rt, "room")
+}
+
+/// Makes a child that has labels, and one that has none.
+fn add_children(rt: &impl Abort, alloc: Global, registry: &mut Registry, hits: &CounterFamily) {
     let root = task::Label::root(alloc);
-    let raised = went(raises_child(registry, hits, &root, 7));
-    let made = went(child(registry, hits, &NoLabels));
-    raised & made & has_value(registry, hits, &root, Some(7)) & reads(registry, FULL)
+    raises_child(rt, registry, hits, &root, 7);
+    let _ = child(rt, registry, hits, &NoLabels);
+    has_value(rt, registry, hits, &root, Some(7));
 }
 
-/// The text with that family, and one that has no child.
-fn with_none(alloc: Global, registry: &mut Registry, hits: &CounterFamily) -> Result<bool, Error> {
-    let none: GaugeFamily = registry.register("none", "None", &[])?;
-    let filled = fill(alloc, registry, hits);
-    give_up(registry, none);
-    Ok(filled)
-}
-
-pub fn hits(alloc: Global, registry: &mut Registry) -> Result<CounterFamily, Error> {
-    let zone = attribute(alloc, "zone", "x")?;
-    registry.register("hits", "Hits", &zone)
-}
-
-fn with_families(alloc: Global, registry: &mut Registry) -> Result<bool, Error> {
-    let hits = hits(alloc, registry)?;
-    let filled = came(with_none(alloc, registry, &hits), true);
-    give_up(registry, hits);
-    Ok(filled)
-}
-
-/// The text with families, and the text without the first gauge.
-fn texts_of_three(alloc: Global, registry: &mut Registry, load: Gauge) -> bool {
-    let full = came(with_families(alloc, registry), true);
-    give_up(registry, load);
-    full & reads(registry, LESS)
-}
-
-/// These with a third gauge.
-fn with_third(alloc: Global, registry: &mut Registry, load: Gauge) -> bool {
-    match grow(alloc, registry, "y").ok() {
-        Some(third) => {
-            let read = texts_of_three(alloc, registry, load);
-            give_up(registry, third);
-            read
-        }
-        None => {
-            give_up(registry, load);
-            false
-        }
-    }
-}
-
-/// These with a second gauge.
-fn with_second(alloc: Global, registry: &mut Registry, load: Gauge) -> bool {
-    match grow(alloc, registry, "z").ok() {
-        Some(second) => {
-            let read = with_third(alloc, registry, load);
-            give_up(registry, second);
-            read
-        }
-        None => {
-            give_up(registry, load);
-            false
-        }
-    }
-}
-
-fn texts(alloc: Global, registry: &mut Registry) -> Result<bool, Error> {
-    let load = grow(alloc, registry, "a\"b\\c\nd\u{e9}")?;
-    let set = changes(registry, &load, &(Change::Set(-5), Some(0)));
-    let read = with_second(alloc, registry, load);
-    Ok(set & read & reads(registry, EMPTY))
-}
-
+/// The text has gauges, a family of two children and one of none, and then fewer of them.
 #[test]
 fn text_with_all(rt: HostRuntime) {
-    let mut registry = Registry::new(rt.alloc());
-    let seen = came(texts(rt.alloc(), &mut registry), true);
-    ends(&rt, registry, seen);
+    let alloc = rt.alloc();
+    let mut registry = Registry::new(alloc);
+    let load = grow(alloc, &mut registry, "a\"b\\c\nd\u{e9}").expect(&rt, "room");
+    answers(&rt, &mut registry, &load, "set -5 -> 0");
+    let second = grow(alloc, &mut registry, "z").expect(&rt, "room");
+    let third = grow(alloc, &mut registry, "y").expect(&rt, "room");
+    let hits = hits(&rt, alloc, &mut registry);
+    let none: GaugeFamily = register(&rt, &mut registry, "none", "None");
+    add_children(&rt, alloc, &mut registry, &hits);
+    reads(&rt, &registry, FULL);
+    give_up(&mut registry, none);
+    give_up(&mut registry, hits);
+    give_up(&mut registry, load);
+    reads(&rt, &registry, LESS);
+    give_up(&mut registry, third);
+    give_up(&mut registry, second);
+    reads(&rt, &registry, EMPTY);
 }
 
-/// Whether a metric was refused so.
-fn is_refused<M>(
-    registry: &mut Registry,
-    answer: Result<Registered<M>, Error>,
-    why: MetricError,
-) -> bool {
-    match answer {
-        Ok(metric) => {
-            metric.release(registry);
-            false
-        }
-        Err(error) => same(error, Error::Metric(why)),
-    }
-}
-
-/// A name, a help, and why they are refused.
-type Refusal = (&'static str, &'static str, MetricError);
-
+/// Stops where a metric isn't refused so.
 pub fn refuses<M: Metric>(
+    rt: &impl Abort,
     registry: &mut Registry,
     name: &str,
     help: &str,
     why: MetricError,
-) -> bool {
-    let answer = registry.register::<M>(name, help, &[]);
-    is_refused(registry, answer, why)
-}
-
-/// How many are refused so.
-fn refuses_each<M: Metric>(registry: &mut Registry, refusals: &[Refusal]) -> usize {
-    let mut right = 0_usize;
-    for (name, help, why) in refusals {
-        if refuses::<M>(registry, name, help, *why) {
-            right = right.wrapping_add(1);
+) {
+    match registry.register::<M>(name, help, &[]) {
+        Ok(metric) => {
+            give_up(registry, metric);
+            panic!(rt; "{name}: {help}");
         }
+        Err(error) => same(rt, help, error, Error::Metric(why)),
     }
-    right
 }
 
-const NO_COUNTERS: &[Refusal] = &[
-    ("9a", "Votes", MetricError::BadLabel),
-    ("", "Votes", MetricError::BadLabel),
-];
-
-const NO_GAUGES: &[Refusal] = &[
-    ("votes", "Other", MetricError::OtherHelp),
-    ("votes", "Votes", MetricError::OtherType),
-];
-
-const NO_STATUSES: &[Refusal] = &[("votes", "Votes", MetricError::OtherType)];
-
-fn refuses_prefix(registry: &mut Registry) -> bool {
-    failed(
-        registry.sub_registry("a-b"),
-        Error::Metric(MetricError::BadLabel),
-    )
-}
-
-fn refuse(registry: &mut Registry) -> Result<bool, Error> {
-    let votes = counter(registry, "votes", "Votes")?;
-    let counters = refuses_each::<raw::Counter>(registry, NO_COUNTERS);
-    let gauges = refuses_each::<raw::Gauge>(registry, NO_GAUGES);
-    let statuses = refuses_each::<status::Raw>(registry, NO_STATUSES);
-    let prefix = refuses_prefix(registry);
-    give_up(registry, votes);
-    Ok((counters == 2) & (gauges == 2) & (statuses == 1) & prefix)
+fn refuses_prefix(rt: &impl Abort, registry: &mut Registry, prefix: &str) {
+    match registry.sub_registry(prefix) {
+        Ok(_scope) => panic!(rt; "{prefix}"),
+        Err(error) => same(rt, prefix, error, Error::Metric(MetricError::BadLabel)),
+    }
 }
 
 #[test]
 fn refusals(rt: HostRuntime) {
     let mut registry = Registry::new(rt.alloc());
-    let seen = came(refuse(&mut registry), true);
-    ends(&rt, registry, seen);
+    let votes = counter(&rt, &mut registry);
+    let why = MetricError::BadLabel;
+    refuses::<raw::Counter>(&rt, &mut registry, "9a", "Votes", why);
+    refuses::<raw::Counter>(&rt, &mut registry, "", "Votes", why);
+    let why = MetricError::OtherHelp;
+    refuses::<raw::Gauge>(&rt, &mut registry, "votes", "Other", why);
+    let why = MetricError::OtherType;
+    refuses::<raw::Gauge>(&rt, &mut registry, "votes", "Votes", why);
+    refuses::<status::Raw>(&rt, &mut registry, "votes", "Votes", why);
+    refuses_prefix(&rt, &mut registry, "a-b");
+    give_up(&mut registry, votes);
 }
 
 /// A counter under two prefixes.
-fn scoped(registry: &mut Registry) -> Result<Counter, Error> {
-    let scope = registry.sub_registry("a")?;
-    let inner = scope.sub_registry("b")?;
-    inner.register(registry, "votes", "Votes")
+fn scoped(rt: &impl Abort, registry: &mut Registry) -> Counter {
+    let scope = registry.sub_registry("a").expect(rt, "room");
+    let inner = scope.sub_registry("b").expect(rt, "room");
+    let votes = inner.register(registry, "votes", "Votes");
+    votes.expect(rt, "room")
 }
 
 /// One claim more.
-fn claim_more(registry: &mut Registry, votes: &Counter) -> Option<Counter> {
-    if registry.holds(votes.metric()) && registry.claims(votes.metric()) < u64::MAX {
-        return Some(votes.clone_claim(registry));
-    }
-    None
+fn claim_more(rt: &impl Abort, registry: &mut Registry, votes: &Counter) -> Counter {
+    assert!(rt; registry.holds(votes.metric()));
+    assert!(rt; registry.claims(votes.metric()) < u64::MAX);
+    votes.clone_claim(registry)
 }
 
-/// Whether a counter had this value, and is raised from it by one.
-fn rises(registry: &mut Registry, counter: &Counter, before: u64) -> bool {
-    if registry.holds(counter.metric()) {
-        return counter.inc(registry) == before;
-    }
-    false
+/// Raises a counter by one, which had this value.
+fn rises(rt: &impl Abort, registry: &mut Registry, counter: &Counter, before: u64) {
+    assert!(rt; registry.holds(counter.metric()));
+    same(rt, "a rise", counter.inc(registry), before);
 }
 
 const SCOPED: &str =
     "# HELP a_b_votes Votes.\n# TYPE a_b_votes counter\na_b_votes_total 1\n# EOF\n";
 
-fn scoped_text(registry: &mut Registry, votes: Option<Counter>) -> bool {
-    match votes {
-        Some(votes) => {
-            let read = rises(registry, &votes, 0) & reads(registry, SCOPED);
-            give_up(registry, votes);
-            read
-        }
-        None => false,
-    }
-}
-
-fn count_in_scope(registry: &mut Registry) -> Result<bool, Error> {
-    let votes = scoped(registry)?;
-    let more = claim_more(registry, &votes);
-    give_up(registry, votes);
-    Ok(scoped_text(registry, more))
-}
-
 #[test]
 fn surface(rt: HostRuntime) {
     let mut registry = Registry::new(rt.alloc());
-    let seen = came(count_in_scope(&mut registry), true);
-    ends(&rt, registry, seen);
+    let votes = scoped(&rt, &mut registry);
+    let more = claim_more(&rt, &mut registry, &votes);
+    give_up(&mut registry, votes);
+    rises(&rt, &mut registry, &more, 0);
+    reads(&rt, &registry, SCOPED);
+    give_up(&mut registry, more);
 }
 
-/// A change of a gauge.
-#[derive(Clone, Copy)]
-enum Change {
-    Inc,
-    IncBy(i64),
-    Dec,
-    DecBy(i64),
-    Set(i64),
-    TrySet(u64),
-    TrySetMax(u64),
-    TrySetMaxOfByte(u8),
+/// The number that a word writes.
+fn level(rt: &impl Abort, word: &str) -> i64 {
+    word.parse::<i64>().expect(rt, word)
 }
 
-/// A change, and what it answers: the value before, where the new one fits.
-type Step = (Change, Option<i64>);
-
-fn answer(registry: &mut Registry, load: &Gauge, change: Change) -> Option<i64> {
-    if !registry.holds(load.metric()) {
-        return None;
-    }
-    match change {
-        Change::Inc => Some(load.inc(registry)),
-        Change::IncBy(by) => Some(load.inc_by(registry, by)),
-        Change::Dec => Some(load.dec(registry)),
-        Change::DecBy(by) => Some(load.dec_by(registry, by)),
-        Change::Set(value) => Some(load.set(registry, value)),
-        Change::TrySet(value) => load.try_set(registry, value).ok(),
-        Change::TrySetMax(value) => load.try_set_max(registry, value).ok(),
-        Change::TrySetMaxOfByte(value) => load.try_set_max(registry, value).ok(),
-    }
+fn count(rt: &impl Abort, word: &str) -> u64 {
+    word.parse::<u64>().expect(rt, word)
 }
 
-fn changes(registry: &mut Registry, load: &Gauge, step: &Step) -> bool {
-    answer(registry, load, step.0) == step.1
-}
-
-/// How many changes, one after the other, answer so.
-fn changes_each(registry: &mut Registry, load: &Gauge, steps: &[Step]) -> usize {
-    let mut right = 0_usize;
-    for step in steps {
-        if changes(registry, load, step) {
-            right = right.wrapping_add(1);
+/// Makes a call on a gauge, which returns the value before where the new one fits.
+fn answer(
+    rt: &impl Abort,
+    registry: &mut Registry,
+    load: &Gauge,
+    word: &str,
+    number: &str,
+) -> Option<i64> {
+    assert!(rt; registry.holds(load.metric()));
+    match (word, number) {
+        ("inc", "") => Some(load.inc(registry)),
+        ("inc-by", number) => Some(load.inc_by(registry, level(rt, number))),
+        ("dec", "") => Some(load.dec(registry)),
+        ("dec-by", number) => Some(load.dec_by(registry, level(rt, number))),
+        ("set", number) => Some(load.set(registry, level(rt, number))),
+        ("try-set", number) => load.try_set(registry, count(rt, number)).ok(),
+        ("try-set-max", number) => load.try_set_max(registry, count(rt, number)).ok(),
+        ("try-set-max-of-byte", number) => {
+            let byte = number.parse::<u8>().expect(rt, number);
+            load.try_set_max(registry, byte).ok()
         }
+        ("get", "") => Some(load.get(registry)),
+        _ => panic!(rt; "{word} {number}"),
     }
-    right
 }
 
-const CHANGES: &[Step] = &[
-    (Change::Inc, Some(0)),
-    (Change::IncBy(5), Some(1)),
-    (Change::Dec, Some(6)),
-    (Change::DecBy(i64::MIN), Some(5)),
-    (Change::Set(3), Some(i64::MIN + 5)),
-    (Change::TrySet(8), Some(3)),
-    (Change::TrySetMax(8), Some(8)),
-    (Change::TrySet(u64::MAX), None),
-    (Change::TrySetMax(u64::MAX), None),
-    (Change::TrySetMaxOfByte(4), Some(8)),
-    (Change::TrySetMaxOfByte(9), Some(8)),
-];
+/// Makes the call of a row, which returns what is written behind it.
+fn answers(rt: &impl Abort, registry: &mut Registry, load: &Gauge, row: &str) {
+    let (call, wanted) = row.split_once(" -> ").expect(rt, row);
+    let (word, number) = call.split_once(' ').unwrap_or((call, ""));
+    let seen = answer(rt, registry, load, word, number);
+    let wanted = match wanted {
+        "refused" => None,
+        wanted => Some(level(rt, wanted)),
+    };
+    assert!(rt; seen == wanted, "{row}");
+}
 
-fn change_gauge(registry: &mut Registry) -> Result<bool, Error> {
-    let load = gauge(registry)?;
-    let changed = changes_each(registry, &load, CHANGES);
-    let last = is_at(registry, &load, 9);
+fn answer_each(rt: &impl Abort, registry: &mut Registry, load: &Gauge, rows: &str) {
+    holds(rt, "rows", !rows.is_empty());
+    for row in rows.lines() {
+        answers(rt, registry, load, row);
+    }
+}
+
+/// Makes the calls of rows on a new gauge.
+fn answers_of_gauge(rt: &impl Abort, registry: &mut Registry, rows: &str) {
+    let load = gauge(rt, registry);
+    answer_each(rt, registry, &load, rows);
     give_up(registry, load);
-    Ok((changed == 11) & last)
 }
+
+/// Calls on a gauge, and what each returns.
+const GAUGE: &str = "\
+inc -> 0
+inc-by 5 -> 1
+dec -> 6
+dec-by -9223372036854775808 -> 5
+set 3 -> -9223372036854775803
+try-set 8 -> 3
+try-set-max 8 -> 8
+try-set 18446744073709551615 -> refused
+try-set-max 18446744073709551615 -> refused
+try-set-max-of-byte 4 -> 8
+try-set-max-of-byte 9 -> 8
+get -> 9
+";
 
 #[test]
 fn surface_of_gauges(rt: HostRuntime) {
     let mut registry = Registry::new(rt.alloc());
-    let seen = came(change_gauge(&mut registry), true);
-    ends(&rt, registry, seen);
+    answers_of_gauge(&rt, &mut registry, GAUGE);
 }
 
-/// Whether a status was counted.
-fn counts_one(registry: &mut Registry, calls: &status::Counter, status: Status) -> bool {
-    if registry.holds(calls.metric()) {
-        return went(calls.inc(registry, status));
-    }
-    false
-}
-
-fn counts_more(registry: &mut Registry, calls: &status::Counter, status: Status, by: u64) -> bool {
-    if registry.holds(calls.metric()) {
-        return went(calls.inc_by(registry, status, by));
-    }
-    false
-}
-
-fn count_statuses(registry: &mut Registry) -> Result<bool, Error> {
-    let calls = statuses(registry)?;
-    let one = counts_one(registry, &calls, Status::Timeout);
-    let more = counts_more(registry, &calls, Status::Timeout, u64::MAX);
-    let wrapped = has_value(registry, &calls, &TIMEOUT, Some(0));
-    let first = removes(registry, &calls, &TIMEOUT, true);
-    let second = removes(registry, &calls, &TIMEOUT, false);
-    give_up(registry, calls);
-    Ok(one & more & wrapped & first & second)
+/// Counts one timeout, and then so many more.
+fn counts(rt: &impl Abort, registry: &mut Registry, calls: &status::Counter, by: u64) {
+    assert!(rt; registry.holds(calls.metric()));
+    calls.inc(registry, Status::Timeout).expect(rt, "room");
+    assert!(rt; registry.holds(calls.metric()));
+    let counted = calls.inc_by(registry, Status::Timeout, by);
+    counted.expect(rt, "room");
 }
 
 #[test]
 fn surface_of_statuses(rt: HostRuntime) {
     let mut registry = Registry::new(rt.alloc());
-    let seen = came(count_statuses(&mut registry), true);
-    ends(&rt, registry, seen);
+    let calls = statuses(&rt, &mut registry);
+    counts(&rt, &mut registry, &calls, u64::MAX);
+    has_value(&rt, &registry, &calls, &TIMEOUT, Some(0));
+    removes(&rt, &mut registry, &calls, true);
+    removes(&rt, &mut registry, &calls, false);
+    give_up(&mut registry, calls);
 }
 
-/// Whether this is one of the values of labels.
-fn has_label(labels: &[(Text, Text)], wanted: &str) -> bool {
+/// Stops where this isn't one of the values of labels.
+fn has_label(rt: &impl Abort, alloc: Global, label: &task::Label, wanted: &str) {
+    let labels = label.labels(alloc).expect(rt, "room");
     let mut found = false;
-    for (_, value) in labels {
+    for (_, value) in labels.as_slice() {
         found |= value.as_str() == wanted;
     }
-    found
+    holds(rt, wanted, found);
 }
 
-fn has_execution(alloc: Global, label: &task::Label, execution: &str) -> bool {
-    match label.labels(alloc) {
-        Ok(labels) => has_label(&labels, execution),
-        Err(_) => false,
-    }
-}
-
-fn copied_label(alloc: Global) -> Result<task::Label, NoMemory> {
-    let name = String::from_str(alloc, "p_c")?;
+fn copied_label(rt: &impl Abort, alloc: Global) -> task::Label {
+    let name = String::from_str(alloc, "p_c").expect(rt, "room");
     let label = task::Label::task(name, Execution::Shared(true));
-    label.clone_value()
-}
-
-fn copies(alloc: Global) -> Result<bool, NoMemory> {
-    let copy = copied_label(alloc)?;
-    Ok(has_execution(alloc, &copy, "SharedBlocking") & (copy.name() == "p_c"))
-}
-
-fn stands_alone(alloc: Global) -> bool {
-    let alone = task::Label::task(String::new(alloc), Execution::Dedicated);
-    has_execution(alloc, &alone, "Dedicated")
+    label.clone_value().expect(rt, "room")
 }
 
 #[test]
 fn surface_of_tasks(rt: HostRuntime) {
-    let copied = came(copies(rt.alloc()), true);
-    assert!(rt; copied & stands_alone(rt.alloc()));
+    let copy = copied_label(&rt, rt.alloc());
+    has_label(&rt, rt.alloc(), &copy, "SharedBlocking");
+    holds(&rt, "a name", copy.name() == "p_c");
+    let alone = task::Label::task(String::new(rt.alloc()), Execution::Dedicated);
+    has_label(&rt, rt.alloc(), &alone, "Dedicated");
 }
 
 fn detached_counter() -> bool {
@@ -797,57 +587,28 @@ fn detached_gauge() -> bool {
 
 #[test]
 fn surface_of_detached(rt: HostRuntime) {
-    assert!(rt; detached_counter() & detached_gauge());
+    holds(&rt, "a counter", detached_counter());
+    holds(&rt, "a gauge", detached_gauge());
 }
 
-/// By how much a counter is raised, and its value before.
-type Raise = (u64, u64);
-
-fn raises_each(registry: &mut Registry, votes: &Counter, each: &[Raise]) -> usize {
-    let mut right = 0_usize;
-    for (by, before) in each {
-        if raises(registry, votes, *by, *before) {
-            right = right.wrapping_add(1);
-        }
-    }
-    right
-}
-
-const RAISES: &[Raise] = &[
-    (u64::MAX, 0),
-    (1, u64::MAX),
-    (u64::MAX, 0),
-    (2, u64::MAX),
-    (0, 1),
-];
-
-fn wrap_counter(registry: &mut Registry) -> Result<bool, Error> {
-    let votes = counter(registry, "votes", "Votes")?;
-    let raised = raises_each(registry, &votes, RAISES);
-    give_up(registry, votes);
-    Ok(raised == 5)
-}
-
-const WRAPS: &[Step] = &[
-    (Change::Set(i64::MAX), Some(0)),
-    (Change::Inc, Some(i64::MAX)),
-    (Change::IncBy(5), Some(i64::MIN)),
-    (Change::Set(i64::MIN), Some(i64::MIN + 5)),
-    (Change::Dec, Some(i64::MIN)),
-    (Change::DecBy(i64::MIN), Some(i64::MAX)),
-];
-
-fn wrap_gauge(registry: &mut Registry) -> Result<bool, Error> {
-    let load = gauge(registry)?;
-    let wrapped = changes_each(registry, &load, WRAPS);
-    give_up(registry, load);
-    Ok(wrapped == 6)
-}
+const BOUNDS: &str = "\
+set 9223372036854775807 -> 0
+inc -> 9223372036854775807
+inc-by 5 -> -9223372036854775808
+set -9223372036854775808 -> -9223372036854775803
+dec -> -9223372036854775808
+dec-by -9223372036854775808 -> 9223372036854775807
+";
 
 #[test]
 fn numbers_at_their_bounds(rt: HostRuntime) {
     let mut registry = Registry::new(rt.alloc());
-    let counter = came(wrap_counter(&mut registry), true);
-    let gauge = came(wrap_gauge(&mut registry), true);
-    ends(&rt, registry, counter & gauge);
+    let votes = counter(&rt, &mut registry);
+    raises(&rt, &mut registry, &votes, u64::MAX, 0);
+    raises(&rt, &mut registry, &votes, 1, u64::MAX);
+    raises(&rt, &mut registry, &votes, u64::MAX, 0);
+    raises(&rt, &mut registry, &votes, 2, u64::MAX);
+    raises(&rt, &mut registry, &votes, 0, 1);
+    give_up(&mut registry, votes);
+    answers_of_gauge(&rt, &mut registry, BOUNDS);
 }

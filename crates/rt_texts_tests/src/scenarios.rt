@@ -1,8 +1,9 @@
 // Which line is broken first and how, and what a whole scenario says.
 
+use crate::told::{holds, same};
 use rt_base::Text;
 use rt_scenario::{
-    Broken, Kind, Line, Refusal, RunLine, Scenario, ScriptTexts, Settings, ShortName, read_scenario,
+    Broken, Kind, Line, Refusal, RunLine, Scenario, ScriptTexts, ShortName, read_scenario,
 };
 use std::alloc::{AllocError, Global};
 use std::process::Abort;
@@ -12,114 +13,231 @@ fn read(rt: &impl Abort, alloc: Global, text: &str) -> Scenario {
     read_scenario(alloc, text.as_bytes()).expect(rt, "a scenario")
 }
 
-/// Stops where these differ.
-fn same<T: Drop + PartialEq>(rt: &impl Abort, what: &str, seen: T, wanted: T) {
-    assert!(rt; seen == wanted, "{what}");
+/// Stops where another text comes of a row.
+fn is(rt: &impl Abort, row: &str, seen: String, wanted: &str) {
+    assert!(rt;
+        seen.as_str() == wanted,
+        "{row} comes to {seen}, not {wanted}"
+    );
 }
 
-/// Stops where a script has other lines.
-fn has_lines(rt: &impl Abort, seen: &[Line], wanted: &[Line]) {
-    assert!(rt; seen == wanted);
+/// A text, in which `|` stands for the end of a line.
+fn lines_of(rt: &impl Abort, alloc: Global, row: &str) -> String {
+    row.replace(alloc, "|", "\n").expect(rt, "room")
 }
 
-/// Stops where the runs are others, each by the place of its root and the places beside it.
-fn has_runs(rt: &impl Abort, runs: &[RunLine], wanted: &[(usize, &[usize])]) {
-    assert!(rt; are_runs(runs, wanted));
+fn add_lines(rt: &impl Abort, text: &mut String, lines: &[Line]) {
+    for line in lines {
+        write!(text, " {line:?}").expect(rt, "room");
+    }
 }
 
-const FIRST: &[Line] = &[
-    Line::Sleep(0),
-    Line::Yield,
-    Line::Draw,
-    Line::Pend,
-    Line::End(7),
-];
+fn add_names(rt: &impl Abort, text: &mut String, names: &[ShortName]) {
+    for name in names {
+        let name = name.as_str();
+        write!(text, " @{name}").expect(rt, "room");
+    }
+}
 
-const SECOND: &[Line] = &[Line::Sleep(u128::MAX), Line::End(i64::MIN), Line::EndLast];
+fn add_words(rt: &impl Abort, text: &mut String, words: &[Text]) {
+    for word in words {
+        let word = word.as_str();
+        write!(text, " '{word}'").expect(rt, "room");
+    }
+}
+
+fn add_choices(rt: &impl Abort, text: &mut String, places: &[usize]) {
+    for place in places {
+        write!(text, " #{place}").expect(rt, "room");
+    }
+}
+
+/// Adds a line for each script: its name, its lines, each name of a handle behind `@`, its words, and each choice behind `#`.
+fn add_scripts(rt: &impl Abort, text: &mut String, scripts: &ScriptTexts) {
+    for place in 0..scripts.len() {
+        text.push_str(scripts.name(place)).expect(rt, "room");
+        add_lines(rt, text, scripts.lines(place));
+        add_names(rt, text, scripts.handles(place));
+        add_words(rt, text, scripts.words(place));
+        add_choices(rt, text, scripts.choices(place));
+        text.push('\n').expect(rt, "room");
+    }
+}
+
+/// Adds a line for each run: the place of its root, and the places beside it.
+fn add_runs(rt: &impl Abort, text: &mut String, runs: &[RunLine]) {
+    for run in runs {
+        let root = run.root;
+        write!(text, "run {root}").expect(rt, "room");
+        for place in run.with.as_slice() {
+            write!(text, " {place}").expect(rt, "room");
+        }
+        text.push('\n').expect(rt, "room");
+    }
+}
+
+/// What a scenario says.
+fn told(rt: &impl Abort, alloc: Global, scenario: &Scenario) -> String {
+    let settings = scenario.settings;
+    let mut text = format!(in alloc; "{settings:?}\n").expect(rt, "room");
+    add_scripts(rt, &mut text, &scenario.scripts);
+    add_runs(rt, &mut text, scenario.runs.as_slice());
+    text
+}
+
+/// Texts, each with what it says.
+const SCENARIOS: &str = "\
+== # two scripts||timeout 9223372036854775807999999999|script a|sleep 0|yield|draw|pend|end 7|done|script b_2|\
+sleep 340282366920938463463374607431768211455|end -9223372036854775808|end last|done|script c|done|run b_2|
+Settings { seed: None, next: None, cycle: None, start: None, timeout: Some(9223372036854775807999999999), catch: None }
+a Sleep(0) Yield Draw Pend End(7)
+b_2 Sleep(340282366920938463463374607431768211455) End(-9223372036854775808) EndLast
+c
+run 1
+== catch off|next 18446744073709551615|start 9223372036854775807999999998|seed 0|\
+cycle 340282366920938463463374607431768211455|timeout 1|script a|done|run a|
+Settings { seed: Some(0), next: Some(18446744073709551615), cycle: Some(340282366920938463463374607431768211455), \
+start: Some(9223372036854775807999999998), timeout: Some(1), catch: Some(false) }
+a
+run 0
+== script a|done|run a|
+Settings { seed: None, next: None, cycle: None, start: None, timeout: None, catch: None }
+a
+run 0
+== catch on|script idle|pend|done|script self|panic a~|done|script main|spawn z idle|spawn b_1 self|\
+until 340282366920938463463374607431768211455|panic boom|abort b_1|abort self|drop self|abort z|join z|join B|\
+within 7 b_1|panic boom|spawn z idle|done|run main with self idle self|
+Settings { seed: None, next: None, cycle: None, start: None, timeout: None, catch: Some(true) }
+idle Pend
+self Panic(0) 'a~'
+main Spawn(3, 0) Spawn(1, 1) Until(340282366920938463463374607431768211455) Panic(0) Abort(1) AbortSelf Drop(2) \
+Abort(3) Join(3) Join(0) Within(1, 7) Panic(1) Spawn(3, 0) @B @b_1 @self @z 'boom' 'boom'
+run 2 1 0 1
+== script a|done|run a|run a|
+Settings { seed: None, next: None, cycle: None, start: None, timeout: None, catch: None }
+a
+run 0
+run 0
+== script a|done|script b|done|script c|done|run c|run a with b c b|
+Settings { seed: None, next: None, cycle: None, start: None, timeout: None, catch: None }
+a
+b
+c
+run 2
+run 0 1 2 1
+== script a|done|script run|done|run run with a||# again|run a with run|run run|
+Settings { seed: None, next: None, cycle: None, start: None, timeout: None, catch: None }
+a
+run
+run 1 0
+run 0 1
+run 1
+== script idle|done|script main|stopped wait|spawn g idle|stopped B|wait wait|wait nothing|stop 2147483647|\
+stop -2147483648 340282366920938463463374607431768211455|stop 0 0|stopped g|join wait|done|run main|
+Settings { seed: None, next: None, cycle: None, start: None, timeout: None, catch: None }
+idle
+main Stopped(3) Spawn(1, 0) Stopped(0) Wait(3) Wait(2) Stop(2147483647) StopWithin(-2147483648, \
+340282366920938463463374607431768211455) StopWithin(0, 0) Stopped(1) Join(3) @B @g @nothing @wait
+run 1
+== script idle|done|script main|spawn k idle|select z|select k B k|join B|select a z|done|run main|
+Settings { seed: None, next: None, cycle: None, start: None, timeout: None, catch: None }
+idle
+main Spawn(2, 0) Select(0, 1) Select(1, 4) Join(0) Select(4, 6) @B @a @k @z #3 #2 #0 #2 #1 #3
+run 1
+";
+
+fn says(rt: &impl Abort, alloc: Global, row: &str, wanted: &str) {
+    let text = lines_of(rt, alloc, row);
+    let scenario = read(rt, alloc, text.as_str());
+    is(rt, row, told(rt, alloc, &scenario), wanted);
+}
 
 #[test]
 fn surface(rt: HostRuntime) {
-    let text =
-        "# two scripts\n\ntimeout 9223372036854775807999999999\nscript a\nsleep 0\nyield\ndraw\npend\nend 7\n\
-        done\nscript b_2\nsleep 340282366920938463463374607431768211455\nend -9223372036854775808\nend last\n\
-        done\nscript c\ndone\nrun b_2\n";
-    let scenario = read(&rt, rt.alloc(), text);
-    same(
-        &rt,
-        "the timeout",
-        scenario.settings.timeout,
-        Some(rt_base::MAX_TIME),
-    );
-    has_runs(&rt, scenario.runs.as_slice(), &[(1, &[])]);
-    let scripts = &scenario.scripts;
-    assert!(rt; scripts.len() == 3);
-    same(&rt, "a name", scripts.name(0), "a");
-    has_lines(&rt, scripts.lines(0), FIRST);
-    same(&rt, "another name", scripts.name(1), "b_2");
-    has_lines(&rt, scripts.lines(1), SECOND);
-    same(&rt, "no line", scripts.lines(2).len(), 0);
-}
-
-/// Whether the runs are these.
-fn are_runs(runs: &[RunLine], wanted: &[(usize, &[usize])]) -> bool {
-    let mut same = runs.len() == wanted.len();
-    for (run, (root, with)) in runs.iter().zip(wanted) {
-        same &= run.root == *root && run.with.as_slice() == *with;
+    holds(&rt, "a row", SCENARIOS.starts_with("== "));
+    for block in SCENARIOS.split("== ").skip(1) {
+        let (row, wanted) = block.split_once('\n').expect(&rt, block);
+        says(&rt, rt.alloc(), row, wanted);
     }
-    same
 }
 
 /// What comes of a text: that it is read, or the line that is broken first and the word of the rule that it breaks.
 fn outcome(rt: &impl Abort, alloc: Global, text: &[u8]) -> String {
     let answer = match read_scenario(alloc, text).err() {
         None => String::from_str(alloc, "read"),
-        Some(Refusal::Broken(broken)) => told(alloc, broken),
+        Some(Refusal::Broken(broken)) => broken_text(alloc, broken),
         Some(Refusal::NoMemory) => Err(AllocError),
     };
     answer.expect(rt, "room")
 }
 
-fn told(alloc: Global, broken: Broken) -> Result<String, AllocError> {
+fn broken_text(alloc: Global, broken: Broken) -> Result<String, AllocError> {
     let (line, kind) = (broken.line, broken.kind);
     format!(in alloc; "{line} {kind}")
 }
 
 /// Stops where another outcome comes of a text.
-fn comes_to(rt: &impl Abort, alloc: Global, text: &str, wanted: &str) {
-    let seen = outcome(rt, alloc, text.as_bytes());
-    assert!(rt; seen.as_str() == wanted, "{text} comes to {seen}");
+fn text_comes_to(rt: &impl Abort, alloc: Global, text: &str, wanted: &str) {
+    let lines = lines_of(rt, alloc, text);
+    is(rt, text, outcome(rt, alloc, lines.as_bytes()), wanted);
 }
 
-/// A text, in which `|` stands for the end of a line.
-fn lines_of(rt: &impl Abort, alloc: Global, row: &str) -> String {
-    let mut text = String::new(alloc);
-    for part in row.split('|') {
-        text.push_str(part).expect(rt, "room");
-        text.push('\n').expect(rt, "room");
+/// Takes the text of a row for each of these lines, for which `#` stands.
+fn each_line_comes_to(rt: &impl Abort, alloc: Global, text: &str, wanted: &str, lines: &str) {
+    for line in lines.split(", ") {
+        let text = text.replace(alloc, "#", line).expect(rt, "room");
+        text_comes_to(rt, alloc, text.as_str(), wanted);
     }
-    let _ = text.pop();
-    text
 }
 
-/// Stops where another outcome comes of the text of a row.
+/// Takes a row: a text, what comes of it, and behind a colon the lines for which `#` stands, if it does.
 fn row_comes_to(rt: &impl Abort, alloc: Global, row: &str) {
-    match row.split_once(" => ") {
-        Some((text, wanted)) => {
-            let text = lines_of(rt, alloc, text);
-            comes_to(rt, alloc, text.as_str(), wanted);
+    let (text, wanted) = row.split_once(" => ").expect(rt, row);
+    match wanted.split_once(": ") {
+        Some((wanted, lines)) => {
+            holds(rt, row, text.contains('#'));
+            each_line_comes_to(rt, alloc, text, wanted, lines);
         }
-        None => panic!(rt; "{row}"),
+        None => text_comes_to(rt, alloc, text, wanted),
     }
 }
 
 /// Takes the rows one by one.
 fn each_comes_to(rt: &impl Abort, alloc: Global, rows: &str) {
+    holds(rt, "a row", !rows.is_empty());
     for row in rows.lines() {
         row_comes_to(rt, alloc, row);
     }
 }
 
-const BROKEN_LINES: &str = "\
+const READ: &str = "\
+seed 18446744073709551615|script a|done|run a| => read
+next 0|script a|done|run a| => read
+cycle 1|script a|done|run a| => read
+start 9223372036854775807999999999|script a|done|run a| => read
+start 9223372036854775807999999999|timeout 0|script a|done|run a| => read
+timeout 9223372036854775807999999999|start 0|script a|done|run a| => read
+catch off|timeout 1|script a|done|run a| => read
+script a|done|script b|spawn abcdefghijklmnopqrstuvwxyzabcdef a|done|run b with a a b| => read
+script with|done|run with with with with| => read
+script a|abort nobody|drop nobody|join nobody|until 0|panic #!~|done|run a| => read
+script a|done|script b|spawn h a|spawn h a|spawn self a|abort self|join self|done|run b| => read
+script a|within 340282366920938463463374607431768211455 within|done|run a| => read
+script a|stopped g|stopped g|wait g|wait g|done|run a| => read
+script a|wait nothing|done|run a| => read
+script stop|stopped stop|wait stopped|stop -1 1|done|script wait|done|run stop with wait stop| => read
+script a|stopped abcdefghijklmnopqrstuvwxyzabcdef|done|run a| => read
+script a|stop 2147483647|stop -2147483648|stop 0 18446744073709551616|done|run a| => read
+script a|select abcdefghijklmnopqrstuvwxyzabcdef|select self self|done|run a| => read
+script select|select select with last|select g|stopped g|done|run select| => read
+";
+
+#[test]
+fn read_texts(rt: HostRuntime) {
+    each_comes_to(&rt, rt.alloc(), READ);
+}
+
+const BROKEN: &str = "\
 script a|end => 2 cut
  => 1 norun
 script a|end 7|done|run a => 4 cut
@@ -128,43 +246,20 @@ script a|done|run a|run a => 4 cut
 | pend| => 2 space
 pend | => 1 space
 # a  b| => 1 space
-pend| => 1 place
-done| => 1 place
-script a|script b| => 2 place
+#| => 1 place: pend, done
+script a|#| => 2 place: script b, run a
 script a|done|timeout 1| => 3 place
-script a|run a| => 2 place
 script a|done|run a|script b| => 4 place
-script a|done|run a|run a|script a| => 5 place
-script a|done|run a|run a|done| => 5 place
+script a|done|run a|run a|#| => 5 place: script a, done
 script a|done|run a|runs a| => 4 unknown
 seeds 7| => 1 unknown
 script a|Sleep 1| => 2 unknown
-timeout| => 1 count
-script a|yield 1| => 2 count
-script a|draw 1| => 2 count
-timeout 1 2| => 1 count
-script a b| => 1 count
-script 9a| => 1 name
-script abcdefghijklmnopqrstuvwxyzabcdefg| => 1 name
-run a-b| => 1 name
+#| => 1 count: timeout, timeout 1 2, script a b
+script a|#| => 2 count: yield 1, draw 1
+#| => 1 name: script 9a, script abcdefghijklmnopqrstuvwxyzabcdefg, run a-b
 script a|done|run a|run 9| => 4 name
-";
-
-#[test]
-fn first_broken_lines(rt: HostRuntime) {
-    each_comes_to(&rt, rt.alloc(), BROKEN_LINES);
-}
-
-const NUMBERS_AND_NAMES: &str = "\
-timeout 01| => 1 number
-timeout +1| => 1 number
-timeout -1| => 1 number
-timeout 340282366920938463463374607431768211456| => 1 number
-script a|sleep 1s| => 2 number
-script a|end 9223372036854775808| => 2 number
-script a|end -9223372036854775809| => 2 number
-script a|end -0| => 2 number
-script a|end -| => 2 number
+#| => 1 number: timeout 01, timeout +1, timeout -1, timeout 340282366920938463463374607431768211456
+script a|#| => 2 number: sleep 1s, end 9223372036854775808, end -9223372036854775809, end -0, end -
 script a|sleep 18446744073709551616|end 99999999999999999999| => 3 number
 timeout 1|timeout 2| => 2 twice
 timeout 1|timeout x| => 2 number
@@ -179,104 +274,28 @@ script a|done|| => 4 norun
 ";
 
 #[test]
-fn refused_numbers_and_names(rt: HostRuntime) {
-    each_comes_to(&rt, rt.alloc(), NUMBERS_AND_NAMES);
-}
-
-/// The settings of a text.
-fn settings(rt: &impl Abort, alloc: Global, text: &str) -> Settings {
-    read(rt, alloc, text).settings
-}
-
-#[test]
-fn surface_of_settings(rt: HostRuntime) {
-    let text = "catch off\nnext 18446744073709551615\nstart 9223372036854775807999999998\nseed 0\n\
-        cycle 340282366920938463463374607431768211455\ntimeout 1\nscript a\ndone\n\
-        run a\n";
-    let Settings {
-        seed,
-        next,
-        cycle,
-        start,
-        timeout,
-        catch,
-    } = settings(&rt, rt.alloc(), text);
-    same(&rt, "the seed", seed, Some(0));
-    same(&rt, "the next number", next, Some(u64::MAX));
-    same(&rt, "the cycle", cycle, Some(u128::MAX));
-    same(&rt, "the start", start, Some(rt_base::MAX_TIME - 1));
-    same(&rt, "the timeout", timeout, Some(1));
-    same(&rt, "catch", catch, Some(false));
-}
-
-#[test]
-fn no_settings(rt: HostRuntime) {
-    let Settings {
-        seed,
-        next,
-        cycle,
-        start,
-        timeout,
-        catch,
-    } = settings(&rt, rt.alloc(), "script a\ndone\nrun a\n");
-    same(&rt, "the seed", seed, None);
-    same(&rt, "the next number", next, None);
-    same(&rt, "the cycle", cycle, None);
-    same(&rt, "the start", start, None);
-    same(&rt, "the timeout", timeout, None);
-    same(&rt, "catch", catch, None);
-}
-
-const READ_SETTINGS: &str = "\
-seed 18446744073709551615|script a|done|run a| => read
-next 0|script a|done|run a| => read
-cycle 1|script a|done|run a| => read
-start 9223372036854775807999999999|script a|done|run a| => read
-start 9223372036854775807999999999|timeout 0|script a|done|run a| => read
-timeout 9223372036854775807999999999|start 0|script a|done|run a| => read
-";
-
-#[test]
-fn read_settings(rt: HostRuntime) {
-    each_comes_to(&rt, rt.alloc(), READ_SETTINGS);
+fn first_broken_lines(rt: HostRuntime) {
+    each_comes_to(&rt, rt.alloc(), BROKEN);
 }
 
 const SETTINGS: &str = "\
 seed 7 => 1 cut
 start  7| => 1 space
-script a|seed 1| => 2 place
+script a|#| => 2 place: seed 1, cycle x
 script a|done|next 1| => 3 place
-script a|cycle x| => 2 place
 script a|done|run a|start 1| => 4 place
 script a|done|run a|run a|timeout x| => 5 place
 Seed 7| => 1 unknown
-seed| => 1 count
-next 1 2| => 1 count
-cycle| => 1 count
-start x 1| => 1 count
-seed x| => 1 number
-next -1| => 1 number
-cycle 01| => 1 number
-start 1s| => 1 number
-seed 18446744073709551616| => 1 number
-next 18446744073709551616| => 1 number
-seed 340282366920938463463374607431768211456| => 1 number
-cycle 340282366920938463463374607431768211456| => 1 number
-start 340282366920938463463374607431768211456| => 1 number
+#| => 1 count: seed, next 1 2, cycle, start x 1
+#| => 1 number: seed x, next -1, cycle 01, start 1s, seed 18446744073709551616, next 18446744073709551616
+#| => 1 number: seed 340282366920938463463374607431768211456, cycle 340282366920938463463374607431768211456
+#| => 1 number: start 340282366920938463463374607431768211456
 seed 1|seed 1| => 2 twice
 next 1|seed 1|next 2| => 3 twice
 cycle 0|cycle 1| => 2 twice
 start 1|start 1| => 2 twice
 seed 1|seed 18446744073709551616| => 2 number
 start 1|start x| => 2 number
-";
-
-#[test]
-fn refused_settings(rt: HostRuntime) {
-    each_comes_to(&rt, rt.alloc(), SETTINGS);
-}
-
-const SETTINGS_OF_NO_RUN: &str = "\
 cycle 0|script a|done|run a| => 4 config
 start 9223372036854775808000000000|script a|done|run a| => 4 config
 start 9223372036854775807999999999|timeout 1|script a|done|run a| => 5 config
@@ -289,297 +308,66 @@ cycle 0|script a| => 3 norun
 ";
 
 #[test]
-fn settings_that_can_not_be_run(rt: HostRuntime) {
-    each_comes_to(&rt, rt.alloc(), SETTINGS_OF_NO_RUN);
+fn refused_settings(rt: HostRuntime) {
+    each_comes_to(&rt, rt.alloc(), SETTINGS);
 }
 
-const SUPERVISED: &[Line] = &[
-    Line::Spawn(3, 0),
-    Line::Spawn(1, 1),
-    Line::Until(u128::MAX),
-    Line::Panic(0),
-    Line::Abort(1),
-    Line::AbortSelf,
-    Line::Drop(2),
-    Line::Abort(3),
-    Line::Join(3),
-    Line::Join(0),
-    Line::Within(1, 7),
-    Line::Panic(1),
-    Line::Spawn(3, 0),
-];
-
-/// Stops where the names of handles are others.
-fn has_names(rt: &impl Abort, seen: &[ShortName], wanted: &[&str]) {
-    same(rt, "how many names", seen.len(), wanted.len());
-    for (name, wanted) in seen.iter().zip(wanted) {
-        assert!(rt; name.as_str() == *wanted, "{wanted}");
-    }
-}
-
-/// Stops where the words are others.
-fn has_words(rt: &impl Abort, seen: &[Text], wanted: &[&str]) {
-    same(rt, "how many words", seen.len(), wanted.len());
-    for (word, wanted) in seen.iter().zip(wanted) {
-        assert!(rt; word.as_str() == *wanted, "{wanted}");
-    }
-}
-
-#[test]
-fn surface_of_supervision(rt: HostRuntime) {
-    let text = "catch on\nscript idle\npend\ndone\nscript self\npanic a~\ndone\n\
-        script main\nspawn z idle\nspawn b_1 self\nuntil 340282366920938463463374607431768211455\npanic boom\n\
-        abort b_1\nabort self\ndrop self\nabort z\njoin z\njoin B\nwithin 7 b_1\npanic boom\nspawn z idle\n\
-        done\nrun main with self idle self\n";
-    let scenario = read(&rt, rt.alloc(), text);
-    same(&rt, "catch", scenario.settings.catch, Some(true));
-    same(&rt, "the timeout", scenario.settings.timeout, None);
-    has_runs(&rt, scenario.runs.as_slice(), &[(2, &[1, 0, 1])]);
-    let scripts = &scenario.scripts;
-    assert!(rt; scripts.len() == 3);
-    has_lines(&rt, scripts.lines(1), &[Line::Panic(0)]);
-    has_names(&rt, scripts.handles(1), &[]);
-    has_words(&rt, scripts.words(1), &["a~"]);
-    has_lines(&rt, scripts.lines(2), SUPERVISED);
-    has_names(&rt, scripts.handles(2), &["B", "b_1", "self", "z"]);
-    has_words(&rt, scripts.words(2), &["boom", "boom"]);
-}
-
-/// Stops where the runs of a text are others.
-fn text_has_runs(rt: &impl Abort, alloc: Global, text: &str, wanted: &[(usize, &[usize])]) {
-    let scenario = read(rt, alloc, text);
-    has_runs(rt, scenario.runs.as_slice(), wanted);
-}
-
-#[test]
-fn surface_of_runs(rt: HostRuntime) {
-    let text = "script a\ndone\nrun a\nrun a\n";
-    text_has_runs(&rt, rt.alloc(), text, &[(0, &[]), (0, &[])]);
-    let text = "script a\ndone\nscript b\ndone\nscript c\ndone\nrun c\n\
-        run a with b c b\n";
-    text_has_runs(&rt, rt.alloc(), text, &[(2, &[]), (0, &[1, 2, 1])]);
-    let text = "script a\ndone\nscript run\ndone\nrun run with a\n\n# again\n\
-        run a with run\nrun run\n";
-    text_has_runs(&rt, rt.alloc(), text, &[(1, &[0]), (0, &[1]), (1, &[])]);
-}
-
-const READ_LINES_OF_SUPERVISION: &str = "\
-catch off|timeout 1|script a|done|run a| => read
-script a|done|script b|spawn abcdefghijklmnopqrstuvwxyzabcdef a|done|run b with a a b| => read
-script with|done|run with with with with| => read
-script a|abort nobody|drop nobody|join nobody|until 0|panic #!~|done|run a| => read
-script a|done|script b|spawn h a|spawn h a|spawn self a|abort self|join self|done|run b| => read
-script a|within 340282366920938463463374607431768211455 within|done|run a| => read
-";
-
-#[test]
-fn read_lines_of_supervision(rt: HostRuntime) {
-    each_comes_to(&rt, rt.alloc(), READ_LINES_OF_SUPERVISION);
-}
-
-const LINES_OF_SUPERVISION: &str = "\
+const SUPERVISION: &str = "\
 catch on => 1 cut
 catch  on| => 1 space
-script a|spawn h  a| => 2 space
-script a|join  h| => 2 space
-script a|end 1 | => 2 space
-script a|done | => 2 space
+script a|#| => 2 space: end 1 , done , spawn h  a, join  h
 script a|catch on| => 2 place
-script a|done|catch on| => 3 place
+script a|done|#| => 3 place: catch on, join h
 script a|done|run a|catch on| => 4 place
-until 1| => 1 place
-panic x| => 1 place
-spawn| => 1 place
-script a|done|join h| => 3 place
+#| => 1 place: until 1, panic x, spawn
 script a|done|run a with a|drop h| => 4 place
 catches on| => 1 unknown
 script a|Abort h| => 2 unknown
-catch| => 1 count
-catch on off| => 1 count
-script a|until| => 2 count
-script a|until x 1| => 2 count
-script a|panic| => 2 count
-script a|panic two words| => 2 count
-script a|spawn 9| => 2 count
-script a|spawn h a b| => 2 count
-script a|abort| => 2 count
-script a|abort self h| => 2 count
-script a|drop| => 2 count
-script a|join h i| => 2 count
-script a|within 1| => 2 count
-script a|within 1 h i| => 2 count
-run| => 1 count
-script a|done|run a with| => 3 count
+#| => 1 count: catch, catch on off, run, run 9 a with a
+script a|#| => 2 count: until, until x 1, panic, panic two words, spawn 9, spawn h a b, abort, abort self h
+script a|#| => 2 count: drop, join h i, within 1, within 1 h i
+script a|done|#| => 3 count: run a with, run a a, run a and a
 script a|done|run a|run a with| => 4 count
-script a|done|run a a| => 3 count
-script a|done|run a and a| => 3 count
-run 9 a with a| => 1 count
-catch maybe| => 1 name
-catch On| => 1 name
-catch 1| => 1 name
-script a|until 340282366920938463463374607431768211456| => 2 number
-script a|until 01| => 2 number
+#| => 1 name: catch maybe, catch On, catch 1, run none with a-b, run 9 with none
+script a|#| => 2 number: until 340282366920938463463374607431768211456, until 01, within x h
 catch on|catch on| => 2 twice
 catch on|timeout 1|catch off| => 3 twice
 catch on|catch maybe| => 2 name
-script a|spawn abcdefghijklmnopqrstuvwxyzabcdefg a| => 2 name
-script a|spawn 9 none| => 2 name
-script a|spawn h 9| => 2 name
-script a|abort 9| => 2 name
-script a|drop a-b| => 2 name
-script a|join _h| => 2 name
-script a|within x 9| => 2 name
-script a|within x h| => 2 number
-run none with a-b| => 1 name
-run 9 with none| => 1 name
+script a|#| => 2 name: spawn abcdefghijklmnopqrstuvwxyzabcdefg a, spawn 9 none, spawn h 9, abort 9, drop a-b
+script a|#| => 2 name: join _h, within x 9
 script a|spawn h a| => 2 missing
 script a|spawn h b|done|script b|done| => 2 missing
-script a|done|run a with a b| => 3 missing
+script a|done|#| => 3 missing: run a with a b, run b with a
 script a|done|run a|run a with a b| => 4 missing
-script a|done|run b with a| => 3 missing
 script a|spawn h a|done| => 2 missing
 ";
 
 #[test]
 fn refused_lines_of_supervision(rt: HostRuntime) {
-    each_comes_to(&rt, rt.alloc(), LINES_OF_SUPERVISION);
+    each_comes_to(&rt, rt.alloc(), SUPERVISION);
 }
 
-const STOPPING: &[Line] = &[
-    Line::Stopped(3),
-    Line::Spawn(1, 0),
-    Line::Stopped(0),
-    Line::Wait(3),
-    Line::Wait(2),
-    Line::Stop(i32::MAX),
-    Line::StopWithin(i32::MIN, u128::MAX),
-    Line::StopWithin(0, 0),
-    Line::Stopped(1),
-    Line::Join(3),
-];
-
-#[test]
-fn surface_of_shutdown(rt: HostRuntime) {
-    let text =
-        "script idle\ndone\nscript main\nstopped wait\nspawn g idle\nstopped B\nwait wait\nwait nothing\n\
-        stop 2147483647\nstop -2147483648 340282366920938463463374607431768211455\nstop 0 0\nstopped g\n\
-        join wait\ndone\nrun main\n";
-    let scenario = read(&rt, rt.alloc(), text);
-    let scripts = &scenario.scripts;
-    assert!(rt; scripts.len() == 2);
-    has_lines(&rt, scripts.lines(1), STOPPING);
-    has_names(&rt, scripts.handles(1), &["B", "g", "nothing", "wait"]);
-}
-
-const READ_LINES_OF_SHUTDOWN: &str = "\
-script a|stopped g|stopped g|wait g|wait g|done|run a| => read
-script a|wait nothing|done|run a| => read
-script stop|stopped stop|wait stopped|stop -1 1|done|script wait|done|run stop with wait stop| => read
-script a|stopped abcdefghijklmnopqrstuvwxyzabcdef|done|run a| => read
-script a|stop 2147483647|stop -2147483648|stop 0 18446744073709551616|done|run a| => read
-";
-
-#[test]
-fn read_lines_of_shutdown(rt: HostRuntime) {
-    each_comes_to(&rt, rt.alloc(), READ_LINES_OF_SHUTDOWN);
-}
-
-const LINES_OF_SHUTDOWN: &str = "\
-script a|stop 1 => 2 cut
+const SHUTDOWN_AND_SELECT: &str = "\
+script a|# => 2 cut: stop 1, select h
 script a|wait g\t| => 2 byte
-script a|stop 1  2| => 2 space
-script a|wait g | => 2 space
-stopped g| => 1 place
-wait| => 1 place
+script a|#| => 2 space: wait g , stop 1  2, select h  i
+#| => 1 place: stopped g, wait, select
 script a|done|stop x| => 3 place
-script a|Stop 1| => 2 unknown
+script a|#| => 2 unknown: Stop 1, selects h
 waits g| => 1 unknown
-script a|stopped| => 2 count
-script a|stopped g h| => 2 count
-script a|wait| => 2 count
-script a|wait 9 1| => 2 count
-script a|stop| => 2 count
-script a|stop x 1 2| => 2 count
-script a|stopped 9| => 2 name
-script a|stopped abcdefghijklmnopqrstuvwxyzabcdefg| => 2 name
-script a|wait _g| => 2 name
+script a|#| => 2 count: stopped, stopped g h, wait, wait 9 1, stop, stop x 1 2, select
+script a|#| => 2 name: stopped 9, stopped abcdefghijklmnopqrstuvwxyzabcdefg, wait _g, select 9, select h i 9
+script a|#| => 2 name: select abcdefghijklmnopqrstuvwxyzabcdefg h
 script a|stop 1| => 3 norun
-";
-
-#[test]
-fn refused_lines_of_shutdown(rt: HostRuntime) {
-    each_comes_to(&rt, rt.alloc(), LINES_OF_SHUTDOWN);
-}
-
-const VALUES_OF_SHUTDOWN: &str = "\
-script a|stop last| => 2 number
-script a|stop 2147483648| => 2 number
-script a|stop -2147483649| => 2 number
-script a|stop 4294967296| => 2 number
-script a|stop 9223372036854775808| => 2 number
-script a|stop -0| => 2 number
-script a|stop -| => 2 number
-script a|stop 01| => 2 number
-script a|stop +1| => 2 number
-script a|stop 2147483648 1| => 2 number
-script a|stop 1 340282366920938463463374607431768211456| => 2 number
-script a|stop 1 -1| => 2 number
-script a|stop 1 01| => 2 number
-";
-
-#[test]
-fn refused_values_of_shutdown(rt: HostRuntime) {
-    each_comes_to(&rt, rt.alloc(), VALUES_OF_SHUTDOWN);
-}
-
-const SELECTING: &[Line] = &[
-    Line::Spawn(2, 0),
-    Line::Select(0, 1),
-    Line::Select(1, 4),
-    Line::Join(0),
-    Line::Select(4, 6),
-];
-
-#[test]
-fn surface_of_select(rt: HostRuntime) {
-    let text =
-        "script idle\ndone\nscript main\nspawn k idle\nselect z\nselect k B k\njoin B\nselect a z\ndone\n\
-        run main\n";
-    let scenario = read(&rt, rt.alloc(), text);
-    let scripts = &scenario.scripts;
-    assert!(rt; scripts.len() == 2);
-    has_places(&rt, scripts.choices(0), &[]);
-    has_lines(&rt, scripts.lines(1), SELECTING);
-    has_places(&rt, scripts.choices(1), &[3, 2, 0, 2, 1, 3]);
-    has_names(&rt, scripts.handles(1), &["B", "a", "k", "z"]);
-}
-
-/// Stops where the places of choices are others.
-fn has_places(rt: &impl Abort, seen: &[usize], wanted: &[usize]) {
-    assert!(rt; seen == wanted);
-}
-
-const READ_LINES_OF_SELECT: &str = "\
-script a|select abcdefghijklmnopqrstuvwxyzabcdef|select self self|done|run a| => read
-script select|select select with last|select g|stopped g|done|run select| => read
-";
-
-const LINES_OF_SELECT: &str = "\
-script a|select h => 2 cut
-script a|select h  i| => 2 space
-select| => 1 place
-script a|selects h| => 2 unknown
-script a|select| => 2 count
-script a|select 9| => 2 name
-script a|select h i 9| => 2 name
-script a|select abcdefghijklmnopqrstuvwxyzabcdefg h| => 2 name
+script a|#| => 2 number: stop last, stop 2147483648, stop -2147483649, stop 4294967296
+script a|#| => 2 number: stop 9223372036854775808, stop -0, stop -, stop 01, stop +1, stop 2147483648 1
+script a|#| => 2 number: stop 1 340282366920938463463374607431768211456, stop 1 -1, stop 1 01
 script a|select h| => 3 norun
 ";
 
 #[test]
-fn lines_of_select(rt: HostRuntime) {
-    each_comes_to(&rt, rt.alloc(), READ_LINES_OF_SELECT);
-    each_comes_to(&rt, rt.alloc(), LINES_OF_SELECT);
+fn refused_lines_of_shutdown_and_select(rt: HostRuntime) {
+    each_comes_to(&rt, rt.alloc(), SHUTDOWN_AND_SELECT);
 }
 
 /// A comment of so many bytes, as a text.
@@ -657,24 +445,10 @@ fn spawns(rt: &impl Abort, alloc: Global, scripts: u32, times: u32, with: u32) -
     text
 }
 
-/// Such a text, behind a line and before one.
-fn spawned(
-    rt: &impl Abort,
-    alloc: Global,
-    first: &str,
-    counts: (u32, u32, u32),
-    last: &str,
-) -> String {
-    let (scripts, times, with) = counts;
-    let spawns = spawns(rt, alloc, scripts, times, with);
-    let mut text = String::from_str(alloc, first).expect(rt, "room");
-    text.push_str(spawns.as_str()).expect(rt, "room");
-    text.push_str(last).expect(rt, "room");
-    text
-}
-
-/// A line before; how many scripts, spawns of each and names behind the run; a line behind; and what comes of that.
+/// A line before; how many scripts, spawns of each and names behind the run; lines behind; and what comes of that.
 type Spawned = (&'static str, (u32, u32, u32), &'static str, &'static str);
+
+const LATE: &str = "timeout 9223372036854775808000000000\n";
 
 const SPAWNED: &[Spawned] = &[
     ("", (4, 46, 501), "", "read"),
@@ -684,36 +458,27 @@ const SPAWNED: &[Spawned] = &[
     ("", (16, 2, 0), "run s15\nrun s15 with s15\n", "66 tasks"),
     ("", (17, 2, 0), "", "68 tasks"),
     ("", (3_000, 2, 0), "", "12000 tasks"),
-];
-
-/// Takes the rows one by one.
-fn each_spawned(rt: &impl Abort, alloc: Global, rows: &[Spawned]) {
-    for &(first, counts, last, wanted) in rows {
-        let text = spawned(rt, alloc, first, counts, last);
-        let seen = outcome(rt, alloc, text.as_bytes());
-        is_outcome(rt, seen, wanted);
-    }
-}
-
-fn is_outcome(rt: &impl Abort, seen: String, wanted: &str) {
-    assert!(rt; seen.as_str() == wanted, "{seen}, not {wanted}");
-}
-
-#[test]
-fn too_many_tasks(rt: HostRuntime) {
-    each_spawned(&rt, rt.alloc(), SPAWNED);
-}
-
-const LATE: &str = "timeout 9223372036854775808000000000\n";
-
-const LATE_ONES: &[Spawned] = &[
     (LATE, (17, 2, 0), "", "69 tasks"),
     (LATE, (16, 2, 0), "", "65 config"),
 ];
 
+/// Such a text, behind a line and before others.
+fn spawned(rt: &impl Abort, alloc: Global, row: &Spawned) -> String {
+    let (first, (scripts, times, with), last, _) = *row;
+    let spawns = spawns(rt, alloc, scripts, times, with);
+    let mut text = String::from_str(alloc, first).expect(rt, "room");
+    text.push_str(spawns.as_str()).expect(rt, "room");
+    text.push_str(last).expect(rt, "room");
+    text
+}
+
 #[test]
-fn tasks_before_config(rt: HostRuntime) {
-    each_spawned(&rt, rt.alloc(), LATE_ONES);
+fn too_many_tasks(rt: HostRuntime) {
+    for row in SPAWNED {
+        let text = spawned(&rt, rt.alloc(), row);
+        let seen = outcome(&rt, rt.alloc(), text.as_bytes());
+        is(&rt, "a text of spawns", seen, row.3);
+    }
 }
 
 /// A script of so many scripts, each with a spawn and a join of a handle of its own, in no order.
@@ -768,5 +533,7 @@ fn ten_thousand_scripts(rt: HostRuntime) {
     let scenario = read(&rt, rt.alloc(), text.as_str());
     drop(text);
     same(&rt, "scripts", scenario.scripts.len(), 10_000);
-    has_runs(&rt, scenario.runs.as_slice(), &[(9_999, &[])]);
+    let mut runs = String::new(rt.alloc());
+    add_runs(&rt, &mut runs, scenario.runs.as_slice());
+    is(&rt, "the run", runs, "run 9999\n");
 }

@@ -1,11 +1,11 @@
 // Many metrics and children, and long names.
 
-use crate::metrics::{
-    EMPTY, attribute, came, ends, give_up, grow, hits, raises_child, reads, refuses, went,
-};
-use rt_base::{Error, Execution, MetricError, NoMemory};
+use crate::metrics::{EMPTY, attribute, give_up, grow, hits, raises_child, reads, refuses};
+use crate::told::{holds, same};
+use rt_base::{Error, Execution, MetricError};
 use rt_metrics::{CounterFamily, Gauge, Registry, raw, task};
 use std::alloc::Global;
+use std::process::Abort;
 
 /// How many gauges one name has at once.
 const SERIES: u32 = 10_000;
@@ -97,43 +97,40 @@ fn series(alloc: Global, registry: &mut Registry, by: By, left: u32) -> bool {
     }
 }
 
+/// So many gauges are there at once, and then none.
+fn come_and_go(rt: &impl Abort, alloc: Global, by: By, count: u32) {
+    let mut registry = Registry::new(alloc);
+    holds(rt, "series", series(alloc, &mut registry, by, count));
+    reads(rt, &registry, EMPTY);
+}
+
 #[test]
 fn ten_thousand_series(rt: HostRuntime) {
-    let mut registry = Registry::new(rt.alloc());
-    let seen = series(rt.alloc(), &mut registry, By::Label, SERIES);
-    let empty = reads(&registry, EMPTY);
-    ends(&rt, registry, seen & empty);
+    come_and_go(&rt, rt.alloc(), By::Label, SERIES);
 }
 
 #[test]
 fn a_thousand_names(rt: HostRuntime) {
-    let mut registry = Registry::new(rt.alloc());
-    let seen = series(rt.alloc(), &mut registry, By::Name, MANY);
-    let empty = reads(&registry, EMPTY);
-    ends(&rt, registry, seen & empty);
+    come_and_go(&rt, rt.alloc(), By::Name, MANY);
 }
 
 /// Makes the child of a number, and raises it by that.
 fn raises_numbered(
+    rt: &impl Abort,
     alloc: Global,
     registry: &mut Registry,
     hits: &CounterFamily,
     number: u32,
-) -> Result<(), NoMemory> {
-    let name = format!(in alloc; "{number}")?;
+) {
+    let name = format!(in alloc; "{number}").expect(rt, "room");
     let label = task::Label::task(name, Execution::Dedicated);
-    raises_child(registry, hits, &label, number as u64)
+    raises_child(rt, registry, hits, &label, number as u64);
 }
 
-/// How many children are made.
-fn raises_many(alloc: Global, registry: &mut Registry, hits: &CounterFamily) -> u32 {
-    let mut right = 0_u32;
+fn raises_many(rt: &impl Abort, alloc: Global, registry: &mut Registry, hits: &CounterFamily) {
     for number in 0..MANY {
-        if went(raises_numbered(alloc, registry, hits, number)) {
-            right = right.wrapping_add(1);
-        }
+        raises_numbered(rt, alloc, registry, hits, number);
     }
-    right
 }
 
 const FIRST_CHILDREN: &str = "# HELP hits Hits.\n# TYPE hits counter\n\
@@ -144,74 +141,56 @@ const LAST_CHILDREN: &str =
     "hits_total{zone=\"x\",name=\"998\",kind=\"Task\",execution=\"Dedicated\"} 998\n\
     hits_total{zone=\"x\",name=\"999\",kind=\"Task\",execution=\"Dedicated\"} 999\n# EOF\n";
 
-/// Whether a family has as many, each in the text.
-fn has_many(alloc: Global, registry: &mut Registry) -> Result<bool, Error> {
-    let hits = hits(alloc, registry)?;
-    let made = raises_many(alloc, registry, &hits);
-    let read = reads_between(registry, FIRST_CHILDREN, LAST_CHILDREN, MANY as usize + 3);
-    give_up(registry, hits);
-    Ok((made == MANY) & read)
-}
-
 #[test]
 fn a_thousand_children(rt: HostRuntime) {
     let mut registry = Registry::new(rt.alloc());
-    let seen = came(has_many(rt.alloc(), &mut registry), true);
-    let empty = reads(&registry, EMPTY);
-    ends(&rt, registry, seen & empty);
+    let hits = hits(&rt, rt.alloc(), &mut registry);
+    raises_many(&rt, rt.alloc(), &mut registry, &hits);
+    let read = reads_between(&registry, FIRST_CHILDREN, LAST_CHILDREN, MANY as usize + 3);
+    holds(&rt, "children", read);
+    give_up(&mut registry, hits);
+    reads(&rt, &registry, EMPTY);
 }
 
 /// Letters of a long name, help and label.
 const LONG: usize = 65_536;
 
 /// A text of so many letters.
-fn letters(alloc: Global, count: usize) -> Result<String, NoMemory> {
+fn letters(rt: &impl Abort, alloc: Global, count: usize) -> String {
     let mut text = String::new(alloc);
     for _ in 0..count {
-        text.push('x')?;
+        text.push('x').expect(rt, "room");
     }
-    Ok(text)
+    text
 }
 
-/// Whether the text is as long as so many letters and what stands between them.
-fn has_length(registry: &Registry, letters: usize) -> bool {
+/// Stops where the text is longer or shorter than so many letters and what stands between them.
+fn has_length(rt: &impl Abort, registry: &Registry, letters: usize) {
     let between = "# HELP  .\n# TYPE  gauge\n{=\"\"} 0\n# EOF\n";
-    match registry.encode() {
-        Ok(text) => text.as_str().len() == letters.saturating_add(between.len()),
-        Err(_) => false,
-    }
+    let text = registry.encode().expect(rt, "room");
+    same(
+        rt,
+        "a length",
+        text.len(),
+        letters.saturating_add(between.len()),
+    );
 }
 
 /// A gauge of that name, help and label.
-fn named(alloc: Global, registry: &mut Registry, name: &str) -> Result<Gauge, Error> {
-    let labels = attribute(alloc, name, name)?;
-    registry.register(name, name, &labels)
+fn named(rt: &impl Abort, alloc: Global, registry: &mut Registry, name: &str) -> Gauge {
+    let labels = attribute(alloc, name, name).expect(rt, "room");
+    registry.register(name, name, &labels).expect(rt, "room")
 }
 
-fn is_long(alloc: Global, registry: &mut Registry, name: &str) -> Result<bool, Error> {
-    let load = named(alloc, registry, name)?;
-    let long = has_length(registry, 6 * LONG);
-    give_up(registry, load);
-    Ok(long)
-}
-
-fn takes_long(alloc: Global, registry: &mut Registry) -> Result<bool, Error> {
-    let name = letters(alloc, LONG)?;
-    is_long(alloc, registry, name.as_str())
-}
-
-/// A long name with a dash at its end.
-fn refuses_long(alloc: Global, registry: &mut Registry) -> Result<bool, NoMemory> {
-    let mut name = letters(alloc, LONG)?;
-    name.push('-')?;
-    let why = MetricError::BadLabel;
-    Ok(refuses::<raw::Gauge>(registry, name.as_str(), "Load", why))
-}
-
+/// A long text is taken, and refused with a dash at its end.
 #[test]
 fn longest_texts(rt: HostRuntime) {
     let mut registry = Registry::new(rt.alloc());
-    let taken = came(takes_long(rt.alloc(), &mut registry), true);
-    let refused = came(refuses_long(rt.alloc(), &mut registry), true);
-    ends(&rt, registry, taken & refused);
+    let mut name = letters(&rt, rt.alloc(), LONG);
+    let load = named(&rt, rt.alloc(), &mut registry, name.as_str());
+    has_length(&rt, &registry, 6 * LONG);
+    give_up(&mut registry, load);
+    name.push('-').expect(&rt, "room");
+    let why = MetricError::BadLabel;
+    refuses::<raw::Gauge>(&rt, &mut registry, name.as_str(), "Load", why);
 }
