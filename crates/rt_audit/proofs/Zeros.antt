@@ -3,7 +3,7 @@ use Rattle.std.proofs.lemmas.List.{take-append-drop}
 use Rattle.std.proofs.Common.{◌≡◌, ℕ, List, [], ◌∷◌, ◌++◌, take, drop, refl, sym, ap, ◌∙◌, append_assoc, codes}
 use Rattle.hex.specs.Hex.{encode_lower, encode_with}
 use Rattle.rt_audit.specs.Lines.{hex_text}
-use Rattle.rt_audit.specs.TaskEvent.{small_number}
+use Rattle.rt_hasher.specs.TaskEvent.{small_number}
 
 -- eight bytes of zeros are sixteen digits of zeros
 zeros_first : (low : List ℕ) → encode_lower (small_number low) ≡ codes "0000000000000000" ++ encode_lower low

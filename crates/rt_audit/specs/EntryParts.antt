@@ -6,7 +6,7 @@ use Rattle.rt_audit.specs.declared.event_fields.FieldsKind.{FieldsKind}
 use Rattle.rt_audit.specs.declared.event_fields.FieldsKind.TheVariants.{OfTask, OfTaskInPlace, Listed}
 use Rattle.rt_audit.specs.declared.order.OrderKind.{OrderKind}
 use Rattle.rt_audit.specs.declared.order.OrderKind.TheVariants.{One, Many}
-use Rattle.rt_audit.specs.TaskEvent.{task_event}
+use Rattle.rt_hasher.specs.TaskEvent.{task_event}
 
 -- the label of an event
 abbrev pub label_of : LabelKind → List ℕ

@@ -2,7 +2,7 @@
 use Rattle.std.specs.Prelude.{ℕ, ◌+◌, List, [], ◌∷◌}
 use Rattle.rt_audit.specs.declared.entry.Entry.{Entry}
 use Rattle.rt_audit.specs.declared.entry.Entry.TheVariants.{Start, Event, Round, Advance, Skip}
-use Rattle.rt_audit.specs.Digest.{first_digest, event_digest}
+use Rattle.rt_hasher.specs.Digest.{first_digest, event_digest}
 
 -- the entries, and how many more have room
 pub record Kept : Type 0 where

@@ -1,8 +1,9 @@
 pub mod Codes
 pub mod Lines
-pub mod Crc32c
-pub mod Framing
-pub mod Digest
+pub use Rattle.rt_hasher.specs.Crc32c
+pub use Rattle.rt_hasher.specs.Framing
+pub use Rattle.rt_hasher.specs.Digest
 pub mod Journal
-pub mod TaskEvent
+pub use Rattle.rt_hasher.specs.TaskEvent
 pub mod EntryParts
+pub mod Dice

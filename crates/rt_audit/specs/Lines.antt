@@ -9,7 +9,9 @@ use Rattle.rt_audit.specs.declared.answer.AnswerKind.TheVariants.{Pending as IsP
 use Rattle.rt_audit.specs.declared.finish.FinishCause.{FinishCause}
 use Rattle.rt_audit.specs.declared.finish.FinishCause.TheVariants.{Completed, Timeout, Stalled, TaskPanicked, TimeOverflow, TooManyTasks, NoMemory}
 use Rattle.rt_audit.specs.declared.call.Call.{Call}
-use Rattle.rt_audit.specs.declared.call.Call.TheVariants.{Child, CloseNode, Spawn, Abort, AbortTask, Wake as WakeCall, Join, GiveUp, SleepPoll, Slot, SlotSend, SlotClose, SlotPoll, SlotGiveUp, AbortWait, Signaler, CloneSignal, Signal, SignalPoll, SignalClose, SignalerClose, CompletionPoll, CompletionClose, Stop, Stopped, NextU32, NextU64, FillBytes, Auditor}
+use Rattle.rt_audit.specs.declared.call.Call.TheVariants.{Child, CloseNode, Spawn, Abort, AbortTask, Wake as WakeCall, Join, GiveUp, SleepPoll, Slots, Signaler, CloneSignal, Signal, SignalPoll, SignalClose, SignalerClose, CompletionPoll, CompletionClose, Stop, Stopped, NextU32, NextU64, FillBytes, Auditor}
+use Rattle.rt_audit.specs.declared.slot_call.SlotCall.{SlotCall}
+use Rattle.rt_audit.specs.declared.slot_call.SlotCall.TheVariants.{Make, Send, Close, Poll, GiveUp as GiveSlotUp, AbortWait}
 use Rattle.rt_audit.specs.declared.reply.CallReply.{CallReply}
 use Rattle.rt_audit.specs.declared.reply.CallReply.TheVariants.{Done, NodeAt, TaskAt, Closed, SlotAt, SignalAt, CompletionAt, Value, ClosedWith, Pending, PendingAt, Ready, Number, Bytes, Refused}
 use Rattle.rt_audit.specs.declared.entry.Entry.{Entry}
@@ -70,6 +72,14 @@ cause_word TimeOverflow = codes "overflow"
 cause_word TooManyTasks = codes "tasks"
 cause_word NoMemory = codes "nomemory"
 
+abbrev pub slot_text : SlotCall → List ℕ
+slot_text Make = codes "slot"
+slot_text (Send slot) = numbered_text (codes "slot-send") slot
+slot_text (Close slot) = numbered_text (codes "slot-close") slot
+slot_text (Poll slot) = numbered_text (codes "slot-poll") slot
+slot_text (GiveSlotUp slot) = numbered_text (codes "slot-give-up") slot
+slot_text (AbortWait slot) = numbered_text (codes "abort-wait") slot
+
 abbrev pub call_text : Call → List ℕ
 call_text (Child node label) = numbered_text (codes "child") node ++ codes " " ++ label
 call_text (CloseNode node) = numbered_text (codes "close-node") node
@@ -80,12 +90,7 @@ call_text (WakeCall task) = numbered_text (codes "wake") task
 call_text (Join task) = numbered_text (codes "join") task
 call_text (GiveUp task) = numbered_text (codes "give-up") task
 call_text (SleepPoll due) = numbered_text (codes "sleep-poll") due
-call_text Slot = codes "slot"
-call_text (SlotSend slot) = numbered_text (codes "slot-send") slot
-call_text (SlotClose slot) = numbered_text (codes "slot-close") slot
-call_text (SlotPoll slot) = numbered_text (codes "slot-poll") slot
-call_text (SlotGiveUp slot) = numbered_text (codes "slot-give-up") slot
-call_text (AbortWait slot) = numbered_text (codes "abort-wait") slot
+call_text (Slots call) = slot_text call
 call_text Signaler = codes "signaler"
 call_text (CloneSignal signal) = numbered_text (codes "clone-signal") signal
 call_text (Signal signaler value) = valued_text (numbered_text (codes "signal") signaler) value

@@ -2,7 +2,7 @@
 
 ghost use Rattle.std.specs.Prelude.{◌≡◌, ◌≤◌, None, Ok, OnOk};
 ghost use Rattle.rand_core.specs.Stream.{next_u64};
-ghost use Rattle.rt_audit.specs.Digest.{first_digest, event_digest};
+ghost use Rattle.rt_hasher.specs.Digest.{first_digest, event_digest};
 
 use crate::Auditor;
 use rand_core::Rng;

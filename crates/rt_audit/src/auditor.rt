@@ -2,14 +2,14 @@
 
 ghost use Rattle.std.specs.Prelude.{◌≡◌, ◌∷◌, ◌++◌, [], ℕ, List, IfOk, IfSome, IsTrue, string_bytes};
 ghost use Rattle.hex.specs.Hex.{encode_lower};
-ghost use Rattle.rt_audit.specs.Crc32c.{register_of};
-ghost use Rattle.rt_audit.specs.Framing.{framed};
-ghost use Rattle.rt_audit.specs.Digest.{first_digest, event_digest, fields_digest};
-ghost use Rattle.rt_audit.specs.TaskEvent.{task_event, small_number};
+ghost use Rattle.rt_hasher.specs.Crc32c.{register_of};
+ghost use Rattle.rt_hasher.specs.Framing.{framed};
+ghost use Rattle.rt_hasher.specs.Digest.{first_digest, event_digest, fields_digest};
+ghost use Rattle.rt_hasher.specs.TaskEvent.{task_event, small_number};
 
-use crate::AuditHasher;
 use crate::event_fields::{EventFields, FieldsKind};
 use rt_base::{Event, Items, NoMemory};
+use rt_hasher::AuditHasher;
 use std::alloc::Global;
 use std::marker::Model;
 
@@ -125,7 +125,7 @@ impl Auditor {
 
 impl Default for Auditor {
     ghost use Rattle.std.specs.Prelude.{◌≡◌};
-    ghost use Rattle.rt_audit.specs.Digest.{first_digest};
+    ghost use Rattle.rt_hasher.specs.Digest.{first_digest};
 
     ghost is_default = { λ a. a ≡ first_digest };
 

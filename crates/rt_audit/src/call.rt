@@ -4,8 +4,9 @@ ghost use Rattle.std.specs.Prelude.{◌≡◌, ◌++◌, OnOk, string_bytes};
 ghost use Rattle.rt_audit.specs.Lines.{call_text};
 
 use crate::line::{add_numbered, add_signed, add_space, add_word};
-use crate::{Label, Moment};
+use crate::{Label, Moment, SlotCall};
 use rt_base::NoMemory;
+use std::alloc::Global;
 
 /// A call on the world, as its line in a journal shows it.
 #[derive(Debug, Drop)]
@@ -28,18 +29,8 @@ pub enum Call {
     GiveUp { task: u64 },
     /// Polls a sleep that is over at `due`.
     SleepPoll { due: Moment },
-    /// Makes a slot.
-    Slot,
-    /// Sends a result into a slot.
-    SlotSend { slot: u64 },
-    /// Closes a slot, into which nothing is sent then.
-    SlotClose { slot: u64 },
-    /// Polls a slot.
-    SlotPoll { slot: u64 },
-    /// Gives up what was to come by a slot.
-    SlotGiveUp { slot: u64 },
-    /// Aborts the wait for what comes by a slot.
-    AbortWait { slot: u64 },
+    /// A call on slots.
+    Slots(SlotCall),
     /// Makes a group of signals.
     Signaler,
     /// Makes a further signal of the group of this one.
@@ -72,9 +63,10 @@ pub enum Call {
 
 impl Call {
     /// Adds the words of a call to the text of a journal's line.
-    pub fn add_to(&self, text: &mut String) -> Result<(), NoMemory>
+    pub fn add_to(&self, alloc: Global, text: &mut String) -> Result<(), NoMemory>
         ensures { OnOk result (string_bytes text.new ≡ string_bytes text.old ++ call_text self.now) }
     {
+        let _ = alloc;
         match self {
             Call::Child { node, label } => {
                 add_numbered(text, "child ", *node as u128)?;
@@ -89,12 +81,7 @@ impl Call {
             Call::Join { task } => add_numbered(text, "join ", *task as u128),
             Call::GiveUp { task } => add_numbered(text, "give-up ", *task as u128),
             Call::SleepPoll { due } => add_numbered(text, "sleep-poll ", due.nanos()),
-            Call::Slot => add_word(text, "slot"),
-            Call::SlotSend { slot } => add_numbered(text, "slot-send ", *slot as u128),
-            Call::SlotClose { slot } => add_numbered(text, "slot-close ", *slot as u128),
-            Call::SlotPoll { slot } => add_numbered(text, "slot-poll ", *slot as u128),
-            Call::SlotGiveUp { slot } => add_numbered(text, "slot-give-up ", *slot as u128),
-            Call::AbortWait { slot } => add_numbered(text, "abort-wait ", *slot as u128),
+            Call::Slots(call) => call.add_to(text),
             Call::Signaler => add_word(text, "signaler"),
             Call::CloneSignal { signal } => add_numbered(text, "clone-signal ", *signal as u128),
             Call::Signal { signaler, value } => {

@@ -174,7 +174,7 @@ fn add_call(
     add_word(text, "call ")?;
     add_optional(text, by.map(|task| task as u128))?;
     add_space(text)?;
-    call.add_to(text)?;
+    call.add_to(alloc, text)?;
     add_word(text, " -> ")?;
     reply.add_to(alloc, text)
 }

@@ -1,7 +1,7 @@
 //! The label of an event.
 
 ghost use Rattle.std.specs.Prelude.{◌≡◌, ◌++◌, IfOk, OnOk, codes, string_bytes};
-ghost use Rattle.rt_audit.specs.TaskEvent.{task_event};
+ghost use Rattle.rt_hasher.specs.TaskEvent.{task_event};
 
 use crate::Label;
 use crate::line::add_word;

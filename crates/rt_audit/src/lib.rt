@@ -3,12 +3,10 @@
 
 mod answer;
 mod audit_env;
-mod audit_hasher;
 mod auditor;
 mod call;
 mod code;
-mod crc32c;
-mod crc32c_tables;
+mod dice;
 mod digit_pairs;
 mod entry;
 mod event_fields;
@@ -22,15 +20,14 @@ mod order;
 mod payload;
 mod refusal;
 mod reply;
-mod task_tables;
+mod slot_call;
 
 pub use answer::AnswerKind;
 pub use audit_env::AuditEnv;
-pub use audit_hasher::AuditHasher;
 pub use auditor::Auditor;
 pub use call::Call;
 pub use code::error_code;
-pub use crc32c::Crc32c;
+pub use dice::{Dice, Note};
 pub use entry::{Caller, Entry};
 pub use event_fields::EventFields;
 pub use event_label::EventLabel;
@@ -42,3 +39,5 @@ pub use order::Order;
 pub use payload::Payload;
 pub use refusal::Refusal;
 pub use reply::CallReply;
+pub use rt_hasher::{AuditHasher, Crc32c};
+pub use slot_call::SlotCall;

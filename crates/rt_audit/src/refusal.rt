@@ -30,6 +30,13 @@ impl Refusal {
         Ok(Refusal { inner })
     }
 
+    /// Puts another error in the place of the one that is kept. It takes no memory.
+    pub fn set(&mut self, error: Error)
+        ensures { self.new ≡ error }
+    {
+        *self.inner = error;
+    }
+
     /// Returns the error, borrowed.
     pub fn error(&self) -> &Error
         ensures { result.now ≡ self.now }

@@ -2,6 +2,7 @@ pub mod Address
 pub mod Attributes
 pub mod Cells
 pub mod Counted
+pub mod ErrorText
 pub mod InMemory
 pub mod Label
 pub mod Layout

@@ -197,6 +197,7 @@ impl<S: Storage> DelayedSyncContext<S> {
         requires opened { is_some (blob_at self.old.blobs.items number) ≡ true }
         requires room { vec_len self.old.tickets < vec_capacity self.old.tickets }
         requires place { gate_has_place self.old.blobs.items number (gate_of self.old.pending) ≡ true }
+        ensures lasts { (start : E) → E.lasts start env.old → E.lasts start env.new }
         ensures syncs { Notes (E.noted env.old) (λ x. IfSome (blob_at self.old.blobs.items number) (λ b. SyncsAt ⟦<S as Called>⟧.calls number b (gate_of self.old.pending) (delayed self.old.inner self.old.pending self.old.blobs.items self.old.tickets.items self.old.refusals) result (delayed self.new.inner self.new.pending self.new.blobs.items self.new.tickets.items self.new.refusals) x)) (E.noted env.new) }
         ensures spent { E.spare env.old ≤ E.spare env.new + S.most }
         ensures counts { CountsDone (S.refusals self.old.inner + self.old.refusals) (S.refusals self.new.inner + self.new.refusals) result }
@@ -229,6 +230,7 @@ impl<S: Storage> DelayedSyncContext<S> {
         requires opened { is_some (blob_at self.old.blobs.items number) ≡ true }
         requires room { vec_len self.old.tickets < vec_capacity self.old.tickets }
         requires place { gate_has_place self.old.blobs.items number (gate_of self.old.pending) ≡ true }
+        ensures lasts { (start : E) → E.lasts start env.old → E.lasts start env.new }
         ensures writes { Notes (E.noted env.old) (λ x. Writes ⟦<S as Called>⟧.calls number (blob_at self.old.blobs.items number) true offset bufs options (delayed self.old.inner self.old.pending self.old.blobs.items self.old.tickets.items self.old.refusals) result (delayed self.new.inner self.new.pending self.new.blobs.items self.new.tickets.items self.new.refusals) x) (E.noted env.new) }
         ensures spent { E.spare env.old ≤ E.spare env.new + (S.most + S.most) }
         ensures counts { CountsDone (S.refusals self.old.inner + self.old.refusals) (S.refusals self.new.inner + self.new.refusals) result }
@@ -311,6 +313,7 @@ impl<S: Storage> DelayedSyncContext<S> {
         passed: Passed,
         task: u64,
     ) -> Poll<Result<(), Error>>
+        ensures lasts { (start : E) → E.lasts start env.old → E.lasts start env.new }
         ensures polls { Notes (E.noted env.old) (λ x. PollsInner ⟦<S as Called>⟧.calls number task passed (delayed self.old.inner self.old.pending self.old.blobs.items self.old.tickets.items self.old.refusals) result (delayed self.new.inner self.new.pending self.new.blobs.items self.new.tickets.items self.new.refusals) x) (E.noted env.new) }
         ensures spent { E.spare env.old ≤ E.spare env.new + S.most }
         ensures counts { CountsAnswer (S.refusals self.old.inner + self.old.refusals) (S.refusals self.new.inner + self.new.refusals) result }
@@ -331,6 +334,7 @@ impl<S: Storage> DelayedSyncContext<S> {
         held: Hold,
         task: u64,
     ) -> Poll<Result<(), Error>>
+        ensures lasts { (start : E) → E.lasts start env.old → E.lasts start env.new }
         ensures polls { Notes (E.noted env.old) (λ x. SyncsReleased ⟦<S as Called>⟧.calls number task held (blob_at self.old.blobs.items held.blob) (delayed self.old.inner self.old.pending self.old.blobs.items self.old.tickets.items self.old.refusals) result (delayed self.new.inner self.new.pending self.new.blobs.items self.new.tickets.items self.new.refusals) x) (E.noted env.new) }
         ensures spent { E.spare env.old ≤ E.spare env.new + (S.most + S.most) }
         ensures counts { CountsAnswer (S.refusals self.old.inner + self.old.refusals) (S.refusals self.new.inner + self.new.refusals) result }
@@ -395,6 +399,7 @@ impl<S: Storage> DelayedSyncContext<S> {
         number: u64,
         task: u64,
     ) -> Poll<Result<(), Error>>
+        ensures lasts { (start : E) → E.lasts start env.old → E.lasts start env.new }
         ensures polls { Notes (E.noted env.old) (λ x. PollsStage ⟦<S as Called>⟧.calls number task (slice_get self.old.tickets.items number) (delayed self.old.inner self.old.pending self.old.blobs.items self.old.tickets.items self.old.refusals) result (delayed self.new.inner self.new.pending self.new.blobs.items self.new.tickets.items self.new.refusals) x) (E.noted env.new) }
         ensures spent { E.spare env.old ≤ E.spare env.new + (S.most + S.most) }
         ensures counts { CountsAnswer (S.refusals self.old.inner + self.old.refusals) (S.refusals self.new.inner + self.new.refusals) result }

@@ -28,6 +28,7 @@ impl Write<MemStore> {
         env: &mut E,
         task: u64,
     ) -> Step<MemStore>
+        ensures lasts { (start : E) → E.lasts start env.old → E.lasts start env.new }
         ensures memory { MemoryKeeps }
         ensures durable { LiesOver self.held.tip (memory_bytes store.old self.blob) → KnowsState memory_bytes memory_left memory_promised self.held.state store.old self.blob →
             IfStepped result (λ w. Keeps memory_bytes memory_left memory_promised (laid_over self.held.tip (memory_bytes store.old self.blob)) Rest.Sync w.held store.new self.blob
@@ -54,6 +55,7 @@ impl SyncHandle {
         env: &mut E,
         task: u64,
     ) -> Poll<Result<(), Error>>
+        ensures lasts { (start : E) → E.lasts start env.old → E.lasts start env.new }
         ensures memory { MemoryKeeps }
         ensures durable { write.old.held.syncs ≡ self.old.number → HoldsSync memory_bytes memory_left memory_promised write.old.held store.old write.old.blob →
             (memory_bytes store.new write.old.blob ≡ memory_bytes store.old write.old.blob) × Asked memory_bytes memory_left memory_promised (answer_of result) write.new.held store.new write.old.blob }

@@ -23,6 +23,7 @@ impl<S: Storage> Write<S> {
         bufs: IoBufs,
     ) -> Result<Poll<()>, Error>
         requires { is_started self.old.held.state ≡ false }
+        ensures lasts { (start : E) → E.lasts start env.old → E.lasts start env.new }
         ensures writes { Notes (E.noted env.old) (λ x. WritesOut ⟦<S as Called>⟧.calls self.old.blob offset bufs (writer store.old self.old.held) result (writer store.new self.new.held) x) (E.noted env.new) }
         ensures settled { is_started self.new.held.state ≡ false }
         ensures blob { self.new.blob ≡ self.old.blob }
@@ -54,6 +55,7 @@ impl<S: Storage> Write<S> {
     // Writes the bytes of the tip out, where there are any.
     pub(crate) fn drain<E: Env>(&mut self, store: &mut S, env: &mut E) -> Result<Poll<()>, Error>
         requires { is_started self.old.held.state ≡ false }
+        ensures lasts { (start : E) → E.lasts start env.old → E.lasts start env.new }
         ensures drains { Notes (E.noted env.old) (λ x. Drains ⟦<S as Called>⟧.calls self.old.blob (writer store.old self.old.held) result (writer store.new self.new.held) x) (E.noted env.new) }
         ensures settled { is_started self.new.held.state ≡ false }
         ensures blob { self.new.blob ≡ self.old.blob }
@@ -87,6 +89,7 @@ impl<S: Storage> Write<S> {
     ) -> Result<Poll<()>, Error>
         requires free { is_started self.old.held.state ≡ false }
         requires fits { at + length chunk < 2 ^ 64 }
+        ensures lasts { (start : E) → E.lasts start env.old → E.lasts start env.new }
         ensures writes { Notes (E.noted env.old) (λ x. WritesChunk ⟦<S as Called>⟧.calls self.old.blob at chunk (writer store.old self.old.held) result (writer store.new self.new.held) x) (E.noted env.new) }
         ensures settled { is_started self.new.held.state ≡ false }
         ensures blob { self.new.blob ≡ self.old.blob }
@@ -114,6 +117,7 @@ impl<S: Storage> Write<S> {
     ) -> Result<Poll<()>, Error>
         requires free { is_started self.old.held.state ≡ false }
         requires fits { at + length chunk < 2 ^ 64 }
+        ensures lasts { (start : E) → E.lasts start env.old → E.lasts start env.new }
         ensures puts { Notes (E.noted env.old) (λ x. PutsAgain ⟦<S as Called>⟧.calls self.old.blob at chunk (writer store.old self.old.held) result (writer store.new self.new.held) x) (E.noted env.new) }
         ensures settled { is_started self.new.held.state ≡ false }
         ensures blob { self.new.blob ≡ self.old.blob }
@@ -137,6 +141,7 @@ impl<S: Storage> Write<S> {
     ) -> Result<Poll<()>, Error>
         requires free { is_started self.old.held.state ≡ false }
         requires fits { at + length chunk < 2 ^ 64 }
+        ensures lasts { (start : E) → E.lasts start env.old → E.lasts start env.new }
         ensures puts { Notes (E.noted env.old) (λ x. Then (Drains ⟦<S as Called>⟧.calls self.old.blob) (PutsAgain ⟦<S as Called>⟧.calls self.old.blob at chunk) (writer store.old self.old.held) result (writer store.new self.new.held) x) (E.noted env.new) }
         ensures settled { is_started self.new.held.state ≡ false }
         ensures blob { self.new.blob ≡ self.old.blob }
@@ -159,6 +164,7 @@ impl<S: Storage> Write<S> {
     ) -> Result<Poll<()>, Error>
         requires free { is_started self.old.held.state ≡ false }
         requires fits { at + length chunk < 2 ^ 64 }
+        ensures lasts { (start : E) → E.lasts start env.old → E.lasts start env.new }
         ensures puts { Notes (E.noted env.old) (λ x. Puts ⟦<S as Called>⟧.calls self.old.blob at chunk (writer store.old self.old.held) result (writer store.new self.new.held) x) (E.noted env.new) }
         ensures settled { is_started self.new.held.state ≡ false }
         ensures blob { self.new.blob ≡ self.old.blob }
@@ -181,6 +187,7 @@ impl<S: Storage> Write<S> {
         left: Pieces,
     ) -> Result<Poll<()>, Error>
         requires { is_started self.old.held.state ≡ false }
+        ensures lasts { (start : E) → E.lasts start env.old → E.lasts start env.new }
         ensures puts { Notes (E.noted env.old) (λ x. PutsAll ⟦<S as Called>⟧.calls self.old.blob left (writer store.old self.old.held) result (writer store.new self.new.held) x) (E.noted env.new) }
         ensures blob { self.new.blob ≡ self.old.blob }
         ensures spent { E.spare env.old ≤ E.spare env.new + length left.chunks * (2 * S.most) }

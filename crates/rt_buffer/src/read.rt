@@ -77,6 +77,7 @@ impl<S: Storage> Read<S> {
     /// `NoMemory`. After one of the last two that came after the store's answer nothing is held, and the place is
     /// after what was held.
     pub fn read<E: Env>(&mut self, store: &mut S, env: &mut E, len: usize) -> Result<IoBufs, Error>
+        ensures lasts { (start : E) → E.lasts start env.old → E.lasts start env.new }
         ensures insufficient { remaining self.old.ahead < len → (result ≡ Err Error.BlobInsufficientLength) × (self.new ≡ self.old) × (store.new ≡ store.old) × (env.new ≡ env.old) }
         ensures from_memory { len ≤ length self.old.ahead.held → TakesHeld self.old.ahead len result self.new.ahead × (store.new ≡ store.old) × (env.new ≡ env.old) }
         ensures fetched { len ≤ remaining self.old.ahead → length self.old.ahead.held < len →
@@ -98,6 +99,7 @@ impl<S: Storage> Read<S> {
     // Reads all that is held and so many bytes more, which the blob has.
     fn fetch<E: Env>(&mut self, store: &mut S, env: &mut E, lacking: usize) -> Result<IoBufs, Error>
         requires { lacking ≤ self.old.ahead.size - end_of self.old.ahead }
+        ensures lasts { (start : E) → E.lasts start env.old → E.lasts start env.new }
         ensures fetched { Notes (E.noted env.old) (λ x. Fetches S.reads S.refusals self.old.blob self.old.ahead lacking store.old result store.new self.new.ahead x) (E.noted env.new) }
         ensures enough { lacking ≤ fetch_len self.old.ahead lacking }
         ensures blob { self.new.blob ≡ self.old.blob }
@@ -164,6 +166,7 @@ impl<S: Storage> Read<S> {
     ///
     /// Errors: the store's refusals, and `NoMemory`.
     pub fn resize<E: Env>(self, store: &mut S, env: &mut E, len: u64) -> Result<Done, Error>
+        ensures lasts { (start : E) → E.lasts start env.old → E.lasts start env.new }
         ensures gives { Notes (E.noted env.old) (λ x. (left : S) × ResizesAndSyncs S.resizes S.syncs self.blob len store.old result left x × S.closes left self.blob store.new) (E.noted env.new) }
         ensures spent { E.spare env.old ≤ E.spare env.new + (S.most + S.most) }
     {
@@ -197,6 +200,7 @@ fn resize_and_sync<S: Storage, E: Env>(
     blob: &BlobOf<S>,
     len: u64,
 ) -> Result<Done, Error>
+    ensures lasts { (start : E) → E.lasts start env.old → E.lasts start env.new }
     ensures gives { Notes (E.noted env.old) (λ x. ResizesAndSyncs S.resizes S.syncs blob.now len store.old result store.new x) (E.noted env.new) }
     ensures spent { E.spare env.old ≤ E.spare env.new + (S.most + S.most) }
 {

@@ -19,6 +19,7 @@ impl<S: Storage> Write<S> {
         len: u64,
     ) -> Result<Poll<()>, Error>
         requires { is_started self.old.held.state ≡ false }
+        ensures lasts { (start : E) → E.lasts start env.old → E.lasts start env.new }
         ensures resizes { Notes (E.noted env.old) (λ x. ResizesBlob ⟦<S as Called>⟧.calls self.old.blob len (writer store.old self.old.held) result (writer store.new self.new.held) x) (E.noted env.new) }
         ensures blob { self.new.blob ≡ self.old.blob }
         ensures spent { E.spare env.old ≤ E.spare env.new + S.most }
@@ -54,6 +55,7 @@ impl<S: Storage> Write<S> {
         len: u64,
     ) -> Result<Poll<()>, Error>
         requires { is_started self.old.held.state ≡ false }
+        ensures lasts { (start : E) → E.lasts start env.old → E.lasts start env.new }
         ensures writes { Notes (E.noted env.old) (λ x. Then (WritesOut ⟦<S as Called>⟧.calls self.old.blob offset bufs) (ResizesBlob ⟦<S as Called>⟧.calls self.old.blob len) (writer store.old self.old.held) result (writer store.new self.new.held) x) (E.noted env.new) }
         ensures blob { self.new.blob ≡ self.old.blob }
         ensures spent { E.spare env.old ≤ E.spare env.new + 2 * S.most }
@@ -73,6 +75,7 @@ impl<S: Storage> Write<S> {
         len: u64,
     ) -> Result<Poll<()>, Error>
         requires { is_started self.old.held.state ≡ false }
+        ensures lasts { (start : E) → E.lasts start env.old → E.lasts start env.new }
         ensures resizes { Notes (E.noted env.old) (λ x. ResizesTip ⟦<S as Called>⟧.calls self.old.blob len (writer store.old self.old.held) result (writer store.new self.new.held) x) (E.noted env.new) }
         ensures blob { self.new.blob ≡ self.old.blob }
         ensures spent { E.spare env.old ≤ E.spare env.new + 2 * S.most }

@@ -43,6 +43,7 @@ impl SyncHandle {
         env: &mut E,
         task: u64,
     ) -> Poll<Result<(), Error>>
+        ensures lasts { (start : E) → E.lasts start env.old → E.lasts start env.new }
         ensures polls { Notes (E.noted env.old) (λ x. PollsHandle ⟦<S as Called>⟧.calls self.old.number task (writer store.old write.old.held) (answer_of result) (writer store.new write.new.held) x) (E.noted env.new) }
         ensures durable { (bytes : S → S.Blob → List ℕ) → (left : S → S.Blob → Option (List ℕ)) → (promised : S → Ticket → S.Blob → Option (List ℕ)) →
             KeepsBytes ⟦<S as Called>⟧.calls bytes left promised → write.old.held.syncs ≡ self.old.number → HoldsSync bytes left promised write.old.held store.old write.old.blob →

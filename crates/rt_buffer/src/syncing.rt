@@ -35,6 +35,7 @@ impl<S: Storage> Write<S> {
         env: &mut E,
         task: u64,
     ) -> Result<Poll<()>, Error>
+        ensures lasts { (start : E) → E.lasts start env.old → E.lasts start env.new }
         ensures waits { Notes (E.noted env.old) (λ x. Waits ⟦<S as Called>⟧.calls task (writer store.old self.old.held) result (writer store.new self.new.held) x) (E.noted env.new) }
         ensures settled { result ≡ Ok (Poll.Ready tt) → is_started self.new.held.state ≡ false }
         ensures blob { self.new.blob ≡ self.old.blob }
@@ -62,6 +63,7 @@ impl<S: Storage> Write<S> {
         task: u64,
     ) -> Result<Poll<()>, Error>
         requires { is_started self.old.held.state ≡ false }
+        ensures lasts { (start : E) → E.lasts start env.old → E.lasts start env.new }
         ensures settles { Notes (E.noted env.old) (λ x. Settles ⟦<S as Called>⟧.calls task done (writer store.old self.old.held) result (writer store.new self.new.held) x) (E.noted env.new) }
         ensures blob { self.new.blob ≡ self.old.blob }
         ensures spent { E.spare env.old ≤ E.spare env.new + S.most }
@@ -85,6 +87,7 @@ impl<S: Storage> Write<S> {
         task: u64,
     ) -> Result<Poll<()>, Error>
         requires { is_started self.old.held.state ≡ false }
+        ensures lasts { (start : E) → E.lasts start env.old → E.lasts start env.new }
         ensures syncs { Notes (E.noted env.old) (λ x. SyncsBlob ⟦<S as Called>⟧.calls self.old.blob task (writer store.old self.old.held) result (writer store.new self.new.held) x) (E.noted env.new) }
         ensures blob { self.new.blob ≡ self.old.blob }
         ensures spent { E.spare env.old ≤ E.spare env.new + 2 * S.most }
@@ -102,6 +105,7 @@ impl<S: Storage> Write<S> {
         task: u64,
     ) -> Result<Poll<()>, Error>
         requires { is_started self.old.held.state ≡ false }
+        ensures lasts { (start : E) → E.lasts start env.old → E.lasts start env.new }
         ensures writes { Notes (E.noted env.old) (λ x. WritesDurably ⟦<S as Called>⟧.calls self.old.blob task offset bufs (writer store.old self.old.held) result (writer store.new self.new.held) x) (E.noted env.new) }
         ensures blob { self.new.blob ≡ self.old.blob }
         ensures spent { E.spare env.old ≤ E.spare env.new + 2 * S.most }
@@ -121,6 +125,7 @@ impl<S: Storage> Write<S> {
         task: u64,
     ) -> Result<Poll<()>, Error>
         requires { is_started self.old.held.state ≡ false }
+        ensures lasts { (start : E) → E.lasts start env.old → E.lasts start env.new }
         ensures writes { Notes (E.noted env.old) (λ x. Then (WritesOut ⟦<S as Called>⟧.calls self.old.blob offset bufs) (SyncsBlob ⟦<S as Called>⟧.calls self.old.blob task) (writer store.old self.old.held) result (writer store.new self.new.held) x) (E.noted env.new) }
         ensures blob { self.new.blob ≡ self.old.blob }
         ensures spent { E.spare env.old ≤ E.spare env.new + 3 * S.most }
@@ -140,6 +145,7 @@ impl<S: Storage> Write<S> {
         task: u64,
     ) -> Result<Poll<()>, Error>
         requires { is_started self.old.held.state ≡ false }
+        ensures lasts { (start : E) → E.lasts start env.old → E.lasts start env.new }
         ensures saves { Notes (E.noted env.old) (λ x. Saves ⟦<S as Called>⟧.calls self.old.blob task (writer store.old self.old.held) result (writer store.new self.new.held) x) (E.noted env.new) }
         ensures blob { self.new.blob ≡ self.old.blob }
         ensures spent { E.spare env.old ≤ E.spare env.new + 3 * S.most }
@@ -159,6 +165,7 @@ impl<S: Storage> Write<S> {
 
     // Starts a sync where a change is open.
     pub(crate) fn begin<E: Env>(&mut self, store: &mut S, env: &mut E) -> Result<Poll<()>, Error>
+        ensures lasts { (start : E) → E.lasts start env.old → E.lasts start env.new }
         ensures begins { Notes (E.noted env.old) (λ x. Begins ⟦<S as Called>⟧.calls self.old.blob (writer store.old self.old.held) result (writer store.new self.new.held) x) (E.noted env.new) }
         ensures blob { self.new.blob ≡ self.old.blob }
         ensures spent { E.spare env.old ≤ E.spare env.new + S.most }
@@ -182,6 +189,7 @@ impl<S: Storage> Write<S> {
         env: &mut E,
     ) -> Result<Poll<()>, Error>
         requires { is_started self.old.held.state ≡ false }
+        ensures lasts { (start : E) → E.lasts start env.old → E.lasts start env.new }
         ensures begins { Notes (E.noted env.old) (λ x. Then (Drains ⟦<S as Called>⟧.calls self.old.blob) (Begins ⟦<S as Called>⟧.calls self.old.blob) (writer store.old self.old.held) result (writer store.new self.new.held) x) (E.noted env.new) }
         ensures blob { self.new.blob ≡ self.old.blob }
         ensures spent { E.spare env.old ≤ E.spare env.new + 2 * S.most }

@@ -78,6 +78,7 @@ impl<S: Storage> Write<S> {
         offset: u64,
         len: usize,
     ) -> Result<IoBufs, Error>
+        ensures lasts { (start : E) → E.lasts start env.old → E.lasts start env.new }
         ensures overflow { 2 ^ 64 ≤ offset + len → (result ≡ Err Error.OffsetOverflow) × (store.new ≡ store.old) × (env.new ≡ env.old) }
         ensures insufficient { offset + len < 2 ^ 64 → end_of self.now.held.tip < offset + len → (result ≡ Err Error.BlobInsufficientLength) × (store.new ≡ store.old) × (env.new ≡ env.old) }
         ensures from_tip { offset + len ≤ end_of self.now.held.tip → self.now.held.tip.offset ≤ offset → ReadsTip self.now.held.tip offset len result × (store.new ≡ store.old) × (env.new ≡ env.old) }
@@ -156,6 +157,7 @@ impl<S: Storage> Write<S> {
         bufs: IoBufs,
         task: u64,
     ) -> Step<S>
+        ensures lasts { (start : E) → E.lasts start env.old → E.lasts start env.new }
         ensures overflow { 2 ^ 64 ≤ offset + length bufs.bytes → Ends ⟦<S as Called>⟧.calls self.blob Rest.Nothing (Err Error.OffsetOverflow) (writer store.old self.held) store.new (seen_step (λ w. (w.blob, w.held)) (λ p. ((p.write.blob, p.write.held), p.rest)) result) × (env.new ≡ env.old) }
         ensures writes { offset + length bufs.bytes < 2 ^ 64 → Notes (E.noted env.old) (λ x. WritesAt ⟦<S as Called>⟧.calls self.blob offset bufs.chunks task (writer store.old self.held) store.new (seen_step (λ w. (w.blob, w.held)) (λ p. ((p.write.blob, p.write.held), p.rest)) result) x) (E.noted env.new) }
         ensures flat { (bytes : S → S.Blob → List ℕ) → (left : S → S.Blob → Option (List ℕ)) → (promised : S → Ticket → S.Blob → Option (List ℕ)) →
@@ -180,6 +182,7 @@ impl<S: Storage> Write<S> {
     ///
     /// Errors: that of the started sync, the store's refusal, `NoMemory`. After one the blob is closed.
     pub fn sync<E: Env>(self, store: &mut S, env: &mut E, task: u64) -> Step<S>
+        ensures lasts { (start : E) → E.lasts start env.old → E.lasts start env.new }
         ensures runs { Notes (E.noted env.old) (λ x. Runs ⟦<S as Called>⟧.calls self.blob Rest.Sync task (writer store.old self.held) store.new (seen_step (λ w. (w.blob, w.held)) (λ p. ((p.write.blob, p.write.held), p.rest)) result) x) (E.noted env.new) }
         ensures durable { (bytes : S → S.Blob → List ℕ) → (left : S → S.Blob → Option (List ℕ)) → (promised : S → Ticket → S.Blob → Option (List ℕ)) →
             KeepsBytes ⟦<S as Called>⟧.calls bytes left promised → LiesOver self.held.tip (bytes store.old self.blob) → KnowsState bytes left promised self.held.state store.old self.blob →
@@ -195,6 +198,7 @@ impl<S: Storage> Write<S> {
     ///
     /// Errors: that of the earlier sync, the store's refusal, `NoMemory`. After one the blob is closed.
     pub fn start_sync<E: Env>(mut self, store: &mut S, env: &mut E, task: u64) -> Started<S>
+        ensures lasts { (start : E) → E.lasts start env.old → E.lasts start env.new }
         ensures starts { Notes (E.noted env.old) (λ x. Starts ⟦<S as Called>⟧.calls self.blob task (writer store.old self.held) store.new (seen_start (λ w. (w.blob, w.held)) (λ p. ((p.write.blob, p.write.held), p.rest)) result) x) (E.noted env.new) }
         ensures handle { GivesHandle self.blob (λ w. (w.blob, w.held)) (λ p. p.write.blob) result }
         ensures durable { (bytes : S → S.Blob → List ℕ) → (left : S → S.Blob → Option (List ℕ)) → (promised : S → Ticket → S.Blob → Option (List ℕ)) →
@@ -214,6 +218,7 @@ impl<S: Storage> Write<S> {
     ///
     /// Errors: that of the started sync, the store's refusal, `NoMemory`. After one the blob is closed.
     pub fn resize<E: Env>(self, store: &mut S, env: &mut E, len: u64, task: u64) -> Step<S>
+        ensures lasts { (start : E) → E.lasts start env.old → E.lasts start env.new }
         ensures runs { Notes (E.noted env.old) (λ x. Runs ⟦<S as Called>⟧.calls self.blob (Rest.Resize len) task (writer store.old self.held) store.new (seen_step (λ w. (w.blob, w.held)) (λ p. ((p.write.blob, p.write.held), p.rest)) result) x) (E.noted env.new) }
         ensures flat { (bytes : S → S.Blob → List ℕ) → (left : S → S.Blob → Option (List ℕ)) → (promised : S → Ticket → S.Blob → Option (List ℕ)) →
             KeepsBytes ⟦<S as Called>⟧.calls bytes left promised → LiesOver self.held.tip (bytes store.old self.blob) → KnowsState bytes left promised self.held.state store.old self.blob →
@@ -228,6 +233,7 @@ impl<S: Storage> Write<S> {
     ///
     /// Errors: that of the sync. After one the blob is closed.
     pub fn wait_for_sync<E: Env>(self, store: &mut S, env: &mut E, task: u64) -> Step<S>
+        ensures lasts { (start : E) → E.lasts start env.old → E.lasts start env.new }
         ensures runs { Notes (E.noted env.old) (λ x. Runs ⟦<S as Called>⟧.calls self.blob Rest.Nothing task (writer store.old self.held) store.new (seen_step (λ w. (w.blob, w.held)) (λ p. ((p.write.blob, p.write.held), p.rest)) result) x) (E.noted env.new) }
         ensures durable { (bytes : S → S.Blob → List ℕ) → (left : S → S.Blob → Option (List ℕ)) → (promised : S → Ticket → S.Blob → Option (List ℕ)) →
             KeepsBytes ⟦<S as Called>⟧.calls bytes left promised → HoldsSync bytes left promised self.held store.old self.blob →
@@ -246,6 +252,7 @@ impl<S: Storage> Write<S> {
         rest: Rest,
         task: u64,
     ) -> Step<S>
+        ensures lasts { (start : E) → E.lasts start env.old → E.lasts start env.new }
         ensures runs { Notes (E.noted env.old) (λ x. Runs ⟦<S as Called>⟧.calls self.blob rest task (writer store.old self.held) store.new (seen_step (λ w. (w.blob, w.held)) (λ p. ((p.write.blob, p.write.held), p.rest)) result) x) (E.noted env.new) }
         ensures spent { E.spare env.old ≤ E.spare env.new + (S.most + room_for S.most rest) }
     {
@@ -269,6 +276,7 @@ impl<S: Storage> Write<S> {
         task: u64,
     ) -> Result<Poll<()>, Error>
         requires { is_started self.old.held.state ≡ false }
+        ensures lasts { (start : E) → E.lasts start env.old → E.lasts start env.new }
         ensures finishes { Notes (E.noted env.old) (λ x. Finishes ⟦<S as Called>⟧.calls self.old.blob rest task (writer store.old self.old.held) result (writer store.new self.new.held) x) (E.noted env.new) }
         ensures blob { self.new.blob ≡ self.old.blob }
         ensures spent { E.spare env.old ≤ E.spare env.new + room_for S.most rest }
@@ -319,6 +327,7 @@ impl<S: Storage> Write<S> {
         requires before { before ≡ self.now.held.tip.offset - offset }
         requires some { offset < self.now.held.tip.offset }
         requires ends { offset + len ≤ end_of self.now.held.tip }
+        ensures lasts { (start : E) → E.lasts start env.old → E.lasts start env.new }
         ensures reads { Notes (E.noted env.old) (λ x. ReadsThrough S.reads S.refusals self.now.blob self.now.held.tip offset len store.old result store.new x) (E.noted env.new) }
         ensures spent { E.spare env.old ≤ E.spare env.new + S.most }
     {

@@ -47,6 +47,7 @@ impl<S: Storage> WriteOp<S> {
     ///
     /// Errors: that of the started sync, the store's refusal, `NoMemory`. After one the blob is closed.
     pub fn poll<E: Env>(self, store: &mut S, env: &mut E, task: u64) -> Step<S>
+        ensures lasts { (start : E) → E.lasts start env.old → E.lasts start env.new }
         ensures runs { Notes (E.noted env.old) (λ x. Runs ⟦<S as Called>⟧.calls self.write.blob self.rest task (writer store.old self.write.held) store.new (seen_step (λ w. (w.blob, w.held)) (λ p. ((p.write.blob, p.write.held), p.rest)) result) x) (E.noted env.new) }
         ensures durable { (bytes : S → S.Blob → List ℕ) → (left : S → S.Blob → Option (List ℕ)) → (promised : S → Ticket → S.Blob → Option (List ℕ)) → (content : List ℕ) →
             KeepsBytes ⟦<S as Called>⟧.calls bytes left promised → Keeping bytes left promised content self.rest self.write.held store.old self.write.blob →

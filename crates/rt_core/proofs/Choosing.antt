@@ -1,23 +1,5 @@
 -- A choice walks its handles one after another.
-use Rattle.std.proofs.Common.{◌≡◌, ◌≤◌, ◌<◌, ◌+◌, ◌∷◌, ◌++◌, [], ℕ, zero, suc, List, Option, Some, None, Result, Err, refl, ap, ◌∙◌, arith, add-one, get_or, take, drop, map, length}
-use Rattle.std.proofs.lemmas.List.{take_all, drop_all, take_more_set, take-append-le, drop-set-lt, set_split}
-use Rattle.std.proofs.Math.ListN.{set}
-use Rattle.std.proofs.Math.Seq.{drop-cons}
-use Rattle.rand_core.specs.Stream.{Stream}
-use Rattle.rt_base.specs.declared.error.Error.{Error}
-use Rattle.rt_base.specs.declared.error.Error.TheVariants.{NoMemory}
-use Rattle.rt_base.specs.declared.poll.Poll.{Poll}
-use Rattle.rt_base.specs.declared.poll.Poll.TheVariants.{Ready, Pending}
-use Rattle.rt_model.specs.State.{Turn}
-use Rattle.rt_model.specs.Walk.{Last}
-use Rattle.rt_world.specs.World.{World}
-use Rattle.rt_world.specs.Calls.{IsPolling, Kept}
-use Rattle.rt_world.specs.Walked.{Walked, Spent, Goes, Spends, SaysLack}
-use Rattle.rt_world.proofs.Walked.{walked-then, walked-gives, walked-followed, spent-nothing, spends-on, goes-on, calling-kept}
-use Rattle.rt_core.specs.Completions.{Polls}
-use Rattle.rt_core.specs.Handles.{handle_polls, handle_aborts, handle_spends, aborted}
-use Rattle.rt_core.specs.Select.{each, lets_go, polls_rest, undecided, select_polls}
-use Rattle.rt_core.specs.declared.handle.Kind.{Kind}
+use Rattle.rt_core.proofs.Prelude.{◌≡◌, ◌≤◌, ◌<◌, ◌+◌, ◌∷◌, ◌++◌, [], ℕ, zero, suc, List, Option, Some, None, Result, Err, refl, ap, ◌∙◌, arith, add-one, get_or, take, drop, map, length, take_all, drop_all, take_more_set, take-append-le, drop-set-lt, set_split, set, drop-cons, Stream, Error, NoMemory, Poll, Ready, Pending, Turn, Last, World, IsPolling, Kept, Walked, Spent, Goes, Spends, SaysLack, walked-then, walked-gives, walked-followed, spent-nothing, spends-on, goes-on, calling-kept, Polls, handle_polls, handle_aborts, handle_spends, aborted, each, lets_go, polls_rest, undecided, select_polls, Kind}
 
 -- a list whose first items were changed
 pub changed : {X : Type 0} → (X → X) → ℕ → List X → List X

@@ -1,18 +1,6 @@
 -- What completions and handles walk.
-use Rattle.std.proofs.Common.{◌≡◌, Option, None, Result, Err}
-use Rattle.rt_base.specs.declared.error.Error.{Error}
-use Rattle.rt_base.specs.declared.error.Error.TheVariants.{Closed, Aborted as IsAborted}
-use Rattle.rt_base.specs.declared.poll.Poll.{Poll}
-use Rattle.rt_base.specs.declared.poll.Poll.TheVariants.{Ready}
-use Rattle.rt_model.specs.Walk.{Step, Gives, then}
-use Rattle.rt_world.specs.World.{World}
-use Rattle.rt_world.specs.Walked.{Goes}
-use Rattle.rt_world.proofs.Walked.{walked-then, walked-gives, goes-on}
-use Rattle.rt_core.specs.Completions.{Polls, completion_polls, held_answer, stage_by}
-use Rattle.rt_core.specs.declared.handle.Kind.{Kind}
-use Rattle.rt_core.specs.declared.completion.Completion.{Completion}
-use Rattle.rt_core.specs.declared.completion.Source.TheVariants.{Held, Polled}
-use Rattle.rt_core.specs.declared.completion.Stage.TheVariants.{Open, Answered, Aborted}
+use Rattle.rt_core.proofs.Prelude.{◌≡◌, Option, None, Result, Err, Error, Closed, IsAborted, Poll, Ready, Step, Gives, then, World, Goes, walked-then, walked-gives, goes-on, Polls, completion_polls, held_answer, stage_by, Kind, Completion, Polled, Open, Answered, Aborted}
+use Rattle.rt_core.specs.declared.completion.Source.TheVariants.{Held}
 
 module _ {A O P G : Type 0} (polls : Polls A O P O) (c : Completion O P) where
   pub aborted-goes : (w : World A O G) → c.stage ≡ Aborted → Goes (completion_polls polls c c.stage) w w (Ready (Err IsAborted)) c

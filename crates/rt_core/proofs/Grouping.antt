@@ -1,20 +1,5 @@
 -- A group of handles walks them in order, and after a failure those that are left, one round of them a poll.
-use Rattle.std.proofs.Common.{◌≡◌, ◌≤◌, ◌<◌, ◌-◌, ◌∷◌, ◌++◌, [], ℕ, zero, suc, true, false, List, Option, Some, None, Result, Ok, Err, refl, arith, take, drop, map, length, length-append}
-use Rattle.std.proofs.lemmas.List.{take-append-le, drop-append-le, take-append-drop}
-use Rattle.rt_base.specs.declared.error.Error.{Error}
-use Rattle.rt_base.specs.declared.error.Error.TheVariants.{NoMemory}
-use Rattle.rt_base.specs.declared.poll.Poll.{Poll}
-use Rattle.rt_base.specs.declared.poll.Poll.TheVariants.{Ready, Pending}
-use Rattle.rt_model.specs.State.{Turn}
-use Rattle.rt_model.specs.Walk.{Last}
-use Rattle.rt_world.specs.World.{World}
-use Rattle.rt_world.specs.Walked.{Walked, Goes, Spends, SaysLack}
-use Rattle.rt_world.proofs.Walked.{walked-then, walked-gives, walked-followed, goes-on}
-use Rattle.rt_core.specs.Completions.{Polls}
-use Rattle.rt_core.specs.Handles.{handle_polls, handle_aborts, handle_spends, aborted}
-use Rattle.rt_core.specs.Select.{each}
-use Rattle.rt_core.specs.Joins.{Joins, answered, is_lack, lacks, turned, told, waits, gives_up, unless_lacking, drains, fails, joins, join_all_polls}
-use Rattle.rt_core.specs.declared.handle.Kind.{Kind}
+use Rattle.rt_core.proofs.Prelude.{◌≡◌, ◌≤◌, ◌<◌, ◌-◌, ◌∷◌, ◌++◌, [], ℕ, zero, suc, true, false, List, Option, Some, None, Result, Ok, Err, refl, arith, take, drop, map, length, length-append, take-append-le, drop-append-le, take-append-drop, Error, NoMemory, Poll, Ready, Pending, Turn, Last, World, Walked, Goes, Spends, SaysLack, walked-then, walked-gives, walked-followed, goes-on, Polls, handle_polls, handle_aborts, handle_spends, aborted, each, Joins, answered, is_lack, lacks, turned, told, waits, gives_up, unless_lacking, drains, fails, joins, join_all_polls, Kind}
 use Rattle.rt_core.proofs.Choosing.{long-unless}
 
 -- a handle that answered something else lacked no memory

@@ -1,16 +1,6 @@
 -- A poll of a task's result.
-use Rattle.std.proofs.Common.{inl, inr, refl, ℕ, Option, Some, None, Result, Ok, Err, IfOk, IfErr}
-use Rattle.rt_base.specs.declared.error.Error.{Error}
-use Rattle.rt_audit.specs.declared.call.Call.TheVariants.{Join}
-use Rattle.rt_audit.specs.declared.reply.CallReply.TheVariants.{Pending, Ready, Refused}
-use Rattle.rt_model.specs.Turns.{Plainly, Plain, Handed}
-use Rattle.rt_model.specs.Walk.{Does}
-use Rattle.rt_world.specs.World.{World}
-use Rattle.rt_world.specs.Calls.{IsRefused, Joined}
-use Rattle.rt_world.specs.Walked.{Walked}
-use Rattle.rt_world.proofs.Walked.{walked-join, walked-gives, walked-lacking}
-use Rattle.rt_core.specs.declared.handle.Kind.{Kind}
-use Rattle.rt_world.specs.Receiving.{heard_result, polled}
+use Rattle.rt_core.proofs.Prelude.{inl, inr, refl, ℕ, Option, Some, None, Result, Ok, Err, IfOk, IfErr, Error, Join, Refused, Plainly, Plain, Handed, Does, World, IsRefused, Joined, Walked, walked-join, walked-gives, walked-lacking, Kind, heard_result, polled}
+use Rattle.rt_audit.specs.declared.reply.CallReply.TheVariants.{Pending, Ready}
 
 pub walked-joined : {A O P G : Type 0} (old new : World A O G) (h : Kind O P) (task : ℕ) (result : Result (Option O) Error) → IfOk result (λ value. Joined old new task value) → IfErr result (λ e. IsRefused old new (Plainly (Join task)) e) → Walked (Does (Plainly (Join task)) (heard_result h)) old new (polled result) h
 walked-joined old new h task (Ok None) made refused = walked-join old new new _ _ task Pending (Plain Pending) _ made refl (walked-gives new _ _)

@@ -3,8 +3,8 @@ pub mod Requeue
 pub mod Timeouts
 pub mod Joining
 pub mod Choosing
-pub mod Decided
 pub mod Grouping
 pub mod Completing
 pub mod Signaled
 pub mod Stops
+pub mod Prelude

@@ -1,36 +1,6 @@
 -- How a run has come to its outcome.
-use Rattle.std.proofs.Common.{◌≡◌, ◌⊎◌, ◌≢◌, ◌++◌, inl, inr, ℕ, List, [], refl, ap, ◌∙◌, sym, subst, Bool, true, Option, Some, None, is_some, IfSome, Result, Ok, Err}
-use Rattle.rand_core.specs.Stream.{Stream}
-use Rattle.rt_audit.specs.declared.entry.Entry.{Entry}
-use Rattle.rt_audit.specs.declared.entry.Entry.TheVariants.{Root}
-use Rattle.rt_audit.specs.Journal.{digest_of}
-use Rattle.rt_audit.specs.declared.finish.FinishCause.{FinishCause}
-use Rattle.rt_audit.specs.declared.finish.FinishCause.TheVariants.{Completed, Timeout, Stalled, TaskPanicked, TimeOverflow, TooManyTasks, NoMemory}
-use Rattle.rt_model.specs.declared.begin.Begin.{Begin}
-use Rattle.rt_model.specs.State.{State, Clock, Finished, begun, stood_in}
-use Rattle.rt_model.specs.Effects.{after, after_all}
-use Rattle.rt_model.specs.Digests.{AreDigested}
-use Rattle.rt_model.specs.Rules.{IsLawful, AreDrawn}
-use Rattle.rt_model.specs.Walk.{Walks, Fronts, Breaks}
-use Rattle.rt_model.specs.Causes.{reached}
-use Rattle.rt_model.specs.Tied.{Steps, Value}
-use Rattle.rt_model.specs.Run.{IsRun, IsCutOff, IsValidInput}
-use Rattle.rt_model.specs.Turns.{Held}
-use Rattle.rt_machine.specs.Draws.{Gave}
-use Rattle.rt_machine.specs.Told.{Told, AreCalls, own, pushed}
-use Rattle.rt_core.specs.Failures.{finish_of, text_of}
-use Rattle.rt_core.specs.declared.run_error.RunError.{RunError}
-use Rattle.rt_core.specs.declared.run_error.RunError.TheVariants.{Timeout as IsTimeout, Stalled as IsStalled, TaskPanicked as HasPanicked, TimeOverflow as IsTimeOverflow, TooManyTasks as AreTooManyTasks, NoMemory as IsNoMemory}
-use Rattle.rt_world.specs.World.{World, Drew}
-use Rattle.rt_world.specs.Calls.{Kept}
-use Rattle.rt_world.specs.Follows.{Follows, Agrees, IsMade, IsUnmade, unmade_of, value_of}
-use Rattle.rt_world.specs.Rounds.{EndAgrees, Runs}
-use Rattle.rt_world.specs.Ends.{EndsFor, IsFinal, Seals}
-use Rattle.rt_world.proofs.Lasting.{drawn-of}
-use Rattle.rt_world.proofs.Drawn.{drew-behind, drew-drew, drew-of}
-use Rattle.rt_world.proofs.Texts.{ends-with-text}
-use Rattle.rt_core.specs.Outcome.{Ended, Completes, FailedFor, AreShuffled, AreAudited, Leaves}
-use Rattle.rt_core.specs.Starting.{Starting}
+use Rattle.rt_core.proofs.Prelude.{◌≡◌, ◌⊎◌, ◌≢◌, ◌++◌, inl, inr, ℕ, List, [], refl, ap, ◌∙◌, sym, subst, Bool, true, Option, Some, None, is_some, IfSome, Result, Ok, Err, Stream, Entry, Root, digest_of, FinishCause, Completed, Stalled, TaskPanicked, TimeOverflow, TooManyTasks, Begin, State, Clock, Finished, begun, stood_in, after, after_all, AreDigested, IsLawful, AreDrawn, Walks, Fronts, Breaks, reached, Steps, Value, IsRun, IsCutOff, IsValidInput, Held, Gave, Told, AreCalls, own, pushed, finish_of, text_of, RunError, IsTimeout, IsStalled, HasPanicked, IsTimeOverflow, AreTooManyTasks, IsNoMemory, World, Drew, Kept, Follows, Agrees, IsMade, IsUnmade, unmade_of, value_of, EndAgrees, Runs, EndsFor, IsFinal, Seals, drawn-of, drew-behind, drew-drew, drew-of, ends-with-text, Ended, Completes, Facts, FailedFor, IsValid, Leaves, Starting}
+use Rattle.rt_audit.specs.declared.finish.FinishCause.TheVariants.{Timeout, NoMemory}
 
 module _ {A O G : Type 0} (p : Steps A O) (w : World A O G) where
   -- a run that was whole up to its cleanup
@@ -79,19 +49,13 @@ pub gave-all : {A O G : Type 0} (stream : G → Stream) (a b : World A O G) → 
 unfolding Drew
 gave-all stream a b d none = rw (d.are, none) d.gave
 
--- what stands in a journal behind the entries that were given
-module _ {A O G : Type 0} (s : Starting G) (w : World A O G) (journal : List Entry) (extends : journal ≡ s.given ++ own w.told) where
-  pub are_shuffled : (stream : G → Stream) → w.told.begin ≡ s.begin → AreDrawn (begun w.told.begin) (own w.told) → w.told.state ≡ after_all (begun w.told.begin) (own w.told) → Gave (stream s.rng) w.told.state.drawn (stream w.rng) → AreShuffled stream s journal
-  are_shuffled stream begin drawn state draws = record {
-    entries = own w.told;
-    extends = extends;
-    drawn = rw begin at drawn;
-    left = stream w.rng;
-    draws = subst (λ (x : State). Gave (stream s.rng) x.drawn (stream w.rng)) (rw begin at state) draws;
-  }
-
-  pub are_audited : w.told.given ≡ s.given → AreDigested (digest_of w.told.given) (own w.told) → AreAudited s journal
-  are_audited given digested = record { entries = own w.told; extends = extends; digested = rw given at digested }
+-- what is so of the entries of a world that began so
+pub facts_of : {A O G : Type 0} (s : Starting G) (w : World A O G) (stream : G → Stream) → w.told.begin ≡ s.begin → w.told.given ≡ s.given → AreDrawn (begun w.told.begin) (own w.told) → w.told.state ≡ after_all (begun w.told.begin) (own w.told) → Gave (stream s.rng) w.told.state.drawn (stream w.rng) → AreDigested (digest_of w.told.given) (own w.told) → Facts stream s (own w.told) (stream w.rng)
+facts_of s w stream begin given drawn state draws digested = record {
+  drawn = rw begin at drawn;
+  draws = subst (λ (x : State). Gave (stream s.rng) x.drawn (stream w.rng)) (rw begin at state) draws;
+  digested = rw given at digested;
+}
 
 module _ {A O G : Type 0} (stream : G → Stream) (a b c : World A O G) where
   -- rounds were made, and then the run was cleaned up
@@ -201,8 +165,8 @@ module _ {A O G : Type 0} (p : Steps A O) (begin : Begin) (w : World A O G) (law
       ends-with-text p begin (own w.told) (value_of w e.last None e.whole) lawful (rw is at e.agrees.tied)
       (ap reached (sym state) ∙ rw ends refl ∙ ap Some panicked)
 
-  pub completes : (stream : G → Stream) (given journal : List Entry) (rng kept : G) (output : O) (time cycle : ℕ) (deadline : Option ℕ) (catch : Bool) → w.told.state.phase ≡ Finished Completed → Ended p w Completed (Some output) → journal ≡ given ++ own w.told → time ≡ w.told.state.clock.time → w.told.state.clock.fixed ≡ begin → Gave (stream rng) w.told.state.drawn (stream kept) → begin.cycle ≡ cycle → begin.deadline ≡ deadline → begin.catch ≡ catch → Completes stream p (record { begin = begin; given = given; rng = rng }) output (record { time = time; deadline = deadline; cycle = cycle; catch = catch; journal = journal; rng = kept })
-  completes stream given journal rng kept output time cycle deadline catch ends e extends at fixed draws one two three =
+  pub completes : (stream : G → Stream) (given journal : List Entry) (rng kept : G) (output : O) (time cycle : ℕ) (deadline : Option ℕ) (catch : Bool) → w.told.state.phase ≡ Finished Completed → Ended p w Completed (Some output) → journal ≡ given ++ own w.told → time ≡ w.told.state.clock.time → w.told.state.clock.fixed ≡ begin → Facts stream (record { begin = begin; given = given; rng = rng }) (own w.told) (stream kept) → begin.cycle ≡ cycle → begin.deadline ≡ deadline → begin.catch ≡ catch → Completes stream p (record { begin = begin; given = given; rng = rng }) output (record { time = time; deadline = deadline; cycle = cycle; catch = catch; journal = journal; rng = kept })
+  completes stream given journal rng kept output time cycle deadline catch ends e extends at fixed facts one two three =
       let r = is_run Completed (Some output) ends e (λ h. cc) in
       record {
         entries = own w.told;
@@ -211,17 +175,22 @@ module _ {A O G : Type 0} (p : Steps A O) (begin : Begin) (w : World A O G) (law
         run = r.1;
         gives = r.2;
         keeps = rw (extends, at, ← one, ← two, ← three, ← fixed) refl;
-        draws = draws;
+        facts = facts;
       }
 
 -- valid input fails only where it is out of memory
-valid : {A O : Type 0} (p : Steps A O) (begin : Begin) (x : List Entry) (cause : FinishCause) → IsValidInput p begin → (end : State) × (v : Value A O) × IsRun p begin x cause end v → cause ≡ Completed
-valid p begin x cause v r = v x cause r.0 r.1 r.2
+module _ {A O G : Type 0} (stream : G → Stream) (p : Steps A O) (s : Starting G) (x : List Entry) (left : Stream) (v : IsValid stream p s) (facts : Facts stream s x left) where
+  valid : (cause : FinishCause) → (end : State) × (v : Value A O) × IsRun p s.begin x cause end v → cause ≡ Completed
+  valid cause r = v x cause r.0 r.1 left r.2 facts
 
-pub only_memory : {A O : Type 0} (p : Steps A O) (begin : Begin) (x : List Entry) (error : RunError) → IsValidInput p begin → FailedFor p begin x error → error ≡ IsNoMemory
-only_memory p begin x (HasPanicked text) v f = let e = valid p begin x TaskPanicked v (f.0, f.1, f.2) in absurd (cc)
-only_memory p begin x IsNoMemory v f = refl
-only_memory p begin x IsTimeout v f = let e = valid p begin x Timeout v f in absurd (cc)
-only_memory p begin x IsStalled v f = let e = valid p begin x Stalled v f in absurd (cc)
-only_memory p begin x IsTimeOverflow v f = let e = valid p begin x TimeOverflow v f in absurd (cc)
-only_memory p begin x AreTooManyTasks v f = let e = valid p begin x TooManyTasks v f in absurd (cc)
+  pub only_memory : (error : RunError) → FailedFor p s.begin x error → error ≡ IsNoMemory
+  only_memory (HasPanicked text) f = let e = valid TaskPanicked (f.0, f.1, f.2) in absurd (cc)
+  only_memory IsNoMemory f = refl
+  only_memory IsTimeout f = let e = valid Timeout f in absurd (cc)
+  only_memory IsStalled f = let e = valid Stalled f in absurd (cc)
+  only_memory IsTimeOverflow f = let e = valid TimeOverflow f in absurd (cc)
+  only_memory AreTooManyTasks f = let e = valid TooManyTasks f in absurd (cc)
+
+-- input that is valid whatever is drawn is valid for each generator
+pub valid-always : {A O G : Type 0} (stream : G → Stream) (p : Steps A O) (s : Starting G) → IsValidInput p s.begin → IsValid stream p s
+valid-always stream p s v x cause end value left run facts = v x cause end value run

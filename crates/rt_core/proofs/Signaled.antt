@@ -1,18 +1,7 @@
 -- A signal or a completion that is polled.
-use Rattle.std.proofs.Common.{◌≡◌, inl, inr, ℕ, ℤ, refl, Result, Ok, Err, IfOk, IfErr}
-use Rattle.rt_base.specs.declared.error.Error.{Error}
-use Rattle.rt_base.specs.declared.poll.Poll.{Poll}
-use Rattle.rt_base.specs.declared.poll.Poll.TheVariants.{Ready, Pending}
-use Rattle.rt_audit.specs.declared.call.Call.TheVariants.{SignalPoll, CompletionPoll}
-use Rattle.rt_audit.specs.declared.reply.CallReply.TheVariants.{Done, Value, Pending as StillPending, Refused}
-use Rattle.rt_model.specs.Signals.{met_reply, shown_reply}
-use Rattle.rt_model.specs.Turns.{Plainly, Plain}
-use Rattle.rt_model.specs.Walk.{Does}
-use Rattle.rt_world.specs.World.{World}
-use Rattle.rt_world.specs.Calls.{IsRefused, Made}
-use Rattle.rt_world.specs.Walked.{Walked}
-use Rattle.rt_world.proofs.Walked.{walked-gives, walked-lacking, walked-made}
-use Rattle.rt_core.specs.Signals.{met_heard, polled, shown_heard}
+use Rattle.rt_core.proofs.Prelude.{◌≡◌, inl, inr, ℕ, ℤ, refl, Result, Ok, Err, IfOk, IfErr, Error, Poll, Ready, Pending, SignalPoll, CompletionPoll, Done, StillPending, Refused, met_reply, shown_reply, Plainly, Plain, Does, World, IsRefused, Made, Walked, walked-gives, walked-lacking, walked-made, met_heard, shown_heard}
+use Rattle.rt_audit.specs.declared.reply.CallReply.TheVariants.{Value}
+use Rattle.rt_core.specs.Signals.{polled}
 
 module _ {A L O G : Type 0} (old new : World A O G) (state : L) where
   pub walked-shown : (signal : ℕ) (result : Result (Poll ℤ) Error) → IfOk result (λ shown. Made old new (Plainly (SignalPoll signal)) (shown_reply shown)) → IfErr result (λ e. IsRefused old new (Plainly (SignalPoll signal)) e) → Walked (Does (Plainly (SignalPoll signal)) (shown_heard state)) old new (polled result) state

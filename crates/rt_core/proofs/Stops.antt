@@ -1,21 +1,5 @@
 -- What a poller of the shutdown's end walks.
-use Rattle.std.proofs.Common.{◌≡◌, ◌≢◌, sym, ◌∙◌, ℕ, ℤ, Option, Result, Ok, Err, refl}
-use Rattle.rt_base.specs.declared.error.Error.{Error}
-use Rattle.rt_base.specs.declared.error.Error.TheVariants.{NoMemory}
-use Rattle.rt_base.specs.declared.poll.Poll.{Poll}
-use Rattle.rt_base.specs.declared.poll.Poll.TheVariants.{Ready}
-use Rattle.rt_audit.specs.declared.call.Call.TheVariants.{Stop as StopCall}
-use Rattle.rt_audit.specs.declared.reply.CallReply.TheVariants.{CompletionAt}
-use Rattle.rt_model.specs.Turns.{Plainly, Plain}
-use Rattle.rt_world.specs.World.{World}
-use Rattle.rt_world.specs.Calls.{Made, lacking}
-use Rattle.rt_world.specs.Walked.{Goes}
-use Rattle.rt_world.proofs.Walked.{walked-then, walked-gives, walked-made, walked-lacking, goes-on}
-use Rattle.rt_core.specs.Sleeper.{Sleeper}
-use Rattle.rt_core.specs.Stopping.{begins, limit_for, still, stop_polls, stopping}
-use Rattle.rt_core.specs.declared.stop.Stop.{Stop}
-use Rattle.rt_core.specs.declared.stop.Stopping.{Stopping}
-use Rattle.rt_core.specs.declared.stop.Stopping.TheVariants.{Begins, Waits, Limited}
+use Rattle.rt_core.proofs.Prelude.{◌≡◌, ◌≢◌, sym, ◌∙◌, ℕ, ℤ, Option, Result, Ok, Err, refl, Error, NoMemory, Poll, Ready, StopCall, CompletionAt, Plainly, Plain, World, Made, lacking, Goes, walked-then, walked-gives, walked-made, walked-lacking, goes-on, Sleeper, begins, limit_for, still, stop_polls, stopping, Stop, Stopping, Begins, Waits, Limited}
 
 module _ {A O G : Type 0} (s : Stop) (now time : ℕ) (same : time ≡ now) (limit : Result (Option (ℕ × Sleeper)) Error) (is : limit ≡ limit_for s.timeout time) where
   pub late-goes : (w : World A O G) (error : Error) → limit ≡ Err error → Goes (begins s now) w w (Err error) s

@@ -1,15 +1,5 @@
 -- A poller with a limit in time walks its state, and then its sleep.
-use Rattle.std.proofs.Common.{◌≡◌, sym, ◌∙◌, ℕ, Option, Some, None, Result, Ok, Err, refl}
-use Rattle.rt_base.specs.declared.error.Error.{Error}
-use Rattle.rt_base.specs.declared.poll.Poll.{Poll}
-use Rattle.rt_base.specs.declared.poll.Poll.TheVariants.{Ready, Pending}
-use Rattle.rt_world.specs.World.{World}
-use Rattle.rt_world.specs.Walked.{Goes}
-use Rattle.rt_world.proofs.Walked.{walked-then, walked-gives, goes-on}
-use Rattle.rt_core.specs.Sleeper.{Sleeper}
-use Rattle.rt_core.specs.Pollers.{sleep_polls}
-use Rattle.rt_core.specs.Timeouts.{Polling, limit_of, over, timeout_polls}
-use Rattle.rt_core.specs.declared.timeout.Timeout.{Timeout}
+use Rattle.rt_core.proofs.Prelude.{◌≡◌, sym, ◌∙◌, ℕ, Option, Some, None, Result, Ok, Err, refl, Error, Poll, Ready, Pending, World, Goes, walked-then, walked-gives, goes-on, Sleeper, sleep_polls, Polling, limit_of, over, timeout_polls, Timeout}
 
 -- a sleep that is refused wasn't begun
 unbegun : {P : Type 0} (t : Timeout P) (now : ℕ) (sleep : Option Sleeper) (error : Error) → t.sleep ≡ sleep → Err error ≡ limit_of t now sleep → record t { sleep = None } ≡ t

@@ -5,7 +5,8 @@ use Rattle.rt_base.specs.declared.error.Error.TheVariants.{Closed}
 use Rattle.rt_base.specs.declared.poll.Poll.{Poll}
 use Rattle.rt_base.specs.declared.poll.Poll.TheVariants.{Ready}
 use Rattle.rt_audit.specs.declared.call.Call.{Call}
-use Rattle.rt_audit.specs.declared.call.Call.TheVariants.{Abort, AbortWait, Join, GiveUp}
+use Rattle.rt_audit.specs.declared.call.Call.TheVariants.{Abort, Join, GiveUp, Slots}
+use Rattle.rt_audit.specs.declared.slot_call.SlotCall.TheVariants.{AbortWait}
 use Rattle.rt_model.specs.Turns.{Plainly}
 use Rattle.rt_model.specs.Walk.{Step, Last, Does, Spends, Gives, then}
 use Rattle.rt_world.specs.Receiving.{heard_result, receiver_polls, receiver_spends}
@@ -52,7 +53,7 @@ unless_aborted false call = Some call
 
 abbrev pub unaborted : {O P : Type 0} → Kind O P → Option Call
 unaborted (Task claim) = unless_aborted claim.aborted (Abort claim.task)
-unaborted (Received r) = unless_aborted r.aborted (AbortWait r.receiver)
+unaborted (Received r) = unless_aborted r.aborted (Slots (AbortWait r.receiver))
 unaborted (Completion c) = None
 
 abbrev pub aborts : {A O : Type 0} → Option Call → Last A O

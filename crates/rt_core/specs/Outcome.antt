@@ -31,7 +31,20 @@ kept_of end journal rng = record {
   rng = rng;
 }
 
--- a run from this beginning gave this output, and this is kept of it. The generator gave what was drawn, and is kept as that left it
+-- what is so of the entries of every run that began so, however it ended, where the generator is left so: each round visits the ready
+-- list as the draws before it shuffle it, these and what the maker and the tasks drew are the next that the generator gives, and each
+-- auditor's answer is the digest of all events before it
+pub record Facts {G : Type 0} (stream : G → Stream) (s : Starting G) (x : List Entry) (left : Stream) : Type 0 where
+  pub drawn : AreDrawn (begun s.begin) x
+  pub draws : Gave (stream s.rng) (after_all (begun s.begin) x).drawn left
+  pub digested : AreDigested (digest_of s.given) x
+
+-- each run from this beginning, with what its generator gives, completes. One that is out of memory, which may come at any time, is no run
+abbrev pub IsValid : {A O G : Type 0} → (G → Stream) → Steps A O → Starting G → Type 0
+IsValid {A = A} {O = O} stream p s =
+    (x : List Entry) (cause : FinishCause) (end : State) (value : Value A O) (left : Stream) → IsRun p s.begin x cause end value → Facts stream s x left → cause ≡ Completed
+
+-- a run from this beginning gave this output, and this is kept of it, the generator as the draws left it
 pub record Completes {A O G : Type 0} (stream : G → Stream) (p : Steps A O) (s : Starting G) (output : O) (kept : Kept G) : Type 0 where
   pub entries : List Entry
   pub end : State
@@ -39,7 +52,7 @@ pub record Completes {A O G : Type 0} (stream : G → Stream) (p : Steps A O) (s
   pub run : IsRun p s.begin entries Completed end value
   pub gives : value.output ≡ Some output
   pub keeps : kept ≡ kept_of end (s.given ++ entries) kept.rng
-  pub draws : Gave (stream s.rng) end.drawn (stream kept.rng)
+  pub facts : Facts stream s entries (stream kept.rng)
 
 -- a run failed so. Where it ended by a panic, this was its text
 abbrev pub FailedFor : {A O : Type 0} → Steps A O → Begin → List Entry → RunError → Type 0
@@ -48,25 +61,12 @@ FailedFor {A = A} {O = O} p begin x (HasPanicked text) =
 FailedFor p begin x error = FailedBy p begin x (finish_of error)
 
 -- a run from this beginning failed so, and its entries follow those that were given
-pub record Fails {A O G : Type 0} (p : Steps A O) (s : Starting G) (journal : List Entry) (error : RunError) : Type 0 where
+pub record Fails {A O G : Type 0} (stream : G → Stream) (p : Steps A O) (s : Starting G) (journal : List Entry) (error : RunError) : Type 0 where
   pub entries : List Entry
+  pub left : Stream
   pub extends : journal ≡ s.given ++ entries
   pub failed : FailedFor p s.begin entries error
-
--- each round of the entries after the given ones visits the ready list as the draws before it shuffle it, and these, and what the
--- maker and the tasks drew, are the next that the generator gives
-pub record AreShuffled {G : Type 0} (stream : G → Stream) (s : Starting G) (journal : List Entry) : Type 0 where
-  pub entries : List Entry
-  pub extends : journal ≡ s.given ++ entries
-  pub drawn : AreDrawn (begun s.begin) entries
-  pub left : Stream
-  pub draws : Gave (stream s.rng) (after_all (begun s.begin) entries).drawn left
-
--- each auditor's answer in the entries after the given ones is the digest of all events before it
-pub record AreAudited {G : Type 0} (s : Starting G) (journal : List Entry) : Type 0 where
-  pub entries : List Entry
-  pub extends : journal ≡ s.given ++ entries
-  pub digested : AreDigested (digest_of s.given) entries
+  pub facts : Facts stream s entries left
 
 -- a world that can go on: no task is out of it, no call has run out of memory, no panic is kept, and a cycle takes time
 pub record IsReady {A O G : Type 0} (w : World A O G) : Type 0 where

@@ -1,7 +1,8 @@
 //! Handles of spawned tasks and of completions.
 
 ghost use Rattle.std.specs.Prelude.{◌≡◌, true};
-ghost use Rattle.rt_audit.specs.declared.call.Call.TheVariants.{Abort, AbortWait};
+ghost use Rattle.rt_audit.specs.declared.call.Call.TheVariants.{Abort, Slots};
+ghost use Rattle.rt_audit.specs.declared.slot_call.SlotCall.TheVariants.{AbortWait};
 ghost use Rattle.rt_model.specs.Rules.{MayCall};
 ghost use Rattle.rt_world.specs.Calls.{Kept};
 ghost use Rattle.rt_world.specs.Walked.{Spends};
@@ -182,7 +183,7 @@ impl Receipt {
         ensures receipt { self.new ≡ record self.old { aborted = true } }
         ensures kept { Kept G.stream world.old world.new }
         ensures lacked { world.new.lacked ≡ world.old.lacked }
-        ensures steps { Spends (aborts (unless_aborted self.old.aborted (AbortWait self.old.receiver))) world.old world.new }
+        ensures steps { Spends (aborts (unless_aborted self.old.aborted (Slots (AbortWait self.old.receiver)))) world.old world.new }
     {
         if self.aborted {
             return;

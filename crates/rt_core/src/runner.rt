@@ -1,11 +1,10 @@
 //! Runners.
 
-ghost use Rattle.std.specs.Prelude.{◌≡◌, ◌≤◌, ◌↔◌, [], None, Some, Ok, Err, IsOk, IfOk, IfErr, MatchResult, false};
+ghost use Rattle.std.specs.Prelude.{◌≡◌, ◌≤◌, ◌↔◌, [], None, Some, Ok, Err, IsOk, IfOk, IfErr, false};
 ghost use Rattle.rt_model.specs.Tied.{with_first};
-ghost use Rattle.rt_model.specs.Run.{IsValidInput};
 ghost use Rattle.rt_core.specs.Starting.{assert_of, deadline_of, default_seed, first_begin, resumed, seeded, IsWithin, Kept};
 ghost use Rattle.rt_core.specs.Given.{entries_of};
-ghost use Rattle.rt_core.specs.Outcome.{Completes, Fails, AreShuffled, AreAudited};
+ghost use Rattle.rt_core.specs.Outcome.{Completes, Fails, IsValid};
 
 use crate::running::{error_of, run_maker};
 use crate::{Checkpoint, Config, ConfigError, Failure, Finished, RootMaker, RunError};
@@ -85,10 +84,8 @@ impl<G: Rng + Drop> Runner<G> {
         maker: M,
     ) -> Result<Finished<T::Output, G>, Failure>
         ensures run { IfOk result (λ f. Completes G.stream (with_first T.steps (M.first maker)) self f.output f.checkpoint) }
-        ensures failure { IfErr result (λ f. Fails (with_first T.steps (M.first maker)) self f.journal.entries f.cause) }
-        ensures orders { MatchResult result (λ f. AreShuffled G.stream self f.checkpoint.journal) (λ f. AreShuffled G.stream self f.journal.entries) }
-        ensures digests { MatchResult result (λ f. AreAudited self f.checkpoint.journal) (λ f. AreAudited self f.journal.entries) }
-        ensures complete { IsValidInput (with_first T.steps (M.first maker)) self.begin → IfErr result (λ f. f.cause ≡ RunError.NoMemory) }
+        ensures failure { IfErr result (λ f. Fails G.stream (with_first T.steps (M.first maker)) self f.journal.entries f.cause) }
+        ensures complete { IsValid G.stream (with_first T.steps (M.first maker)) self → IfErr result (λ f. f.cause ≡ RunError.NoMemory) }
     {
         let Runner {
             rng,
@@ -146,11 +143,9 @@ impl<G: Rng + Drop> Runner<G> {
         alloc: Global,
         maker: M,
     ) -> Result<T::Output, Failure>
-        ensures run { IfOk result (λ output. (kept : Kept G) × Completes G.stream (with_first T.steps (M.first maker)) self output kept × AreShuffled G.stream self kept.journal × AreAudited self kept.journal) }
-        ensures failure { IfErr result (λ f. Fails (with_first T.steps (M.first maker)) self f.journal.entries f.cause) }
-        ensures orders { IfErr result (λ f. AreShuffled G.stream self f.journal.entries) }
-        ensures digests { IfErr result (λ f. AreAudited self f.journal.entries) }
-        ensures complete { IsValidInput (with_first T.steps (M.first maker)) self.begin → IfErr result (λ f. f.cause ≡ RunError.NoMemory) }
+        ensures run { IfOk result (λ output. (kept : Kept G) × Completes G.stream (with_first T.steps (M.first maker)) self output kept) }
+        ensures failure { IfErr result (λ f. Fails G.stream (with_first T.steps (M.first maker)) self f.journal.entries f.cause) }
+        ensures complete { IsValid G.stream (with_first T.steps (M.first maker)) self → IfErr result (λ f. f.cause ≡ RunError.NoMemory) }
     {
         match self.start_and_recover::<T, M>(alloc, maker) {
             Ok(finished) => {

@@ -4,7 +4,8 @@ use Rattle.rt_base.specs.declared.error.Error.{Error}
 use Rattle.rt_base.specs.declared.error.Error.TheVariants.{Timeout as TimedOut}
 use Rattle.rt_base.specs.declared.poll.Poll.{Poll}
 use Rattle.rt_base.specs.declared.poll.Poll.TheVariants.{Ready as IsReady, Pending as IsPending}
-use Rattle.rt_audit.specs.declared.call.Call.TheVariants.{Slot, SlotClose}
+use Rattle.rt_audit.specs.declared.call.Call.TheVariants.{Slots}
+use Rattle.rt_audit.specs.declared.slot_call.SlotCall.TheVariants.{Make as Slot, Close as SlotClose}
 use Rattle.rt_audit.specs.declared.reply.CallReply.{CallReply}
 use Rattle.rt_audit.specs.declared.reply.CallReply.TheVariants.{SlotAt}
 use Rattle.rt_model.specs.declared.answer.Answer.{Answer}
@@ -53,7 +54,7 @@ receives c handle = then (task_polls handle) (received c)
 abbrev pub delivers : Courier → TaskHandle Output → ℕ → Parcel → Next
 delivers c handle sender (Number number) = Spends (Sending sender (Ok (Ok number))) (Gives Pending (at c (Waits handle)))
 delivers c handle sender Failure = Spends (Sending sender (Err TimedOut)) (Gives Pending (at c (Waits handle)))
-delivers c handle sender Nothing = Spends (Plainly (SlotClose sender)) (Gives Pending (at c (Waits handle)))
+delivers c handle sender Nothing = Spends (Plainly (Slots (SlotClose sender))) (Gives Pending (at c (Waits handle)))
 delivers c handle sender (Late number) =
     followed_by (handle_aborts handle) (Spends (Sending sender (Ok (Ok number))) (Gives Pending (at c (Waits (aborted handle)))))
 delivers c handle sender (Unwanted number) =
@@ -83,7 +84,7 @@ made c sleep parcel (Plain reply) = slotted c sleep parcel reply
 made c sleep parcel (Handed value) = Gives NoMemory c
 
 abbrev pub begins : Courier → Sleeper → Parcel → Next
-begins c sleep parcel = Does (Plainly Slot) (made c sleep parcel)
+begins c sleep parcel = Does (Plainly (Slots Slot)) (made c sleep parcel)
 
 -- its sleep begins, or would end too late
 abbrev pub begun : Courier → Parcel → Result Sleeper Error → Next
@@ -99,7 +100,7 @@ polled c Done time = Gives Pending c
 
 -- its end gives up the ends of the slot that it has, and closes its context
 abbrev pub ended : Courier → Work → Last Courier Output
-ended c (Carries handle sender sleep parcel) = followed_by (task_spends handle) (Spends (Plainly (SlotClose sender)) (closes c.context.node))
+ended c (Carries handle sender sleep parcel) = followed_by (task_spends handle) (Spends (Plainly (Slots (SlotClose sender))) (closes c.context.node))
 ended c (Waits handle) = followed_by (task_spends handle) (closes c.context.node)
 ended c work = closes c.context.node
 

@@ -87,6 +87,7 @@ fn endings_of(alloc: Global, success: &str, failure: &str) -> Result<Endings, No
 /// Notes how the call ended, where it did.
 fn note_end<E: Env>(env: &mut E, endings: Endings, ended: Option<bool>)
     requires { 0 < E.spare env.old }
+    ensures lasts { (start : E) → E.lasts start env.old → E.lasts start env.new }
     ensures noted { Adds (E.noted env.old) (closing_event endings.success endings.failure ended) (E.noted env.new) }
     ensures spent { E.spare env.old ≤ E.spare env.new + 1 }
 {
@@ -126,6 +127,7 @@ fn note_bytes<E: Env>(env: &mut E, success: Event, room: Room, answer: &Poll<IoB
     requires spare { 0 < E.spare env.old }
     requires empty { (room.bytes.items ≡ []) × (room.fields.items ≡ []) }
     requires room { HasLength (vec_capacity room.bytes) answer.now × (vec_capacity room.fields ≡ 1) }
+    ensures lasts { (start : E) → E.lasts start env.old → E.lasts start env.new }
     ensures noted { Adds (E.noted env.old) (receipt success answer.now) (E.noted env.new) }
     ensures spent { E.spare env.old ≤ E.spare env.new + 1 }
 {
@@ -214,6 +216,7 @@ impl<N: Network> Noting<N> {
         success: &str,
         failure: &str,
     ) -> Result<Endings, NoMemory>
+        ensures lasts { (start : E) → E.lasts start env.old → E.lasts start env.new }
         ensures room { OnOk result (N.most + 1 ≤ E.spare env.new) }
         ensures spent { E.spare env.old ≤ E.spare env.new + 1 }
         ensures events { IfOk result (λ e. (e.success ≡ named success.now) × (e.failure ≡ named failure.now)) }
@@ -229,6 +232,7 @@ impl<N: Network> Noting<N> {
 
     /// Takes the room of a poll, and makes its events.
     fn go_on<E: Env>(&self, env: &mut E, success: &str, failure: &str) -> Result<Endings, NoMemory>
+        ensures lasts { (start : E) → E.lasts start env.old → E.lasts start env.new }
         ensures room { OnOk result (N.most + 1 ≤ E.spare env.new) }
         ensures kept { E.spare env.old ≤ E.spare env.new }
         ensures events { IfOk result (λ e. (e.success ≡ named success.now) × (e.failure ≡ named failure.now)) }
@@ -242,6 +246,7 @@ impl<N: Network> Noting<N> {
 
 /// Takes the room of so many calls, as a network over another needs that tries again.
 pub fn take_room_of_calls<N: Network, E: Env>(env: &mut E, calls: usize) -> Result<(), NoMemory>
+    ensures lasts { (start : E) → E.lasts start env.old → E.lasts start env.new }
     ensures room { OnOk result (calls * N.most ≤ E.spare env.new) }
     ensures noted { E.noted env.new ≡ E.noted env.old }
 {

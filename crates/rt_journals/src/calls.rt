@@ -2,7 +2,7 @@
 
 use crate::replies::reply_of;
 use crate::words::{moment, number, number_or_none, signed};
-use rt_audit::{Call, Caller, Entry, Label};
+use rt_audit::{Call, Caller, Entry, Label, SlotCall};
 use rt_base::NoMemory;
 use std::alloc::Global;
 
@@ -66,7 +66,7 @@ fn call_in(alloc: Global, words: &[&str]) -> Result<Option<Call>, NoMemory> {
 
 fn call_alone(word: &str) -> Option<Call> {
     Some(match word {
-        "slot" => Call::Slot,
+        "slot" => Call::Slots(SlotCall::Make),
         "signaler" => Call::Signaler,
         "stopped" => Call::Stopped,
         "u32" => Call::NextU32,
@@ -121,14 +121,14 @@ fn call_on_task(word: &str, of: u64) -> Option<Call> {
 }
 
 fn call_on_slot(word: &str, of: u64) -> Option<Call> {
-    Some(match word {
-        "slot-send" => Call::SlotSend { slot: of },
-        "slot-close" => Call::SlotClose { slot: of },
-        "slot-poll" => Call::SlotPoll { slot: of },
-        "slot-give-up" => Call::SlotGiveUp { slot: of },
-        "abort-wait" => Call::AbortWait { slot: of },
+    Some(Call::Slots(match word {
+        "slot-send" => SlotCall::Send { slot: of },
+        "slot-close" => SlotCall::Close { slot: of },
+        "slot-poll" => SlotCall::Poll { slot: of },
+        "slot-give-up" => SlotCall::GiveUp { slot: of },
+        "abort-wait" => SlotCall::AbortWait { slot: of },
         word => return call_on_signal(word, of),
-    })
+    }))
 }
 
 fn call_on_signal(word: &str, of: u64) -> Option<Call> {

@@ -1,24 +1,7 @@
 -- What was drawn so far decides nothing of what comes.
-use Rattle.std.proofs.Common.{◌≡◌, ◌-◌, ◌^◌, ℕ, List, [], ◌∷◌, Option, Some, None, Bool, true, false, not, leb, refl, ap, ◌∙◌}
-use Rattle.rt_base.specs.declared.error.Error.{Error}
-use Rattle.rt_base.specs.declared.error.Error.TheVariants.{UnknownToken, TooManyTasks}
-use Rattle.rt_audit.specs.declared.call.Call.{Call}
-use Rattle.rt_audit.specs.declared.call.Call.TheVariants.{Child, Spawn}
-use Rattle.rt_audit.specs.declared.reply.CallReply.{CallReply}
-use Rattle.rt_audit.specs.declared.reply.CallReply.TheVariants.{NodeAt, TaskAt, Closed, Refused}
-use Rattle.rt_audit.specs.declared.answer.AnswerKind.{AnswerKind}
-use Rattle.rt_audit.specs.declared.answer.AnswerKind.TheVariants.{Pending as IsPending, Ready as IsReady, Panicked as IsPanicked, NoMemory as LacksMemory}
-use Rattle.rt_audit.specs.declared.entry.Entry.{Entry}
-use Rattle.rt_audit.specs.declared.entry.Entry.TheVariants.{Call as CallEntry, Event, Draw, Round, Answer as AnswerEntry, NodeEnd, Cleanup, Crash}
-use Rattle.rt_super.specs.Ancestry.{is_live}
+use Rattle.rt_laws.proofs.Prelude.{◌≡◌, ◌-◌, ◌^◌, ℕ, List, [], ◌∷◌, Option, Some, None, Bool, true, false, not, leb, refl, ap, ◌∙◌, Error, UnknownToken, TooManyTasks, Call, Child, Spawn, CallReply, NodeAt, TaskAt, Closed, Refused, AnswerKind, IsPending, IsPanicked, LacksMemory, Entry, CallEntry, Event, Draw, Round, AnswerEntry, NodeEnd, Cleanup, Crash, is_live, only-rounds, round-draws, Drawn, State, Phase, Making, Between, Entered, Turning, cause_at, after, after_all, entered, due_node, drawn_after, is_free, ChildAnswers, SpawnAnswers, Unless, Answers, MayEvent, MayRound, MayAnswer, May, IsLawful, Held, Steps, Value, Polls, PollBreaks, MovesCleanup, MovesCrash, MovesAnswer, Moves, IsTied}
+use Rattle.rt_audit.specs.declared.answer.AnswerKind.TheVariants.{Ready as IsReady}
 use Rattle.rt_model.specs.declared.answer.Answer.{Answer}
-use Rattle.rt_model.specs.Draws.{Drawn}
-use Rattle.rt_model.specs.State.{State, Phase, Making, Between, Entered, Turning}
-use Rattle.rt_model.specs.Causes.{cause_at}
-use Rattle.rt_model.specs.Effects.{after, after_all, entered, due_node, drawn_after}
-use Rattle.rt_model.specs.Rules.{is_free, ChildAnswers, SpawnAnswers, Unless, Answers, MayEvent, MayRound, MayAnswer, May, IsLawful}
-use Rattle.rt_model.specs.Turns.{Held}
-use Rattle.rt_model.specs.Tied.{Steps, Value, Polls, PollBreaks, MovesCleanup, MovesCrash, MovesAnswer, Moves, IsTied}
 
 -- as if this had been drawn
 abbrev pub as_if : List Drawn → State → State
@@ -59,7 +42,7 @@ module _ (drawn : List Drawn) (s : State) where
   may-so : (e : Entry) → May (as_if drawn s) e → May s e
   may-so (CallEntry by call reply) m = (m.0, (m.1.0, answers-so call reply m.1.1, m.1.2))
   may-so (Event label fields) m = (m.0, event-so s.phase label fields m.1)
-  may-so (Draw value) m = (m.0, round-so s.phase m.1)
+  may-so (Draw value) m = (m.0, round-draws s.phase s value (round-so s.phase (only-rounds s.phase (as_if drawn s) value m.1)))
   may-so (Round order) m = (m.0, (round-so s.phase m.1.0, m.1.1))
   may-so (AnswerEntry task kind) m = (m.0, (answer-so task kind m.1.0, m.1.1))
   may-so _ m = m

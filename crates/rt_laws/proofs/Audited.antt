@@ -1,20 +1,6 @@
 -- What an auditor's answer tells.
-use Rattle.std.proofs.Common.{◌≡◌, ◌≢◌, ℕ, List, [], ◌∷◌, ◌++◌, Option, Some, length, refl}
-use Rattle.rt_base.specs.declared.error.Error.{Error}
-use Rattle.rt_audit.specs.Crc32c.{bit_step, bit_steps}
-use Rattle.rt_audit.specs.Digest.{first_digest, fields_digest}
-use Rattle.rt_audit.specs.Framing.{framed_field}
-use Rattle.rt_audit.specs.Journal.{digest_from, digest_after}
-use Rattle.rt_audit.specs.declared.call.Call.TheVariants.{Auditor}
-use Rattle.rt_audit.specs.declared.reply.CallReply.{CallReply}
-use Rattle.rt_audit.specs.declared.reply.CallReply.TheVariants.{Bytes, Refused}
-use Rattle.rt_audit.specs.declared.entry.Entry.{Entry}
+use Rattle.rt_laws.proofs.Prelude.{◌≡◌, ◌≢◌, ℕ, List, [], ◌∷◌, ◌++◌, Option, Some, length, refl, Error, bit_step, bit_steps, first_digest, fields_digest, framed_field, digest_from, digest_after, Auditor, CallReply, Bytes, Refused, Entry, AreDigested, State, Answers, AreDigested-append, opening, visiting_root}
 use Rattle.rt_audit.specs.declared.entry.Entry.TheVariants.{Call}
-use Rattle.rt_model.specs.Digests.{AreDigested}
-use Rattle.rt_model.specs.State.{State}
-use Rattle.rt_model.specs.Rules.{Answers}
-use Rattle.rt_model.proofs.Append.{AreDigested-append}
-use Rattle.rt_laws.specs.Examples.{opening, visiting_root}
 
 pub only_digest : (digest bytes : List ℕ) (x y : List Entry) (by : Option ℕ) → AreDigested digest (x ++ Call by Auditor (Bytes bytes) ∷ y) → bytes ≡ digest_from digest x
 only_digest digest bytes [] y by d = d.0

@@ -1,15 +1,5 @@
 -- Behind a part that lacked memory a run doesn't go on.
-use Rattle.std.proofs.Common.{◌≡◌, ◌∷◌, ◌++◌, ℕ, List, Some, true, false, refl, inl, inr}
-use Rattle.rt_audit.specs.declared.answer.AnswerKind.TheVariants.{NoMemory as LacksMemory, Ended}
-use Rattle.rt_audit.specs.declared.entry.Entry.{Entry}
-use Rattle.rt_audit.specs.declared.entry.Entry.TheVariants.{Round, Visit, Answer as Answered, Advance, Skip, Fire}
-use Rattle.rt_model.specs.Lists.{find}
-use Rattle.rt_model.specs.State.{State, stood_in}
-use Rattle.rt_model.specs.Effects.{after, after_all}
-use Rattle.rt_model.specs.Turns.{Held, put}
-use Rattle.rt_model.specs.Walk.{Walks}
-use Rattle.rt_model.specs.Tied.{Steps, Value, Moves, IsTied, taken}
-use Rattle.rt_laws.specs.Onward.{IsOnward}
+use Rattle.rt_laws.proofs.Prelude.{◌≡◌, ◌∷◌, ◌++◌, ℕ, List, Some, true, false, refl, inl, inr, LacksMemory, Ended, Entry, Round, Visit, Answered, Advance, Skip, Fire, find, State, stood_in, after, after_all, Held, put, Walks, Steps, Value, Moves, IsTied, taken, IsOnward}
 use Rattle.rt_laws.proofs.Values.{all-whole, not-whole}
 use Rattle.rt_laws.proofs.Misses.{tied-front, tied-tail}
 

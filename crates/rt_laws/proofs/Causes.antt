@@ -1,24 +1,6 @@
 -- What stands where a run has reached its cause, and where tasks are visited.
-use Rattle.std.proofs.Common.{◌≡◌, ◌≢◌, ◌≤◌, ℕ, List, [], ◌∷◌, ◌++◌, drop, Option, Some, None, Bool, true, false, leb, ◌-◌, ◌^◌, ◌&&◌, refl, Contains}
-use Rattle.std.proofs.lemmas.Bool.{leb-true}
-use Rattle.rt_audit.specs.declared.answer.AnswerKind.{AnswerKind}
-use Rattle.rt_audit.specs.declared.answer.AnswerKind.TheVariants.{Pending, Ready, Panicked, Stopped, NoMemory, Ended}
-use Rattle.rt_audit.specs.declared.finish.FinishCause.{FinishCause}
-use Rattle.rt_audit.specs.declared.finish.FinishCause.TheVariants.{Completed, TaskPanicked, Timeout, Stalled, TimeOverflow, TooManyTasks, NoMemory as OutOfMemory}
-use Rattle.rt_audit.specs.declared.entry.Entry.{Entry}
-use Rattle.rt_audit.specs.declared.entry.Entry.TheVariants.{Start, Event, Root, Round, Visit, Answer, NodeEnd, Advance, Skip, Cleanup, Crash, Finish}
-use Rattle.rt_super.specs.Alarms.{Alarm}
-use Rattle.rt_super.specs.Ancestry.{is_ended}
-use Rattle.rt_model.specs.declared.result.Outcome.{Outcome}
-use Rattle.rt_model.specs.declared.result.Outcome.TheVariants.{There, Exited}
-use Rattle.rt_model.specs.Lists.{is_nil, is_some_number, find}
-use Rattle.rt_model.specs.Marks.{is_flagged}
-use Rattle.rt_model.specs.declared.begin.Begin.{Begin}
-use Rattle.rt_model.specs.State.{State, Phase, Making, Between, Visiting, Entered, Polling, Ending, Leaving, Turning, Over, Cleaning, Closing, Crashed, Finished, Clock, begun}
-use Rattle.rt_model.specs.Alarms.{skip_to, fires}
-use Rattle.rt_model.specs.Causes.{is_late, overflows, from_running, turning_cause, where_true, cause_at, reached}
-use Rattle.rt_model.specs.Effects.{after, after_all, is_settled, answered, entered, entered_by, node_ended, cleans, leaves, ended, left_pending, finished, left_of}
-use Rattle.rt_model.specs.Rules.{May, MayAnswer, MayRound, MayClose, IsLawful}
+use Rattle.rt_laws.proofs.Prelude.{◌≡◌, ◌≢◌, ◌≤◌, ℕ, List, [], ◌∷◌, ◌++◌, drop, Option, Some, None, Bool, true, false, leb, ◌-◌, ◌^◌, ◌&&◌, refl, Contains, leb-true, AnswerKind, Pending, Ready, Panicked, Stopped, NoMemory, Ended, FinishCause, Completed, TaskPanicked, Timeout, Stalled, TimeOverflow, OutOfMemory, Entry, Start, Event, Root, Round, Visit, Answer, NodeEnd, Advance, Skip, Cleanup, Crash, Finish, Alarm, is_ended, Outcome, There, Exited, is_nil, is_some_number, find, is_flagged, Begin, State, Phase, Making, Between, Visiting, Entered, Polling, Ending, Leaving, Turning, Over, Cleaning, Closing, Crashed, Finished, Clock, begun, skip_to, fires, is_late, overflows, from_running, turning_cause, where_true, cause_at, reached, after, after_all, is_settled, answered, entered, entered_by, node_ended, cleans, leaves, ended, left_pending, finished, left_of, May, MayAnswer, MayRound, MayClose, IsLawful}
+use Rattle.rt_audit.specs.declared.finish.FinishCause.TheVariants.{TooManyTasks}
 use Rattle.rt_laws.proofs.Clock.{lawful-front, lawful-tail}
 use Rattle.rt_laws.proofs.Endings.{run_cause}
 use Rattle.rt_laws.proofs.Rounds.{contains-from_has}

@@ -1,26 +1,5 @@
 -- The times that a journal of several runs tells.
-use Rattle.std.proofs.Common.{◌≡◌, ◌≤◌, ◌<◌, ◌&&◌, inl, inr, ℕ, List, [], ◌∷◌, ◌++◌, Option, Bool, true, false, refl, rules, arith}
-use Rattle.std.proofs.lemmas.Bool.{cases_Bool}
-use Rattle.rt_audit.specs.Journal.{time_after, last_time, last_time_from}
-use Rattle.rt_audit.specs.declared.answer.AnswerKind.{AnswerKind}
-use Rattle.rt_audit.specs.declared.answer.AnswerKind.TheVariants.{Pending, Ready, Panicked, Stopped, NoMemory, Ended}
-use Rattle.rt_audit.specs.declared.finish.FinishCause.{FinishCause}
-use Rattle.rt_audit.specs.declared.finish.FinishCause.TheVariants.{Completed, TaskPanicked}
-use Rattle.rt_audit.specs.declared.entry.Entry.{Entry}
-use Rattle.rt_audit.specs.declared.entry.Entry.TheVariants.{Start, Event, Root, Round, Visit, Answer, NodeEnd, Advance, Skip, Cleanup, Crash, Finish}
-use Rattle.rt_super.specs.Ancestry.{is_ended}
-use Rattle.rt_model.specs.declared.begin.Begin.{Begin}
-use Rattle.rt_model.specs.declared.result.Outcome.{Outcome}
-use Rattle.rt_model.specs.declared.result.Outcome.TheVariants.{There, Exited}
-use Rattle.rt_model.specs.Lists.{find, is_some_number}
-use Rattle.rt_model.specs.Marks.{is_flagged}
-use Rattle.rt_model.specs.State.{State, Phase, Blank, Entered, Ending, Leaving, Cleaning, begun}
-use Rattle.rt_model.specs.Causes.{reached}
-use Rattle.rt_model.specs.Effects.{after, entered_by, entered, leaves, ended, finished, left_pending, answered, node_ended, cleans, left_of, is_settled}
-use Rattle.rt_model.specs.Rules.{May}
-use Rattle.rt_model.specs.Runs.{Runs, renews, renewed, next_run, run_after, runs_after, runs_from, AreLawful}
-use Rattle.rt_laws.specs.Examples.{small_begin, skipped_journal}
-use Rattle.rt_laws.specs.Chained.{BeginInOrder, two_runs, ready_from, chain_journal}
+use Rattle.rt_laws.proofs.Prelude.{◌≡◌, ◌≤◌, ◌&&◌, inl, inr, ℕ, List, [], ◌∷◌, ◌++◌, Option, Bool, true, false, refl, rules, arith, cases_Bool, time_after, last_time, last_time_from, AnswerKind, Pending, Ready, Panicked, Stopped, NoMemory, Ended, FinishCause, Completed, TaskPanicked, Entry, Start, Event, Root, Round, Visit, Answer, NodeEnd, Advance, Skip, Cleanup, Crash, Finish, is_ended, Begin, Outcome, There, Exited, find, is_some_number, is_flagged, State, Phase, Blank, Entered, Ending, Leaving, Cleaning, begun, reached, after, entered_by, entered, leaves, ended, finished, left_pending, answered, node_ended, cleans, left_of, is_settled, May, next_begin, renews, renewed, run_after, runs_after, AreLawful, small_begin, skipped_journal, ready_from, chain_journal}
 use Rattle.rt_laws.proofs.Clock.{later-entry}
 use Rattle.rt_laws.proofs.Runs.{skipped_run}
 use Rattle.rt_laws.proofs.Several.{blank-same, join_runs, run_alone}
@@ -107,89 +86,76 @@ tells-begun time b e m = rw (start-first b e m) (record { begun = refl; own = re
 
 -- in a run or at the beginning of the next one
 
-tells-next : (time : ℕ) (s : State) (later : List Begin) (e : Entry) → May (next_run (record { state = s; later = later }) later).state e → Tells time s → Tells (time_after time e) (after (next_run (record { state = s; later = later }) later).state e)
-tells-next time s [] e m t = tells-after time s e m t
-tells-next time s (b ∷ later) e m t = tells-begun time b e m
-
-tells-run : (time : ℕ) (r : Runs) (e : Entry) → May (renewed r e).state e → Tells time r.state → Tells (time_after time e) (run_after r e).state
-tells-run time r e m t = elim (cases_Bool (renews e r.state.phase)) [
-  | inl renew ↦ rw renew (tells-next time r.state r.later e (rw renew at m) t)
-  | inr same ↦ rw same (tells-after time r.state e (rw same at m) t)
+tells-run : (time : ℕ) (s : State) (e : Entry) → May (renewed s e) e → Tells time s → Tells (time_after time e) (run_after s e)
+tells-run time s e m t = elim (cases_Bool (renews e s.phase)) [
+  | inl renew ↦ rw renew (tells-begun time (next_begin s) e (rw renew at m))
+  | inr same ↦ rw same (tells-after time s e (rw same at m) t)
 ]
 
-tells-all : (time : ℕ) (r : Runs) (x : List Entry) → AreLawful r x → Tells time r.state → Tells (last_time_from time x) (runs_after r x).state
-tells-all time r [] l t = t
-tells-all time r (e ∷ x) l t = tells-all (time_after time e) (run_after r e) x l.1 (tells-run time r e l.0 t)
+tells-all : (time : ℕ) (s : State) (x : List Entry) → AreLawful s x → Tells time s → Tells (last_time_from time x) (runs_after s x)
+tells-all time s [] l t = t
+tells-all time s (e ∷ x) l t = tells-all (time_after time e) (run_after s e) x l.1 (tells-run time s e l.0 t)
 
 -- from the beginning
 
-tells-first : (b : Begin) (later : List Begin) (e : Entry) → May (renewed (runs_from b later) e).state e → Tells (time_after 0 e) (run_after (runs_from b later) e).state
+tells-first : (b : Begin) (e : Entry) → May (renewed (begun b) e) e → Tells (time_after 0 e) (run_after (begun b) e)
 unfolding begun
-tells-first b later e m = let k : May (begun b) e = rw (blank-same e) at m in rw (blank-same e) (tells-begun 0 b e k)
+tells-first b e m = let k : May (begun b) e = rw (blank-same e) at m in rw (blank-same e) (tells-begun 0 b e k)
 
-tells : (b : Begin) (later : List Begin) (e : Entry) (x : List Entry) → AreLawful (runs_from b later) (e ∷ x) → Tells (last_time (e ∷ x)) (runs_after (runs_from b later) (e ∷ x)).state
-tells b later e x l = tells-all (time_after 0 e) (run_after (runs_from b later) e) x l.1 (tells-first b later e l.0)
+tells : (b : Begin) (e : Entry) (x : List Entry) → AreLawful (begun b) (e ∷ x) → Tells (last_time (e ∷ x)) (runs_after (begun b) (e ∷ x))
+tells b e x l = tells-all (time_after 0 e) (run_after (begun b) e) x l.1 (tells-first b e l.0)
 
-pub last_told : (b : Begin) (later : List Begin) (e : Entry) (x : List Entry) → AreLawful (runs_from b later) (e ∷ x) → last_time (e ∷ x) ≡ (runs_after (runs_from b later) (e ∷ x)).state.clock.time
-last_told b later e x l = (tells b later e x l).own
+pub last_told : (b : Begin) (e : Entry) (x : List Entry) → AreLawful (begun b) (e ∷ x) → last_time (e ∷ x) ≡ (runs_after (begun b) (e ∷ x)).clock.time
+last_told b e x l = (tells b e x l).own
 
-rises-all : (time : ℕ) (r : Runs) (x : List Entry) → AreLawful r x → BeginInOrder r x → Tells time r.state → time ≤ last_time_from time x
-rises-all time r [] l o t = omega arith
-rises-all time r (e ∷ x) l o t =
+-- a run goes on at the last moment of the one ahead of it
+renewed-time : (s : State) (e : Entry) → (renewed s e).clock.time ≡ s.clock.time
+unfolding begun
+renewed-time s e = elim (cases_Bool (renews e s.phase)) [
+  | inl renew ↦ rw renew refl
+  | inr same ↦ rw same refl
+]
+
+rises-all : (time : ℕ) (s : State) (x : List Entry) → AreLawful s x → Tells time s → time ≤ last_time_from time x
+rises-all time s [] l t = omega arith
+rises-all time s (e ∷ x) l t =
     let now = time_after time e in
-    let k : Tells now (run_after r e).state = tells-run time r e l.0 t in
-    let a : now ≤ last_time_from now x = rises-all now (run_after r e) x l.1 o.1 k in
-    let later : (renewed r e).state.clock.time ≤ (run_after r e).state.clock.time = later-entry (renewed r e).state e l.0 in
-    let behind = o.0 in
+    let k : Tells now (run_after s e) = tells-run time s e l.0 t in
+    let a : now ≤ last_time_from now x = rises-all now (run_after s e) x l.1 k in
+    let later : (renewed s e).clock.time ≤ (run_after s e).clock.time = later-entry (renewed s e) e l.0 in
+    let behind = renewed-time s e in
     let before = t.own in
     let own = k.own in
     omega arith
 
-runs-tail : (r : Runs) (x y : List Entry) → AreLawful r (x ++ y) → AreLawful (runs_after r x) y
-runs-tail r [] y l = l
-runs-tail r (e ∷ x) y l = runs-tail (run_after r e) x y l.1
+runs-tail : (s : State) (x y : List Entry) → AreLawful s (x ++ y) → AreLawful (runs_after s x) y
+runs-tail s [] y l = l
+runs-tail s (e ∷ x) y l = runs-tail (run_after s e) x y l.1
 
-runs-front : (r : Runs) (x y : List Entry) → AreLawful r (x ++ y) → AreLawful r x
-runs-front r [] y l = tt
-runs-front r (e ∷ x) y l = (l.0, runs-front (run_after r e) x y l.1)
-
-order-tail : (r : Runs) (x y : List Entry) → BeginInOrder r (x ++ y) → BeginInOrder (runs_after r x) y
-order-tail r [] y o = o
-order-tail r (e ∷ x) y o = order-tail (run_after r e) x y o.1
-
-order-front : (r : Runs) (x y : List Entry) → BeginInOrder r (x ++ y) → BeginInOrder r x
-order-front r [] y o = tt
-order-front r (e ∷ x) y o = (o.0, order-front (run_after r e) x y o.1)
+runs-front : (s : State) (x y : List Entry) → AreLawful s (x ++ y) → AreLawful s x
+runs-front s [] y l = tt
+runs-front s (e ∷ x) y l = (l.0, runs-front (run_after s e) x y l.1)
 
 last-append : (time : ℕ) (x y : List Entry) → last_time_from time (x ++ y) ≡ last_time_from (last_time_from time x) y
 last-append time [] y = refl
 last-append time (e ∷ x) y = last-append (time_after time e) x y
 
-pub rises : (b : Begin) (later : List Begin) (x y : List Entry) → AreLawful (runs_from b later) (x ++ y) → BeginInOrder (runs_from b later) (x ++ y) → last_time x ≤ last_time (x ++ y)
-rises b later [] y l o = omega arith
-rises b later (e ∷ x) y l o =
-    let r = runs_from b later in
-    let t : Tells (last_time (e ∷ x)) (runs_after r (e ∷ x)).state = tells b later e x (runs-front r (e ∷ x) y l) in
-    rw (last-append 0 (e ∷ x) y) (rises-all (last_time (e ∷ x)) (runs_after r (e ∷ x)) y (runs-tail r (e ∷ x) y l) (order-tail r (e ∷ x) y o) t)
+pub rises : (b : Begin) (x y : List Entry) → AreLawful (begun b) (x ++ y) → last_time x ≤ last_time (x ++ y)
+rises b [] y l = omega arith
+rises b (e ∷ x) y l =
+    let s = begun b in
+    let t : Tells (last_time (e ∷ x)) (runs_after s (e ∷ x)) = tells b e x (runs-front s (e ∷ x) y l) in
+    rw (last-append 0 (e ∷ x) y) (rises-all (last_time (e ∷ x)) (runs_after s (e ∷ x)) y (runs-tail s (e ∷ x) y l) t)
 
 -- also in front of others
-pub rises-before : (b : Begin) (later : List Begin) (x y z : List Entry) → AreLawful (runs_from b later) ((x ++ y) ++ z) → BeginInOrder (runs_from b later) ((x ++ y) ++ z) → last_time x ≤ last_time (x ++ y)
-rises-before b later x y z l o =
-    let r = runs_from b later in
-    rises b later x y (runs-front r (x ++ y) z l) (order-front r (x ++ y) z o)
+pub rises-before : (b : Begin) (x y z : List Entry) → AreLawful (begun b) ((x ++ y) ++ z) → last_time x ≤ last_time (x ++ y)
+rises-before b x y z l = rises b x y (runs-front (begun b) (x ++ y) z l)
 
 -- two small runs
 
-pub chain_lawful : (start : ℕ) → AreLawful (two_runs start) (chain_journal start)
+pub chain_lawful : AreLawful (begun small_begin) (chain_journal 2000000)
 unfolding begun after
-chain_lawful start =
-    let next : Begin = record small_begin { start = start } in
+chain_lawful =
+    let next : Begin = record small_begin { start = 2000000 } in
     let first = skipped_run 2000000 (omega arith) (omega arith) in
-    join_runs small_begin next [] (skipped_journal 2000000) (ready_from start) first.lawful refl (run_alone next [] (ready_from start) (search rules))
-
-pub chain_in_order : (start : ℕ) → 2000000 ≤ start → BeginInOrder (two_runs start) (chain_journal start)
-unfolding begun after
-chain_in_order start late = search rules
-
-pub chain_back : (start : ℕ) → start < 2000000 → last_time (chain_journal start) < last_time (skipped_journal 2000000)
-chain_back start early = early
+    join_runs small_begin (skipped_journal 2000000) (ready_from 2000000) first.lawful refl (run_alone next (ready_from 2000000) (search rules))

@@ -1,14 +1,5 @@
 -- The clock under lawful entries, and the front and the rest of a lawful list.
-use Rattle.std.proofs.Common.{◌≡◌, ◌≤◌, ◌<◌, ℕ, List, [], ◌∷◌, ◌++◌, Some, arith}
-use Rattle.rt_audit.specs.declared.entry.Entry.{Entry}
-use Rattle.rt_audit.specs.declared.entry.Entry.TheVariants.{Advance, Skip}
-use Rattle.rt_super.specs.Alarms.{Alarm}
-use Rattle.rt_model.specs.declared.begin.Begin.{Begin}
-use Rattle.rt_model.specs.State.{State, begun}
-use Rattle.rt_model.specs.Alarms.{ahead, skip_to}
-use Rattle.rt_model.specs.Effects.{after, after_all}
-use Rattle.rt_model.specs.Rules.{May, IsLawful}
-use Rattle.rt_model.proofs.Append.{after_all-append}
+use Rattle.rt_laws.proofs.Prelude.{◌≡◌, ◌≤◌, ◌<◌, ℕ, List, [], ◌∷◌, ◌++◌, Some, arith, Entry, Advance, Skip, Alarm, Begin, State, begun, ahead, skip_to, after, after_all, May, IsLawful, after_all-append}
 
 pub lawful-tail : (s : State) (xs ys : List Entry) → IsLawful s (xs ++ ys) → IsLawful (after_all s xs) ys
 lawful-tail s [] ys l = l

@@ -1,32 +1,9 @@
 -- What is left of a run from a state on, and rules by which it completes, whatever the steps.
-use Rattle.std.proofs.Common.{◌≡◌, ◌≢◌, ◌≤◌, ◌<◌, ◌+◌, ◌⊎◌, inl, inr, ℕ, List, [], ◌∷◌, ◌++◌, drop, Option, Some, None, true, false, refl, sym, ap, ◌∙◌, arith, eq-eqb}
-use Rattle.std.specs.List.Sorted.{IsPermutation}
-use Rattle.rt_audit.specs.declared.call.Call.{Call}
-use Rattle.rt_audit.specs.declared.call.Call.TheVariants.{SleepPoll}
-use Rattle.rt_audit.specs.declared.reply.CallReply.{CallReply}
-use Rattle.rt_audit.specs.declared.reply.CallReply.TheVariants.{PendingAt, Ready as IsOver}
-use Rattle.rt_audit.specs.declared.answer.AnswerKind.TheVariants.{Pending as IsPending, Ready as IsReady, Panicked as IsPanicked, Stopped as IsStopped, NoMemory as LacksMemory, Ended as IsEnded}
-use Rattle.rt_audit.specs.declared.finish.FinishCause.{FinishCause}
-use Rattle.rt_audit.specs.declared.finish.FinishCause.TheVariants.{Completed, NoMemory}
-use Rattle.rt_audit.specs.declared.entry.Entry.{Entry}
-use Rattle.rt_audit.specs.declared.entry.Entry.TheVariants.{Start, Call as CallEntry, Event, Wake, Draw, Root, Round, Visit, Answer as AnswerEntry, Advance, Skip, Fire, Cleanup}
+use Rattle.rt_laws.proofs.Prelude.{◌≡◌, ◌≢◌, ◌≤◌, ◌<◌, ◌+◌, ◌⊎◌, inl, inr, ℕ, List, [], ◌∷◌, ◌++◌, drop, Option, Some, None, true, false, refl, sym, ap, ◌∙◌, arith, eq-eqb, IsPermutation, Call, SleepPoll, CallReply, PendingAt, IsOver, IsPending, IsPanicked, IsStopped, LacksMemory, IsEnded, FinishCause, Completed, Entry, Start, CallEntry, Event, Wake, Draw, Root, Round, Visit, AnswerEntry, Advance, Skip, Fire, Cleanup, only-rounds, Begin, Outcome, Drawn, Long, State, Phase, Making, Between, Visiting, Entered, Polling, Halted, Ending, Turning, Over, Finished, Announced, Clock, Stood, Turn, stood_in, begun, process_task, task_fields, announced_by, IsOfCall, alarm_of, skip_to, fires, cause_at, reached, from_running, after, after_all, entering, announces, task_label, Answers, May, MayEvent, MayRound, IsLawful, find, is_ended, Held, Ask, Sleeping, Heard, Asks, Fits, call_of, put, Step, Does, Gives, Gave, Walks, Steps, Value, nothing, MovesCleanup, Moves, Polls, IsTied, taken, given, IsRun, IsValidInput}
+use Rattle.rt_audit.specs.declared.answer.AnswerKind.TheVariants.{Ready as IsReady}
+use Rattle.rt_audit.specs.declared.finish.FinishCause.TheVariants.{NoMemory}
 use Rattle.rt_model.specs.declared.answer.Answer.{Answer}
 use Rattle.rt_model.specs.declared.answer.Answer.TheVariants.{Pending, Ready, Panicked}
-use Rattle.rt_model.specs.declared.begin.Begin.{Begin}
-use Rattle.rt_model.specs.declared.result.Outcome.{Outcome}
-use Rattle.rt_model.specs.Draws.{Drawn, Long}
-use Rattle.rt_model.specs.State.{State, Phase, Making, Between, Visiting, Entered, Polling, Halted, Ending, Turning, Over, Finished, Announced, Clock, Stood, Turn, stood_in, begun}
-use Rattle.rt_model.specs.Events.{process_task, task_fields, announced_by, IsOfCall}
-use Rattle.rt_model.specs.Alarms.{alarm_of, skip_to, fires}
-use Rattle.rt_model.specs.Causes.{cause_at, reached, from_running}
-use Rattle.rt_model.specs.Effects.{after, after_all, entered as entering, announces, task_label}
-use Rattle.rt_model.specs.Rules.{Answers, May, MayEvent, MayRound, IsLawful}
-use Rattle.rt_model.specs.Lists.{find}
-use Rattle.rt_super.specs.Ancestry.{is_ended}
-use Rattle.rt_model.specs.Turns.{Held, Ask, Sleeping, Heard, Asks, Fits, call_of, put}
-use Rattle.rt_model.specs.Walk.{Step, Does, Gives, Gave, Walks}
-use Rattle.rt_model.specs.Tied.{Steps, Value, nothing, MovesCleanup, Moves, Polls, IsTied, taken, given}
-use Rattle.rt_model.specs.Run.{IsValidInput}
 use Rattle.rt_laws.proofs.AsIf.{as_if, lawful-so, tied-so, phase-so}
 use Rattle.rt_laws.proofs.Endings.{EndsFor, ends-all, cleans-for}
 use Rattle.rt_laws.proofs.Starts.{run_starts}
@@ -34,38 +11,51 @@ use Rattle.rt_laws.proofs.Stands.{stands, may_stand}
 use Rattle.rt_laws.proofs.Values.{all-whole, not-whole}
 use Rattle.rt_laws.proofs.Fronts.{LeadsTo, IsFront, walks-front, front-front, leads-fronts, leads-gave}
 
+-- the steps of a run, and what is known of the entries that are still to come in a state: also of those behind the first, and whatever
+-- was drawn so far
+pub record Course (A O : Type 0) : Type 1 where
+  pub steps : Steps A O
+  pub Known : State → List Entry → Type 0
+  pub onward : (s : State) (e : Entry) (x : List Entry) → Known s (e ∷ x) → Known (after s e) x
+  pub blind : (drawn : List Drawn) (s : State) (x : List Entry) → Known (as_if drawn s) x → Known s x
+
+-- nothing is known of the entries
+abbrev pub any : {A O : Type 0} → Steps A O → Course A O
+any p = record { steps = p; Known = λ s x. Unit {0}; onward = λ s e x known. tt; blind = λ drawn s x known. tt }
+
 -- the rest of a run that finishes for this cause, and isn't cut off
-pub record Rest {A O : Type 0} (p : Steps A O) (s : State) (v : Value A O) (x : List Entry) (cause : FinishCause) : Type 0 where
+pub record Rest {A O : Type 0} (p : Course A O) (s : State) (v : Value A O) (x : List Entry) (cause : FinishCause) : Type 0 where
   pub value : Value A O
   pub lawful : IsLawful s x
-  pub tied : IsTied p s v x value
+  pub tied : IsTied p.steps s v x value
   pub whole : value.whole ≡ true
   pub ends : (after_all s x).phase ≡ Finished cause
   pub caused : cause ≢ NoMemory
+  pub known : p.Known s x
 
 -- each such rest completes
-abbrev pub Completes : {A O : Type 0} → Steps A O → State → Value A O → Type 0
+abbrev pub Completes : {A O : Type 0} → Course A O → State → Value A O → Type 0
 Completes p s v = (x : List Entry) (cause : FinishCause) → Rest p s v x cause → cause ≡ Completed
 
 -- a call that announces nothing
 abbrev pub IsQuiet : {A O : Type 0} → Ask A O → Type 0
-IsQuiet ask = (reply : CallReply) → announced_by (call_of ask) reply ≡ []
+IsQuiet ask = (stood : Stood) (reply : CallReply) → announced_by stood (call_of ask) reply ≡ []
 
 -- no cause is reached, or this one
 abbrev pub IsFine : Option FinishCause → Type 0
 IsFine None = Unit {0}
 IsFine (Some cause) = cause ≡ Completed
 
-module _ {A O : Type 0} (p : Steps A O) where
+module _ {A O : Type 0} (p : Course A O) where
   -- behind its first entry
-  pub further : (s : State) (v : Value A O) (e : Entry) (x : List Entry) (cause : FinishCause) (r : Rest p s v (e ∷ x) cause) → (u : Value A O) × Moves p s v e u × (u.whole ≡ true) × Rest p (after s e) u x cause
+  pub further : (s : State) (v : Value A O) (e : Entry) (x : List Entry) (cause : FinishCause) (r : Rest p s v (e ∷ x) cause) → (u : Value A O) × Moves p.steps s v e u × (u.whole ≡ true) × Rest p (after s e) u x cause
   further s v e x cause r =
       let t = r.tied in
       let u : Value A O = t.0 in
-      (u, t.1, all-whole p (after s e) u r.value x t.2 r.whole, record { value = r.value; lawful = r.lawful.1; tied = t.2; whole = r.whole; ends = r.ends; caused = r.caused })
+      (u, t.1, all-whole p.steps (after s e) u r.value x t.2 r.whole, record { value = r.value; lawful = r.lawful.1; tied = t.2; whole = r.whole; ends = r.ends; caused = r.caused; known = p.onward s e x r.known })
 
   abbrev pub Continues : State → Value A O → Type 0
-  Continues s v = (e : Entry) (u : Value A O) → May s e → Moves p s v e u → u.whole ≡ true → Completes p (after s e) u
+  Continues s v = (e : Entry) (u : Value A O) → May s e → Moves p.steps s v e u → u.whole ≡ true → Completes p (after s e) u
 
   pub continues : (s : State) (v : Value A O) → ((cause : FinishCause) → s.phase ≢ Finished cause) → Continues s v → Completes p s v
   continues s v n c [] cause r = absurd (n cause r.ends)
@@ -99,25 +89,25 @@ module _ {A O : Type 0} (p : Steps A O) where
 
   -- the calls of a part under way are a front of its walk
 
-  cleanup-front : (s : State) (v u : Value A O) (q : Phase) → q ≡ Making → MovesCleanup p s v q u → u.whole ≡ true → IsFront (p.first s.clock.time) v.held s.turns
+  cleanup-front : (s : State) (v u : Value A O) (q : Phase) → q ≡ Making → MovesCleanup p.steps s v q u → u.whole ≡ true → IsFront (p.steps.first s.clock.time) v.held s.turns
   cleanup-front s v u q h m w =
-      let k : MovesCleanup p s v Making u = rw h at m in
+      let k : MovesCleanup p.steps s v Making u = rw h at m in
       elim k [
-        | inl k ↦ walks-front (stood_in s) tt k.0 u.held s.turns v.held (p.first s.clock.time) k.1
+        | inl k ↦ walks-front (stood_in s) tt k.0 u.held s.turns v.held (p.steps.first s.clock.time) k.1
         | inr k ↦ absurd (elim k [
           | inl b ↦ not-whole u (record v { held = u.held; unmade = u.unmade; whole = false }) w refl b.1
           | inr b ↦ not-whole u (record v { held = u.held; unmade = None; whole = false }) w refl b.1
         ])
       ]
 
-  making-front : (s : State) (v : Value A O) (x : List Entry) (cause : FinishCause) → s.phase ≡ Making → Rest p s v x cause → IsFront (p.first s.clock.time) v.held s.turns
+  making-front : (s : State) (v : Value A O) (x : List Entry) (cause : FinishCause) → s.phase ≡ Making → Rest p s v x cause → IsFront (p.steps.first s.clock.time) v.held s.turns
   unfolding after
   making-front s v [] cause h r = let e = r.ends in absurd (cc)
   making-front s v (CallEntry by call reply ∷ x) cause h r =
       let m = further s v (CallEntry by call reply) x cause r in
-      let t : Turn = record { call = call; reply = reply; stood = stood_in s } in
+      let t : Turn = record { by = by; call = call; reply = reply; stood = stood_in s } in
       let k = making-front (after s (CallEntry by call reply)) m.0 x cause h m.3 in
-      front-front s.turns (t ∷ []) v.held (p.first s.clock.time) (rw m.1 at k)
+      front-front s.turns (t ∷ []) v.held (p.steps.first s.clock.time) (rw m.1 at k)
   making-front s v (Event label fields ∷ x) cause h r =
       let m = further s v (Event label fields) x cause r in
       let k = making-front (after s (Event label fields)) m.0 x cause (rw h refl) m.3 in
@@ -129,28 +119,28 @@ module _ {A O : Type 0} (p : Steps A O) where
   making-front s v (Root task ∷ x) cause h r =
       let m = further s v (Root task) x cause r in
       let k = m.1 in
-      walks-front (stood_in s) tt k.0 k.1 s.turns v.held (p.first s.clock.time) k.2
+      walks-front (stood_in s) tt k.0 k.1 s.turns v.held (p.steps.first s.clock.time) k.2
   making-front s v (Cleanup ∷ x) cause h r =
       let m = further s v Cleanup x cause r in
       cleanup-front s v m.0 s.phase h m.1 m.2
   making-front s v (e ∷ x) cause h r = let z : stands Making e ≡ true = rw h at (may_stand s e r.lawful.0) in absurd (cc)
 
   -- the walk of a poll, from the state that the task is in
-  polls-walk : (s : State) (v : Value A O) (task other : ℕ) (a : A) (answer : Answer O) (end : Held A O) → other ≡ task → find task v.held.tasks ≡ Some a → (k : Polls p s other v.held answer end) → Walks (p.task.next a s.clock.time task) (taken task v.held) s.turns (stood_in s) answer k.left k.moved
+  polls-walk : (s : State) (v : Value A O) (task other : ℕ) (a : A) (answer : Answer O) (end : Held A O) → other ≡ task → find task v.held.tasks ≡ Some a → (k : Polls p.steps s other v.held answer end) → Walks (p.steps.task.next a s.clock.time task) (taken task v.held) s.turns (stood_in s) answer k.left k.moved
   polls-walk s v task other a answer end e f k =
       let there : find task v.held.tasks ≡ Some k.before = rw e at k.there in
       let same : k.before ≡ a = cc in
       let walks = k.walks in
       rw (e, same) at walks
 
-  polling-front : (s : State) (v : Value A O) (task : ℕ) (left : List ℕ) (a : A) (x : List Entry) (cause : FinishCause) → s.phase ≡ Polling task left → find task v.held.tasks ≡ Some a → Rest p s v x cause → IsFront (p.task.next a s.clock.time task) (taken task v.held) s.turns
+  polling-front : (s : State) (v : Value A O) (task : ℕ) (left : List ℕ) (a : A) (x : List Entry) (cause : FinishCause) → s.phase ≡ Polling task left → find task v.held.tasks ≡ Some a → Rest p s v x cause → IsFront (p.steps.task.next a s.clock.time task) (taken task v.held) s.turns
   unfolding after
   polling-front s v task left a [] cause h f r = let e = r.ends in absurd (cc)
   polling-front s v task left a (CallEntry by call reply ∷ x) cause h f r =
       let m = further s v (CallEntry by call reply) x cause r in
-      let t : Turn = record { call = call; reply = reply; stood = stood_in s } in
+      let t : Turn = record { by = by; call = call; reply = reply; stood = stood_in s } in
       let k = polling-front (after s (CallEntry by call reply)) m.0 task left a x cause h (rw m.1 f) m.3 in
-      front-front s.turns (t ∷ []) (taken task v.held) (p.task.next a s.clock.time task) (rw m.1 at k)
+      front-front s.turns (t ∷ []) (taken task v.held) (p.steps.task.next a s.clock.time task) (rw m.1 at k)
   polling-front s v task left a (Event label fields ∷ x) cause h f r =
       let m = further s v (Event label fields) x cause r in
       let k = polling-front (after s (Event label fields)) m.0 task left a x cause (rw h refl) (rw m.1 f) m.3 in
@@ -163,22 +153,22 @@ module _ {A O : Type 0} (p : Steps A O) where
       let m = further s v (AnswerEntry other IsPending) x cause r in
       let n = r.lawful.0.1.0 in
       let end : Held A O = m.1.0 in
-      let k : Polls p s other v.held Pending end = m.1.1 in
-      walks-front (stood_in s) Pending k.left k.moved s.turns (taken task v.held) (p.task.next a s.clock.time task) (polls-walk s v task other a Pending end (cc) f k)
+      let k : Polls p.steps s other v.held Pending end = m.1.1 in
+      walks-front (stood_in s) Pending k.left k.moved s.turns (taken task v.held) (p.steps.task.next a s.clock.time task) (polls-walk s v task other a Pending end (cc) f k)
   polling-front s v task left a (AnswerEntry other IsReady ∷ x) cause h f r =
       let m = further s v (AnswerEntry other IsReady) x cause r in
       let n = r.lawful.0.1.0 in
       let o : O = m.1.0 in
       let end : Held A O = m.1.1 in
-      let k : Polls p s other v.held (Ready o) end = m.1.2 in
-      walks-front (stood_in s) (Ready o) k.left k.moved s.turns (taken task v.held) (p.task.next a s.clock.time task) (polls-walk s v task other a (Ready o) end (cc) f k)
+      let k : Polls p.steps s other v.held (Ready o) end = m.1.2 in
+      walks-front (stood_in s) (Ready o) k.left k.moved s.turns (taken task v.held) (p.steps.task.next a s.clock.time task) (polls-walk s v task other a (Ready o) end (cc) f k)
   polling-front s v task left a (AnswerEntry other IsPanicked ∷ x) cause h f r =
       let m = further s v (AnswerEntry other IsPanicked) x cause r in
       let n = r.lawful.0.1.0 in
       let text : List ℕ = m.1.0 in
       let end : Held A O = m.1.1 in
-      let k : Polls p s other v.held (Panicked text) end = m.1.2 in
-      walks-front (stood_in s) (Panicked text) k.left k.moved s.turns (taken task v.held) (p.task.next a s.clock.time task) (polls-walk s v task other a (Panicked text) end (cc) f k)
+      let k : Polls p.steps s other v.held (Panicked text) end = m.1.2 in
+      walks-front (stood_in s) (Panicked text) k.left k.moved s.turns (taken task v.held) (p.steps.task.next a s.clock.time task) (polls-walk s v task other a (Panicked text) end (cc) f k)
   polling-front s v task left a (AnswerEntry other LacksMemory ∷ x) cause h f r =
       let m = further s v (AnswerEntry other LacksMemory) x cause r in
       let k = m.1 in
@@ -221,7 +211,7 @@ module _ {A O : Type 0} (p : Steps A O) where
       some-behind events (record { label = label; fields = fields }) e
 
   -- the steps of a part, whose turns so far lead to those whose next call announces nothing
-  module _ {L R : Type 0} (step at : Step A L O R) (held now : Held A O) (turns : List Turn) (leads : LeadsTo step held turns at now) (q : Phase) (made : AreMade q) (clock : Clock) (stood : Stood) (v : Value A O) (quiet : (call : Call) (reply : CallReply) → IsFront at now (record { call = call; reply = reply; stood = stood } ∷ []) → announced_by call reply ≡ []) (front : (s : State) (x : List Entry) (cause : FinishCause) → s.phase ≡ q → s.clock ≡ clock → Rest p s v x cause → IsFront step held s.turns) where
+  module _ {L R : Type 0} (step at : Step A L O R) (held now : Held A O) (turns : List Turn) (leads : LeadsTo step held turns at now) (q : Phase) (made : AreMade q) (clock : Clock) (stood : Stood) (v : Value A O) (quiet : (by : Option ℕ) (call : Call) (reply : CallReply) → IsFront at now (record { by = by; call = call; reply = reply; stood = stood } ∷ []) → announced_by stood call reply ≡ []) (front : (s : State) (x : List Entry) (cause : FinishCause) → s.phase ≡ q → s.clock ≡ clock → Rest p s v x cause → IsFront step held s.turns) where
     stray : (s : State) (x : List Entry) (cause : FinishCause) → s.phase ≡ q → s.clock ≡ clock → stood_in s ≡ stood → s.turns ≡ turns → s.owed ≡ [] → s.announced ≢ [] → Rest p s v x cause → ⊥
     unfolding after
     stray s [] cause h c is t o n r =
@@ -230,10 +220,10 @@ module _ {A O : Type 0} (p : Steps A O) where
     stray s (CallEntry by call reply ∷ x) cause h c is t o n r =
         let m = further s v (CallEntry by call reply) x cause r in
         let rest : Rest p (after s (CallEntry by call reply)) v x cause = rw m.1 at m.3 in
-        let turn : Turn = record { call = call; reply = reply; stood = stood_in s } in
+        let turn : Turn = record { by = by; call = call; reply = reply; stood = stood_in s } in
         let f : IsFront step held (s.turns ++ turn ∷ []) = front (after s (CallEntry by call reply)) x cause h c rest in
         let one : IsFront at now (turn ∷ []) = leads-fronts at now (turn ∷ []) turns held step leads (rw t at f) in
-        n (r.lawful.0.1.2 ∙ quiet call reply (rw is at one))
+        n (r.lawful.0.1.2 ∙ quiet by call reply (rw is at one))
     stray s (Event label fields ∷ x) cause h c is t o n r =
         let m = further s v (Event label fields) x cause r in
         let rest : Rest p (after s (Event label fields)) v x cause = rw m.1 at m.3 in
@@ -298,15 +288,15 @@ module _ {A O : Type 0} (p : Steps A O) where
 
     module _ (task : ℕ) (left : List ℕ) (a : A) (is : s.phase ≡ Polling task left) (there : find task v.held.tasks ≡ Some a) (now : Held A O) where
       abbrev Leads : Step A A O (Answer O) → Type 0
-      Leads at = LeadsTo (p.task.next a s.clock.time task) (taken task v.held) s.turns at now
+      Leads at = LeadsTo (p.steps.task.next a s.clock.time task) (taken task v.held) s.turns at now
 
       abbrev turned : Call → CallReply → Turn
-      turned call reply = record { call = call; reply = reply; stood = stood_in s }
+      turned call reply = record { by = Some task; call = call; reply = reply; stood = stood_in s }
 
       -- no event comes before a call that announces none
-      pub silent : (at : Step A A O (Answer O)) → Leads at → ((call : Call) (reply : CallReply) → IsFront at now (turned call reply ∷ []) → announced_by call reply ≡ []) → (label : List ℕ) (fields : List (List ℕ)) (u : Value A O) → u ≡ v → Completes p (after s (Event label fields)) u
+      pub silent : (at : Step A A O (Answer O)) → Leads at → ((by : Option ℕ) (call : Call) (reply : CallReply) → IsFront at now (record { by = by; call = call; reply = reply; stood = stood_in s } ∷ []) → announced_by (stood_in s) call reply ≡ []) → (label : List ℕ) (fields : List (List ℕ)) (u : Value A O) → u ≡ v → Completes p (after s (Event label fields)) u
       silent at l quiet =
-          strays (p.task.next a s.clock.time task) at (taken task v.held) now s.turns l (Polling task left) (inr (inl (task, left, refl))) s.clock (stood_in s) v quiet
+          strays (p.steps.task.next a s.clock.time task) at (taken task v.held) now s.turns l (Polling task left) (inr (inl (task, left, refl))) s.clock (stood_in s) v quiet
           (λ t x cause h c r. let f = polling-front t v task left a x cause h there r in rw c at f)
           s is refl refl refl
 
@@ -315,16 +305,16 @@ module _ {A O : Type 0} (p : Steps A O) where
       unfolding after
       called at call reply u x cause l k r =
           let f = polling-front (after s (CallEntry (Some task) call reply)) u task left a x cause is (rw k there) r in
-          leads-fronts at now (turned call reply ∷ []) s.turns (taken task v.held) (p.task.next a s.clock.time task) l (rw k at f)
+          leads-fronts at now (turned call reply ∷ []) s.turns (taken task v.held) (p.steps.task.next a s.clock.time task) l (rw k at f)
 
-      pub gave : (at : Step A A O (Answer O)) (answer : Answer O) (end : Held A O) (other : ℕ) → Leads at → other ≡ task → (k : Polls p s other v.held answer end) → Gave (stood_in s) now at answer k.left k.moved
-      gave at answer end other l e k = leads-gave at now (stood_in s) answer k.left k.moved s.turns (taken task v.held) (p.task.next a s.clock.time task) l (polls-walk s v task other a answer end e there k)
+      pub gave : (at : Step A A O (Answer O)) (answer : Answer O) (end : Held A O) (other : ℕ) → Leads at → other ≡ task → (k : Polls p.steps s other v.held answer end) → Gave (stood_in s) now at answer k.left k.moved
+      gave at answer end other l e k = leads-gave at now (stood_in s) answer k.left k.moved s.turns (taken task v.held) (p.steps.task.next a s.clock.time task) l (polls-walk s v task other a answer end e there k)
 
       -- the call that is asked for comes next, or an event before it
-      pub polling_asks : (ask : Ask A O) (on : Heard O → Step A A O (Answer O)) → Leads (Does ask on) → ((label : List ℕ) (fields : List (List ℕ)) (u : Value A O) → IsOfCall s.announced label fields → u ≡ v → Completes p (after s (Event label fields)) u) → ((reply : CallReply) → s.announced ≡ announced_by (call_of ask) reply → Answers s (call_of ask) reply → (held : Held A O) → Fits held ask (turned (call_of ask) reply) → Completes p (after s (CallEntry (Some task) (call_of ask) reply)) v) → Completes p s v
+      pub polling_asks : (ask : Ask A O) (on : Heard O → Step A A O (Answer O)) → Leads (Does ask on) → ((label : List ℕ) (fields : List (List ℕ)) (u : Value A O) → IsOfCall (stood_in s) s.announced label fields → u ≡ v → Completes p (after s (Event label fields)) u) → ((reply : CallReply) → s.announced ≡ announced_by (stood_in s) (call_of ask) reply → Answers s (call_of ask) reply → (held : Held A O) → Fits held ask (turned (call_of ask) reply) → Completes p (after s (CallEntry (Some task) (call_of ask) reply)) v) → Completes p s v
       polling_asks ask on l events more = continues s v (λ cause e. cc) c
         where
-          calls : (by : Option ℕ) (call : Call) (reply : CallReply) (u : Value A O) → by ≡ Some task → u ≡ v → Answers s call reply → s.announced ≡ announced_by call reply → Completes p (after s (CallEntry by call reply)) u
+          calls : (by : Option ℕ) (call : Call) (reply : CallReply) (u : Value A O) → by ≡ Some task → u ≡ v → Answers s call reply → s.announced ≡ announced_by (stood_in s) call reply → Completes p (after s (CallEntry by call reply)) u
           calls by call reply u e k m n x cause r =
               let rest : Rest p (after s (CallEntry (Some task) call reply)) u x cause = rw e at r in
               let asks : Asks now ask (turned call reply) = (called (Does ask on) call reply u x cause l k rest).1.0 in
@@ -350,12 +340,12 @@ module _ {A O : Type 0} (p : Steps A O) where
       pub polling_does : (ask : Ask A O) (on : Heard O → Step A A O (Answer O)) → Leads (Does ask on) → IsQuiet ask → ((reply : CallReply) → Answers s (call_of ask) reply → (held : Held A O) → Fits held ask (turned (call_of ask) reply) → Completes p (after s (CallEntry (Some task) (call_of ask) reply)) v) → Completes p s v
       polling_does ask on l quiet more =
           polling_asks ask on l
-          (λ label fields u m. silent (Does ask on) l (λ call reply f. rw f.1.0.0 (quiet reply)) label fields u)
+          (λ label fields u m. silent (Does ask on) l (λ by call reply f. rw f.1.0.0 (quiet (stood_in s) reply)) label fields u)
           (λ reply n. more reply)
 
       -- a sleep, by whether it is due
       pub polling_sleeps : (due : ℕ) (alarm : Option ℕ) (on : Heard O → Step A A O (Answer O)) → Leads (Does (Sleeping due alarm) on) → s.clock.time < due → Completes p (after s (CallEntry (Some task) (SleepPoll due) (PendingAt (alarm_of s.alarms due alarm)))) v → Completes p s v
-      polling_sleeps due alarm on l later more = polling_does (Sleeping due alarm) on l (λ reply. refl) told
+      polling_sleeps due alarm on l later more = polling_does (Sleeping due alarm) on l (λ stood reply. refl) told
         where
           told : (reply : CallReply) → Answers s (SleepPoll due) reply → (held : Held A O) → Fits held (Sleeping due alarm) (turned (SleepPoll due) reply) → Completes p (after s (CallEntry (Some task) (SleepPoll due) reply)) v
           told IsOver m held f = absurd (omega arith)
@@ -363,7 +353,7 @@ module _ {A O : Type 0} (p : Steps A O) where
           told _ m held f = absurd m
 
       pub polling_wakes : (due : ℕ) (alarm : Option ℕ) (on : Heard O → Step A A O (Answer O)) → Leads (Does (Sleeping due alarm) on) → due ≤ s.clock.time → Completes p (after s (CallEntry (Some task) (SleepPoll due) IsOver)) v → Completes p s v
-      polling_wakes due alarm on l late more = polling_does (Sleeping due alarm) on l (λ reply. refl) told
+      polling_wakes due alarm on l late more = polling_does (Sleeping due alarm) on l (λ stood reply. refl) told
         where
           told : (reply : CallReply) → Answers s (SleepPoll due) reply → (held : Held A O) → Fits held (Sleeping due alarm) (turned (SleepPoll due) reply) → Completes p (after s (CallEntry (Some task) (SleepPoll due) reply)) v
           told IsOver m held f = more
@@ -379,14 +369,14 @@ module _ {A O : Type 0} (p : Steps A O) where
               let rest : Rest p (after s (CallEntry (Some task) call reply)) u x cause = rw e at r in
               absurd (called (Gives answer next) call reply u x cause l k rest).1
 
-          pends : (other : ℕ) (u : Value A O) (end : Held A O) → other ≡ task → Polls p s other v.held Pending end → u ≡ record v { held = end } → Completes p (after s (AnswerEntry other IsPending)) u
+          pends : (other : ℕ) (u : Value A O) (end : Held A O) → other ≡ task → Polls p.steps s other v.held Pending end → u ≡ record v { held = end } → Completes p (after s (AnswerEntry other IsPending)) u
           pends other u end e k is =
               let g = gave (Gives answer next) Pending end other l e k in
               let held : end ≡ put task next now = k.is ∙ rw (e, ← g.1, g.2) refl in
               let same : u ≡ record v { held = put task next now } = is ∙ rw held refl in
               rw (e, same) (pending g.0)
 
-          gives : (other : ℕ) (u : Value A O) (o : O) (end : Held A O) → other ≡ task → Polls p s other v.held (Ready o) end → u ≡ given s other o end v → Completes p (after s (AnswerEntry other IsReady)) u
+          gives : (other : ℕ) (u : Value A O) (o : O) (end : Held A O) → other ≡ task → Polls p.steps s other v.held (Ready o) end → u ≡ given s other o end v → Completes p (after s (AnswerEntry other IsReady)) u
           gives other u o end e k is =
               let g = gave (Gives answer next) (Ready o) end other l e k in
               let held : end ≡ put task next now = k.is ∙ rw (e, ← g.1, g.2) refl in
@@ -395,7 +385,7 @@ module _ {A O : Type 0} (p : Steps A O) where
 
           c : Continues s v
           c (CallEntry by call reply) u m k w = calls by call reply u (rw is at m.1.0) k
-          c (Event label fields) u m k w = silent (Gives answer next) l (λ call reply f. absurd f.1) label fields u k
+          c (Event label fields) u m k w = silent (Gives answer next) l (λ by call reply f. absurd f.1) label fields u k
           c (AnswerEntry other IsPending) u m k w = let n = m.1.0 in pends other u k.0 (cc) k.1 k.2
           c (AnswerEntry other IsReady) u m k w = let n = m.1.0 in gives other u k.0 k.1 (cc) k.2 k.3
           c (AnswerEntry other IsPanicked) u m k w = let n = m.1.0 in let text : List ℕ = k.0 in absurd (calm text (gave (Gives answer next) (Panicked text) k.1 other l (cc) k.2).0)
@@ -411,30 +401,30 @@ module _ {A O : Type 0} (p : Steps A O) where
 
     -- the maker
 
-    pub made : (at : Step A A O (Unit {0})) (now : Held A O) (by : Option ℕ) (call : Call) (reply : CallReply) (u : Value A O) (x : List Entry) (cause : FinishCause) → s.phase ≡ Making → LeadsTo (p.first s.clock.time) v.held s.turns at now → u ≡ v → Rest p (after s (CallEntry by call reply)) u x cause → IsFront at now (record { call = call; reply = reply; stood = stood_in s } ∷ [])
+    pub made : (at : Step A A O (Unit {0})) (now : Held A O) (by : Option ℕ) (call : Call) (reply : CallReply) (u : Value A O) (x : List Entry) (cause : FinishCause) → s.phase ≡ Making → LeadsTo (p.steps.first s.clock.time) v.held s.turns at now → u ≡ v → Rest p (after s (CallEntry by call reply)) u x cause → IsFront at now (record { by = by; call = call; reply = reply; stood = stood_in s } ∷ [])
     unfolding after
     made at now by call reply u x cause h l k r =
         let f = making-front (after s (CallEntry by call reply)) u x cause h r in
-        leads-fronts at now (record { call = call; reply = reply; stood = stood_in s } ∷ []) s.turns v.held (p.first s.clock.time) l (rw k at f)
+        leads-fronts at now (record { by = by; call = call; reply = reply; stood = stood_in s } ∷ []) s.turns v.held (p.steps.first s.clock.time) l (rw k at f)
 
-    pub making_silent : (at : Step A A O (Unit {0})) (now : Held A O) → s.phase ≡ Making → LeadsTo (p.first s.clock.time) v.held s.turns at now → ((call : Call) (reply : CallReply) → IsFront at now (record { call = call; reply = reply; stood = stood_in s } ∷ []) → announced_by call reply ≡ []) → (label : List ℕ) (fields : List (List ℕ)) (u : Value A O) → u ≡ v → Completes p (after s (Event label fields)) u
+    pub making_silent : (at : Step A A O (Unit {0})) (now : Held A O) → s.phase ≡ Making → LeadsTo (p.steps.first s.clock.time) v.held s.turns at now → ((by : Option ℕ) (call : Call) (reply : CallReply) → IsFront at now (record { by = by; call = call; reply = reply; stood = stood_in s } ∷ []) → announced_by (stood_in s) call reply ≡ []) → (label : List ℕ) (fields : List (List ℕ)) (u : Value A O) → u ≡ v → Completes p (after s (Event label fields)) u
     making_silent at now h l quiet =
-        strays (p.first s.clock.time) at v.held now s.turns l Making (inl refl) s.clock (stood_in s) v quiet
+        strays (p.steps.first s.clock.time) at v.held now s.turns l Making (inl refl) s.clock (stood_in s) v quiet
         (λ t x cause h c r. let f = making-front t v x cause h r in rw c at f)
         s h refl refl refl
 
-    pub making_gives : (next : A) (now : Held A O) → s.phase ≡ Making → LeadsTo (p.first s.clock.time) v.held s.turns (Gives tt next) now → IsFine (reached s) → Completes p (after s (Root s.numbers.next)) (record v { held = put s.numbers.next next now }) → Completes p s v
+    pub making_gives : (next : A) (now : Held A O) → s.phase ≡ Making → LeadsTo (p.steps.first s.clock.time) v.held s.turns (Gives tt next) now → IsFine (reached s) → Completes p (after s (Root s.numbers.next)) (record v { held = put s.numbers.next next now }) → Completes p s v
     making_gives next now h l f more = continues s v (λ cause e. cc) c
       where
-        takes : (task : ℕ) (u : Value A O) → task ≡ s.numbers.next → Moves p s v (Root task) u → Completes p (after s (Root task)) u
+        takes : (task : ℕ) (u : Value A O) → task ≡ s.numbers.next → Moves p.steps s v (Root task) u → Completes p (after s (Root task)) u
         takes task u e k =
-            let g = leads-gave (Gives tt next) now (stood_in s) tt k.0 k.1 s.turns v.held (p.first s.clock.time) l k.2 in
+            let g = leads-gave (Gives tt next) now (stood_in s) tt k.0 k.1 s.turns v.held (p.steps.first s.clock.time) l k.2 in
             let same : u ≡ record v { held = put s.numbers.next next now } = k.3 ∙ rw (e, ← g.1, g.2) refl in
             rw (e, same) more
 
         c : Continues s v
         c (CallEntry by call reply) u m k w = λ x cause r. absurd (made (Gives tt next) now by call reply u x cause h l k r).1
-        c (Event label fields) u m k w = making_silent (Gives tt next) now h l (λ call reply f. absurd f.1) label fields u k
+        c (Event label fields) u m k w = making_silent (Gives tt next) now h l (λ by call reply f. absurd f.1) label fields u k
         c (Root task) u m k w = takes task u m.1.1 k
         c Cleanup u m k w = cleanup s u f
         c (Wake other) u m k w = absurd (cc)
@@ -449,7 +439,7 @@ module _ {A O : Type 0} (p : Steps A O) where
         busy q e m = let k : MayRound Turning s = rw e at m in k.0 idle
 
         c : Continues s v
-        c (Draw value) u m k w = absurd (busy s.phase h m.1)
+        c (Draw value) u m k w = absurd (busy s.phase h (only-rounds s.phase s value m.1))
         c (Round order) u m k w = absurd (busy s.phase h m.1.0)
         c (Skip other) u m k w = let n = m.1.1 in let same : other ≡ now = cc in rw (same, k.0) more
         c (Fire alarm) u m k w = let n = m.1.2 in absurd (cc)
@@ -464,7 +454,7 @@ module _ {A O : Type 0} (p : Steps A O) where
         busy q e m = let k : MayRound Turning s = rw e at m in let n = k.2 in cc
 
         c : Continues s v
-        c (Draw value) u m k w = absurd (busy s.phase h m.1)
+        c (Draw value) u m k w = absurd (busy s.phase h (only-rounds s.phase s value m.1))
         c (Round order) u m k w = absurd (busy s.phase h m.1.0)
         c (Skip other) u m k w = let n = m.1.1 in absurd (cc)
         c (Fire other) u m k w = let n = m.1.2 in let same : other ≡ alarm = cc in rw (same, k.0) more
@@ -501,10 +491,11 @@ module _ {A O : Type 0} (p : Steps A O) where
   rest-so drawn s v x cause r = record {
     value = r.value;
     lawful = lawful-so drawn s x r.lawful;
-    tied = tied-so p drawn s v r.value x r.tied;
+    tied = tied-so p.steps drawn s v r.value x r.tied;
     whole = r.whole;
     ends = sym (phase-so drawn s x) ∙ r.ends;
     caused = r.caused;
+    known = p.blind drawn s x r.known;
   }
 
   module _ (s : State) (v : Value A O) (must : MustRound s) (f : IsFine (reached s)) (more : (order : List ℕ) → IsPermutation s.ready order → Completes p (after s (Round order)) v) where
@@ -545,15 +536,16 @@ module _ {A O : Type 0} (p : Steps A O) where
   unfolding begun
   begun-ends b cause e = cc
 
-  pub begins : (b : Begin) → Completes p (after (begun b) (Start b.first b.start b.deadline b.cycle)) nothing → IsValidInput p b
-  begins b more entries cause end value r =
-      continues (begun b) nothing (begun-ends b) c entries cause (record {
+  pub begins_known : (b : Begin) → Completes p (after (begun b) (Start b.first b.start b.deadline b.cycle)) nothing → (x : List Entry) (cause : FinishCause) (end : State) (value : Value A O) → IsRun p.steps b x cause end value → p.Known (begun b) x → cause ≡ Completed
+  begins_known b more x cause end value r known =
+      continues (begun b) nothing (begun-ends b) c x cause (record {
         value = value;
         lawful = r.lawful;
         tied = r.tied;
         whole = r.whole;
         ends = ap (λ (s : State). s.phase) r.reaches ∙ r.ends;
         caused = r.caused;
+        known = known;
       })
     where
       c : Continues (begun b) nothing
@@ -561,3 +553,6 @@ module _ {A O : Type 0} (p : Steps A O) where
           let same = run_starts b e [] (m, tt) in
           let kept : u ≡ nothing = rw same at k in
           rw (same, kept) more
+
+pub begins : {A O : Type 0} (p : Steps A O) (b : Begin) → Completes (any p) (after (begun b) (Start b.first b.start b.deadline b.cycle)) nothing → IsValidInput p b
+begins p b more x cause end value r = begins_known (any p) b more x cause end value r tt

@@ -1,23 +1,8 @@
 -- What is no run that was cut off.
-use Rattle.std.proofs.Common.{◌≡◌, ℕ, inl, inr, true, false, List, [], ◌∷◌, ◌++◌, Some, None, refl, rules, arith, take, drop, Ok}
-use Rattle.std.proofs.lemmas.List.Sorted.{IsPermutation-refl}
-use Rattle.rt_base.specs.declared.execution.Execution.TheVariants.{Dedicated}
-use Rattle.rt_audit.specs.declared.answer.AnswerKind.TheVariants.{Ready as AnswersReady, NoMemory as LacksMemory, Ended}
+use Rattle.rt_laws.proofs.Prelude.{◌≡◌, ℕ, inl, inr, true, false, List, [], ◌∷◌, ◌++◌, Some, None, refl, rules, arith, take, drop, Ok, IsPermutation-refl, Dedicated, AnswersReady, LacksMemory, Ended, Start, Answered, NodeEnd, Cleanup, CallOf, CloseNode, Spawn, SleepPoll, WakeCall, Slots, SlotSend, CallReply, Done, TaskAt, PendingAt, find, Turn, Stood, begun, stood_in, after, after_all, Held, put, with_spawned, with_sent, freed_by, FreesOne, has_place, IsLawful, Gives, Stops, stood_before, Value, nothing, taken, IsCutOff, small_begin, ready_root, busy_root, closes_node, opening, visiting_root, root_ends, finishing, silent_end, lacking_journal, invented_in_poll, invented_in_end, called_by_maker, asking_maker, maker_lacks}
 use Rattle.rt_audit.specs.declared.finish.FinishCause.TheVariants.{NoMemory}
-use Rattle.rt_audit.specs.declared.entry.Entry.TheVariants.{Start, Call, Answer as Answered, NodeEnd, Cleanup}
-use Rattle.rt_audit.specs.declared.call.Call.{Call as CallOf}
-use Rattle.rt_audit.specs.declared.call.Call.TheVariants.{CloseNode, Spawn, SleepPoll, SlotSend, Wake as WakeCall}
-use Rattle.rt_audit.specs.declared.reply.CallReply.{CallReply}
-use Rattle.rt_audit.specs.declared.reply.CallReply.TheVariants.{Done, TaskAt, PendingAt}
-use Rattle.rt_model.specs.Lists.{find}
-use Rattle.rt_model.specs.State.{Turn, Stood, begun, stood_in}
-use Rattle.rt_model.specs.Effects.{after, after_all}
-use Rattle.rt_model.specs.Turns.{Held, put, with_task, with_spawned, with_sent, freed_by, FreesOne, has_place}
-use Rattle.rt_model.specs.Rules.{IsLawful}
-use Rattle.rt_model.specs.Walk.{Gives, Stops, stood_before}
-use Rattle.rt_model.specs.Tied.{Value, nothing, taken}
-use Rattle.rt_model.specs.Run.{IsCutOff}
-use Rattle.rt_laws.specs.Examples.{small_begin, ready_root, busy_root, closes_node, opening, visiting_root, root_ends, finishing, silent_end, lacking_journal, invented_in_poll, invented_in_end, called_by_maker, asking_maker, maker_lacks}
+use Rattle.rt_audit.specs.declared.entry.Entry.TheVariants.{Call}
+use Rattle.rt_model.specs.Turns.{with_task}
 use Rattle.rt_laws.proofs.Misses.{tied-tail}
 
 -- an end that only spends lacks no memory before it has made its call
@@ -75,7 +60,7 @@ none_in_an_end number r =
 -- what a call moves whose ask isn't known
 moves-some : (stood : Stood) (held : Held (Unit {0}) ℕ) (call : CallOf) (reply : CallReply) → (end : Held (Unit {0}) ℕ) × FreesOne stood held call reply end
 moves-some stood held (Spawn node) (TaskAt task number) = (with_spawned task Dedicated tt held, (Dedicated, tt, refl))
-moves-some stood held (SlotSend slot) Done = (with_sent stood.slots slot (Ok 0) held, (Ok 0, refl))
+moves-some stood held (Slots (SlotSend slot)) Done = (with_sent stood.slots slot (Ok 0) held, (Ok 0, refl))
 moves-some stood held call reply = (freed_by held call reply, refl)
 
 puts : (k : ℕ) (xs : List (ℕ × Unit {0})) → find k (with_task k tt xs) ≡ Some tt
@@ -119,8 +104,8 @@ lacks_within call reply lawful =
                     refl,
                     (
                       w,
-                      record { before = tt; left = tt; there = refl; moved = m.0; breaks = inl (record { front = take 1 asked.turns; rest = drop 1 asked.turns; mid = nothing.held; are = refl; walks = ((refl, refl), (tt, refl)); frees = (m.0, m.1, refl) }); is = refl },
-                      (w, refl, (w, refl, (end, (tt, puts 0 m.0.tasks, inr (record { front = []; rest = []; mid = end.held; are = refl; walks = (tt, refl); frees = refl }, refl)), (end, (refl, refl), (end, refl, refl))))),
+                      record { before = tt; left = tt; there = refl; moved = m.0; breaks = inl (record { front = take 1 asked.turns; rest = drop 1 asked.turns; mid = nothing.held; are = refl; walks = ((refl, refl), (tt, ([], refl))); frees = ([], m.0, m.1, (m.0.counts, refl)) }); is = refl },
+                      (w, refl, (w, refl, (end, (tt, puts 0 m.0.tasks, inr (record { front = []; rest = []; mid = end.held; are = refl; walks = (tt, (end.held.counts, refl)); frees = (end.held.counts, refl) }, refl)), (end, (refl, refl), (end, refl, refl))))),
                     ),
                   ),
                 ),
@@ -171,7 +156,7 @@ lacks_in_maker call reply lawful =
           refl,
           (
             w,
-            inr (inl (record { front = []; rest = asked.turns; mid = nothing.held; are = refl; walks = (tt, refl); frees = (m.0, m.1, refl) }, refl)),
+            inr (inl (record { front = []; rest = asked.turns; mid = nothing.held; are = refl; walks = (tt, ([], refl)); frees = ([], m.0, m.1, (m.0.counts, refl)) }, refl)),
             (w, refl, (w, (refl, refl), (w, refl, refl))),
           ),
         ),
@@ -196,7 +181,7 @@ lacks_without_call =
         refl,
         (
           w,
-          inr (inl (record { front = []; rest = []; mid = nothing.held; are = refl; walks = (tt, refl); frees = refl }, refl)),
+          inr (inl (record { front = []; rest = []; mid = nothing.held; are = refl; walks = (tt, ([], refl)); frees = ([], refl) }, refl)),
           (w, refl, (w, (refl, refl), (w, refl, refl))),
         ),
       );

@@ -1,41 +1,8 @@
 -- That the entries of a run may come where they stand, found out by computing: a proof for an example, or none, which says nothing.
-use Rattle.std.proofs.Common.{◌≡◌, ◌≢◌, ◌⊎◌, inl, inr, ℕ, ℤ, pos, negsuc, ◌≤◌, ◌<◌, ◌+◌, ◌-◌, ◌^◌, List, [], ◌∷◌, ◌++◌, drop, get_or, length, Option, Some, None, Result, Ok, Err, is_some, option_map, Bool, true, false, not, eqb, ltb, leb, refl, arith}
-use Rattle.std.specs.List.Sorted.{IsPermutation}
-use Rattle.std.specs.Int.{w32, cast_signed, from_be_bytes}
-use Rattle.std.specs.Option.{option_zip, option_or}
-use Rattle.std.proofs.lemmas.Bool.{eqb-true, ltb-true, leb-true}
-use Rattle.std.proofs.lemmas.List.Sorted.{IsPermutation-refl}
-use Rattle.rt_base.specs.declared.error.Error.{Error}
-use Rattle.rt_base.specs.declared.error.Error.TheVariants.{UnknownToken, TooManyTasks, Exited as HasExited, Closed as ErrClosed, Aborted, Timeout, Metric}
-use Rattle.rt_base.specs.declared.metric_error.MetricError.TheVariants.{BadLabel, Reserved}
-use Rattle.rt_base.specs.declared.poll.Poll.{Poll}
-use Rattle.rt_base.specs.declared.time.TheConstants.{MAX_TIME}
-use Rattle.rt_audit.specs.declared.call.Call.{Call}
-use Rattle.rt_audit.specs.declared.call.Call.TheVariants.{Child, CloseNode, Spawn, Abort, AbortTask, Wake as WakeCall, Join, GiveUp, SleepPoll, Slot, SlotSend, SlotClose, SlotPoll, SlotGiveUp, AbortWait, Signaler, CloneSignal, Signal, SignalPoll, SignalClose, SignalerClose, CompletionPoll, CompletionClose, Stop, Stopped as StoppedCall, NextU32, NextU64, FillBytes, Auditor}
-use Rattle.rt_audit.specs.declared.reply.CallReply.{CallReply}
-use Rattle.rt_audit.specs.declared.reply.CallReply.TheVariants.{Done, NodeAt, TaskAt, Closed, SlotAt, SignalAt, CompletionAt, Value, ClosedWith, Pending as StillPending, PendingAt, Ready as IsReady, Number, Bytes, Refused}
-use Rattle.rt_audit.specs.declared.answer.AnswerKind.{AnswerKind}
-use Rattle.rt_audit.specs.declared.answer.AnswerKind.TheVariants.{Pending, Ready, Panicked, Stopped, NoMemory, Ended}
-use Rattle.rt_audit.specs.declared.finish.FinishCause.{FinishCause}
+use Rattle.rt_laws.proofs.Prelude.{◌≡◌, ◌≢◌, ◌⊎◌, inl, inr, ℕ, ℤ, pos, negsuc, ◌≤◌, ◌<◌, ◌+◌, ◌-◌, ◌^◌, List, [], ◌∷◌, ◌++◌, drop, get_or, length, Option, Some, None, Result, Ok, Err, is_some, option_map, Bool, true, false, not, eqb, ltb, leb, refl, arith, IsPermutation, w32, cast_signed, from_be_bytes, option_zip, option_or, eqb-true, ltb-true, leb-true, IsPermutation-refl, Error, UnknownToken, TooManyTasks, HasExited, ErrClosed, Aborted, Metric, BadLabel, Reserved, Poll, MAX_TIME, Call, Child, CloseNode, Spawn, Abort, AbortTask, WakeCall, Join, GiveUp, SleepPoll, Signaler, CloneSignal, Signal, SignalPoll, SignalClose, SignalerClose, CompletionPoll, CompletionClose, Stop, StoppedCall, NextU32, NextU64, FillBytes, Auditor, Slots, Slot, SlotSend, SlotClose, SlotPoll, SlotGiveUp, AbortWait, CallReply, Done, NodeAt, TaskAt, Closed, SlotAt, SignalAt, CompletionAt, ClosedWith, StillPending, PendingAt, IsReady, Number, Bytes, Refused, AnswerKind, Pending, Ready, Panicked, Stopped, NoMemory, Ended, FinishCause, Entry, Start, CallEntry, Event, Wake, Draw, Root, Round, Visit, Answer, NodeEnd, Advance, Skip, Fire, Cleanup, Crash, Finish, is_live, is_known, is_ended, signal_answer, completion_answer, stopped_answer, round-draws, Begin, Mark, Outcome, Open, There, Exited, IsClosed, TaskResult, find, may_abort, has_signaler, shown_reply, met_reply, stopped_reply, Phase, Blank, Making, Between, Visiting, Entered, Polling, Halted, Ending, Leaving, Turning, Over, Cleaning, Closing, Crashed, Numbers, Announced, State, begun, Stood, stood_in, is_set, skip_to, fires, is_late, from_running, ends_next, left_of, label_at, task_label, after, process_task, task_fields, announced_by, IsOfCall, WasGiven, IsRefusal, OutcomeAnswers, is_free, label_refusal, ChildAnswers, SpawnAnswers, Unless, JoinAnswers, IsSent, SlotAnswers, ReceiveAnswers, ShownAs, Answers, IsEndedNext, CallsAt, MayEvent, MayEnd, MayAnswer, MayRound, MayClose, MayCrash, MayFinish, MayEndNode, MayFree, May, IsLawful}
+use Rattle.rt_base.specs.declared.error.Error.TheVariants.{Timeout}
+use Rattle.rt_audit.specs.declared.reply.CallReply.TheVariants.{Value}
 use Rattle.rt_audit.specs.declared.finish.FinishCause.TheVariants as cause
-use Rattle.rt_audit.specs.declared.entry.Entry.{Entry}
-use Rattle.rt_audit.specs.declared.entry.Entry.TheVariants.{Start, Call as CallEntry, Event, Wake, Draw, Root, Round, Visit, Answer, NodeEnd, Advance, Skip, Fire, Cleanup, Crash, Finish}
-use Rattle.rt_super.specs.Ancestry.{is_live, is_known, is_ended}
-use Rattle.rt_super.specs.Signals.{signal_answer, completion_answer, stopped_answer}
-use Rattle.rt_model.specs.declared.begin.Begin.{Begin}
-use Rattle.rt_model.specs.declared.mark.Mark.{Mark}
-use Rattle.rt_model.specs.declared.result.Outcome.{Outcome}
-use Rattle.rt_model.specs.declared.result.Outcome.TheVariants.{Open, There, Exited, Closed as IsClosed}
-use Rattle.rt_model.specs.declared.result.TaskResult.{TaskResult}
-use Rattle.rt_model.specs.Lists.{find}
-use Rattle.rt_model.specs.Results.{may_abort}
-use Rattle.rt_model.specs.Signals.{has_signaler, shown_reply, met_reply, stopped_reply}
-use Rattle.rt_model.specs.State.{Phase, Blank, Making, Between, Visiting, Entered, Polling, Halted, Ending, Leaving, Turning, Over, Cleaning, Closing, Crashed, Numbers, Announced, State, begun}
-use Rattle.rt_model.specs.Alarms.{is_set, skip_to, fires}
-use Rattle.rt_model.specs.Causes.{is_late, from_running, ends_next}
-use Rattle.rt_model.specs.Effects.{left_of, label_at, task_label, after}
-use Rattle.rt_model.specs.Events.{process_task, task_fields, announced_by, IsOfCall}
-use Rattle.rt_model.specs.Rules.{WasGiven, IsRefusal, OutcomeAnswers, is_free, label_refusal, ChildAnswers, SpawnAnswers, Unless, JoinAnswers, IsSent, SlotAnswers, ReceiveAnswers, ShownAs, Answers, IsEndedNext, CallsAt, MayEvent, MayEnd, MayAnswer, MayRound, MayClose, MayCrash, MayFinish, MayEndNode, MayFree, May, IsLawful}
 
 unwrapped : {P : Type 0} (o : Option P) → is_some o ≡ true → P
 unwrapped None e = absurd (cc)
@@ -236,6 +203,7 @@ abbrev same_reply : (x y : CallReply) → Option (x ≡ y)
 same_reply (SignalAt n) (SignalAt m) = so_at (λ n. SignalAt n) n m (same n m)
 same_reply (Value v) (Value w) = so_valued (λ v. Value v) v w (same_value_of v w)
 same_reply (ClosedWith v) (ClosedWith w) = so_valued (λ v. ClosedWith v) v w (same_value_of v w)
+same_reply (SlotAt n) (SlotAt m) = so_at (λ n. SlotAt n) n m (same n m)
 same_reply StillPending StillPending = Some refl
 same_reply Done Done = Some refl
 same_reply IsReady IsReady = Some refl
@@ -263,12 +231,12 @@ answers s (WakeCall task) (Refused error) = option_zip (same_error error Unknown
 answers s (SleepPoll due) IsReady = at_most due s.clock.time
 answers s (SleepPoll due) (PendingAt alarm) =
     three (below s.clock.time due) (at_most due MAX_TIME) (either (same alarm s.alarms.count) (is_true (is_set s.alarms.alarms due alarm)))
-answers s Slot (SlotAt number) = same number s.slots.count
-answers s (SlotSend number) Done = is_true (is_some (find number s.slots.senders))
-answers s (SlotClose number) Done = is_true (is_some (find number s.slots.senders))
-answers s (SlotPoll number) reply = receive (find number s.slots.results) reply
-answers s (SlotGiveUp number) Done = is_true (is_some (find number s.slots.results))
-answers s (AbortWait number) Done = is_true (may_abort (find number s.slots.results))
+answers s (Slots Slot) reply = same_reply reply (SlotAt s.slots.count)
+answers s (Slots (SlotSend number)) Done = option_zip (Some refl) (is_true (is_some (find number s.slots.senders)))
+answers s (Slots (SlotClose number)) Done = option_zip (Some refl) (is_true (is_some (find number s.slots.senders)))
+answers s (Slots (SlotPoll number)) reply = receive (find number s.slots.results) reply
+answers s (Slots (SlotGiveUp number)) Done = option_zip (Some refl) (is_true (is_some (find number s.slots.results)))
+answers s (Slots (AbortWait number)) Done = option_zip (Some refl) (is_true (may_abort (find number s.slots.results)))
 answers s Signaler (SignalAt number) = same number s.signals.count
 answers s (CloneSignal signal) reply =
     unless (not (is_some (find signal s.signals.signals))) UnknownToken (λ reply. reply ≡ SignalAt s.signals.count) (is_signal s.signals.count) reply
@@ -390,37 +358,37 @@ abbrev same_event : (x y : Announced) → Option (x ≡ y)
 same_event x y = so_announced x y (same_list same x.label y.label) (same_list (same_list same) x.fields y.fields)
 
 -- behind these events this one is the next of this call, whose reply doesn't matter
-abbrev event_by : (announced : List Announced) (label : List ℕ) (fields : List (List ℕ)) (call : Call) → Option (IsOfCall announced label fields)
-event_by announced label fields call =
+abbrev event_by : (stood : Stood) (announced : List Announced) (label : List ℕ) (fields : List (List ℕ)) (call : Call) → Option (IsOfCall stood announced label fields)
+event_by stood announced label fields call =
     option_map
-    (λ (h : announced_by call Done ≡ announced ++ record { label = label; fields = fields } ∷ []). (call, Done, h))
-    (same_list same_event (announced_by call Done) (announced ++ record { label = label; fields = fields } ∷ []))
+    (λ (h : announced_by stood call Done ≡ announced ++ record { label = label; fields = fields } ∷ []). (call, Done, h))
+    (same_list same_event (announced_by stood call Done) (announced ++ record { label = label; fields = fields } ∷ []))
 
 -- the value of a stop whose event has these fields
 abbrev stop_told : List (List ℕ) → ℤ
 stop_told fields = cast_signed w32 (from_be_bytes w32 (get_or fields 0 []))
 
-abbrev event_of : (announced : List Announced) (label : List ℕ) (fields : List (List ℕ)) → Option (IsOfCall announced label fields)
-event_of announced label fields =
-    option_or (event_by announced label fields (Stop (stop_told fields)))
-    (option_or (event_by announced label fields StoppedCall)
-    (option_or (event_by announced label fields NextU32)
-    (option_or (event_by announced label fields NextU64)
-    (event_by announced label fields (FillBytes 0)))))
+abbrev event_of : (stood : Stood) (announced : List Announced) (label : List ℕ) (fields : List (List ℕ)) → Option (IsOfCall stood announced label fields)
+event_of stood announced label fields =
+    option_or (event_by stood announced label fields (Stop (stop_told fields)))
+    (option_or (event_by stood announced label fields StoppedCall)
+    (option_or (event_by stood announced label fields NextU32)
+    (option_or (event_by stood announced label fields NextU64)
+    (event_by stood announced label fields (FillBytes 0)))))
 
 -- an event of a visit, or one of a call that comes here
 abbrev event : (p : Phase) (s : State) (label : List ℕ) (fields : List (List ℕ)) → Option (MayEvent p s label fields)
 event (Entered task left) s label fields =
     option_zip (same_list same label process_task) (same_list (same_list same) fields (task_fields task (task_label s task)))
-event Making s label fields = option_map (λ (o : IsOfCall s.announced label fields). (None, refl, o)) (event_of s.announced label fields)
+event Making s label fields = option_map (λ (o : IsOfCall (stood_in s) s.announced label fields). (None, refl, o)) (event_of (stood_in s) s.announced label fields)
 event (Polling task left) s label fields =
-    option_map (λ (o : IsOfCall s.announced label fields). (Some task, refl, o)) (event_of s.announced label fields)
+    option_map (λ (o : IsOfCall (stood_in s) s.announced label fields). (Some task, refl, o)) (event_of (stood_in s) s.announced label fields)
 event (Ending task result left) s label fields =
-    option_map (λ (o : IsOfCall s.announced label fields). (Some task, refl, o)) (event_of s.announced label fields)
+    option_map (λ (o : IsOfCall (stood_in s) s.announced label fields). (Some task, refl, o)) (event_of (stood_in s) s.announced label fields)
 event (Closing of) s label fields =
     option_map
-    (λ (p : ((by : Option ℕ) × IsEndedNext s.root (ends_next s.running s.root) by) × IsOfCall s.announced label fields). (p.0.0, p.0.1, p.1))
-    (option_zip (ends_by s.root (ends_next s.running s.root)) (event_of s.announced label fields))
+    (λ (p : ((by : Option ℕ) × IsEndedNext s.root (ends_next s.running s.root) by) × IsOfCall (stood_in s) s.announced label fields). (p.0.0, p.0.1, p.1))
+    (option_zip (ends_by s.root (ends_next s.running s.root)) (event_of (stood_in s) s.announced label fields))
 event _ s label fields = None
 
 -- entries
@@ -428,10 +396,10 @@ event _ s label fields = None
 abbrev free : (s : State) (e : Entry) → Option (MayFree s e)
 free s (Start next now deadline cycle) =
     five (is_blank s.phase) (same next s.clock.fixed.first) (same now s.clock.fixed.start) (same_option same deadline s.clock.fixed.deadline) (same cycle s.clock.fixed.cycle)
-free s (CallEntry by call reply) = three (calls s.phase s.root (ends_next s.running s.root) by) (answers s call reply) (same_list same_event s.announced (announced_by call reply))
+free s (CallEntry by call reply) = three (calls s.phase s.root (ends_next s.running s.root) by) (answers s call reply) (same_list same_event s.announced (announced_by (stood_in s) call reply))
 free s (Event label fields) = event s.phase s label fields
 free s (Wake task) = None
-free s (Draw value) = rounds s.phase s
+free s (Draw value) = option_map (round-draws s.phase s value) (rounds s.phase s)
 free s (Root task) = four (is_making s.phase) (same task s.numbers.next) (below task (2 ^ 64 - 1)) (none_left s.announced)
 free s (Round order) = option_zip (rounds s.phase s) (in_place s.ready order (same_list same s.ready order))
 free s (Visit task) =

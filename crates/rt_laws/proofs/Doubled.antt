@@ -1,16 +1,5 @@
 -- A task that is woken twice has its run, and what comes near to it is none.
-use Rattle.std.proofs.Common.{ℕ, List, [], ◌∷◌, ◌++◌, map, refl, rules, arith}
-use Rattle.rt_audit.specs.declared.finish.FinishCause.TheVariants.{Completed}
-use Rattle.rt_audit.specs.declared.entry.Entry.{Entry}
-use Rattle.rt_audit.specs.declared.entry.Entry.TheVariants.{Wake, Draw, Round, Advance}
-use Rattle.rt_model.specs.State.{State, begun}
-use Rattle.rt_model.specs.Effects.{after, after_all}
-use Rattle.rt_model.specs.Rules.{IsLawful, AreDrawn}
-use Rattle.rt_model.specs.Tied.{nothing, IsTied}
-use Rattle.rt_model.specs.Run.{IsRun}
-use Rattle.rt_laws.specs.Examples.{small_begin}
-use Rattle.rt_laws.specs.Supervised.{gave_beside}
-use Rattle.rt_laws.specs.Twice.{twice_root, twice_journal, ended_behind, passed_by, passed_in, drawn_for_two}
+use Rattle.rt_laws.proofs.Prelude.{ℕ, List, [], ◌∷◌, ◌++◌, map, refl, rules, arith, Completed, Entry, Wake, Draw, Round, Advance, State, begun, after, after_all, IsLawful, AreDrawn, nothing, IsTied, IsRun, small_begin, gave_beside, twice_root, twice_journal, ended_behind, passed_by, passed_in, drawn_for_two}
 use Rattle.rt_laws.proofs.Decided.{lawful}
 use Rattle.rt_laws.proofs.Followed.{tied}
 

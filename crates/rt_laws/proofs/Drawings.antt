@@ -1,24 +1,6 @@
 -- A root that draws has its run, and what comes near to it is none.
-use Rattle.std.proofs.Common.{◌≡◌, ◌≢◌, ◌≤◌, ◌<◌, ◌^◌, ℕ, List, [], ◌∷◌, ◌++◌, Some, length, slice_index, codes, refl, sym, ap, ◌∙◌, append_assoc, rules, arith}
-use Rattle.std.proofs.lemmas.List.{append-nil}
-use Rattle.rt_base.specs.declared.error.Error.{Error}
-use Rattle.rt_audit.specs.declared.call.Call.{Call as CallOf}
-use Rattle.rt_audit.specs.declared.call.Call.TheVariants.{NextU32, NextU64, FillBytes, Auditor}
-use Rattle.rt_audit.specs.declared.reply.CallReply.{CallReply}
-use Rattle.rt_audit.specs.declared.reply.CallReply.TheVariants.{Done, Number, Bytes, Refused}
-use Rattle.rt_audit.specs.declared.answer.AnswerKind.TheVariants.{Ready, Pending}
-use Rattle.rt_audit.specs.declared.finish.FinishCause.TheVariants.{Completed, Stalled}
-use Rattle.rt_audit.specs.declared.entry.Entry.{Entry}
-use Rattle.rt_audit.specs.declared.entry.Entry.TheVariants.{Call, Event, Draw, Answer as Answered, Advance}
-use Rattle.rt_model.specs.Draws.{Drawn, Short, Long, Filled}
-use Rattle.rt_model.specs.State.{Announced, State, begun}
-use Rattle.rt_model.specs.Effects.{drawn_called, drawn_after, after, after_all}
-use Rattle.rt_model.specs.Rules.{Answers, IsLawful, AreDrawn}
-use Rattle.rt_model.specs.Tied.{nothing}
-use Rattle.rt_model.specs.Run.{IsRun, IsValidInput}
-use Rattle.rt_model.proofs.Append.{after_all-append, IsLawful-append}
-use Rattle.rt_laws.specs.Examples.{small_begin, gave, opening, visiting_root, root_ends, finishing}
-use Rattle.rt_laws.specs.Drawing.{drawing_root, asking_root, moody_root, visited_again, draws_by, drawing_journal, asking_journal, moody_journal}
+use Rattle.rt_laws.proofs.Prelude.{◌≡◌, ◌≢◌, ◌≤◌, ◌<◌, ◌^◌, ℕ, List, [], ◌∷◌, ◌++◌, Some, length, slice_index, codes, refl, sym, ap, ◌∙◌, append_assoc, rules, arith, append-nil, Error, CallOf, NextU32, NextU64, FillBytes, Auditor, CallReply, Done, Number, Bytes, Refused, Ready, Pending, Completed, Stalled, Entry, Event, Draw, Answered, Advance, Drawn, Short, Long, Filled, Announced, State, begun, drawn_called, drawn_after, after, after_all, Answers, IsLawful, AreDrawn, nothing, IsRun, IsValidInput, after_all-append, IsLawful-append, small_begin, gave, opening, visiting_root, root_ends, finishing, drawing_root, asking_root, moody_root, visited_again, draws_by, drawing_journal, asking_journal, moody_journal}
+use Rattle.rt_audit.specs.declared.entry.Entry.TheVariants.{Call}
 use Rattle.rt_laws.proofs.Decided.{lawful}
 use Rattle.rt_laws.proofs.Followed.{tied}
 use Rattle.rt_laws.proofs.Signals.{apart}

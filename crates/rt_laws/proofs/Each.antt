@@ -1,8 +1,5 @@
 -- What is true of each alarm that is set stays true of each.
-use Rattle.std.proofs.Common.{inl, inr, ℕ, List, [], ◌∷◌, map, drop, Option, ◌==◌}
-use Rattle.std.specs.List.{AllByRecursion}
-use Rattle.std.proofs.lemmas.Bool.{cases_Bool}
-use Rattle.rt_super.specs.Alarms.{Alarm, is_before, with_alarm, waking}
+use Rattle.rt_laws.proofs.Prelude.{inl, inr, ℕ, List, [], ◌∷◌, map, drop, Option, ◌==◌, AllByRecursion, cases_Bool, Alarm, is_before, with_alarm, waking}
 
 -- a fact about due times and numbers, of each alarm
 abbrev pub Each : (ℕ → ℕ → Type 0) → List Alarm → Type 0

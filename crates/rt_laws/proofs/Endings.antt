@@ -1,27 +1,5 @@
 -- A cleanup only ends tasks, and a run ends for the cause that it had reached.
-use Rattle.std.proofs.Common.{◌≡◌, ◌≢◌, ◌⊎◌, inl, inr, ℕ, List, [], ◌∷◌, ◌++◌, Option, Some, Bool, true, false, not, ◌&&◌, if◌then◌else◌, arith, refl, sym, ap, ◌∙◌, All}
-use Rattle.std.specs.List.{AllByRecursion}
-use Rattle.std.proofs.lemmas.List.Elements.{All-from_recursion}
-use Rattle.rt_audit.specs.declared.call.Call.{Call}
-use Rattle.rt_audit.specs.declared.call.Call.TheVariants.{Wake as WakeCall, Abort, AbortTask, SlotSend, SlotClose, AbortWait}
-use Rattle.rt_audit.specs.declared.reply.CallReply.{CallReply}
-use Rattle.rt_audit.specs.declared.answer.AnswerKind.{AnswerKind}
-use Rattle.rt_audit.specs.declared.answer.AnswerKind.TheVariants.{Pending, Ready, Panicked, Stopped, NoMemory, Ended}
-use Rattle.rt_audit.specs.declared.finish.FinishCause.{FinishCause}
-use Rattle.rt_audit.specs.declared.finish.FinishCause.TheVariants.{NoMemory as OutOfMemory}
-use Rattle.rt_audit.specs.declared.entry.Entry.{Entry}
-use Rattle.rt_audit.specs.declared.entry.Entry.TheVariants.{Start, Call as CallEntry, Event, Wake, Draw, Root, Round, Visit, Answer, NodeEnd, Advance, Skip, Fire, Cleanup, Crash, Finish}
-use Rattle.rt_model.specs.declared.begin.Begin.{Begin}
-use Rattle.rt_model.specs.declared.mark.Mark.{Mark}
-use Rattle.rt_model.specs.declared.result.TaskResult.{TaskResult}
-use Rattle.rt_super.specs.Ancestry.{is_ended}
-use Rattle.rt_model.specs.Lists.{find, those}
-use Rattle.rt_model.specs.State.{State, Phase, Between, Turning, Entered, Ending, Leaving, Cleaning, Closing, Crashed, Finished, Stood, stood_in, begun}
-use Rattle.rt_model.specs.Causes.{reached, ends_next}
-use Rattle.rt_model.specs.Effects.{after, after_all, is_closing, is_settled, due_called, due_answered, due_node, due_panic, due_ended, ends_in_panic, cause_of, answered, node_ended, cleans, entered, ended}
-use Rattle.rt_model.specs.Rules.{May, CallsAt, MayAnswer, MayEvent, MayEndNode, MayRound, MayClose, MayCrash, MayFinish, IsLawful}
-use Rattle.rt_model.proofs.Append.{after_all-append}
-use Rattle.rt_laws.specs.Cleanup.{IsOfCleanup}
+use Rattle.rt_laws.proofs.Prelude.{◌≡◌, ◌≢◌, ◌⊎◌, inl, inr, ℕ, List, [], ◌∷◌, ◌++◌, Option, Some, Bool, true, false, not, ◌&&◌, if◌then◌else◌, arith, refl, sym, ap, ◌∙◌, All, AllByRecursion, All-from_recursion, Call, WakeCall, Abort, AbortTask, Slots, SlotSend, SlotClose, AbortWait, CallReply, AnswerKind, Pending, Ready, Panicked, Stopped, NoMemory, Ended, FinishCause, OutOfMemory, Entry, Start, CallEntry, Event, Wake, Draw, Root, Round, Visit, Answer, NodeEnd, Advance, Skip, Fire, Cleanup, Crash, Finish, only-rounds, Begin, Mark, TaskResult, is_ended, find, those, State, Phase, Between, Turning, Entered, Ending, Leaving, Cleaning, Closing, Crashed, Finished, Stood, stood_in, begun, reached, ends_next, after, after_all, is_closing, is_settled, due_called, due_answered, due_node, due_panic, due_ended, ends_in_panic, cause_of, answered, node_ended, cleans, entered, ended, May, CallsAt, MayAnswer, MayEvent, MayEndNode, MayRound, MayClose, MayCrash, MayFinish, IsLawful, after_all-append, IsOfCleanup}
 use Rattle.rt_laws.proofs.Clock.{lawful-tail}
 
 -- in a cleanup that began for this cause, if it had one, or behind it
@@ -86,9 +64,9 @@ module _ (cause : Option FinishCause) where
   owes-none ms ss (WakeCall task) reply = refl
   owes-none ms ss (Abort task) reply = refl
   owes-none ms ss (AbortTask task) reply = refl
-  owes-none ms ss (SlotSend slot) reply = refl
-  owes-none ms ss (SlotClose slot) reply = refl
-  owes-none ms ss (AbortWait slot) reply = refl
+  owes-none ms ss (Slots (SlotSend slot)) reply = refl
+  owes-none ms ss (Slots (SlotClose slot)) reply = refl
+  owes-none ms ss (Slots (AbortWait slot)) reply = refl
   owes-none ms ss _ reply = refl
 
   owes-called : (closing : Bool) (ms : List (ℕ × Mark)) (ss : Stood) (call : Call) (reply : CallReply) → closing ≡ true → due_called closing ms ss call reply ≡ []
@@ -121,7 +99,7 @@ module _ (cause : Option FinishCause) where
 
   event-of : (s : State) (p : Phase) (label : List ℕ) (fields : List (List ℕ)) → EndsFor cause p → MayEvent p s label fields → IsOfCleanup (Event label fields)
   event-of s (Entered task left) label fields k m = absurd k
-  event-of s _ label fields k m = (s.announced, m.2)
+  event-of s _ label fields k m = (stood_in s, s.announced, m.2)
 
   pub ends-entry : (s : State) (e : Entry) → s.owed ≡ [] → EndsFor cause s.phase → May s e → IsOfCleanup e × ((after s e).owed ≡ []) × EndsFor cause (after s e).phase
   unfolding after
@@ -129,7 +107,7 @@ module _ (cause : Option FinishCause) where
   ends-entry s (CallEntry by call reply) o k m = (tt, owes-called (is_closing s.phase) s.marks (stood_in s) call reply (call-closing s.phase s.root (ends_next s.running s.root) by k m.1.0), k)
   ends-entry s (Event label fields) o k m = (event-of s s.phase label fields k m.1, refl, event-ends s s.phase k)
   ends-entry s (Wake task) o k m = absurd (cc)
-  ends-entry s (Draw value) o k m = absurd (no-round s.phase s k m.1)
+  ends-entry s (Draw value) o k m = absurd (no-round s.phase s k (only-rounds s.phase s value m.1))
   ends-entry s (Root task) o k m = absurd (rw m.1.0 at k)
   ends-entry s (Round order) o k m = absurd (no-round s.phase s k m.1.0)
   ends-entry s (Visit task) o k m = absurd (rw m.1.0 at k)

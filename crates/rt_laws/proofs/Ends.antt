@@ -1,21 +1,6 @@
 -- Runs that end for each of the other causes, and the orders of rounds.
-use Rattle.std.proofs.Common.{◌+◌, ◌-◌, ◌^◌, inl, ℕ, List, [], ◌∷◌, ◌++◌, Some, None, refl, rules}
-use Rattle.std.proofs.lemmas.List.Sorted.{IsPermutation-refl}
-use Rattle.rt_base.specs.declared.time.TheConstants.{MAX_TIME}
-use Rattle.rt_audit.specs.declared.answer.AnswerKind.TheVariants.{Pending as AnswersPending}
-use Rattle.rt_audit.specs.declared.finish.FinishCause.{FinishCause}
-use Rattle.rt_audit.specs.declared.finish.FinishCause.TheVariants.{Timeout, Stalled, TimeOverflow, TooManyTasks}
-use Rattle.rt_audit.specs.declared.entry.Entry.{Entry}
-use Rattle.rt_audit.specs.declared.entry.Entry.TheVariants.{Start, Root, Round, Answer as Answered, Advance}
-use Rattle.rt_model.specs.declared.begin.Begin.{Begin}
-use Rattle.rt_model.specs.State.{begun}
-use Rattle.rt_model.specs.Effects.{after, after_all}
-use Rattle.rt_model.specs.Rules.{AreDrawn}
-use Rattle.rt_model.specs.Turns.{put}
-use Rattle.rt_model.specs.Tied.{Value, IsTied, nothing}
-use Rattle.rt_model.specs.Run.{IsRun, IsValidInput}
-use Rattle.rt_model.proofs.Append.{IsTied-append}
-use Rattle.rt_laws.specs.Examples.{small_begin, begin_by, pending_root, visiting_root, root_ends, finishing, stalled_journal, late_journal, at_once_late_journal, overflow_journal, no_number_journal, ready_journal, skipped_journal, short_journal, drawn}
+use Rattle.rt_laws.proofs.Prelude.{◌+◌, ◌-◌, ◌^◌, inl, ℕ, List, [], ◌∷◌, ◌++◌, Some, None, refl, rules, IsPermutation-refl, MAX_TIME, AnswersPending, FinishCause, Timeout, Stalled, TimeOverflow, Entry, Start, Root, Round, Answered, Advance, Begin, begun, after, after_all, AreDrawn, put, Value, IsTied, nothing, IsRun, IsValidInput, IsTied-append, small_begin, begin_by, pending_root, visiting_root, root_ends, finishing, stalled_journal, late_journal, at_once_late_journal, overflow_journal, no_number_journal, ready_journal, skipped_journal, short_journal, drawn}
+use Rattle.rt_audit.specs.declared.finish.FinishCause.TheVariants.{TooManyTasks}
 use Rattle.rt_laws.proofs.Runs.{ends-tied}
 
 abbrev waits : Value (Unit {0}) ℕ

@@ -1,25 +1,8 @@
 -- The shutdown of a run stays one, and its signals show the value of the first stop.
-use Rattle.std.proofs.Common.{◌≡◌, ◌≢◌, ◌⊎◌, inl, inr, ℕ, ℤ, List, [], ◌∷◌, ◌++◌, Option, Some, None, Result, Ok, true, refl, ◌∙◌, arith, All}
-use Rattle.std.specs.List.{AllByRecursion}
-use Rattle.std.specs.Option.{IsSome}
-use Rattle.std.proofs.lemmas.List.Elements.{recursion_from_All}
-use Rattle.rt_base.specs.declared.error.Error.{Error}
-use Rattle.rt_base.specs.declared.poll.Poll.{Poll}
+use Rattle.rt_laws.proofs.Prelude.{◌≡◌, ◌≢◌, ◌⊎◌, inl, inr, ℕ, ℤ, List, [], ◌∷◌, ◌++◌, Option, Some, None, Result, Ok, true, refl, ◌∙◌, arith, All, AllByRecursion, IsSome, recursion_from_All, Error, Poll, SignalRecord, StopRecord, IsShutdown, ShowShutdown, new_group, signal_group, stop_after, stop_shown, stopped_answer, with_stop, others_there, clone_keeps, signal_keeps, closing_keeps, close_keeps, poll_keeps, polled_keeps, shows, first_is, stopped_keeps, Call, Signaler, CloneSignal, Signal, SignalPoll, SignalClose, SignalerClose, CompletionPoll, CompletionClose, Stop, CallReply, Done, SignalAt, CompletionAt, ClosedWith, StillPending, Entry, CallEntry, Begin, has_signaler, shown_reply, stopped_reply, State, begun, after, after_all, signals_called, stop_called, Answers, May, ShownAs, IsLawful, after_all-append}
 use Rattle.rt_base.specs.declared.poll.Poll.TheVariants.{Ready}
-use Rattle.rt_super.specs.Signals.{SignalRecord, StopRecord, IsShutdown, ShowShutdown, new_group, signal_group, stop_after, stop_shown, stopped_answer, with_stop}
-use Rattle.rt_super.proofs.Shutdowns.{others_there, clone_keeps, signal_keeps, closing_keeps, close_keeps, poll_keeps, polled_keeps, shows, first_is, stopped_keeps}
-use Rattle.rt_audit.specs.declared.call.Call.{Call}
-use Rattle.rt_audit.specs.declared.call.Call.TheVariants.{Signaler, CloneSignal, Signal, SignalPoll, SignalClose, SignalerClose, CompletionPoll, CompletionClose, Stop, Stopped}
-use Rattle.rt_audit.specs.declared.reply.CallReply.{CallReply}
-use Rattle.rt_audit.specs.declared.reply.CallReply.TheVariants.{Done, SignalAt, CompletionAt, Value, ClosedWith, Pending as StillPending}
-use Rattle.rt_audit.specs.declared.entry.Entry.{Entry}
-use Rattle.rt_audit.specs.declared.entry.Entry.TheVariants.{Call as CallEntry}
-use Rattle.rt_model.specs.declared.begin.Begin.{Begin}
-use Rattle.rt_model.specs.Signals.{has_signaler, shown_reply, stopped_reply}
-use Rattle.rt_model.specs.State.{State, begun}
-use Rattle.rt_model.specs.Effects.{after, after_all, signals_called, stop_called}
-use Rattle.rt_model.specs.Rules.{Answers, May, ShownAs, IsLawful}
-use Rattle.rt_model.proofs.Append.{after_all-append}
+use Rattle.rt_audit.specs.declared.call.Call.TheVariants.{Stopped}
+use Rattle.rt_audit.specs.declared.reply.CallReply.TheVariants.{Value}
 use Rattle.rt_laws.proofs.Clock.{lawful-tail, lawful-front}
 
 abbrev IsOne : State → Type 0

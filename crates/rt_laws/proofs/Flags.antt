@@ -1,22 +1,5 @@
 -- A task that is flagged is polled no more.
-use Rattle.std.proofs.Common.{◌≡◌, ◌<◌, ◌+◌, ◌⊎◌, inl, inr, ℕ, List, [], ◌∷◌, ◌++◌, Option, Some, None, is_some, Bool, true, false, ◌&&◌, eqb, refl, arith}
-use Rattle.std.proofs.lemmas.Bool.{cases_Bool}
-use Rattle.rt_audit.specs.declared.call.Call.{Call}
-use Rattle.rt_audit.specs.declared.call.Call.TheVariants.{Spawn, Abort, AbortTask}
-use Rattle.rt_audit.specs.declared.reply.CallReply.{CallReply}
-use Rattle.rt_audit.specs.declared.reply.CallReply.TheVariants.{Done, TaskAt}
-use Rattle.rt_audit.specs.declared.answer.AnswerKind.{AnswerKind}
-use Rattle.rt_audit.specs.declared.answer.AnswerKind.TheVariants.{Pending, Ended}
-use Rattle.rt_audit.specs.declared.entry.Entry.{Entry}
-use Rattle.rt_audit.specs.declared.entry.Entry.TheVariants.{Call as CallEntry, Event, Root, Answer, NodeEnd}
-use Rattle.rt_model.specs.declared.begin.Begin.{Begin}
-use Rattle.rt_model.specs.declared.mark.Mark.{Mark}
-use Rattle.rt_model.specs.Lists.{find, has_number, with_number, without_number, without, is_some_number}
-use Rattle.rt_model.specs.Marks.{new_mark, is_flagged, flagged, flag, flag_all, leave}
-use Rattle.rt_model.specs.State.{State, Phase, Entered, Polling, Leaving, Numbers, begun}
-use Rattle.rt_model.specs.Effects.{after, after_all, is_settled, numbers_called, running_called, running_answered, marks_called, marks_answered, marks_ended, flagged_by, leaving, unmarked, entered, entered_by}
-use Rattle.rt_model.specs.Rules.{May, Answers, IsLawful}
-use Rattle.rt_laws.specs.Polls.{BeginsPoll, PollsNone}
+use Rattle.rt_laws.proofs.Prelude.{◌≡◌, ◌<◌, ◌+◌, ◌⊎◌, inl, inr, ℕ, List, [], ◌∷◌, ◌++◌, Option, Some, None, is_some, Bool, true, false, ◌&&◌, eqb, refl, arith, cases_Bool, Call, Spawn, Abort, AbortTask, CallReply, Done, TaskAt, AnswerKind, Pending, Ended, Entry, CallEntry, Event, Root, Answer, NodeEnd, Begin, Mark, find, has_number, with_number, without_number, without, is_some_number, new_mark, is_flagged, flagged, flag, flag_all, leave, State, Phase, Entered, Polling, Leaving, Numbers, begun, after, after_all, is_settled, numbers_called, running_called, running_answered, marks_called, marks_answered, marks_ended, flagged_by, leaving, unmarked, entered, entered_by, May, Answers, IsLawful, BeginsPoll, PollsNone}
 use Rattle.rt_laws.proofs.Clock.{lawful-front, lawful-tail}
 use Rattle.rt_laws.proofs.Tasks.{AreTasks, IsTaskAt, spawn-answers, with-lacks, without-lacks, gone-without, tasks-after, run-tasks}
 

@@ -1,25 +1,9 @@
 -- That entries follow the steps of a task type, and which values they leave, found out by computing: a tie for an example, or none, which
 -- says nothing.
-use Rattle.std.proofs.Common.{◌≡◌, inl, inr, ℕ, ℤ, List, [], ◌∷◌, Option, Some, None, Result, Ok, Err, option_map, Bool, true, false, refl, subst}
-use Rattle.std.specs.Option.{option_zip}
-use Rattle.rt_base.specs.declared.error.Error.{Error}
-use Rattle.rt_audit.specs.declared.call.Call.{Call}
-use Rattle.rt_audit.specs.declared.call.Call.TheVariants.{Child, CloseNode, Spawn, Abort, AbortTask, Wake as WakeCall, Join, GiveUp, SleepPoll, Slot, SlotSend, SlotClose, SlotPoll, SlotGiveUp, AbortWait, Signaler, CloneSignal, Signal, SignalPoll, SignalClose, SignalerClose, CompletionPoll, CompletionClose, Stop, Stopped as StoppedCall, NextU32, NextU64, FillBytes, Auditor}
-use Rattle.rt_audit.specs.declared.reply.CallReply.{CallReply}
-use Rattle.rt_audit.specs.declared.reply.CallReply.TheVariants.{Done, PendingAt, Ready as IsOver, Refused}
-use Rattle.rt_audit.specs.declared.answer.AnswerKind.{AnswerKind}
-use Rattle.rt_audit.specs.declared.answer.AnswerKind.TheVariants.{Pending as IsPending, Ready as IsReady, Panicked as IsPanicked, Stopped as IsStopped, NoMemory as LacksMemory, Ended as IsEnded}
-use Rattle.rt_audit.specs.declared.entry.Entry.{Entry}
-use Rattle.rt_audit.specs.declared.entry.Entry.TheVariants.{Start, Call as CallEntry, Event, Wake, Draw, Root, Round, Visit, Answer as AnswerEntry, NodeEnd, Advance, Skip, Fire, Cleanup, Crash, Finish}
+use Rattle.rt_laws.proofs.Prelude.{◌≡◌, inl, inr, ℕ, ℤ, List, [], ◌∷◌, Option, Some, None, Result, Ok, Err, option_map, Bool, true, false, refl, subst, option_zip, Error, Call, Child, CloseNode, Spawn, Abort, AbortTask, WakeCall, Join, GiveUp, SleepPoll, Signaler, CloneSignal, Signal, SignalPoll, SignalClose, SignalerClose, CompletionPoll, CompletionClose, Stop, StoppedCall, NextU32, NextU64, FillBytes, Auditor, Slots, Slot, SlotSend, SlotClose, SlotPoll, SlotGiveUp, AbortWait, CallReply, Done, PendingAt, IsOver, Refused, AnswerKind, IsPending, IsPanicked, IsStopped, LacksMemory, IsEnded, Entry, Start, CallEntry, Event, Wake, Draw, Root, Round, Visit, AnswerEntry, NodeEnd, Advance, Skip, Fire, Cleanup, Crash, Finish, find, State, Phase, Between, Visiting, Turning, Over, Turn, Stood, stood_in, alarm_of, after, counted, Held, Ask, Plainly, Sleeping, Sending, Spawning, IsOwn, IsAnswerOf, IsPlainly, Fits, Asks, call_of, heard_of, moved, has_place, put, Step, Does, Spends, Counts, Gives, Gave, Goes, Walks, Steps, Value, Polls, PollBreaks, given, kept_text, taken, MovesCleanup, MovesCrash, Moves, IsTied}
+use Rattle.rt_audit.specs.declared.answer.AnswerKind.TheVariants.{Ready as IsReady}
 use Rattle.rt_model.specs.declared.answer.Answer.{Answer}
 use Rattle.rt_model.specs.declared.answer.Answer.TheVariants.{Pending, Ready, Panicked}
-use Rattle.rt_model.specs.Lists.{find}
-use Rattle.rt_model.specs.State.{State, Phase, Between, Visiting, Turning, Over, Turn, Stood, stood_in}
-use Rattle.rt_model.specs.Alarms.{alarm_of}
-use Rattle.rt_model.specs.Effects.{after}
-use Rattle.rt_model.specs.Turns.{Held, Ask, Plainly, Sleeping, Sending, Spawning, IsOwn, IsAnswerOf, IsPlainly, Fits, Asks, call_of, heard_of, moved, has_place, put}
-use Rattle.rt_model.specs.Walk.{Step, Does, Spends, Gives, Gave, Goes, Walks}
-use Rattle.rt_model.specs.Tied.{Steps, Value, Polls, PollBreaks, given, kept_text, taken, MovesCleanup, MovesCrash, Moves, IsTied}
 use Rattle.rt_laws.proofs.Decided.{is_true, is_false, same, same_list, same_error, same_value_of, none_left}
 
 -- what follows from what was found
@@ -54,12 +38,12 @@ same_call (WakeCall n) (WakeCall m) = same_number (λ n. WakeCall n) n m
 same_call (Join n) (Join m) = same_number (λ n. Join n) n m
 same_call (GiveUp n) (GiveUp m) = same_number (λ n. GiveUp n) n m
 same_call (SleepPoll n) (SleepPoll m) = same_number (λ n. SleepPoll n) n m
-same_call Slot Slot = Some refl
-same_call (SlotSend n) (SlotSend m) = same_number (λ n. SlotSend n) n m
-same_call (SlotClose n) (SlotClose m) = same_number (λ n. SlotClose n) n m
-same_call (SlotPoll n) (SlotPoll m) = same_number (λ n. SlotPoll n) n m
-same_call (SlotGiveUp n) (SlotGiveUp m) = same_number (λ n. SlotGiveUp n) n m
-same_call (AbortWait n) (AbortWait m) = same_number (λ n. AbortWait n) n m
+same_call (Slots Slot) (Slots Slot) = Some refl
+same_call (Slots (SlotSend n)) (Slots (SlotSend m)) = same_number (λ n. Slots (SlotSend n)) n m
+same_call (Slots (SlotClose n)) (Slots (SlotClose m)) = same_number (λ n. Slots (SlotClose n)) n m
+same_call (Slots (SlotPoll n)) (Slots (SlotPoll m)) = same_number (λ n. Slots (SlotPoll n)) n m
+same_call (Slots (SlotGiveUp n)) (Slots (SlotGiveUp m)) = same_number (λ n. Slots (SlotGiveUp n)) n m
+same_call (Slots (AbortWait n)) (Slots (AbortWait m)) = same_number (λ n. Slots (AbortWait n)) n m
 same_call Signaler Signaler = Some refl
 same_call (CloneSignal n) (CloneSignal m) = same_number (λ n. CloneSignal n) n m
 same_call (Signal n v) (Signal m w) = found (same n m) (λ e. found (same_value_of v w) (λ f. Some (same_signal n m v w e f)))
@@ -95,15 +79,15 @@ answer (Some (Err error)) (Refused other) = found (same_error other error) (λ e
 answer _ _ = None
 
 module _ {A O : Type 0} where
-  abbrev plainly : (held : Held A O) (call : Call) (reply : CallReply) → Option (IsPlainly held.sent call reply)
-  plainly held (Spawn node) reply = None
-  plainly held (SleepPoll due) reply = None
-  plainly held (SlotSend slot) reply = None
-  plainly held (SlotPoll slot) reply = answer (find slot held.sent) reply
-  plainly held _ reply = Some tt
+  abbrev plainly : (held : Held A O) (stood : Stood) (call : Call) (reply : CallReply) → Option (IsPlainly held stood call reply)
+  plainly held stood (Spawn node) reply = None
+  plainly held stood (SleepPoll due) reply = None
+  plainly held stood (Slots (SlotSend slot)) reply = None
+  plainly held stood (Slots (SlotPoll slot)) reply = answer (find slot held.sent) reply
+  plainly held stood _ reply = Some tt
 
   abbrev fits : (held : Held A O) (ask : Ask A O) (t : Turn) → Option (Fits held ask t)
-  fits held (Plainly call) t = plainly held call t.reply
+  fits held (Plainly call) t = plainly held t.stood call t.reply
   fits held (Sleeping due alarm) t = own t.stood due alarm t.reply
   fits held (Sending slot sent) t = Some tt
   fits held (Spawning node execution made) t = Some tt
@@ -121,6 +105,7 @@ module _ {A L O R : Type 0} where
   gave stood held (Does ask on) = None
   gave stood held (Spends ask next) =
       found (is_false (has_place stood (call_of ask))) (λ gone. found (gave stood held next) (λ g. Some (g.0, g.1, g.2, (gone, g.3))))
+  gave stood held (Counts change next) = gave stood (counted change held) next
   gave stood held (Gives answer left) = Some (answer, left, held, (refl, refl, refl))
 
   module _ (P : R → L → Held A O → Held A O → Step A L O R → Type 0) (t : Turn) (rest : (held : Held A O) (step : Step A L O R) → Option ((answer : R) × (left : L) × (end : Held A O) × P answer left end held step)) where
@@ -133,6 +118,7 @@ module _ {A L O R : Type 0} where
         spends held ask next true e later =
             found (option_zip (same_call t.call (call_of ask)) (is_done t.reply)) (λ c. found (rest (moved held ask t) next) (λ g. Some (g.0, g.1, g.2, (λ there. (c.0, c.1, g.3), λ gone. absurd (there_is _ e gone)))))
         spends held ask next false e later = found later (λ g. Some (g.0, g.1, g.2, (λ there. absurd (there_is _ there e), λ gone. g.3)))
+    goes held (Counts change next) = goes (counted change held) next
     goes held (Gives answer left) = None
 
   abbrev walk : (turns : List Turn) (stood : Stood) (held : Held A O) (step : Step A L O R) → Option ((answer : R) × (left : L) × (end : Held A O) × Walks step held turns stood answer left end)
@@ -172,7 +158,7 @@ module _ {A O : Type 0} (p : Steps A O) (s : State) (v : Value A O) where
   -- a poll that lacked memory before its first call
   pub broken_at_once : (task : ℕ) (a : A) → find task v.held.tasks ≡ Some a → s.turns ≡ [] → PollBreaks p s task v (record v { held = put task a (taken task v.held); whole = false })
   broken_at_once task a e f =
-      record { before = a; left = a; there = e; moved = taken task v.held; breaks = inr (rw f refl); is = refl }
+      record { before = a; left = a; there = e; moved = taken task v.held; breaks = inr (rw f ((taken task v.held).counts, refl)); is = refl }
 
   abbrev answers : (task : ℕ) (kind : AnswerKind) → Option (Moved (AnswerEntry task kind))
   answers task IsPending = found (polled task) (pended task)

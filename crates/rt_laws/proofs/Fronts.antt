@@ -1,10 +1,5 @@
 -- A part that is under way has made a front of its walk.
-use Rattle.std.proofs.Common.{◌≡◌, inl, inr, List, [], ◌∷◌, ◌++◌, refl}
-use Rattle.std.proofs.lemmas.Bool.{cases_Bool}
-use Rattle.rt_model.specs.State.{Stood, Turn}
-use Rattle.rt_model.specs.Turns.{Held, call_of, heard_of, moved, has_place}
-use Rattle.rt_model.proofs.Walks.{gave-end}
-use Rattle.rt_model.specs.Walk.{Step, Does, Spends, Gives, Gave, Goes, Walks, Fronts}
+use Rattle.rt_laws.proofs.Prelude.{◌≡◌, inl, inr, List, [], ◌∷◌, ◌++◌, refl, cases_Bool, Stood, Turn, Held, counted, call_of, heard_of, moved, has_place, gave-end, Step, Does, Spends, Counts, Gives, Gave, Goes, Walks, Fronts}
 
 module _ {A L O R : Type 0} where
   -- what is said of all that follows
@@ -14,6 +9,7 @@ module _ {A L O R : Type 0} where
     λ there. ((g.0 there).0, (g.0 there).1, on (moved held ask t) next (g.0 there).2),
     λ gone. goes-map more less on held next t (g.1 gone),
   )
+  goes-map more less on held (Counts change next) t g = goes-map more less on (counted change held) next t g
   goes-map more less on held (Gives given state) t g = absurd g
 
   -- these turns are a front of the walk, whatever they leave
@@ -38,10 +34,11 @@ module _ {A L O R : Type 0} where
     | inl there ↦ (let k = on (moved held ask t) next (g.0 there).2 in (k.0, (λ there. ((g.0 there).0, (g.0 there).1, k.1), λ gone. absurd (cc))))
     | inr gone ↦ (let k = goes-some more less on held next t (g.1 gone) in (k.0, (λ there. absurd (cc), λ gone. k.1)))
   ]
+  goes-some more less on held (Counts change next) t g = goes-some more less on (counted change held) next t g
   goes-some more less on held (Gives given state) t g = absurd g
 
   fronts-front : (end : Held A O) (ts us : List Turn) (held : Held A O) (step : Step A L O R) → Fronts step held (ts ++ us) end → IsFront step held ts
-  fronts-front end [] us held step f = (held, refl)
+  fronts-front end [] us held step f = (held, (held.counts, refl))
   fronts-front end (t ∷ ts) us held step f =
       goes-some (λ held step. Fronts step held (ts ++ us) end) (λ end held step. Fronts step held ts end) (λ held step f. fronts-front end ts us held step f) held step t f
 
@@ -60,6 +57,7 @@ module _ {A L O R : Type 0} where
     | inl there ↦ on (moved held ask t) next (g.0 there).2 (h.0 there).2
     | inr gone ↦ goes-both first second on held next t (g.1 gone) (h.1 gone)
   ]
+  goes-both first second on held (Counts change next) t g h = goes-both first second on (counted change held) next t g h
   goes-both first second on held (Gives given state) t g h = absurd g
 
   fronts-lead : (end : Held A O) (at : Step A L O R) (now : Held A O) (us : List Turn) (ts : List Turn) (held : Held A O) (step : Step A L O R) → LeadsTo step held ts at now → Fronts step held (ts ++ us) end → Fronts at now us end

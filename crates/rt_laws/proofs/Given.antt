@@ -1,15 +1,7 @@
 -- What a stream gives, draw by draw.
-use Rattle.std.proofs.Common.{◌≡◌, ◌≢◌, ◌∙◌, ◌<◌, ◌+◌, ◌%◌, ◌↔◌, ℕ, List, [], ◌∷◌, ◌++◌, map, length, slice_index, length-append, append_assoc, None, Ok, refl, sym, subst, ap, arith}
-use Rattle.std.proofs.lemmas.List.{append-nil, append_cancel_left, length-replicate}
-use Rattle.std.specs.List.Sorted.{IsPermutation}
-use Rattle.rand_core.specs.Stream.{Stream, Call, u32_call, u64_call, bytes_call, next_u32, next_u64, fill_bytes}
-use Rattle.rt_audit.specs.declared.entry.Entry.TheVariants.{Draw, Round}
-use Rattle.rt_model.specs.Draws.{Drawn, Short, Long, Filled, shuffled}
-use Rattle.rt_model.proofs.Draws.{shuffled-permutes}
-use Rattle.rt_machine.specs.Draws.{Gave, Draws, Orders, Drains}
-use Rattle.rt_machine.specs.Told.{Told, pushed, pushed_all}
-use Rattle.rt_machine.proofs.Shuffled.{gave-gave, plain-drains}
-use Rattle.rt_laws.specs.Giving.{asked_for, Fills, counting}
+use Rattle.rt_laws.proofs.Prelude.{◌≡◌, ◌≢◌, ◌∙◌, ◌<◌, ◌+◌, ◌%◌, ◌↔◌, ℕ, List, [], ◌∷◌, ◌++◌, map, length, slice_index, length-append, append_assoc, None, Ok, refl, sym, subst, ap, arith, append-nil, append_cancel_left, length-replicate, IsPermutation, Stream, u32_call, u64_call, bytes_call, next_u32, next_u64, fill_bytes, Draw, Round, Drawn, Short, Long, Filled, shuffled, shuffled-permutes, Draws, Orders, Drains, Told, pushed, pushed_all, gave-gave, plain-drains, asked_for, Fills, counting}
+use Rattle.rand_core.specs.Stream.{Call}
+use Rattle.rt_machine.specs.Draws.{Gave}
 use Rattle.rt_laws.proofs.Signals.{apart}
 
 -- one stream is left

@@ -1,27 +1,8 @@
 -- Each signal stays of its group until it's given up, one that `stopped` gives is of the shutdown's, and a copy of its original's.
-use Rattle.std.proofs.Common.{◌≡◌, ◌⊎◌, inl, inr, ◌<◌, ◌≤◌, ◌+◌, ℕ, ℤ, List, [], ◌∷◌, ◌++◌, Option, Some, None, is_some, true, false, not, eqb, refl, sym, ◌∙◌, ap, arith, Contains}
-use Rattle.std.specs.Option.{option_map, option_map_or}
-use Rattle.std.proofs.lemmas.Bool.{cases_Bool, eqb-true}
-use Rattle.std.proofs.lemmas.List.Elements.{Contains-append_right}
-use Rattle.rt_base.specs.declared.error.Error.TheVariants.{UnknownToken}
+use Rattle.rt_laws.proofs.Prelude.{◌≡◌, ◌⊎◌, inl, inr, ◌<◌, ◌≤◌, ◌+◌, ℕ, ℤ, List, [], ◌∷◌, ◌++◌, Option, Some, None, is_some, true, false, not, eqb, refl, sym, ◌∙◌, ap, arith, Contains, option_map_or, cases_Bool, eqb-true, Contains-append_right, UnknownToken, SignalRecord, StopRecord, is_alive, new_token, group_for, with_signal, with_clone, with_completion, signaled, signaler_closed, completes, completed, without_signal, signal_closed, signal_polled, completion_polled, stopped_first, stopped_after, stop_after, stopped_answer, waiting_as, signal_group, owners, SignalToken, find-push, find-owners, owners-unwaited, owners-without, owners-push, without-none, Call, Signaler, CloneSignal, Signal, SignalPoll, SignalClose, SignalerClose, CompletionPoll, CompletionClose, Stop, CallReply, Done, SignalAt, CompletionAt, StillPending, Entry, CallEntry, Begin, stopped_reply, State, begun, after, after_all, signals_called, stop_called, Answers, Unless, IsLawful, after_all-append}
+use Rattle.std.specs.Option.{option_map}
 use Rattle.rt_super.specs.Rows.{find, without, replaced}
-use Rattle.rt_super.specs.Signals.{SignalRecord, StopRecord, is_alive, new_token, group_for, with_signal, with_clone, with_completion, signaled, signaler_closed, completes, completed, without_signal, signal_closed, signal_polled, completion_polled, stopped_first, stopped_after, stop_after, stopped_answer, waiting_as, signal_group}
-use Rattle.rt_super.specs.TokensInside.{owners}
-use Rattle.rt_super.specs.declared.signal_token.SignalToken.{SignalToken}
-use Rattle.rt_super.proofs.TokenLemmas.{find-push, find-owners, owners-unwaited, owners-without, owners-push}
-use Rattle.rt_super.proofs.Rows.{without-none}
-use Rattle.rt_audit.specs.declared.call.Call.{Call}
-use Rattle.rt_audit.specs.declared.call.Call.TheVariants.{Signaler, CloneSignal, Signal, SignalPoll, SignalClose, SignalerClose, CompletionPoll, CompletionClose, Stop, Stopped}
-use Rattle.rt_audit.specs.declared.reply.CallReply.{CallReply}
-use Rattle.rt_audit.specs.declared.reply.CallReply.TheVariants.{Done, SignalAt, CompletionAt, Pending as StillPending}
-use Rattle.rt_audit.specs.declared.entry.Entry.{Entry}
-use Rattle.rt_audit.specs.declared.entry.Entry.TheVariants.{Call as CallEntry}
-use Rattle.rt_model.specs.declared.begin.Begin.{Begin}
-use Rattle.rt_model.specs.Signals.{stopped_reply}
-use Rattle.rt_model.specs.State.{State, begun}
-use Rattle.rt_model.specs.Effects.{after, after_all, signals_called, stop_called}
-use Rattle.rt_model.specs.Rules.{Answers, Unless, IsLawful}
-use Rattle.rt_model.proofs.Append.{after_all-append}
+use Rattle.rt_audit.specs.declared.call.Call.TheVariants.{Stopped}
 use Rattle.rt_laws.proofs.Clock.{lawful-tail}
 use Rattle.rt_laws.proofs.FirstStop.{by-value}
 use Rattle.rt_laws.proofs.Flags.{find-other}

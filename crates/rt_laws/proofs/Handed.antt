@@ -1,26 +1,6 @@
 -- What is sent into a slot is sent at most once, and handed out at most once.
-use Rattle.std.proofs.Common.{◌≡◌, ◌≢◌, ◌<◌, ◌+◌, ◌⊎◌, inl, inr, ℕ, List, [], ◌∷◌, ◌++◌, Option, Some, None, is_some, Bool, true, false, if◌then◌else◌, eqb, refl, arith, All}
-use Rattle.std.specs.List.{AllByRecursion}
-use Rattle.std.specs.Option.{option_map_or}
-use Rattle.std.proofs.lemmas.List.Elements.{All-from_recursion}
-use Rattle.std.proofs.lemmas.Bool.{cases_Bool, eqb-true}
-use Rattle.rt_audit.specs.declared.call.Call.{Call}
-use Rattle.rt_audit.specs.declared.call.Call.TheVariants.{Slot, SlotSend, SlotClose, SlotPoll, SlotGiveUp, AbortWait}
-use Rattle.rt_audit.specs.declared.reply.CallReply.{CallReply}
-use Rattle.rt_audit.specs.declared.reply.CallReply.TheVariants.{Done, SlotAt, Pending as StillPending, Ready as IsReady}
-use Rattle.rt_audit.specs.declared.entry.Entry.{Entry}
-use Rattle.rt_audit.specs.declared.entry.Entry.TheVariants.{Call as CallEntry}
-use Rattle.rt_model.specs.declared.begin.Begin.{Begin}
-use Rattle.rt_model.specs.declared.result.Outcome.{Outcome}
-use Rattle.rt_model.specs.declared.result.Outcome.TheVariants.{Open, There, Exited, Closed as IsClosed}
-use Rattle.rt_model.specs.declared.result.TaskResult.{TaskResult}
-use Rattle.rt_model.specs.Lists.{find, without, replaced}
-use Rattle.rt_model.specs.Results.{new_result, with_outcome}
-use Rattle.rt_model.specs.Slots.{Slotted, with_slot, with_sent, without_slot, settled, aborted}
-use Rattle.rt_model.specs.State.{State, begun}
-use Rattle.rt_model.specs.Effects.{after, after_all, slots_called}
-use Rattle.rt_model.specs.Rules.{May, Answers, ReceiveAnswers, SlotAnswers, IsLawful}
-use Rattle.rt_laws.specs.Sends.{SpendsSender}
+use Rattle.rt_laws.proofs.Prelude.{◌≡◌, ◌≢◌, ◌<◌, ◌+◌, ◌⊎◌, inl, inr, ℕ, List, [], ◌∷◌, ◌++◌, Option, Some, None, is_some, Bool, true, false, if◌then◌else◌, eqb, refl, arith, All, AllByRecursion, option_map_or, All-from_recursion, cases_Bool, eqb-true, Call, Slots, Slot, SlotSend, SlotClose, SlotPoll, SlotGiveUp, AbortWait, CallReply, Done, SlotAt, StillPending, IsReady, Entry, CallEntry, Begin, Outcome, Open, There, Exited, IsClosed, TaskResult, find, without, replaced, new_result, with_outcome, Slotted, with_slot, without_slot, settled, aborted, State, begun, after, after_all, slots_called, May, Answers, ReceiveAnswers, SlotAnswers, IsLawful, SpendsSender}
+use Rattle.rt_model.specs.Slots.{with_sent}
 use Rattle.rt_laws.proofs.Clock.{lawful-front, lawful-tail}
 use Rattle.rt_laws.proofs.Flags.{find-other}
 use Rattle.rt_laws.proofs.Tasks.{AreApart, lacks-add, lacks-removed, apart-add, apart-replaced, apart-removed, find-removed, has-add, has-replaced, has-removed}
@@ -91,14 +71,17 @@ numbered-spent ss k n = record {
   senders_given = n.senders_given;
 }
 
+slot-at : {k n : ℕ} → SlotAt k ≡ SlotAt n → k ≡ n
+slot-at e = cc
+
 numbered-called : (s : State) (by : Option ℕ) (call : Call) (reply : CallReply) → Answers s call reply → AreNumbered s.slots → AreNumbered (slots_called s.slots by call reply)
-numbered-called s by Slot (SlotAt slot) m n = rw m (numbered-more s.slots n)
-numbered-called s by (SlotSend slot) Done m n = numbered-sent s.slots There slot n
-numbered-called s by (SlotClose slot) Done m n = numbered-sent s.slots IsClosed slot n
-numbered-called s by (SlotPoll slot) StillPending m n = numbered-replaced s.slots (λ r. record r { outcome = Open by }) slot n
-numbered-called s by (SlotPoll slot) IsReady m n = numbered-replaced s.slots (λ r. record r { outcome = IsClosed }) slot n
-numbered-called s by (SlotGiveUp slot) Done m n = numbered-spent s.slots slot n
-numbered-called s by (AbortWait slot) Done m n = numbered-replaced s.slots aborted slot n
+numbered-called s by (Slots Slot) (SlotAt slot) m n = rw (slot-at m) (numbered-more s.slots n)
+numbered-called s by (Slots (SlotSend slot)) Done m n = numbered-sent s.slots There slot n
+numbered-called s by (Slots (SlotClose slot)) Done m n = numbered-sent s.slots IsClosed slot n
+numbered-called s by (Slots (SlotPoll slot)) StillPending m n = numbered-replaced s.slots (λ r. record r { outcome = Open by }) slot n
+numbered-called s by (Slots (SlotPoll slot)) IsReady m n = numbered-replaced s.slots (λ r. record r { outcome = IsClosed }) slot n
+numbered-called s by (Slots (SlotGiveUp slot)) Done m n = numbered-spent s.slots slot n
+numbered-called s by (Slots (AbortWait slot)) Done m n = numbered-replaced s.slots aborted slot n
 numbered-called s by _ _ m n = n
 
 numbered-after : (s : State) (e : Entry) → May s e → AreNumbered s.slots → AreNumbered (after s e).slots
@@ -172,19 +155,20 @@ module _ (slot : ℕ) where
   IsSpent ss = (is_live (find slot ss.results) ≡ true → ⊥) × (slot < ss.count)
 
   spent-called : (s : State) (by : Option ℕ) (call : Call) (reply : CallReply) → Answers s call reply → AreNumbered s.slots → IsSpent s.slots → IsSpent (slots_called s.slots by call reply)
-  spent-called s by Slot (SlotAt other) m n k =
+  spent-called s by (Slots Slot) (SlotAt other) m n k =
       let l = k.1 in
-      let apart : eqb other slot ≡ false = rw m (grind arith) in
-      (λ h. k.0 (live-add slot other s.slots.results apart h), omega arith)
-  spent-called s by (SlotSend other) Done m n k = (λ h. k.0 (live-replaced (settled There) (settled-keeps There) slot other s.slots.results h), k.1)
-  spent-called s by (SlotClose other) Done m n k = (λ h. k.0 (live-replaced (settled IsClosed) (settled-keeps IsClosed) slot other s.slots.results h), k.1)
-  spent-called s by (SlotPoll other) StillPending m n k = (λ h. k.0 (pending (cases_Bool (eqb other slot)) h), k.1)
+      let number : other ≡ s.slots.count = slot-at m in
+      let apart : eqb other slot ≡ false = rw number (grind arith) in
+      (λ h. k.0 (live-add slot other s.slots.results apart h), omega (arith, number))
+  spent-called s by (Slots (SlotSend other)) Done m n k = (λ h. k.0 (live-replaced (settled There) (settled-keeps There) slot other s.slots.results h), k.1)
+  spent-called s by (Slots (SlotClose other)) Done m n k = (λ h. k.0 (live-replaced (settled IsClosed) (settled-keeps IsClosed) slot other s.slots.results h), k.1)
+  spent-called s by (Slots (SlotPoll other)) StillPending m n k = (λ h. k.0 (pending (cases_Bool (eqb other slot)) h), k.1)
     where
       pending : (eqb other slot ≡ true) ⊎ (eqb other slot ≡ false) → is_live (find slot (with_outcome (Open by) other s.slots.results)) ≡ true → is_live (find slot s.slots.results) ≡ true
       pending (inl e) h = (let same = eqb-true other slot e in polled-live (find slot s.slots.results) StillPending (inl refl) (rw same at m))
       pending (inr e) h = (let z : is_live (find slot s.slots.results) ≡ true = rw (find-replaced (λ r. record r { outcome = Open by }) slot other s.slots.results e) at h in z)
-  spent-called s by (SlotPoll other) IsReady m n k = (λ h. k.0 (live-replaced (λ r. record r { outcome = IsClosed }) (λ r f. absurd (cc)) slot other s.slots.results h), k.1)
-  spent-called s by (SlotGiveUp other) Done m n k = (λ h. k.0 (removed (cases_Bool (eqb other slot)) h), k.1)
+  spent-called s by (Slots (SlotPoll other)) IsReady m n k = (λ h. k.0 (live-replaced (λ r. record r { outcome = IsClosed }) (λ r f. absurd (cc)) slot other s.slots.results h), k.1)
+  spent-called s by (Slots (SlotGiveUp other)) Done m n k = (λ h. k.0 (removed (cases_Bool (eqb other slot)) h), k.1)
     where
       removed : (eqb other slot ≡ true) ⊎ (eqb other slot ≡ false) → is_live (find slot (without other s.slots.results)) ≡ true → is_live (find slot s.slots.results) ≡ true
       removed (inl e) h =
@@ -193,7 +177,7 @@ module _ (slot : ℕ) where
           let there = live-some (find slot (without slot s.slots.results)) (rw same at h) in
           absurd (cc)
       removed (inr e) h = (let z : is_live (find slot s.slots.results) ≡ true = rw (find-other slot other s.slots.results e) at h in z)
-  spent-called s by (AbortWait other) Done m n k = (λ h. k.0 (live-replaced aborted (λ r f. absurd (cc)) slot other s.slots.results h), k.1)
+  spent-called s by (Slots (AbortWait other)) Done m n k = (λ h. k.0 (live-replaced aborted (λ r f. absurd (cc)) slot other s.slots.results h), k.1)
   spent-called s by _ _ m n k = k
 
   spent-after : (s : State) (e : Entry) → May s e → AreNumbered s.slots → IsSpent s.slots → IsSpent (after s e).slots
@@ -202,10 +186,10 @@ module _ (slot : ℕ) where
   spent-after s _ m n k = k
 
   abbrev HandsNone : Entry → Type 0
-  HandsNone e = (by : Option ℕ) → e ≢ CallEntry by (SlotPoll slot) IsReady
+  HandsNone e = (by : Option ℕ) → e ≢ CallEntry by (Slots (SlotPoll slot)) IsReady
 
   hands-none : (s : State) (e : Entry) → May s e → IsSpent s.slots → HandsNone e
-  hands-none s (CallEntry by (SlotPoll other) IsReady) m k who e =
+  hands-none s (CallEntry by (Slots (SlotPoll other)) IsReady) m k who e =
       let same : other ≡ slot = cc in
       k.0 (polled-live (find slot s.slots.results) IsReady (inr refl) (rw same at m.1.1))
   hands-none s _ m k who e = cc
@@ -215,16 +199,17 @@ module _ (slot : ℕ) where
   IsSent ss = (is_some (find slot ss.senders) ≡ false) × (slot < ss.count)
 
   sent-called : (s : State) (by : Option ℕ) (call : Call) (reply : CallReply) → Answers s call reply → IsSent s.slots → IsSent (slots_called s.slots by call reply)
-  sent-called s by Slot (SlotAt other) m k =
+  sent-called s by (Slots Slot) (SlotAt other) m k =
       let l = k.1 in
-      let apart : eqb other slot ≡ false = rw m (grind arith) in
-      (lacks-add slot other tt s.slots.senders k.0 apart, omega arith)
-  sent-called s by (SlotSend other) Done m k = (lacks-removed slot other s.slots.senders k.0, k.1)
-  sent-called s by (SlotClose other) Done m k = (lacks-removed slot other s.slots.senders k.0, k.1)
-  sent-called s by (SlotPoll other) StillPending m k = k
-  sent-called s by (SlotPoll other) IsReady m k = k
-  sent-called s by (SlotGiveUp other) Done m k = k
-  sent-called s by (AbortWait other) Done m k = k
+      let number : other ≡ s.slots.count = slot-at m in
+      let apart : eqb other slot ≡ false = rw number (grind arith) in
+      (lacks-add slot other tt s.slots.senders k.0 apart, omega (arith, number))
+  sent-called s by (Slots (SlotSend other)) Done m k = (lacks-removed slot other s.slots.senders k.0, k.1)
+  sent-called s by (Slots (SlotClose other)) Done m k = (lacks-removed slot other s.slots.senders k.0, k.1)
+  sent-called s by (Slots (SlotPoll other)) StillPending m k = k
+  sent-called s by (Slots (SlotPoll other)) IsReady m k = k
+  sent-called s by (Slots (SlotGiveUp other)) Done m k = k
+  sent-called s by (Slots (AbortWait other)) Done m k = k
   sent-called s by _ _ m k = k
 
   sent-after : (s : State) (e : Entry) → May s e → IsSent s.slots → IsSent (after s e).slots
@@ -233,8 +218,8 @@ module _ (slot : ℕ) where
   sent-after s _ m k = k
 
   sender-held : (s : State) (e : Entry) → May s e → SpendsSender slot e → is_some (find slot s.slots.senders) ≡ true
-  sender-held s (CallEntry by (SlotSend other) Done) m h = rw h at m.1.1
-  sender-held s (CallEntry by (SlotClose other) Done) m h = rw h at m.1.1
+  sender-held s (CallEntry by (Slots (SlotSend other)) Done) m h = rw h at m.1.1.1
+  sender-held s (CallEntry by (Slots (SlotClose other)) Done) m h = rw h at m.1.1.1
   sender-held s _ m h = absurd h
 
   sent-all : (s : State) (y : List Entry) → IsLawful s y → IsSent s.slots → AllByRecursion (λ (e : Entry). SpendsSender slot e → ⊥) y
@@ -244,25 +229,25 @@ module _ (slot : ℕ) where
 
   now-sent : (s : State) (e : Entry) → AreNumbered s.slots → SpendsSender slot e → is_some (find slot (after s e).slots.senders) ≡ false
   unfolding after
-  now-sent s (CallEntry by (SlotSend other) Done) n h = rw h (find-removed slot s.slots.senders n.senders)
-  now-sent s (CallEntry by (SlotClose other) Done) n h = rw h (find-removed slot s.slots.senders n.senders)
+  now-sent s (CallEntry by (Slots (SlotSend other)) Done) n h = rw h (find-removed slot s.slots.senders n.senders)
+  now-sent s (CallEntry by (Slots (SlotClose other)) Done) n h = rw h (find-removed slot s.slots.senders n.senders)
   now-sent s _ n h = absurd h
 
   count-kept : (s : State) (e : Entry) → SpendsSender slot e → (after s e).slots.count ≡ s.slots.count
   unfolding after
-  count-kept s (CallEntry by (SlotSend other) Done) h = refl
-  count-kept s (CallEntry by (SlotClose other) Done) h = refl
+  count-kept s (CallEntry by (Slots (SlotSend other)) Done) h = refl
+  count-kept s (CallEntry by (Slots (SlotClose other)) Done) h = refl
   count-kept s _ h = absurd h
 
   spent-all : (s : State) (y : List Entry) → IsLawful s y → AreNumbered s.slots → IsSpent s.slots → AllByRecursion HandsNone y
   spent-all s [] l n k = tt
   spent-all s (e ∷ y) l n k = (hands-none s e l.0 k, spent-all (after s e) y l.1 (numbered-after s e l.0 n) (spent-after s e l.0 n k))
 
-pub slot_handed_once : (b : Begin) (x y : List Entry) (by : Option ℕ) (slot : ℕ) → IsLawful (begun b) (x ++ CallEntry by (SlotPoll slot) IsReady ∷ y) → All (λ (e : Entry). (other : Option ℕ) → e ≢ CallEntry other (SlotPoll slot) IsReady) y
+pub slot_handed_once : (b : Begin) (x y : List Entry) (by : Option ℕ) (slot : ℕ) → IsLawful (begun b) (x ++ CallEntry by (Slots (SlotPoll slot)) IsReady ∷ y) → All (λ (e : Entry). (other : Option ℕ) → e ≢ CallEntry other (Slots (SlotPoll slot)) IsReady) y
 unfolding after
 slot_handed_once b x y by slot l =
     let s = after_all (begun b) x in
-    let e = CallEntry by (SlotPoll slot) IsReady in
+    let e = CallEntry by (Slots (SlotPoll slot)) IsReady in
     let r = lawful-tail (begun b) x (e ∷ y) l in
     let n = run-numbered b x (lawful-front (begun b) x (e ∷ y) l) in
     let live = polled-live (find slot s.slots.results) IsReady (inr refl) r.0.1.1 in

@@ -1,26 +1,9 @@
 -- What a part made before it lacked memory.
-use Rattle.std.proofs.Common.{◌≡◌, ◌⊎◌, inl, inr, ℕ, List, [], ◌∷◌, ◌++◌, Some, None, Result, false, true, refl, sym, ap, ◌∙◌}
-use Rattle.rt_base.specs.declared.error.Error.{Error}
-use Rattle.rt_base.specs.declared.execution.Execution.TheVariants.{Shared}
-use Rattle.rt_audit.specs.declared.answer.AnswerKind.TheVariants.{NoMemory as LacksMemory, Ended}
-use Rattle.rt_audit.specs.declared.call.Call.TheVariants.{CloseNode, SlotSend, SlotGiveUp}
-use Rattle.rt_audit.specs.declared.reply.CallReply.TheVariants.{Done}
+use Rattle.rt_laws.proofs.Prelude.{◌≡◌, ◌⊎◌, inl, inr, ℕ, List, [], ◌∷◌, ◌++◌, Some, None, Result, false, true, refl, sym, ap, ◌∙◌, Error, Shared, LacksMemory, Ended, CloseNode, Slots, SlotSend, SlotGiveUp, Done, Entry, Answered, NodeEnd, Cleanup, State, Finished, Stood, Turn, stood_in, begun, after, after_all, IsLawful, IsCounted, Held, Sending, Frees, put, moved, with_spawned, has_place, Step, Spends, Fronts, Stops, Breaks, stood_before, Value, nothing, IsTied, taken, IsCutOff, IsTied-append, small_begin, opening, visiting_root, finishing, Aborting, Parent, Joining, Aborter, aborting_root, aborting_next, aborter_spawned, joiner_ends, lacking_join, beside_journal, sending_root, slot_ready, send_lacks, sending_journal}
 use Rattle.rt_audit.specs.declared.finish.FinishCause.TheVariants.{NoMemory}
-use Rattle.rt_audit.specs.declared.entry.Entry.{Entry}
-use Rattle.rt_audit.specs.declared.entry.Entry.TheVariants.{Call, Answer as Answered, NodeEnd, Cleanup}
+use Rattle.rt_audit.specs.declared.entry.Entry.TheVariants.{Call}
 use Rattle.rt_model.specs.declared.answer.Answer.{Answer}
 use Rattle.rt_model.specs.declared.answer.Answer.TheVariants.{Pending}
-use Rattle.rt_model.specs.State.{State, Finished, Stood, Turn, stood_in, begun}
-use Rattle.rt_model.specs.Effects.{after, after_all}
-use Rattle.rt_model.specs.Rules.{IsLawful}
-use Rattle.rt_model.specs.Turns.{Held, Sending, Frees, put, moved, with_spawned, has_place}
-use Rattle.rt_model.specs.Walk.{Step, Spends, Fronts, Stops, Breaks, stood_before}
-use Rattle.rt_model.specs.Tied.{Value, nothing, IsTied, taken}
-use Rattle.rt_model.specs.Run.{IsCutOff}
-use Rattle.rt_model.proofs.Append.{IsTied-append}
-use Rattle.rt_laws.specs.Examples.{small_begin, opening, visiting_root, finishing}
-use Rattle.rt_laws.specs.Supervised.{Aborting, Parent, Joining, Aborter, aborting_root, aborting_next, aborter_spawned, joiner_ends, lacking_join, beside_journal}
-use Rattle.rt_laws.specs.Slotting.{sending_root, slot_ready, send_lacks, sending_journal}
 use Rattle.rt_laws.proofs.Decided.{lawful}
 use Rattle.rt_laws.proofs.Followed.{tied}
 use Rattle.rt_laws.proofs.Misses.{tied-front, tied-tail}
@@ -41,7 +24,7 @@ abbrev before : Held Aborting ℕ
 before = nothing.held
 
 -- in the state that its spawn made, and in no other
-pub spawned_so : (mid : Held Aborting ℕ) → Stops begins before spawned.turns (stood_in spawned) mid → mid ≡ with_spawned 1 (Shared false) (Aborter 2) before
+pub spawned_so : (mid : Held Aborting ℕ) → Stops begins before spawned.turns (stood_in spawned) mid → IsCounted (with_spawned 1 (Shared false) (Aborter 2) before) mid
 unfolding begun after
 spawned_so mid stops = stops.1.1.1
 
@@ -75,30 +58,31 @@ module _ (node : ℕ) where
 pub lacks_in_join : IsCutOff (aborting_root Pending) small_begin (lacking_join 2)
 unfolding begun after
 lacks_in_join =
-    cut 2 (record { front = spawned.turns; rest = []; mid = made 2; are = refl; walks = ((refl, tt), ((refl, tt), (tt, refl))); frees = refl }) (lawful small_begin (lacking_join 2) refl)
+    cut 2 (record { front = spawned.turns; rest = []; mid = made 2; are = refl; walks = ((refl, tt), ((refl, tt), (tt, ([], refl)))); frees = ([], refl) }) (lawful small_begin (lacking_join 2) refl)
     (tied (aborting_root Pending) (after spawned (Answered 0 LacksMemory)) (broken 2) (cleaned 2) (behind 2) refl) refl
 
 -- its first call lacked it
 pub lacks_at_first : IsCutOff (aborting_root Pending) small_begin (lacking_join 1)
 unfolding begun after
 lacks_at_first =
-    cut 1 (record { front = []; rest = spawned.turns; mid = before; are = refl; walks = (tt, refl); frees = (before, refl, (made 1, (Shared false, Aborter 1, refl), refl)) }) (lawful small_begin (lacking_join 1) refl)
+    cut 1 (record { front = []; rest = spawned.turns; mid = before; are = refl; walks = (tt, ([], refl)); frees = ([], before, refl, ([], made 1, (Shared false, Aborter 1, refl), ([], refl))) }) (lawful small_begin (lacking_join 1) refl)
     (tied (aborting_root Pending) (after spawned (Answered 0 LacksMemory)) (broken 1) (cleaned 1) (behind 1) refl) refl
 
 -- what is sent first is held, wherever memory lacks behind it
-module _ {A L O R : Type 0} (t : Turn) (stood : Stood) (slot : ℕ) (sent : Result O Error) (next : Step A L O R) (held end : Held A O) (there : has_place t.stood (SlotSend slot) ≡ true) where
-  stopped : (front rest : List Turn) (mid : Held A O) → t ∷ [] ≡ front ++ rest → Stops (Spends (Sending slot sent) next) held front (stood_before rest stood) mid → Frees mid rest end → end ≡ moved held (Sending slot sent) t
+module _ {A L O R : Type 0} (t : Turn) (stood : Stood) (slot : ℕ) (sent : Result O Error) (next : Step A L O R) (held end : Held A O) (there : has_place t.stood (Slots (SlotSend slot)) ≡ true) where
+  stopped : (front rest : List Turn) (mid : Held A O) → t ∷ [] ≡ front ++ rest → Stops (Spends (Sending slot sent) next) held front (stood_before rest stood) mid → Frees mid rest end → IsCounted (moved held (Sending slot sent) t) end
   stopped [] rest mid e w f =
-      let place : has_place (stood_before rest stood) (SlotSend slot) ≡ true = rw (← e) there in
+      let place : has_place (stood_before rest stood) (Slots (SlotSend slot)) ≡ true = rw (← e) there in
       let gone = w.0.0 in
       absurd (cc)
   stopped (u ∷ []) [] mid e w f =
       let same : t ≡ u = cc in
-      f ∙ (w.0 (rw (← same) there)).2.1 ∙ ap (λ (u : Turn). moved held (Sending slot sent) u) (sym same)
+      let moves = (w.0 (rw (← same) there)).2.1 in
+      (f.0, f.1 ∙ ap (λ (x : Held A O). record x { counts = f.0 }) (moves.1 ∙ ap (λ (u : Turn). record (moved held (Sending slot sent) u) { counts = moves.0 }) (sym same)))
   stopped (u ∷ []) (v ∷ rest) mid e w f = absurd (cc)
   stopped (u ∷ v ∷ front) rest mid e w f = absurd (cc)
 
-  sent_first : Breaks (Spends (Sending slot sent) next) held (t ∷ []) stood end ⊎ Fronts (Spends (Sending slot sent) next) held (t ∷ []) end → end ≡ moved held (Sending slot sent) t
+  sent_first : Breaks (Spends (Sending slot sent) next) held (t ∷ []) stood end ⊎ Fronts (Spends (Sending slot sent) next) held (t ∷ []) end → IsCounted (moved held (Sending slot sent) t) end
   sent_first (inl k) = stopped k.front k.rest k.mid k.are k.walks k.frees
   sent_first (inr k) = (k.0 there).2
 
@@ -114,15 +98,15 @@ module _ (sent : Result ℕ Error) where
   unfolding begun after
   sent_so w r =
       let p = sending_root sent in
-      let rest : List Entry = visiting_root ++ (Call (Some 0) (SlotSend 0) Done ∷ Answered 0 LacksMemory ∷ []) in
+      let rest : List Entry = visiting_root ++ (Call (Some 0) (Slots (SlotSend 0)) Done ∷ Answered 0 LacksMemory ∷ []) in
       let t = tied-tail p (begun small_begin) nothing w slot_ready rest r in
       let same : t.0 ≡ waiting = tied-same p (begun small_begin) nothing t.0 waiting slot_ready (tied-front p (begun small_begin) nothing w slot_ready rest r) up-to-the-round t.1.1.1 refl in
       let visited = t.1.2.2.2 in
       let kept : t.1.2.2.0 ≡ waiting = t.1.2.2.1 ∙ t.1.2.1 ∙ t.1.1.0 ∙ same in
       let poll = visited.1 in
       let breaks = rw kept at poll.breaks in
-      let asked = after_all (begun small_begin) (slot_ready ++ visiting_root ++ (Call (Some 0) (SlotSend 0) Done ∷ [])) in
-      let held : poll.moved.sent ≡ (0, sent) ∷ [] = ap (λ (h : Held (Unit {0}) ℕ). h.sent) (sent_first _ (stood_in asked) 0 sent _ (taken 0 waiting.held) poll.moved refl breaks) in
+      let asked = after_all (begun small_begin) (slot_ready ++ visiting_root ++ (Call (Some 0) (Slots (SlotSend 0)) Done ∷ [])) in
+      let held : poll.moved.sent ≡ (0, sent) ∷ [] = ap (λ (h : Held (Unit {0}) ℕ). h.sent) (sent_first _ (stood_in asked) 0 sent _ (taken 0 waiting.held) poll.moved refl breaks).1 in
       ap (λ (v : Value (Unit {0}) ℕ). v.held.sent) (visited.2 ∙ poll.is) ∙ held
 
   -- its poll lacked memory behind the send, and its end gives the slot up
@@ -133,8 +117,8 @@ module _ (sent : Result ℕ Error) where
       let made : Held (Unit {0}) ℕ = record nothing.held { sent = (0, sent) ∷ [] } in
       let broken : Value (Unit {0}) ℕ = record nothing { held = put 0 tt made; whole = false } in
       let end : Value (Unit {0}) ℕ = record nothing { whole = false } in
-      let front : List Entry = slot_ready ++ visiting_root ++ (Call (Some 0) (SlotSend 0) Done ∷ []) in
-      let rest : List Entry = (Cleanup ∷ NodeEnd 0 ∷ Call (Some 0) (SlotGiveUp 0) Done ∷ Call (Some 0) (CloseNode 0) Done ∷ Answered 0 Ended ∷ []) ++ finishing NoMemory in
+      let front : List Entry = slot_ready ++ visiting_root ++ (Call (Some 0) (Slots (SlotSend 0)) Done ∷ []) in
+      let rest : List Entry = (Cleanup ∷ NodeEnd 0 ∷ Call (Some 0) (Slots (SlotGiveUp 0)) Done ∷ Call (Some 0) (CloseNode 0) Done ∷ Answered 0 Ended ∷ []) ++ finishing NoMemory in
       let s = after_all (begun small_begin) front in
       record {
         value = end;
@@ -147,7 +131,7 @@ module _ (sent : Result ℕ Error) where
             left = tt;
             moved = made;
             there = refl;
-            breaks = inl (record { front = s.turns; rest = []; mid = made; are = refl; walks = (λ there. (refl, refl, (tt, refl)), λ gone. absurd (cc)); frees = refl });
+            breaks = inl (record { front = s.turns; rest = []; mid = made; are = refl; walks = (λ there. (refl, refl, (tt, ([], refl))), λ gone. absurd (cc)); frees = ([], refl) });
             is = refl;
           },
           tied p (after s (Answered 0 LacksMemory)) broken end rest refl,
@@ -163,7 +147,7 @@ beside-lawful = lawful small_begin beside_journal refl
 pub lacks_beside : IsCutOff (aborting_root Pending) small_begin beside_journal
 unfolding begun after
 lacks_beside =
-    let value : Value Aborting ℕ = record { held = record { tasks = []; results = []; sent = []; executions = (1, Shared false) ∷ [] }; output = None; panic = None; unmade = None; whole = false } in
+    let value : Value Aborting ℕ = record { held = record { tasks = []; results = []; sent = []; executions = (1, Shared false) ∷ []; counts = [] }; output = None; panic = None; unmade = None; whole = false } in
     record {
       value = value;
       lawful = beside-lawful;

@@ -13,6 +13,7 @@ pub mod Chains
 pub mod Audited
 pub mod Behind
 pub mod Drawings
+pub mod Moods
 pub mod Followed
 pub mod Fronts
 pub mod Given
@@ -55,3 +56,4 @@ pub mod ValidSide
 pub mod Values
 pub mod Several
 pub mod Mailing
+pub mod Prelude

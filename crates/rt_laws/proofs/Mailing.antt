@@ -1,24 +1,7 @@
 -- A root that receives what it sends by a slot, and what comes near to its run is none.
-use Rattle.std.proofs.Common.{◌≡◌, ℕ, List, [], ◌∷◌, ◌++◌, Some, Result, Ok, Err, true, refl}
-use Rattle.rt_base.specs.declared.error.Error.{Error}
+use Rattle.rt_laws.proofs.Prelude.{◌≡◌, ℕ, List, [], ◌∷◌, ◌++◌, Some, Result, Ok, Err, true, refl, Error, Slots, SlotGiveUp, CallReply, Done, IsReady, Refused, FinishCause, Completed, Entry, Answered, AnswersReady, State, begun, after, after_all, find, IsAnswerOf, Value, IsTied, nothing, IsRun, small_begin, gave, root_ends, finishing, without_value, Mailer, Waiting, mailing_root, slot_received, mailing_journal}
 use Rattle.rt_base.specs.declared.error.Error.TheVariants.{Closed, Timeout}
-use Rattle.rt_audit.specs.declared.call.Call.TheVariants.{SlotGiveUp}
-use Rattle.rt_audit.specs.declared.reply.CallReply.{CallReply}
-use Rattle.rt_audit.specs.declared.reply.CallReply.TheVariants.{Done, Ready as IsReady, Refused}
-use Rattle.rt_audit.specs.declared.finish.FinishCause.{FinishCause}
-use Rattle.rt_audit.specs.declared.finish.FinishCause.TheVariants.{Completed}
-use Rattle.rt_audit.specs.declared.entry.Entry.{Entry}
-use Rattle.rt_audit.specs.declared.entry.Entry.TheVariants.{Call, Answer as Answered}
-use Rattle.rt_audit.specs.declared.answer.AnswerKind.TheVariants.{Ready as AnswersReady}
-use Rattle.rt_model.specs.State.{State, begun}
-use Rattle.rt_model.specs.Effects.{after, after_all}
-use Rattle.rt_model.specs.Lists.{find}
-use Rattle.rt_model.specs.Turns.{IsAnswerOf}
-use Rattle.rt_model.specs.Tied.{Value, IsTied, nothing}
-use Rattle.rt_model.specs.Run.{IsRun}
-use Rattle.rt_laws.specs.Examples.{small_begin, gave, root_ends, finishing}
-use Rattle.rt_laws.specs.Supervised.{without_value}
-use Rattle.rt_laws.specs.Slotting.{Mailer, Waiting, mailing_root, slot_received, mailing_journal}
+use Rattle.rt_audit.specs.declared.entry.Entry.TheVariants.{Call}
 use Rattle.rt_laws.proofs.Decided.{lawful}
 use Rattle.rt_laws.proofs.Followed.{tied}
 use Rattle.rt_laws.proofs.Misses.{tied-front, tied-tail}
@@ -56,10 +39,10 @@ its_number cause end value run =
 
 -- the values behind its calls in its second visit
 abbrev mailed : Result ℕ Error → Value Mailer ℕ
-mailed sent = record nothing { held = record { tasks = (0, Waiting 0) ∷ []; results = []; sent = (0, sent) ∷ []; executions = [] } }
+mailed sent = record nothing { held = record { tasks = (0, Waiting 0) ∷ []; results = []; sent = (0, sent) ∷ []; executions = []; counts = [] } }
 
 abbrev given_up : CallReply → List Entry
-given_up reply = slot_received reply ++ (Call (Some 0) (SlotGiveUp 0) Done ∷ [])
+given_up reply = slot_received reply ++ (Call (Some 0) (Slots (SlotGiveUp 0)) Done ∷ [])
 
 up-to-its-answer : (sent : Result ℕ Error) (reply : CallReply) → IsTied (mailing_root sent) (begun small_begin) nothing (given_up reply) (mailed sent)
 unfolding begun after

@@ -1,19 +1,7 @@
 -- The near misses of the examples are no runs.
-use Rattle.std.proofs.Common.{◌≡◌, ◌≢◌, ◌<◌, inl, inr, ℕ, true, false, leb, List, [], ◌∷◌, ◌++◌, Some, refl, sym, ap, ◌∙◌, arith}
-use Rattle.rt_base.specs.declared.time.TheConstants.{MAX_TIME}
-use Rattle.rt_audit.specs.declared.call.Call.{Call as CallOf}
-use Rattle.rt_audit.specs.declared.reply.CallReply.{CallReply}
-use Rattle.rt_audit.specs.declared.answer.AnswerKind.TheVariants.{Ready as AnswersReady, Ended}
-use Rattle.rt_audit.specs.declared.finish.FinishCause.{FinishCause}
-use Rattle.rt_audit.specs.declared.finish.FinishCause.TheVariants.{Completed, NoMemory}
-use Rattle.rt_audit.specs.declared.entry.Entry.{Entry}
-use Rattle.rt_audit.specs.declared.entry.Entry.TheVariants.{Call, Answer as Answered, NodeEnd, Advance, Skip, Fire, Cleanup, Crash, Finish}
-use Rattle.rt_model.specs.State.{State, begun}
-use Rattle.rt_model.specs.Effects.{after, after_all}
-use Rattle.rt_model.specs.Rules.{IsLawful}
-use Rattle.rt_model.specs.Tied.{Steps, Value, nothing, IsTied}
-use Rattle.rt_model.specs.Run.{IsRun}
-use Rattle.rt_laws.specs.Examples.{small_begin, ready_root, opening, visiting_root, still_asleep, awake, root_ends, finishing, open_node, ordered, finished_for, called, fires_with, early_fire, early_sleep, skipped_journal}
+use Rattle.rt_laws.proofs.Prelude.{◌≡◌, ◌≢◌, ◌<◌, inl, inr, ℕ, true, false, leb, List, [], ◌∷◌, ◌++◌, Some, refl, sym, ap, ◌∙◌, arith, MAX_TIME, CallOf, CallReply, AnswersReady, Ended, FinishCause, Completed, Entry, Answered, NodeEnd, Advance, Skip, Fire, Cleanup, Crash, Finish, State, begun, after, after_all, IsLawful, Steps, Value, nothing, IsTied, IsRun, small_begin, ready_root, opening, visiting_root, still_asleep, awake, root_ends, finishing, open_node, ordered, finished_for, called, fires_with, early_fire, early_sleep, skipped_journal}
+use Rattle.rt_audit.specs.declared.finish.FinishCause.TheVariants.{NoMemory}
+use Rattle.rt_audit.specs.declared.entry.Entry.TheVariants.{Call}
 use Rattle.rt_laws.proofs.Clock.{lawful-tail}
 use Rattle.rt_laws.proofs.Valid.{only}
 use Rattle.rt_laws.proofs.Values.{all-whole, not-whole}

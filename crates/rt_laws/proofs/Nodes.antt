@@ -1,26 +1,5 @@
 -- The nodes of a run, and whose task each is: a task on an ended node is flagged, and a flag has a cause.
-use Rattle.std.proofs.Common.{◌≡◌, ◌<◌, ◌≤◌, ◌+◌, ◌⊎◌, inl, inr, ℕ, List, [], ◌∷◌, ◌++◌, filter, filter_map, Option, Some, None, is_some, Bool, true, false, not, ◌&&◌, ◌||◌, eqb, if◌then◌else◌, refl, sym, ap, ◌∙◌, arith}
-use Rattle.std.specs.List.{AllByRecursion, list_any}
-use Rattle.std.proofs.lemmas.Bool.{cases_Bool}
-use Rattle.rt_base.specs.declared.error.Error.{Error}
-use Rattle.rt_base.specs.declared.error.Error.TheVariants.{UnknownToken}
-use Rattle.rt_audit.specs.declared.call.Call.{Call}
-use Rattle.rt_audit.specs.declared.call.Call.TheVariants.{Child, CloseNode, Spawn, Abort, AbortTask}
-use Rattle.rt_audit.specs.declared.reply.CallReply.{CallReply}
-use Rattle.rt_audit.specs.declared.reply.CallReply.TheVariants.{Done, NodeAt, TaskAt, Closed}
-use Rattle.rt_audit.specs.declared.answer.AnswerKind.{AnswerKind}
-use Rattle.rt_audit.specs.declared.answer.AnswerKind.TheVariants.{Pending, Ended}
-use Rattle.rt_audit.specs.declared.entry.Entry.{Entry}
-use Rattle.rt_audit.specs.declared.entry.Entry.TheVariants.{Call as CallEntry, Root, Answer, NodeEnd}
-use Rattle.rt_super.specs.Ancestry.{NodeState, TreeRecord, first_record, is_known, is_live, is_ended, was_born_ended, task_on, links, subtree, stands_in, newly_ended, tasks_on, with_child, with_task, with_release, with_end}
-use Rattle.rt_model.specs.declared.begin.Begin.{Begin}
-use Rattle.rt_model.specs.declared.mark.Mark.{Mark}
-use Rattle.rt_model.specs.Lists.{find, has_number, without}
-use Rattle.rt_model.specs.Marks.{new_mark, flagged, flag, flag_all, leave}
-use Rattle.rt_model.specs.State.{State, begun}
-use Rattle.rt_model.specs.Effects.{after, after_all, is_settled, numbers_called, marks_called, marks_answered, marks_ended, nodes_called, nodes_answered, released, unflagged, flagged_by, leaving, unmarked}
-use Rattle.rt_model.specs.Rules.{May, Answers, Unless, ChildAnswers, IsLawful}
-use Rattle.rt_laws.specs.Aborts.{IsAbortOf}
+use Rattle.rt_laws.proofs.Prelude.{◌≡◌, ◌<◌, ◌≤◌, ◌+◌, ◌⊎◌, inl, inr, ℕ, List, [], ◌∷◌, ◌++◌, filter, filter_map, Option, Some, None, is_some, Bool, true, false, not, ◌&&◌, ◌||◌, eqb, if◌then◌else◌, refl, sym, ap, ◌∙◌, arith, AllByRecursion, list_any, cases_Bool, Error, UnknownToken, Call, Child, CloseNode, Spawn, Abort, AbortTask, CallReply, Done, NodeAt, TaskAt, Closed, AnswerKind, Pending, Ended, Entry, CallEntry, Root, Answer, NodeEnd, NodeState, TreeRecord, first_record, is_known, is_live, is_ended, was_born_ended, task_on, links, subtree, stands_in, newly_ended, tasks_on, with_child, with_task, with_release, with_end, Begin, Mark, find, has_number, without, new_mark, flagged, flag, flag_all, leave, State, begun, after, after_all, is_settled, numbers_called, marks_called, marks_answered, marks_ended, nodes_called, nodes_answered, released, unflagged, flagged_by, leaving, unmarked, May, Answers, Unless, ChildAnswers, IsLawful, IsAbortOf}
 use Rattle.rt_laws.proofs.Tasks.{AreTasks, AreApart, not-not, spawn-answers, find-removed, apart-flagged, tasks-after, begun-tasks}
 use Rattle.rt_laws.proofs.Flags.{find-other}
 use Rattle.rt_laws.proofs.Trees.{IsTree, unlike, known-live, known-on, known-new, ended-new, ended-changed, ended-end, ended-stays, flags-end, puts-keeps, release-keeps, task-new, task-put, task-other, task-release, tree-new, tree-changed, tree-same, ended-now, or-cases, or-left, or-right}

@@ -1,20 +1,5 @@
 -- The numbers of alarms: no two alarms have the same, and none is given twice.
-use Rattle.std.proofs.Common.{inl, inr, ◌≡◌, ◌≢◌, ◌<◌, ◌+◌, ◌==◌, ℕ, zero, suc, List, [], ◌∷◌, ◌++◌, map, drop, Option, Some, eqb, refl, sym, ap, ◌∙◌, arith, All, Contains}
-use Rattle.std.specs.List.{AllByRecursion}
-use Rattle.std.proofs.lemmas.List.Elements.{All-from_recursion}
-use Rattle.std.proofs.lemmas.Bool.{cases_Bool}
-use Rattle.rt_audit.specs.declared.call.Call.{Call}
-use Rattle.rt_audit.specs.declared.call.Call.TheVariants.{SleepPoll}
-use Rattle.rt_audit.specs.declared.reply.CallReply.{CallReply}
-use Rattle.rt_audit.specs.declared.reply.CallReply.TheVariants.{PendingAt}
-use Rattle.rt_audit.specs.declared.entry.Entry.{Entry}
-use Rattle.rt_audit.specs.declared.entry.Entry.TheVariants.{Call as CallEntry, Wake, Fire, Cleanup}
-use Rattle.rt_super.specs.Alarms.{Alarm, AlarmList, with_alarm, waking}
-use Rattle.rt_model.specs.declared.begin.Begin.{Begin}
-use Rattle.rt_model.specs.State.{State, begun}
-use Rattle.rt_model.specs.Alarms.{slept, fires, woken_by}
-use Rattle.rt_model.specs.Effects.{after, after_all, alarms_after, alarms_called}
-use Rattle.rt_model.specs.Rules.{May, IsLawful}
+use Rattle.rt_laws.proofs.Prelude.{inl, inr, ◌≡◌, ◌≢◌, ◌<◌, ◌+◌, ◌==◌, ℕ, zero, suc, List, [], ◌∷◌, ◌++◌, map, drop, Option, Some, eqb, refl, sym, ap, ◌∙◌, arith, All, Contains, AllByRecursion, All-from_recursion, cases_Bool, Call, SleepPoll, CallReply, PendingAt, Entry, CallEntry, Wake, Fire, Cleanup, Alarm, AlarmList, with_alarm, waking, Begin, State, begun, slept, fires, woken_by, after, after_all, alarms_after, alarms_called, May, IsLawful}
 use Rattle.rt_laws.proofs.Clock.{lawful-tail}
 use Rattle.rt_laws.proofs.Each.{Each, each-with, each-waking, each-drop}
 

@@ -1,8 +1,6 @@
 -- The tree of a run with one spawned task, whatever the numbers of its nodes: a child of node 0 with the task on it, and below that
 -- the node of the task's own context.
-use Rattle.std.proofs.Common.{◌≡◌, ℕ, Bool, true, false, [], ◌∷◌, Some, None, eqb, eq-eqb, refl, arith}
-use Rattle.rt_super.specs.Ancestry.{TreeRecord, first_record, new_node, with_child, with_task, with_release, with_end, is_known, is_live, is_ended}
-use Rattle.rt_model.specs.Rules.{is_free}
+use Rattle.rt_laws.proofs.Prelude.{◌≡◌, ℕ, Bool, true, false, [], ◌∷◌, Some, None, eqb, eq-eqb, refl, arith, TreeRecord, first_record, new_node, with_child, with_task, with_release, with_end, is_known, is_live, is_ended, is_free}
 
 abbrev pub one_child : ℕ → TreeRecord
 one_child child = with_child first_record child 0

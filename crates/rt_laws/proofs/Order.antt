@@ -1,20 +1,5 @@
 -- Alarms stay in order of their due times.
-use Rattle.std.proofs.Common.{◌≡◌, ◌≤◌, ◌<◌, ◌==◌, inl, inr, ℕ, sym, List, [], ◌∷◌, ◌++◌, map, drop, Option, Some, refl, arith, All}
-use Rattle.std.proofs.lemmas.Bool.{cases_Bool}
-use Rattle.std.proofs.lemmas.List.Elements.{All-from_recursion}
-use Rattle.rt_audit.specs.declared.call.Call.{Call}
-use Rattle.rt_audit.specs.declared.call.Call.TheVariants.{SleepPoll}
-use Rattle.rt_audit.specs.declared.reply.CallReply.{CallReply}
-use Rattle.rt_audit.specs.declared.reply.CallReply.TheVariants.{PendingAt}
-use Rattle.rt_audit.specs.declared.entry.Entry.{Entry}
-use Rattle.rt_audit.specs.declared.entry.Entry.TheVariants.{Call as CallEntry, Fire, Cleanup, Skip}
-use Rattle.rt_super.specs.Alarms.{Alarm, AlarmList, with_alarm, waking}
-use Rattle.rt_model.specs.declared.begin.Begin.{Begin}
-use Rattle.rt_model.specs.State.{State, begun}
-use Rattle.rt_model.specs.Alarms.{slept, skip_to, ahead}
-use Rattle.rt_model.specs.Effects.{after, after_all, alarms_after, alarms_called}
-use Rattle.rt_model.specs.Rules.{IsLawful}
-use Rattle.rt_laws.specs.Earliest.{IsEarliest}
+use Rattle.rt_laws.proofs.Prelude.{◌≡◌, ◌≤◌, ◌<◌, ◌==◌, inl, inr, ℕ, sym, List, [], ◌∷◌, ◌++◌, map, drop, Option, Some, refl, arith, All, cases_Bool, All-from_recursion, Call, SleepPoll, CallReply, PendingAt, Entry, CallEntry, Fire, Cleanup, Skip, Alarm, AlarmList, with_alarm, waking, Begin, State, begun, slept, skip_to, ahead, after, after_all, alarms_after, alarms_called, IsLawful, IsEarliest}
 use Rattle.rt_laws.proofs.Clock.{lawful-tail}
 use Rattle.rt_laws.proofs.Each.{Each, each-with, each-waking}
 

@@ -1,23 +1,7 @@
 -- A part that lacked memory leaves the states of the other tasks as they were, but for those that it spawned, and so does each end.
-use Rattle.std.proofs.Common.{◌≡◌, ◌≢◌, inl, inr, ℕ, List, [], ◌∷◌, ◌++◌, refl, ap, ◌∙◌, arith, All, Result, Bool, true, false, if◌then◌else◌}
-use Rattle.std.specs.List.{AllByRecursion}
-use Rattle.std.proofs.lemmas.List.Elements.{recursion_from_All}
-use Rattle.std.proofs.lemmas.Bool.{cases_Bool}
-use Rattle.rt_audit.specs.declared.answer.AnswerKind.TheVariants.{NoMemory, Ended}
-use Rattle.rt_audit.specs.declared.call.Call.{Call}
-use Rattle.rt_audit.specs.declared.call.Call.TheVariants.{Spawn, Join, GiveUp, SlotSend, SlotPoll, SlotGiveUp, AbortWait}
-use Rattle.rt_audit.specs.declared.reply.CallReply.{CallReply}
-use Rattle.rt_audit.specs.declared.reply.CallReply.TheVariants.{Done, TaskAt, Ready}
-use Rattle.rt_audit.specs.declared.entry.Entry.TheVariants.{Answer}
-use Rattle.rt_model.specs.Lists.{find, without}
-use Rattle.rt_model.specs.State.{State, Stood, Turn, stood_in}
-use Rattle.rt_base.specs.declared.error.Error.{Error}
-use Rattle.rt_model.specs.Slots.{Slotted, is_open}
-use Rattle.rt_model.specs.Turns.{Ask, Spawning, Sending, with_sent, Held, with_task, call_of, heard_of, moved, moved_by, freed_by, FreesOne, Frees, has_place}
-use Rattle.rt_model.specs.Walk.{Step, Does, Spends, Gives, Gave, Goes, Walks, Fronts, Stops, Breaks, stood_before}
-use Rattle.rt_model.proofs.Walks.{gave-end}
-use Rattle.rt_model.specs.Tied.{Steps, Value, Moves, taken}
-use Rattle.rt_laws.specs.Spawns.{Spawns}
+use Rattle.rt_laws.proofs.Prelude.{◌≡◌, ◌≢◌, inl, inr, ℕ, List, [], ◌∷◌, ◌++◌, refl, ap, ◌∙◌, arith, All, Result, Bool, true, false, if◌then◌else◌, AllByRecursion, recursion_from_All, cases_Bool, NoMemory, Ended, Call, Spawn, Join, GiveUp, Slots, SlotSend, SlotPoll, SlotGiveUp, AbortWait, CallReply, Done, TaskAt, Answer, find, without, State, Stood, Turn, stood_in, Error, Slotted, is_open, counted, Ask, Spawning, Sending, with_sent, Held, call_of, heard_of, moved, moved_by, freed_by, FreesOne, Frees, has_place, Step, Does, Spends, Counts, Gives, Gave, Goes, Walks, Fronts, Stops, Breaks, stood_before, gave-end, Steps, Value, Moves, taken, Spawns}
+use Rattle.rt_audit.specs.declared.reply.CallReply.TheVariants.{Ready}
+use Rattle.rt_model.specs.Turns.{with_task}
 
 find-without : {A : Type 0} → (task other : ℕ) (xs : List (ℕ × A)) → other ≢ task → find other (without task xs) ≡ find other xs
 find-without task other [] n = refl
@@ -38,9 +22,9 @@ module _ {A O : Type 0} (other : ℕ) where
   freed-same : (held : Held A O) (call : Call) (reply : CallReply) → Same held (freed_by held call reply)
   freed-same held (Join task) Ready = refl
   freed-same held (GiveUp task) Done = refl
-  freed-same held (SlotPoll slot) Ready = refl
-  freed-same held (SlotGiveUp slot) Done = refl
-  freed-same held (AbortWait slot) Done = refl
+  freed-same held (Slots (SlotPoll slot)) Ready = refl
+  freed-same held (Slots (SlotGiveUp slot)) Done = refl
+  freed-same held (Slots (AbortWait slot)) Done = refl
   freed-same held _ _ = refl
 
   put-same : (held : Held A O) (task number : ℕ) (a : A) → (((told : ℕ) × (TaskAt task number ≡ TaskAt other told)) → ⊥) → find other (with_task task a held.tasks) ≡ find other held.tasks
@@ -60,17 +44,17 @@ module _ {A O : Type 0} (other : ℕ) where
 
   frees-one : (stood : Stood) (held : Held A O) (call : Call) (reply : CallReply) (end : Held A O) → (((told : ℕ) × (reply ≡ TaskAt other told)) → ⊥) → FreesOne stood held call reply end → Same held end
   frees-one stood held (Spawn node) (TaskAt task number) end n f = ap (λ (x : Held A O). find other x.tasks) f.2 ∙ put-same held task number f.1 n
-  frees-one stood held (SlotSend slot) Done end n f = ap (λ (x : Held A O). find other x.tasks) f.1 ∙ sent-same stood.slots slot f.0 held
+  frees-one stood held (Slots (SlotSend slot)) Done end n f = ap (λ (x : Held A O). find other x.tasks) f.1 ∙ sent-same stood.slots slot f.0 held
   frees-one stood held call reply end n f = ap (λ (x : Held A O). find other x.tasks) f ∙ freed-same held call reply
 
   frees-same : (held : Held A O) (turns : List Turn) (end : Held A O) → AllByRecursion (SpawnsOthers other) turns → Frees held turns end → Same held end
-  frees-same held [] end n f = ap (λ (x : Held A O). find other x.tasks) f
-  frees-same held (t ∷ turns) end n f = frees-same f.0 turns end n.1 f.2 ∙ frees-one t.stood held t.call t.reply f.0 n.0 f.1
+  frees-same held [] end n f = ap (λ (x : Held A O). find other x.tasks) f.1
+  frees-same held (t ∷ turns) end n f = frees-same f.1 turns end n.1 f.3 ∙ frees-one t.stood (record held { counts = f.0 }) t.call t.reply f.1 n.0 f.2
 
 -- and so of a walk, and of a front of one
 module _ {A L O R : Type 0} (other : ℕ) (end : Held A O) where
   gave-keeps : (stood : Stood) (answer : R) (left : L) (held : Held A O) (step : Step A L O R) → Gave stood held step answer left end → Same other held end
-  gave-keeps stood answer left held step g = ap (λ (x : Held A O). find other x.tasks) (gave-end stood answer left end held step g)
+  gave-keeps stood answer left held step g = ap (λ (x : Held A O). find other x.tasks) (gave-end stood answer left end held step g).1
 
   goes-keeps : (more : Held A O → Step A L O R → Type 0) → ((held : Held A O) (step : Step A L O R) → more held step → Same other held end) → (held : Held A O) (step : Step A L O R) (t : Turn) → SpawnsOthers other t → Goes more held step t → Same other held end
   goes-keeps more on held (Does ask step) t n h = on (moved held ask t) (step (heard_of held t)) h.1 ∙ moved-same other t.stood held ask t.call t.reply n
@@ -78,6 +62,7 @@ module _ {A L O R : Type 0} (other : ℕ) (end : Held A O) where
     | inl there ↦ on (moved held ask t) next (h.0 there).2 ∙ moved-same other t.stood held ask t.call t.reply n
     | inr gone ↦ goes-keeps more on held next t n (h.1 gone)
   ]
+  goes-keeps more on held (Counts change next) t n h = goes-keeps more on (counted change held) next t n h
   goes-keeps more on held (Gives given state) t n h = absurd h
 
   walks-keep : (stood : Stood) (answer : R) (left : L) (turns : List Turn) (held : Held A O) (step : Step A L O R) → AllByRecursion (SpawnsOthers other) turns → Walks step held turns stood answer left end → Same other held end
@@ -85,11 +70,11 @@ module _ {A L O R : Type 0} (other : ℕ) (end : Held A O) where
   walks-keep stood answer left (t ∷ turns) held step n h = goes-keeps (λ held step. Walks step held turns stood answer left end) (λ held step h. walks-keep stood answer left turns held step n.1 h) held step t n.0 h
 
   fronts-keep : (turns : List Turn) (held : Held A O) (step : Step A L O R) → AllByRecursion (SpawnsOthers other) turns → Fronts step held turns end → Same other held end
-  fronts-keep [] held step n h = ap (λ (x : Held A O). find other x.tasks) h
+  fronts-keep [] held step n h = ap (λ (x : Held A O). find other x.tasks) h.1
   fronts-keep (t ∷ turns) held step n h = goes-keeps (λ held step. Fronts step held turns end) (λ held step h. fronts-keep turns held step n.1 h) held step t n.0 h
 
   stops-keep : (stood : Stood) (turns : List Turn) (held : Held A O) (step : Step A L O R) → AllByRecursion (SpawnsOthers other) turns → Stops step held turns stood end → Same other held end
-  stops-keep stood [] held step n h = ap (λ (x : Held A O). find other x.tasks) h.1
+  stops-keep stood [] held step n h = ap (λ (x : Held A O). find other x.tasks) h.1.1
   stops-keep stood (t ∷ turns) held step n h = goes-keeps (λ held step. Stops step held turns stood end) (λ held step h. stops-keep stood turns held step n.1 h) held step t n.0 h
 
 all-append : {X : Type 0} (P : X → Type 0) (xs ys : List X) → AllByRecursion P (xs ++ ys) → AllByRecursion P xs × AllByRecursion P ys

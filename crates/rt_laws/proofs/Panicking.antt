@@ -1,17 +1,5 @@
 -- The runs with panics, and what comes near to one is none.
-use Rattle.std.proofs.Common.{◌≡◌, ◌≢◌, ℕ, Bool, true, false, List, [], ◌∷◌, Some, refl}
-use Rattle.rt_audit.specs.declared.answer.AnswerKind.{AnswerKind}
-use Rattle.rt_audit.specs.declared.answer.AnswerKind.TheVariants.{Pending, Ready, Panicked, Stopped, NoMemory, Ended}
-use Rattle.rt_audit.specs.declared.finish.FinishCause.{FinishCause}
-use Rattle.rt_audit.specs.declared.finish.FinishCause.TheVariants.{Completed, TaskPanicked}
-use Rattle.rt_audit.specs.declared.entry.Entry.TheVariants.{Answer as Answered}
-use Rattle.rt_model.specs.State.{State, Halted, begun}
-use Rattle.rt_model.specs.Effects.{after, after_all}
-use Rattle.rt_model.specs.Rules.{MayAnswer, IsLawful}
-use Rattle.rt_model.specs.Tied.{Value, nothing, IsTied}
-use Rattle.rt_model.specs.Run.{IsRun}
-use Rattle.rt_laws.specs.Supervised.{gave_beside, Aborting}
-use Rattle.rt_laws.specs.Panics.{begin_catching, panicking_root, panicking_journal, raising_root, failed_beside, kept_panic, reported_journal, caught_journal, answered_kept}
+use Rattle.rt_laws.proofs.Prelude.{◌≡◌, ◌≢◌, ℕ, Bool, true, false, List, [], ◌∷◌, Some, refl, AnswerKind, Pending, Ready, Panicked, Stopped, NoMemory, Ended, FinishCause, Completed, TaskPanicked, Answered, State, Halted, begun, after, after_all, MayAnswer, IsLawful, Value, nothing, IsTied, IsRun, gave_beside, Aborting, begin_catching, panicking_root, panicking_journal, raising_root, failed_beside, kept_panic, reported_journal, caught_journal, answered_kept}
 use Rattle.rt_laws.proofs.Clock.{lawful-tail}
 use Rattle.rt_laws.proofs.Values.{same_value}
 use Rattle.rt_laws.proofs.Decided.{lawful}

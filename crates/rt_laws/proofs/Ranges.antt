@@ -1,32 +1,5 @@
 -- What a lawful list keeps to: the range of time, and who calls where.
-use Rattle.std.proofs.Common.{◌≡◌, ◌≢◌, ◌≤◌, ℕ, List, [], ◌∷◌, ◌++◌, Option, Some, None, Bool, true, false, ◌&&◌, refl, arith, All}
-use Rattle.std.specs.List.{AllByRecursion}
-use Rattle.std.proofs.lemmas.List.Elements.{All-from_recursion}
-use Rattle.rt_base.specs.declared.time.TheConstants.{MAX_TIME}
-use Rattle.rt_audit.specs.declared.call.Call.{Call}
-use Rattle.rt_audit.specs.declared.call.Call.TheVariants.{SleepPoll}
-use Rattle.rt_audit.specs.declared.reply.CallReply.{CallReply}
-use Rattle.rt_audit.specs.declared.reply.CallReply.TheVariants.{PendingAt}
-use Rattle.rt_audit.specs.declared.answer.AnswerKind.{AnswerKind}
-use Rattle.rt_audit.specs.declared.answer.AnswerKind.TheVariants.{Pending, Ready, Panicked, Stopped, NoMemory, Ended}
-use Rattle.rt_audit.specs.declared.finish.FinishCause.{FinishCause}
-use Rattle.rt_audit.specs.declared.finish.FinishCause.TheVariants.{Completed, TaskPanicked}
-use Rattle.rt_audit.specs.declared.entry.Entry.{Entry}
-use Rattle.rt_audit.specs.declared.entry.Entry.TheVariants.{Start, Call as CallEntry, Event, Root, Round, Visit, Answer, NodeEnd, Advance, Fire, Cleanup, Crash, Finish}
-use Rattle.rt_super.specs.Alarms.{Alarm, AlarmList}
-use Rattle.rt_model.specs.declared.begin.Begin.{Begin}
-use Rattle.rt_model.specs.declared.result.Outcome.{Outcome}
-use Rattle.rt_model.specs.declared.result.Outcome.TheVariants.{There, Exited}
-use Rattle.rt_super.specs.Ancestry.{is_ended}
-use Rattle.rt_model.specs.Lists.{find, is_some_number}
-use Rattle.rt_model.specs.Marks.{is_flagged}
-use Rattle.rt_model.specs.State.{State, Phase, Blank, Making, Entered, Polling, Halted, Ending, Leaving, Cleaning, Closing, begun}
-use Rattle.rt_model.specs.Alarms.{slept}
-use Rattle.rt_model.specs.Causes.{ends_next, reached}
-use Rattle.rt_model.specs.Effects.{after, after_all, is_settled, alarms_called, answered, entered, entered_by, node_ended, cleans, leaves, ended, left_pending, finished, left_of}
-use Rattle.rt_model.specs.Rules.{Answers, CallsAt, IsEndedNext, May, MayClose, IsLawful}
-use Rattle.rt_model.proofs.Time.{time-within}
-use Rattle.rt_laws.specs.Visits.{IsInVisit}
+use Rattle.rt_laws.proofs.Prelude.{◌≡◌, ◌≢◌, ◌≤◌, ℕ, List, [], ◌∷◌, ◌++◌, Option, Some, None, Bool, true, false, ◌&&◌, refl, arith, All, AllByRecursion, All-from_recursion, MAX_TIME, Call, SleepPoll, CallReply, PendingAt, AnswerKind, Pending, Ready, Panicked, Stopped, NoMemory, Ended, FinishCause, Completed, TaskPanicked, Entry, Start, CallEntry, Event, Root, Round, Visit, Answer, NodeEnd, Advance, Fire, Cleanup, Crash, Finish, Alarm, AlarmList, Begin, Outcome, There, Exited, is_ended, find, is_some_number, is_flagged, State, Phase, Blank, Making, Entered, Polling, Halted, Ending, Leaving, Cleaning, Closing, begun, slept, ends_next, reached, after, after_all, is_settled, alarms_called, answered, entered, entered_by, node_ended, cleans, leaves, ended, left_pending, finished, left_of, Answers, CallsAt, IsEndedNext, May, MayClose, IsLawful, time-within, IsInVisit}
 use Rattle.rt_laws.proofs.Clock.{lawful-front, lawful-tail}
 use Rattle.rt_laws.proofs.Each.{Each, each-with, each-waking, each-drop}
 

@@ -1,28 +1,5 @@
 -- The result of a task is stored at most once, and handed out at most once.
-use Rattle.std.proofs.Common.{◌≡◌, ◌≢◌, ◌<◌, ◌⊎◌, inl, inr, ℕ, List, [], ◌∷◌, ◌++◌, Option, Some, None, is_some, Bool, true, false, eqb, refl, ap, ◌∙◌, arith, All}
-use Rattle.std.specs.List.{AllByRecursion}
-use Rattle.std.specs.Option.{option_map_or}
-use Rattle.std.proofs.lemmas.List.Elements.{All-from_recursion}
-use Rattle.std.proofs.lemmas.Bool.{cases_Bool}
-use Rattle.rt_audit.specs.declared.call.Call.{Call}
-use Rattle.rt_audit.specs.declared.call.Call.TheVariants.{Spawn, Abort, Join, GiveUp}
-use Rattle.rt_audit.specs.declared.reply.CallReply.{CallReply}
-use Rattle.rt_audit.specs.declared.reply.CallReply.TheVariants.{Done, TaskAt, Pending as StillPending, Ready as IsReady}
-use Rattle.rt_audit.specs.declared.answer.AnswerKind.{AnswerKind}
-use Rattle.rt_audit.specs.declared.answer.AnswerKind.TheVariants.{Ended}
-use Rattle.rt_audit.specs.declared.entry.Entry.{Entry}
-use Rattle.rt_audit.specs.declared.entry.Entry.TheVariants.{Call as CallEntry, Root, Answer, NodeEnd}
-use Rattle.rt_model.specs.declared.begin.Begin.{Begin}
-use Rattle.rt_model.specs.declared.result.Outcome.{Outcome}
-use Rattle.rt_model.specs.declared.result.Outcome.TheVariants.{Open, There, Exited, Closed as IsClosed}
-use Rattle.rt_model.specs.declared.result.TaskResult.{TaskResult}
-use Rattle.rt_model.specs.Lists.{find, has_number, with_number, without, is_some_number, or_else}
-use Rattle.rt_model.specs.Results.{new_result, with_outcome, with_abort}
-use Rattle.rt_model.specs.State.{State, Phase, Ending, Leaving, Closing, begun}
-use Rattle.rt_model.specs.Causes.{ends_next}
-use Rattle.rt_model.specs.Effects.{after, after_all, is_settled, running_called, running_answered, results_called, results_ended, results_answered, results_left}
-use Rattle.rt_model.specs.Rules.{May, MayEnd, Answers, JoinAnswers, OutcomeAnswers, IsLawful}
-use Rattle.rt_laws.specs.Stored.{IsStored}
+use Rattle.rt_laws.proofs.Prelude.{◌≡◌, ◌≢◌, ◌<◌, ◌⊎◌, inl, inr, ℕ, List, [], ◌∷◌, ◌++◌, Option, Some, None, is_some, Bool, true, false, eqb, refl, ap, ◌∙◌, arith, All, AllByRecursion, option_map_or, All-from_recursion, cases_Bool, Call, Spawn, Abort, Join, GiveUp, CallReply, Done, TaskAt, StillPending, IsReady, AnswerKind, Ended, Entry, CallEntry, Root, Answer, NodeEnd, Begin, Outcome, Open, There, Exited, IsClosed, TaskResult, find, has_number, with_number, without, is_some_number, or_else, new_result, with_outcome, with_abort, State, Phase, Ending, Leaving, Closing, begun, ends_next, after, after_all, is_settled, running_called, running_answered, results_called, results_ended, results_answered, results_left, May, MayEnd, Answers, JoinAnswers, OutcomeAnswers, IsLawful, IsStored}
 use Rattle.rt_laws.proofs.Clock.{lawful-front, lawful-tail}
 use Rattle.rt_laws.proofs.Flags.{IsGone, gone-called, gone-answered, find-other}
 use Rattle.rt_laws.proofs.Tasks.{AreTasks, IsTaskAt, AreApart, with-lacks, without-lacks, gone-without, find-removed, tasks-after, begun-tasks, run-tasks}

@@ -1,25 +1,5 @@
 -- A round that runs to its end visits each task that was ready and runs.
-use Rattle.std.proofs.Common.{◌≡◌, ◌⊎◌, inl, inr, ℕ, zero, suc, List, [], ◌∷◌, ◌++◌, drop, true, false, eqb, ap, arith, Contains, Bool, ◌&&◌, Option}
-use Rattle.std.proofs.lemmas.Bool.{cases_Bool}
-use Rattle.std.proofs.lemmas.List.Elements.{Contains-append_right}
-use Rattle.std.proofs.lemmas.List.Sorted.{Contains-permutation}
-use Rattle.rt_audit.specs.declared.answer.AnswerKind.{AnswerKind}
-use Rattle.rt_audit.specs.declared.answer.AnswerKind.TheVariants.{Pending, Ready, Panicked, Stopped, NoMemory, Ended}
-use Rattle.rt_audit.specs.declared.finish.FinishCause.{FinishCause}
-use Rattle.rt_audit.specs.declared.finish.FinishCause.TheVariants.{Completed, TaskPanicked}
-use Rattle.rt_audit.specs.declared.entry.Entry.{Entry}
-use Rattle.rt_audit.specs.declared.entry.Entry.TheVariants.{Start, Call as CallEntry, Event, Draw, Root, Round, Visit, Answer, NodeEnd, Advance, Skip, Fire, Cleanup, Crash, Finish}
-use Rattle.rt_model.specs.declared.mark.Mark.{Mark}
-use Rattle.rt_model.specs.declared.result.Outcome.{Outcome}
-use Rattle.rt_model.specs.declared.result.Outcome.TheVariants.{There, Exited}
-use Rattle.rt_super.specs.Ancestry.{is_ended}
-use Rattle.rt_model.specs.Lists.{has_number, without_number, is_some_number, find}
-use Rattle.rt_model.specs.Marks.{is_flagged}
-use Rattle.rt_model.specs.declared.begin.Begin.{Begin}
-use Rattle.rt_model.specs.State.{State, Phase, Visiting, Entered, Polling, Halted, Ending, Leaving, Over, Cleaning, Closing, Crashed, Finished, Between, Turning, begun}
-use Rattle.rt_model.specs.Causes.{from_running, ends_next, reached}
-use Rattle.rt_model.specs.Effects.{after, after_all, is_settled, answered, entered, entered_by, node_ended, cleans, leaves, ended, left_pending, finished, left_of}
-use Rattle.rt_model.specs.Rules.{May, MayAnswer, MayRound, MayCrash, MayFinish, MayEndNode, IsLawful, MayEnd}
+use Rattle.rt_laws.proofs.Prelude.{◌≡◌, ◌⊎◌, inl, inr, ℕ, zero, suc, List, [], ◌∷◌, ◌++◌, drop, true, false, eqb, ap, arith, Contains, Bool, ◌&&◌, Option, cases_Bool, Contains-append_right, Contains-permutation, AnswerKind, Pending, Ready, Panicked, Stopped, NoMemory, Ended, FinishCause, Completed, TaskPanicked, Entry, Start, CallEntry, Event, Draw, Root, Round, Visit, Answer, NodeEnd, Advance, Skip, Fire, Cleanup, Crash, Finish, Call, Spawn, CallReply, TaskAt, only-rounds, Mark, Outcome, There, Exited, is_ended, has_number, without_number, is_some_number, find, is_flagged, Begin, State, Phase, Visiting, Entered, Polling, Halted, Ending, Leaving, Over, Cleaning, Closing, Crashed, Finished, Between, Turning, begun, from_running, ends_next, reached, after, after_all, is_settled, answered, entered, entered_by, node_ended, cleans, leaves, ended, left_pending, finished, left_of, May, MayAnswer, MayRound, MayCrash, MayFinish, MayEndNode, IsLawful, MayEnd}
 use Rattle.rt_laws.proofs.Clock.{lawful-front, lawful-tail}
 use Rattle.rt_laws.proofs.Tasks.{has-called}
 
@@ -205,7 +185,7 @@ module _ (task : ℕ) where
   next s (Start first now deadline cycle) w m = let k = w.0 in absurd (rw m.1.0 at k)
   next s (CallEntry by call reply) w m = inr (inr (w.0, w.1, has-called task s.running call reply w.2))
   next s (Event label fields) w m = inr (waits-entered s s.phase s.running w)
-  next s (Draw value) w m = absurd (no-round s.phase s w.0 m.1)
+  next s (Draw value) w m = absurd (no-round s.phase s w.0 (only-rounds s.phase s value m.1))
   next s (Root other) w m = let k = w.0 in absurd (rw m.1.0 at k)
   next s (Round order) w m = absurd (no-round s.phase s w.0 m.1.0)
   next s (Visit other) w m = next-visit s other w m

@@ -1,22 +1,7 @@
 -- The journals of the examples are runs.
-use Rattle.std.proofs.Common.{◌≡◌, ◌≤◌, ◌<◌, ◌+◌, inl, ℕ, true, false, leb, ltb, List, [], ◌∷◌, ◌++◌, Some, None, refl, arith, rules}
-use Rattle.std.proofs.lemmas.List.Sorted.{IsPermutation-refl}
-use Rattle.rt_base.specs.declared.time.TheConstants.{MAX_TIME}
-use Rattle.rt_audit.specs.declared.answer.AnswerKind.TheVariants.{Ready as AnswersReady, NoMemory as LacksMemory}
-use Rattle.rt_audit.specs.declared.finish.FinishCause.{FinishCause}
-use Rattle.rt_audit.specs.declared.finish.FinishCause.TheVariants.{Completed, NoMemory}
-use Rattle.rt_audit.specs.declared.entry.Entry.{Entry}
-use Rattle.rt_audit.specs.declared.entry.Entry.TheVariants.{Wake, Answer as Answered, Advance, Skip, Fire, Cleanup}
-use Rattle.rt_super.specs.Ancestry.{is_live, with_end}
-use Rattle.rt_model.specs.State.{State, begun}
-use Rattle.rt_model.specs.Effects.{after, after_all}
-use Rattle.rt_model.specs.Rules.{IsLawful}
-use Rattle.rt_model.specs.Lists.{find}
-use Rattle.rt_model.specs.Turns.{Held, put}
-use Rattle.rt_model.specs.Tied.{Steps, Value, nothing, MovesCleanup, IsTied, taken}
-use Rattle.rt_model.specs.Run.{IsRun, IsCutOff}
-use Rattle.rt_model.proofs.Append.{IsLawful-append, IsTied-append}
-use Rattle.rt_laws.specs.Examples.{small_begin, gave, closes_node, ready_root, Sleeper, sleeping_root, opening, visiting_root, still_asleep, awake, alarm_fires, root_ends, finishing, ready_journal, skipped_journal, short_journal, cut_journal, fires_with, early_fire}
+use Rattle.rt_laws.proofs.Prelude.{◌≡◌, pos, ◌≤◌, ◌<◌, ◌+◌, inl, ℕ, true, false, leb, ltb, List, [], ◌∷◌, ◌++◌, Some, None, refl, arith, rules, IsPermutation-refl, MAX_TIME, AnswersReady, LacksMemory, FinishCause, Completed, Entry, Wake, Answered, Advance, Skip, Fire, Cleanup, is_live, with_end, State, begun, after, after_all, IsLawful, find, Held, put, Steps, Value, nothing, MovesCleanup, IsTied, taken, IsRun, IsCutOff, IsLawful-append, IsTied-append, small_begin, gave, closes_node, ready_root, counting_root, Sleeper, sleeping_root, opening, visiting_root, still_asleep, awake, alarm_fires, root_ends, finishing, ready_journal, skipped_journal, short_journal, cut_journal, fires_with, early_fire}
+use Rattle.rt_audit.specs.declared.finish.FinishCause.TheVariants.{NoMemory}
+use Rattle.rt_laws.proofs.Followed.{tied}
 use Rattle.rt_laws.proofs.Valid.{asleep, with_root, no_values}
 
 -- the end of a root, whatever it was
@@ -41,6 +26,13 @@ ready_run number =
       tied = (nothing, refl, (v, (tt, nothing.held, (refl, refl, refl), refl), (v, (refl, refl), (v, (refl, refl), (v, refl, (w, (number, held, record { before = tt; left = tt; moved = taken 0 held; there = refl; walks = (refl, refl, refl); is = refl }, refl), ends-tied p (after_all (begun small_begin) (opening ++ visiting_root ++ (Answered 0 AnswersReady ∷ []))) w tt Completed refl refl refl refl refl))))));
       whole = refl;
     }
+
+pub counting_run : (number : ℕ) → IsRun (counting_root number) small_begin ready_journal Completed (after_all (begun small_begin) ready_journal) (record nothing { held = record nothing.held { counts = (0, pos 1) ∷ [] }; output = Some number })
+unfolding begun after
+counting_run number =
+    let r = ready_run number in
+    let w : Value (Unit {0}) ℕ = record nothing { held = record nothing.held { counts = (0, pos 1) ∷ [] }; output = Some number } in
+    record { lawful = r.lawful; reaches = refl; ends = refl; caused = λ e. cc; tied = tied (counting_root number) (begun small_begin) nothing w ready_journal refl; whole = refl }
 
 -- a root that sleeps, up to its clock step
 
@@ -159,7 +151,7 @@ cut_off due =
                 refl,
                 (
                   w,
-                  record { before = root; left = root; there = refl; moved = no_values; breaks = inl (record { front = []; rest = []; mid = no_values; are = refl; walks = (tt, refl); frees = refl }); is = refl },
+                  record { before = root; left = root; there = refl; moved = no_values; breaks = inl (record { front = []; rest = []; mid = no_values; are = refl; walks = (tt, ([], refl)); frees = ([], refl) }); is = refl },
                   ends-tied (sleeping_root due) (after_all (begun small_begin) (opening ++ visiting_root ++ (Answered 0 LacksMemory ∷ []))) w root NoMemory refl refl refl refl refl,
                 ),
               ),

@@ -1,23 +1,5 @@
 -- The entries of a run determine how it began and ended.
-use Rattle.std.proofs.Common.{◌≡◌, ℕ, List, [], ◌∷◌, Option, Some, None, Bool, true, false, ◌&&◌, refl, ap, sym, ◌∙◌}
-use Rattle.rt_audit.specs.declared.answer.AnswerKind.{AnswerKind}
-use Rattle.rt_audit.specs.declared.answer.AnswerKind.TheVariants.{Pending, Ready, Panicked, Stopped, NoMemory, Ended}
-use Rattle.rt_audit.specs.declared.entry.Entry.{Entry}
-use Rattle.rt_audit.specs.declared.entry.Entry.TheVariants.{Start, Event, Wake, Root, Round, Visit, Answer, NodeEnd, Advance, Cleanup, Crash, Finish}
-use Rattle.rt_audit.specs.declared.finish.FinishCause.{FinishCause}
-use Rattle.rt_audit.specs.declared.finish.FinishCause.TheVariants.{Completed, TaskPanicked}
-use Rattle.rt_super.specs.Ancestry.{is_ended}
-use Rattle.rt_model.specs.declared.begin.Begin.{Begin}
-use Rattle.rt_model.specs.declared.result.Outcome.{Outcome}
-use Rattle.rt_model.specs.declared.result.Outcome.TheVariants.{There, Exited}
-use Rattle.rt_model.specs.Lists.{find, is_some_number}
-use Rattle.rt_model.specs.Marks.{is_flagged}
-use Rattle.rt_model.specs.State.{State, Phase, Entered, Ending, Leaving, Cleaning, Finished, begun}
-use Rattle.rt_model.specs.Causes.{reached}
-use Rattle.rt_model.specs.Effects.{after, after_all, is_settled, left_of, answered, entered, entered_by, node_ended, cleans, leaves, ended, left_pending, finished}
-use Rattle.rt_model.specs.Rules.{IsLawful}
-use Rattle.rt_model.specs.Tied.{Steps, Value}
-use Rattle.rt_model.specs.Run.{IsRun}
+use Rattle.rt_laws.proofs.Prelude.{◌≡◌, ℕ, List, [], ◌∷◌, Option, Some, None, Bool, true, false, ◌&&◌, refl, ap, sym, ◌∙◌, AnswerKind, Pending, Ready, Panicked, Stopped, NoMemory, Ended, Entry, Start, Event, Wake, Root, Round, Visit, Answer, NodeEnd, Advance, Cleanup, Crash, Finish, FinishCause, Completed, TaskPanicked, is_ended, Begin, Outcome, There, Exited, find, is_some_number, is_flagged, State, Phase, Entered, Ending, Leaving, Cleaning, Finished, begun, reached, after, after_all, is_settled, left_of, answered, entered, entered_by, node_ended, cleans, leaves, ended, left_pending, finished, IsLawful, Steps, Value, IsRun}
 use Rattle.rt_laws.proofs.Starts.{run_starts}
 use Rattle.rt_laws.proofs.Stands.{stands, may_stand}
 

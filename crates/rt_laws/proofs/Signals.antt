@@ -1,12 +1,5 @@
 -- A root that signals to itself has its run.
-use Rattle.std.proofs.Common.{◌≡◌, ◌<◌, ℕ, refl, arith}
-use Rattle.rt_audit.specs.declared.finish.FinishCause.TheVariants.{Completed}
-use Rattle.rt_model.specs.State.{begun}
-use Rattle.rt_model.specs.Effects.{after, after_all}
-use Rattle.rt_model.specs.Tied.{nothing}
-use Rattle.rt_model.specs.Run.{IsRun}
-use Rattle.rt_laws.specs.Examples.{small_begin, gave}
-use Rattle.rt_laws.specs.Signaling.{signaling_root, signaling_journal}
+use Rattle.rt_laws.proofs.Prelude.{◌≡◌, ◌<◌, ℕ, refl, arith, Completed, begun, after, after_all, nothing, IsRun, small_begin, gave, signaling_root, signaling_journal}
 use Rattle.rt_laws.proofs.Decided.{lawful}
 use Rattle.rt_laws.proofs.Followed.{tied}
 

@@ -1,13 +1,6 @@
 -- What a lawful journal from the small beginning tells of its entries.
-use Rattle.std.proofs.Common.{List, [], ◌∷◌, ◌++◌, Some}
-use Rattle.rt_audit.specs.declared.call.Call.{Call as CallOf}
-use Rattle.rt_audit.specs.declared.reply.CallReply.{CallReply}
-use Rattle.rt_audit.specs.declared.entry.Entry.{Entry}
+use Rattle.rt_laws.proofs.Prelude.{List, [], ◌∷◌, ◌++◌, Some, CallOf, CallReply, Entry, begun, after_all, Answers, IsLawful, small_begin}
 use Rattle.rt_audit.specs.declared.entry.Entry.TheVariants.{Call}
-use Rattle.rt_model.specs.State.{begun}
-use Rattle.rt_model.specs.Effects.{after_all}
-use Rattle.rt_model.specs.Rules.{Answers, IsLawful}
-use Rattle.rt_laws.specs.Examples.{small_begin}
 use Rattle.rt_laws.proofs.Clock.{lawful-tail}
 
 -- what comes behind a front may come there

@@ -1,14 +1,6 @@
 -- The runs with spawned tasks.
-use Rattle.std.proofs.Common.{◌≡◌, refl}
-use Rattle.rt_audit.specs.declared.finish.FinishCause.TheVariants.{Completed}
+use Rattle.rt_laws.proofs.Prelude.{◌≡◌, refl, Completed, begun, after, after_all, IsLawful, nothing, IsTied, IsRun, small_begin, gave_beside, with_side, side_journal, aborting_root, aborting_journal, stopping_journal}
 use Rattle.rt_model.specs.declared.answer.Answer.TheVariants.{Pending, Ready}
-use Rattle.rt_model.specs.State.{begun}
-use Rattle.rt_model.specs.Effects.{after, after_all}
-use Rattle.rt_model.specs.Rules.{IsLawful}
-use Rattle.rt_model.specs.Tied.{nothing, IsTied}
-use Rattle.rt_model.specs.Run.{IsRun}
-use Rattle.rt_laws.specs.Examples.{small_begin}
-use Rattle.rt_laws.specs.Supervised.{gave_beside, with_side, side_journal, aborting_root, aborting_journal, stopping_journal}
 use Rattle.rt_laws.proofs.Decided.{lawful}
 use Rattle.rt_laws.proofs.Followed.{tied}
 

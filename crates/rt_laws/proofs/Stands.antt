@@ -1,16 +1,5 @@
 -- Which entries may come in which phase.
-use Rattle.std.proofs.Common.{◌≡◌, ℕ, List, [], Option, Bool, true, false, refl}
-use Rattle.rt_audit.specs.declared.call.Call.{Call}
-use Rattle.rt_audit.specs.declared.reply.CallReply.{CallReply}
-use Rattle.rt_audit.specs.declared.answer.AnswerKind.{AnswerKind}
-use Rattle.rt_audit.specs.declared.answer.AnswerKind.TheVariants.{Pending, Ready, Panicked, Stopped, NoMemory, Ended}
-use Rattle.rt_audit.specs.declared.finish.FinishCause.{FinishCause}
-use Rattle.rt_audit.specs.declared.entry.Entry.{Entry}
-use Rattle.rt_audit.specs.declared.entry.Entry.TheVariants.{Start, Call as CallEntry, Event, Wake, Draw, Root, Round, Visit, Answer, NodeEnd, Advance, Skip, Fire, Cleanup, Crash, Finish}
-use Rattle.rt_model.specs.declared.mark.Mark.{Mark}
-use Rattle.rt_model.specs.State.{State, Phase, Blank, Making, Between, Visiting, Entered, Polling, Halted, Ending, Leaving, Turning, Over, Cleaning, Closing, Crashed}
-use Rattle.rt_model.specs.Causes.{ends_next}
-use Rattle.rt_model.specs.Rules.{CallsAt, May, MayEvent, MayAnswer, MayRound, MayClose, MayCrash, MayFinish, MayEnd, MayEndNode}
+use Rattle.rt_laws.proofs.Prelude.{◌≡◌, ℕ, List, [], Option, Bool, true, false, refl, Call, CallReply, AnswerKind, Pending, Ready, Panicked, Stopped, NoMemory, Ended, FinishCause, Entry, Start, CallEntry, Event, Wake, Draw, Root, Round, Visit, Answer, NodeEnd, Advance, Skip, Fire, Cleanup, Crash, Finish, only-rounds, Mark, State, Phase, Blank, Making, Between, Visiting, Entered, Polling, Halted, Ending, Leaving, Turning, Over, Cleaning, Closing, Crashed, ends_next, CallsAt, May, MayEvent, MayAnswer, MayRound, MayClose, MayCrash, MayFinish, MayEnd, MayEndNode}
 
 -- the entry may come in this phase, if it may come at all
 abbrev pub stands : Phase → Entry → Bool
@@ -114,7 +103,7 @@ may_stand s (Start next now deadline cycle) m = rw m.1.0 refl
 may_stand s (CallEntry by call reply) m = call-stands by call reply s.phase s.root (ends_next s.running s.root) m.1.0
 may_stand s (Event label fields) m = event-stands label fields s.phase s m.1
 may_stand s (Wake task) m = refl
-may_stand s (Draw value) m = draw-stands s.phase s value m.1
+may_stand s (Draw value) m = draw-stands s.phase s value (only-rounds s.phase s value m.1)
 may_stand s (Root task) m = rw m.1.0 refl
 may_stand s (Round order) m = round-stands s.phase s order m.1.0
 may_stand s (Visit task) m = rw m.1.0 refl

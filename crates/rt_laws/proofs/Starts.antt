@@ -1,10 +1,5 @@
 -- A run begins with its start.
-use Rattle.std.proofs.Common.{◌≡◌, List, ◌∷◌, true, refl}
-use Rattle.rt_audit.specs.declared.entry.Entry.{Entry}
-use Rattle.rt_audit.specs.declared.entry.Entry.TheVariants.{Start, Wake}
-use Rattle.rt_model.specs.declared.begin.Begin.{Begin}
-use Rattle.rt_model.specs.State.{Blank, begun}
-use Rattle.rt_model.specs.Rules.{May, IsLawful}
+use Rattle.rt_laws.proofs.Prelude.{◌≡◌, List, ◌∷◌, true, refl, Entry, Start, Wake, Begin, Blank, begun, May, IsLawful}
 use Rattle.rt_laws.proofs.Stands.{stands, may_stand}
 
 pub start-first : (b : Begin) (e : Entry) → May (begun b) e → e ≡ Start b.first b.start b.deadline b.cycle

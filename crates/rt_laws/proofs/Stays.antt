@@ -1,20 +1,5 @@
 -- An alarm stays set until it goes off, or a cleanup begins.
-use Rattle.std.proofs.Common.{◌≡◌, ◌≢◌, ◌≤◌, ◌+◌, ◌⊎◌, inl, inr, ℕ, zero, suc, List, [], ◌∷◌, ◌++◌, map, drop, Option, Some, Bool, true, false, eqb, ◌&&◌, ◌||◌, refl, ap, arith, Contains}
-use Rattle.std.proofs.lemmas.Bool.{cases_Bool}
-use Rattle.std.proofs.lemmas.List.Elements.{Contains-append_right}
-use Rattle.rt_audit.specs.declared.call.Call.{Call}
-use Rattle.rt_audit.specs.declared.call.Call.TheVariants.{SleepPoll}
-use Rattle.rt_audit.specs.declared.reply.CallReply.{CallReply}
-use Rattle.rt_audit.specs.declared.reply.CallReply.TheVariants.{PendingAt}
-use Rattle.rt_audit.specs.declared.entry.Entry.{Entry}
-use Rattle.rt_audit.specs.declared.entry.Entry.TheVariants.{Call as CallEntry, Fire, Cleanup}
-use Rattle.rt_super.specs.Alarms.{Alarm, AlarmList, is_before, with_alarm, waking}
-use Rattle.rt_model.specs.declared.begin.Begin.{Begin}
-use Rattle.rt_model.specs.State.{State, Turning, begun}
-use Rattle.rt_model.specs.Alarms.{slept, fires, is_set}
-use Rattle.rt_model.specs.Effects.{after, after_all, alarms_called}
-use Rattle.rt_model.specs.Rules.{May, IsLawful}
-use Rattle.rt_model.proofs.Append.{after_all-append}
+use Rattle.rt_laws.proofs.Prelude.{◌≡◌, ◌≢◌, ◌≤◌, ◌+◌, ◌⊎◌, inl, inr, ℕ, zero, suc, List, [], ◌∷◌, ◌++◌, map, drop, Option, Some, Bool, true, false, eqb, ◌&&◌, ◌||◌, refl, ap, arith, Contains, cases_Bool, Contains-append_right, Call, SleepPoll, CallReply, PendingAt, Entry, CallEntry, Fire, Cleanup, Alarm, AlarmList, is_before, with_alarm, waking, Begin, State, Turning, begun, slept, fires, is_set, after, after_all, alarms_called, May, IsLawful, after_all-append}
 use Rattle.rt_laws.proofs.Clock.{lawful-tail}
 use Rattle.rt_laws.proofs.Order.{NoneBefore}
 use Rattle.rt_laws.proofs.Timely.{run_timely, outside}

@@ -1,21 +1,5 @@
 -- The root is stopped where a panic is kept, and none is kept where panics are caught.
-use Rattle.std.proofs.Common.{◌≡◌, ℕ, List, [], ◌∷◌, ◌++◌, Option, Some, None, Bool, true, false, not, ◌&&◌, ◌||◌, refl, arith}
-use Rattle.rt_audit.specs.declared.answer.AnswerKind.{AnswerKind}
-use Rattle.rt_audit.specs.declared.answer.AnswerKind.TheVariants.{Pending, Ready, Panicked, Stopped, NoMemory, Ended}
-use Rattle.rt_audit.specs.declared.finish.FinishCause.{FinishCause}
-use Rattle.rt_audit.specs.declared.finish.FinishCause.TheVariants.{Completed, TaskPanicked}
-use Rattle.rt_audit.specs.declared.entry.Entry.{Entry}
-use Rattle.rt_audit.specs.declared.entry.Entry.TheVariants.{Start, Event, Root, Round, Visit, Answer, NodeEnd, Advance, Cleanup, Crash, Finish}
-use Rattle.rt_super.specs.Ancestry.{is_ended}
-use Rattle.rt_model.specs.declared.begin.Begin.{Begin}
-use Rattle.rt_model.specs.declared.result.Outcome.{Outcome}
-use Rattle.rt_model.specs.declared.result.Outcome.TheVariants.{There, Exited}
-use Rattle.rt_model.specs.Lists.{find, is_some_number}
-use Rattle.rt_model.specs.Marks.{is_flagged}
-use Rattle.rt_model.specs.State.{State, Phase, Entered, Halted, Ending, Leaving, Cleaning, begun}
-use Rattle.rt_model.specs.Causes.{reached}
-use Rattle.rt_model.specs.Effects.{after, after_all, answered, cleans, ended, ends_in_panic, entered, entered_by, finished, is_settled, leaves, left_of, left_pending, node_ended, panics_answered}
-use Rattle.rt_model.specs.Rules.{IsLawful}
+use Rattle.rt_laws.proofs.Prelude.{◌≡◌, ℕ, List, [], ◌∷◌, ◌++◌, Option, Some, None, Bool, true, false, not, ◌&&◌, ◌||◌, refl, arith, AnswerKind, Pending, Ready, Panicked, Stopped, NoMemory, Ended, FinishCause, Completed, TaskPanicked, Entry, Start, Event, Root, Round, Visit, Answer, NodeEnd, Advance, Cleanup, Crash, Finish, is_ended, Begin, Outcome, There, Exited, find, is_some_number, is_flagged, State, Phase, Entered, Halted, Ending, Leaving, Cleaning, begun, reached, after, after_all, answered, cleans, ended, ends_in_panic, entered, entered_by, finished, is_settled, leaves, left_of, left_pending, node_ended, panics_answered, IsLawful}
 use Rattle.rt_laws.proofs.Clock.{lawful-tail}
 
 -- whoever is stopped is the root, behind a panic that is kept

@@ -1,17 +1,7 @@
 -- A run stops where it has reached a cause.
-use Rattle.std.proofs.Common.{◌≡◌, ◌≢◌, ◌≤◌, ◌-◌, ◌^◌, ◌&&◌, ℕ, List, [], ◌∷◌, Option, Some, None, Bool, true, false, leb, ltb, refl, arith}
-use Rattle.rt_base.specs.declared.time.TheConstants.{MAX_TIME}
-use Rattle.rt_audit.specs.declared.answer.AnswerKind.TheVariants.{Pending, Ready, Panicked, Stopped, NoMemory, Ended}
-use Rattle.rt_audit.specs.declared.finish.FinishCause.{FinishCause}
-use Rattle.rt_audit.specs.declared.finish.FinishCause.TheVariants.{Timeout, TimeOverflow, TooManyTasks}
-use Rattle.rt_audit.specs.declared.entry.Entry.{Entry}
-use Rattle.rt_audit.specs.declared.entry.Entry.TheVariants.{Start, Call, Event, Wake, Draw, Root, Round, Visit, Answer, NodeEnd, Advance, Skip, Fire, Cleanup, Crash, Finish}
-use Rattle.rt_super.specs.Alarms.{Alarm}
-use Rattle.rt_model.specs.declared.mark.Mark.{Mark}
-use Rattle.rt_model.specs.Lists.{is_nil}
-use Rattle.rt_model.specs.State.{State, Phase, Making, Between, Entered, Polling, Ending, Leaving, Turning, Cleaning, Closing, Crashed}
-use Rattle.rt_model.specs.Causes.{ends_next, is_late, turning_cause, where_true, cause_at, reached}
-use Rattle.rt_model.specs.Rules.{CallsAt, May, MayEvent, MayEnd, MayEndNode, MayRound, MayClose, MayCrash, MayFinish}
+use Rattle.rt_laws.proofs.Prelude.{◌≡◌, ◌≢◌, ◌≤◌, ◌-◌, ◌^◌, ◌&&◌, ℕ, List, [], ◌∷◌, Option, Some, None, Bool, true, false, leb, ltb, refl, arith, MAX_TIME, Pending, Ready, Panicked, Stopped, NoMemory, Ended, FinishCause, Timeout, TimeOverflow, Entry, Start, Event, Wake, Draw, Root, Round, Visit, Answer, NodeEnd, Advance, Skip, Fire, Cleanup, Crash, Finish, Alarm, only-rounds, Mark, is_nil, State, Phase, Making, Between, Entered, Polling, Ending, Leaving, Turning, Cleaning, Closing, Crashed, ends_next, is_late, turning_cause, where_true, cause_at, reached, CallsAt, May, MayEvent, MayEnd, MayEndNode, MayRound, MayClose, MayCrash, MayFinish}
+use Rattle.rt_audit.specs.declared.finish.FinishCause.TheVariants.{TooManyTasks}
+use Rattle.rt_audit.specs.declared.entry.Entry.TheVariants.{Call}
 
 is-true : (b : Bool) (cause other : FinishCause) → where_true b cause ≡ Some other → b ≡ true
 is-true true cause other k = refl
@@ -84,7 +74,7 @@ module _ (s : State) (cause : FinishCause) (close : MayClose s.phase) (made : s.
   only-cleanup (Call by call reply) m = absurd (no-call s.phase s.root (ends_next s.running s.root) by close made m.1.0)
   only-cleanup (Event label fields) m = absurd (no-event s.phase s label fields close made m.1)
   only-cleanup (Wake task) m = absurd (cc)
-  only-cleanup (Draw value) m = absurd (no-round s.phase is m.1)
+  only-cleanup (Draw value) m = absurd (no-round s.phase is (only-rounds s.phase s value m.1))
   only-cleanup (Root task) m = absurd (made m.1.0)
   only-cleanup (Round order) m = absurd (no-round s.phase is m.1.0)
   only-cleanup (Visit task) m = absurd (none-to-visit _ _ task _ cause m.1.1 (rw m.1.0 at is))

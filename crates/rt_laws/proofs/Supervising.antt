@@ -1,33 +1,9 @@
 -- Further rules by which a run completes: calls of the maker, tokens that are spent, and a task that ends in its visit.
-use Rattle.std.proofs.Common.{◌≡◌, ◌≢◌, ◌⊎◌, inl, inr, ℕ, zero, suc, List, [], ◌∷◌, Option, Some, None, Bool, true, false, Contains, option_map, is_some, leb, ◌-◌, ◌^◌, refl, ap, ◌∙◌, arith}
-use Rattle.std.specs.List.Sorted.{IsPermutation}
-use Rattle.std.proofs.lemmas.List.Sorted.{Contains-permutation, length_permutation}
-use Rattle.rt_base.specs.declared.error.Error.{Error}
-use Rattle.rt_base.specs.declared.execution.Execution.{Execution}
-use Rattle.rt_audit.specs.declared.call.Call.{Call}
-use Rattle.rt_audit.specs.declared.call.Call.TheVariants.{Child, Spawn, AbortTask, Join}
-use Rattle.rt_audit.specs.declared.reply.CallReply.{CallReply}
-use Rattle.rt_audit.specs.declared.reply.CallReply.TheVariants.{Done, NodeAt, TaskAt, Closed, Refused}
-use Rattle.rt_audit.specs.declared.answer.AnswerKind.TheVariants.{Pending as IsPending, Ready as IsReady, Panicked as IsPanicked, Stopped as IsStopped, NoMemory as LacksMemory, Ended as IsEnded}
-use Rattle.rt_audit.specs.declared.finish.FinishCause.{FinishCause}
-use Rattle.rt_audit.specs.declared.entry.Entry.{Entry}
-use Rattle.rt_audit.specs.declared.entry.Entry.TheVariants.{Call as CallEntry, Event, Wake, Root, Answer as AnswerEntry, NodeEnd, Cleanup}
+use Rattle.rt_laws.proofs.Prelude.{◌≡◌, ◌≢◌, ◌⊎◌, inl, inr, ℕ, zero, suc, List, [], ◌∷◌, Option, Some, None, Bool, true, false, Contains, option_map, is_some, leb, ◌-◌, ◌^◌, refl, ap, ◌∙◌, arith, IsPermutation, Contains-permutation, length_permutation, Error, Execution, Call, Child, Spawn, AbortTask, Join, CallReply, Done, NodeAt, TaskAt, Closed, Refused, IsPending, IsPanicked, IsStopped, LacksMemory, IsEnded, FinishCause, Entry, CallEntry, Event, Wake, Root, AnswerEntry, NodeEnd, Cleanup, Mark, Outcome, TaskResult, is_live, is_known, is_ended, State, Making, Polling, Halted, Ending, Leaving, Turn, stood_in, reached, after, label_at, announced_by, Answers, OutcomeAnswers, ChildAnswers, SpawnAnswers, label_refusal, is_free, find, Held, Ask, Plainly, Spawning, Heard, Plain, Asks, Fits, call_of, put, has_place, Step, Does, Spends, Gives, Gave, Walks, Steps, Value, Polls, EndsState, EndsTask, taken}
+use Rattle.rt_audit.specs.declared.answer.AnswerKind.TheVariants.{Ready as IsReady}
 use Rattle.rt_model.specs.declared.answer.Answer.{Answer}
 use Rattle.rt_model.specs.declared.answer.Answer.TheVariants.{Pending, Ready, Panicked}
-use Rattle.rt_model.specs.declared.mark.Mark.{Mark}
-use Rattle.rt_model.specs.declared.result.Outcome.{Outcome}
-use Rattle.rt_model.specs.declared.result.TaskResult.{TaskResult}
-use Rattle.rt_super.specs.Ancestry.{is_live, is_known, is_ended}
-use Rattle.rt_model.specs.State.{State, Making, Polling, Halted, Ending, Leaving, Turn, stood_in}
-use Rattle.rt_model.specs.Causes.{reached}
-use Rattle.rt_model.specs.Effects.{after, label_at}
-use Rattle.rt_model.specs.Events.{announced_by}
-use Rattle.rt_model.specs.Rules.{Answers, OutcomeAnswers, ChildAnswers, SpawnAnswers, label_refusal, is_free}
-use Rattle.rt_model.specs.Lists.{find}
-use Rattle.rt_model.specs.Turns.{Held, Ask, Plainly, Spawning, Heard, Plain, Asks, Fits, call_of, put, has_place}
-use Rattle.rt_model.specs.Walk.{Step, Does, Spends, Gives, Gave, Walks}
-use Rattle.rt_model.specs.Tied.{Steps, Value, Polls, EndsState, EndsTask, taken}
-use Rattle.rt_laws.proofs.Completing.{Rest, Completes, IsFine, IsQuiet, Continues, continues, further, cleanup, called, gave, made, silent, making_silent, strays}
+use Rattle.rt_laws.proofs.Completing.{Course, Rest, Completes, IsFine, IsQuiet, Continues, continues, further, cleanup, called, gave, made, silent, making_silent, strays}
 use Rattle.rt_laws.proofs.Fronts.{LeadsTo, IsFront, walks-front, front-front, leads-fronts, leads-gave}
 use Rattle.rt_laws.proofs.Stands.{stands, may_stand}
 use Rattle.rt_laws.proofs.Values.{not-whole}
@@ -76,32 +52,32 @@ placed step child = behind step (Plain (NodeAt child false))
 abbrev pub told : {A L O R : Type 0} → Step A L O R → ℕ → ℕ → ℕ → Step A L O R
 told step child task own = behind (placed step child) (Plain (TaskAt task own))
 
-module _ {A O : Type 0} (p : Steps A O) where
+module _ {A O : Type 0} (p : Course A O) where
   -- a state in another form
   pub in_form : (s t : State) (v : Value A O) → s ≡ t → Completes p t v → Completes p s v
   in_form s t v e more = rw e more
 
   -- the calls of an end under way are a front of its walk
 
-  ends-walk : (s : State) (v u : Value A O) (task other : ℕ) (a : A) → other ≡ task → find task v.held.tasks ≡ Some a → EndsTask p s v other u → u.whole ≡ true → Walks (p.task.last a s.clock.time task) (taken task v.held) s.turns (stood_in s) tt tt u.held × (u ≡ record v { held = u.held })
+  ends-walk : (s : State) (v u : Value A O) (task other : ℕ) (a : A) → other ≡ task → find task v.held.tasks ≡ Some a → EndsTask p.steps s v other u → u.whole ≡ true → Walks (p.steps.task.last a s.clock.time task) (taken task v.held) s.turns (stood_in s) tt tt u.held × (u ≡ record v { held = u.held })
   ends-walk s v u task other a e f k w =
       let there : find task v.held.tasks ≡ Some k.0 = rw e at k.1 in
       let same : k.0 ≡ a = cc in
       let ends = k.2 in
-      let z : EndsState p s task a (taken task v.held) v u = rw (e, same) at ends in
+      let z : EndsState p.steps s task a (taken task v.held) v u = rw (e, same) at ends in
       elim z [
         | inl z ↦ z
         | inr z ↦ not-whole u (record v { held = u.held; whole = false }) w refl z.1
       ]
 
-  ending-front : (s : State) (v : Value A O) (task : ℕ) (result : Option Outcome) (left : List ℕ) (a : A) (x : List Entry) (cause : FinishCause) → s.phase ≡ Ending task result left → find task v.held.tasks ≡ Some a → Rest p s v x cause → IsFront (p.task.last a s.clock.time task) (taken task v.held) s.turns
+  ending-front : (s : State) (v : Value A O) (task : ℕ) (result : Option Outcome) (left : List ℕ) (a : A) (x : List Entry) (cause : FinishCause) → s.phase ≡ Ending task result left → find task v.held.tasks ≡ Some a → Rest p s v x cause → IsFront (p.steps.task.last a s.clock.time task) (taken task v.held) s.turns
   unfolding after
   ending-front s v task result left a [] cause h f r = let e = r.ends in absurd (cc)
   ending-front s v task result left a (CallEntry by call reply ∷ x) cause h f r =
       let m = further p s v (CallEntry by call reply) x cause r in
-      let t : Turn = record { call = call; reply = reply; stood = stood_in s } in
+      let t : Turn = record { by = by; call = call; reply = reply; stood = stood_in s } in
       let k = ending-front (after s (CallEntry by call reply)) m.0 task result left a x cause h (rw m.1 f) m.3 in
-      front-front s.turns (t ∷ []) (taken task v.held) (p.task.last a s.clock.time task) (rw m.1 at k)
+      front-front s.turns (t ∷ []) (taken task v.held) (p.steps.task.last a s.clock.time task) (rw m.1 at k)
   ending-front s v task result left a (Event label fields ∷ x) cause h f r =
       let m = further p s v (Event label fields) x cause r in
       let k = ending-front (after s (Event label fields)) m.0 task result left a x cause (rw h refl) (rw m.1 f) m.3 in
@@ -114,7 +90,7 @@ module _ {A O : Type 0} (p : Steps A O) where
       let m = further p s v (AnswerEntry other IsEnded) x cause r in
       let e : other ≡ task = rw h at r.lawful.0.1.0 in
       let k = ends-walk s v m.0 task other a e f m.1 m.2 in
-      walks-front (stood_in s) tt tt m.0.held s.turns (taken task v.held) (p.task.last a s.clock.time task) k.0
+      walks-front (stood_in s) tt tt m.0.held s.turns (taken task v.held) (p.steps.task.last a s.clock.time task) k.0
   ending-front s v task result left a (AnswerEntry other IsPending ∷ x) cause h f r = let n : Ending task result left ≡ Polling other left = rw h at r.lawful.0.1.0 in absurd (cc)
   ending-front s v task result left a (AnswerEntry other IsReady ∷ x) cause h f r = let n : Ending task result left ≡ Polling other left = rw h at r.lawful.0.1.0 in absurd (cc)
   ending-front s v task result left a (AnswerEntry other IsPanicked ∷ x) cause h f r = let n : Ending task result left ≡ Polling other left = rw h at r.lawful.0.1.0 in absurd (cc)
@@ -125,7 +101,7 @@ module _ {A O : Type 0} (p : Steps A O) where
   -- whatever is replied to this call
   abbrev pub Replied : State → Value A O → Option ℕ → Ask A O → Type 0
   Replied s v by ask =
-      (reply : CallReply) → Answers s (call_of ask) reply → (held : Held A O) → Fits held ask (record { call = call_of ask; reply = reply; stood = stood_in s }) → Completes p (after s (CallEntry by (call_of ask) reply)) v
+      (reply : CallReply) → Answers s (call_of ask) reply → (held : Held A O) → Fits held ask (record { by = by; call = call_of ask; reply = reply; stood = stood_in s }) → Completes p (after s (CallEntry by (call_of ask) reply)) v
 
   -- what is replied to the calls of supervision; of a child also its refusal
 
@@ -156,19 +132,19 @@ module _ {A O : Type 0} (p : Steps A O) where
     join_told task r there more reply m held f = more reply (rw there at m)
 
   module _ (s : State) (v : Value A O) (owes : s.owed ≡ []) where
-    abbrev turned : Call → CallReply → Turn
-    turned call reply = record { call = call; reply = reply; stood = stood_in s }
+    abbrev turned : Option ℕ → Call → CallReply → Turn
+    turned by call reply = record { by = by; call = call; reply = reply; stood = stood_in s }
 
     -- a part of which these are the next calls, made by this task or by nobody
 
     abbrev CallsOf : {L R : Type 0} → Option ℕ → Step A L O R → Held A O → Type 0
-    CallsOf by at now = (call : Call) (reply : CallReply) (u : Value A O) (x : List Entry) (cause : FinishCause) → u ≡ v → Rest p (after s (CallEntry by call reply)) u x cause → IsFront at now (turned call reply ∷ [])
+    CallsOf by at now = (call : Call) (reply : CallReply) (u : Value A O) (x : List Entry) (cause : FinishCause) → u ≡ v → Rest p (after s (CallEntry by call reply)) u x cause → IsFront at now (turned by call reply ∷ [])
 
     does : {L R : Type 0} (by : Option ℕ) (ask : Ask A O) (on : Heard O → Step A L O R) (now : Held A O) → CallsOf by (Does ask on) now → Replied s v by ask → (other : Option ℕ) (call : Call) (reply : CallReply) (u : Value A O) → other ≡ by → u ≡ v → Answers s call reply → Completes p (after s (CallEntry other call reply)) u
     does by ask on now calls more other call reply u e k m x cause r =
         let rest : Rest p (after s (CallEntry by call reply)) u x cause = rw e at r in
-        let asks : Asks now ask (turned call reply) = (calls call reply u x cause k rest).1.0 in
-        let fits : Fits now ask (turned call reply) = asks.1 in
+        let asks : Asks now ask (turned by call reply) = (calls call reply u x cause k rest).1.0 in
+        let fits : Fits now ask (turned by call reply) = asks.1 in
         let same : call ≡ call_of ask = asks.0 in
         more reply (rw same at m) now (rw same at fits) x cause (rw (same, k) at rest)
 
@@ -184,7 +160,7 @@ module _ {A O : Type 0} (p : Steps A O) where
 
     module _ (h : s.phase ≡ Making) (f : IsFine (reached s)) (now : Held A O) where
       abbrev MakerLeads : Step A A O (Unit {0}) → Type 0
-      MakerLeads at = LeadsTo (p.first s.clock.time) v.held s.turns at now
+      MakerLeads at = LeadsTo (p.steps.first s.clock.time) v.held s.turns at now
 
       maker-calls : (at : Step A A O (Unit {0})) → MakerLeads at → CallsOf None at now
       maker-calls at l call reply u x cause k r = made p s v owes at now None call reply u x cause h l k r
@@ -194,8 +170,8 @@ module _ {A O : Type 0} (p : Steps A O) where
         where
           c : Continues p s v
           c (CallEntry by call reply) u m k w = does None ask on now (maker-calls (Does ask on) l) more by call reply u (rw h at m.1.0) k m.1.1
-          c (Event label fields) u m k w = making_silent p s v owes (Does ask on) now h l (λ call reply f. rw f.1.0.0 (quiet reply)) label fields u k
-          c (Root task) u m k w = absurd (leads-gave (Does ask on) now (stood_in s) tt k.0 k.1 s.turns v.held (p.first s.clock.time) l k.2)
+          c (Event label fields) u m k w = making_silent p s v owes (Does ask on) now h l (λ by call reply f. rw f.1.0.0 (quiet (stood_in s) reply)) label fields u k
+          c (Root task) u m k w = absurd (leads-gave (Does ask on) now (stood_in s) tt k.0 k.1 s.turns v.held (p.steps.first s.clock.time) l k.2)
           c Cleanup u m k w = cleanup p s u f
           c (Wake other) u m k w = absurd (cc)
           c e u m k w = let z : stands Making e ≡ true = rw h at (may_stand s e m) in absurd (cc)
@@ -205,8 +181,8 @@ module _ {A O : Type 0} (p : Steps A O) where
         where
           c : Continues p s v
           c (CallEntry by call reply) u m k w = spends None ask next now (maker-calls (Spends ask next) l) there more by call reply u (rw h at m.1.0) k
-          c (Event label fields) u m k w = making_silent p s v owes (Spends ask next) now h l (λ call reply f. let is : call ≡ call_of ask = (f.1.0 there).0 in rw is (quiet reply)) label fields u k
-          c (Root task) u m k w = let gone = (leads-gave (Spends ask next) now (stood_in s) tt k.0 k.1 s.turns v.held (p.first s.clock.time) l k.2).0 in absurd (cc)
+          c (Event label fields) u m k w = making_silent p s v owes (Spends ask next) now h l (λ by call reply f. let is : call ≡ call_of ask = (f.1.0 there).0 in rw is (quiet (stood_in s) reply)) label fields u k
+          c (Root task) u m k w = let gone = (leads-gave (Spends ask next) now (stood_in s) tt k.0 k.1 s.turns v.held (p.steps.first s.clock.time) l k.2).0 in absurd (cc)
           c Cleanup u m k w = cleanup p s u f
           c (Wake other) u m k w = absurd (cc)
           c e u m k w = let z : stands Making e ≡ true = rw h at (may_stand s e m) in absurd (cc)
@@ -214,18 +190,18 @@ module _ {A O : Type 0} (p : Steps A O) where
     -- a poll
 
     module _ (task : ℕ) (left : List ℕ) (a : A) (h : s.phase ≡ Polling task left) (f : find task v.held.tasks ≡ Some a) (now : Held A O) where
-      pub polling_spends : (ask : Ask A O) (next : Step A A O (Answer O)) → LeadsTo (p.task.next a s.clock.time task) (taken task v.held) s.turns (Spends ask next) now → IsQuiet ask → has_place (stood_in s) (call_of ask) ≡ true → Completes p (after s (CallEntry (Some task) (call_of ask) Done)) v → Completes p s v
+      pub polling_spends : (ask : Ask A O) (next : Step A A O (Answer O)) → LeadsTo (p.steps.task.next a s.clock.time task) (taken task v.held) s.turns (Spends ask next) now → IsQuiet ask → has_place (stood_in s) (call_of ask) ≡ true → Completes p (after s (CallEntry (Some task) (call_of ask) Done)) v → Completes p s v
       polling_spends ask next l quiet there more = continues p s v (λ cause e. cc) c
         where
           calls : CallsOf (Some task) (Spends ask next) now
           calls call reply u x cause k r = called p s v owes task left a h f now (Spends ask next) call reply u x cause l k r
 
-          answers : (answer : Answer O) (end : Held A O) (other : ℕ) → other ≡ task → Polls p s other v.held answer end → ⊥
+          answers : (answer : Answer O) (end : Held A O) (other : ℕ) → other ≡ task → Polls p.steps s other v.held answer end → ⊥
           answers answer end other e k = let gone = (gave p s v owes task left a h f now (Spends ask next) answer end other l e k).0 in absurd (cc)
 
           c : Continues p s v
           c (CallEntry by call reply) u m k w = spends (Some task) ask next now calls there more by call reply u (rw h at m.1.0) k
-          c (Event label fields) u m k w = silent p s v owes task left a h f now (Spends ask next) l (λ call reply g. let is : call ≡ call_of ask = (g.1.0 there).0 in rw is (quiet reply)) label fields u k
+          c (Event label fields) u m k w = silent p s v owes task left a h f now (Spends ask next) l (λ by call reply g. let is : call ≡ call_of ask = (g.1.0 there).0 in rw is (quiet (stood_in s) reply)) label fields u k
           c (AnswerEntry other IsPending) u m k w = let n = m.1.0 in absurd (answers Pending k.0 other (cc) k.1)
           c (AnswerEntry other IsReady) u m k w = let n = m.1.0 in let o : O = k.0 in absurd (answers (Ready o) k.1 other (cc) k.2)
           c (AnswerEntry other IsPanicked) u m k w = let n = m.1.0 in let text : List ℕ = k.0 in absurd (answers (Panicked text) k.1 other (cc) k.2)
@@ -239,32 +215,32 @@ module _ {A O : Type 0} (p : Steps A O) where
 
     module _ (task : ℕ) (result : Option Outcome) (left : List ℕ) (a : A) (h : s.phase ≡ Ending task result left) (f : find task v.held.tasks ≡ Some a) (now : Held A O) where
       abbrev EndLeads : Step A (Unit {0}) O (Unit {0}) → Type 0
-      EndLeads at = LeadsTo (p.task.last a s.clock.time task) (taken task v.held) s.turns at now
+      EndLeads at = LeadsTo (p.steps.task.last a s.clock.time task) (taken task v.held) s.turns at now
 
       end-calls : (at : Step A (Unit {0}) O (Unit {0})) → EndLeads at → CallsOf (Some task) at now
       unfolding after
       end-calls at l call reply u x cause k r =
           let front = ending-front (after s (CallEntry (Some task) call reply)) u task result left a x cause h (rw k f) r in
-          leads-fronts at now (turned call reply ∷ []) s.turns (taken task v.held) (p.task.last a s.clock.time task) l (rw k at front)
+          leads-fronts at now (turned (Some task) call reply ∷ []) s.turns (taken task v.held) (p.steps.task.last a s.clock.time task) l (rw k at front)
 
-      end-silent : (at : Step A (Unit {0}) O (Unit {0})) → EndLeads at → ((call : Call) (reply : CallReply) → IsFront at now (turned call reply ∷ []) → announced_by call reply ≡ []) → (label : List ℕ) (fields : List (List ℕ)) (u : Value A O) → u ≡ v → Completes p (after s (Event label fields)) u
+      end-silent : (at : Step A (Unit {0}) O (Unit {0})) → EndLeads at → ((by : Option ℕ) (call : Call) (reply : CallReply) → IsFront at now (record { by = by; call = call; reply = reply; stood = stood_in s } ∷ []) → announced_by (stood_in s) call reply ≡ []) → (label : List ℕ) (fields : List (List ℕ)) (u : Value A O) → u ≡ v → Completes p (after s (Event label fields)) u
       end-silent at l quiet =
-          strays p (p.task.last a s.clock.time task) at (taken task v.held) now s.turns l (Ending task result left) (inr (inr (task, result, left, refl))) s.clock (stood_in s) v quiet
+          strays p (p.steps.task.last a s.clock.time task) at (taken task v.held) now s.turns l (Ending task result left) (inr (inr (task, result, left, refl))) s.clock (stood_in s) v quiet
           (λ t x cause h c r. let g = ending-front t v task result left a x cause h f r in rw c at g)
           s h refl refl refl
 
       -- its answer is its last step
-      end-gave : (at : Step A (Unit {0}) O (Unit {0})) (u : Value A O) (other : ℕ) → EndLeads at → other ≡ task → EndsTask p s v other u → u.whole ≡ true → Gave (stood_in s) now at tt tt u.held × (u ≡ record v { held = u.held })
+      end-gave : (at : Step A (Unit {0}) O (Unit {0})) (u : Value A O) (other : ℕ) → EndLeads at → other ≡ task → EndsTask p.steps s v other u → u.whole ≡ true → Gave (stood_in s) now at tt tt u.held × (u ≡ record v { held = u.held })
       end-gave at u other l e k w =
           let z = ends-walk s v u task other a e f k w in
-          (leads-gave at now (stood_in s) tt tt u.held s.turns (taken task v.held) (p.task.last a s.clock.time task) l z.0, z.1)
+          (leads-gave at now (stood_in s) tt tt u.held s.turns (taken task v.held) (p.steps.task.last a s.clock.time task) l z.0, z.1)
 
       pub ending_spends : (ask : Ask A O) (next : Step A (Unit {0}) O (Unit {0})) → EndLeads (Spends ask next) → IsQuiet ask → has_place (stood_in s) (call_of ask) ≡ true → Completes p (after s (CallEntry (Some task) (call_of ask) Done)) v → Completes p s v
       ending_spends ask next l quiet there more = continues p s v (λ cause e. cc) c
         where
           c : Continues p s v
           c (CallEntry by call reply) u m k w = spends (Some task) ask next now (end-calls (Spends ask next) l) there more by call reply u (rw h at m.1.0) k
-          c (Event label fields) u m k w = end-silent (Spends ask next) l (λ call reply g. let is : call ≡ call_of ask = (g.1.0 there).0 in rw is (quiet reply)) label fields u k
+          c (Event label fields) u m k w = end-silent (Spends ask next) l (λ by call reply g. let is : call ≡ call_of ask = (g.1.0 there).0 in rw is (quiet (stood_in s) reply)) label fields u k
           c (AnswerEntry other IsEnded) u m k w = let gone = (end-gave (Spends ask next) u other l (rw h at m.1.0) k w).0.0 in absurd (cc)
           c (AnswerEntry other IsStopped) u m k w = let n : Ending task result left ≡ Halted other = rw h at m.1.0 in absurd (cc)
           c (AnswerEntry other kind) u m k w = let n : Ending task result left ≡ Polling other left = rw h at m.1.0 in absurd (cc)
@@ -274,7 +250,7 @@ module _ {A O : Type 0} (p : Steps A O) where
       pub ending_gives : EndLeads (Gives tt tt) → Completes p (after s (AnswerEntry task IsEnded)) (record v { held = now }) → Completes p s v
       ending_gives l more = continues p s v (λ cause e. cc) c
         where
-          ends : (other : ℕ) (u : Value A O) → other ≡ task → EndsTask p s v other u → u.whole ≡ true → Completes p (after s (AnswerEntry other IsEnded)) u
+          ends : (other : ℕ) (u : Value A O) → other ≡ task → EndsTask p.steps s v other u → u.whole ≡ true → Completes p (after s (AnswerEntry other IsEnded)) u
           ends other u e k w =
               let g = end-gave (Gives tt tt) u other l e k w in
               let same : u ≡ record v { held = now } = g.1 ∙ ap (λ (held : Held A O). record v { held = held }) g.0.2 in
@@ -286,7 +262,7 @@ module _ {A O : Type 0} (p : Steps A O) where
               let by_task : by ≡ Some task = rw h at m.1.0 in
               let rest : Rest p (after s (CallEntry (Some task) call reply)) u x cause = rw by_task at r in
               absurd (end-calls (Gives tt tt) l call reply u x cause k rest).1
-          c (Event label fields) u m k w = end-silent (Gives tt tt) l (λ call reply g. absurd g.1) label fields u k
+          c (Event label fields) u m k w = end-silent (Gives tt tt) l (λ by call reply g. absurd g.1) label fields u k
           c (AnswerEntry other IsEnded) u m k w = ends other u (rw h at m.1.0) k w
           c (AnswerEntry other IsStopped) u m k w = let n : Ending task result left ≡ Halted other = rw h at m.1.0 in absurd (cc)
           c (AnswerEntry other kind) u m k w = let n : Ending task result left ≡ Polling other left = rw h at m.1.0 in absurd (cc)

@@ -1,31 +1,5 @@
 -- The numbers of tasks: none is given twice, and who runs or has a result was given one.
-use Rattle.std.proofs.Common.{◌≡◌, ◌<◌, ◌+◌, ◌-◌, ◌^◌, ◌⊎◌, inl, inr, ℕ, List, [], ◌∷◌, ◌++◌, Option, Some, None, is_some, Bool, true, false, not, ◌&&◌, eqb, leb, drop, refl, arith}
-use Rattle.std.proofs.lemmas.Bool.{cases_Bool}
-use Rattle.rt_base.specs.declared.error.Error.{Error}
-use Rattle.rt_base.specs.declared.error.Error.TheVariants.{UnknownToken, TooManyTasks}
-use Rattle.rt_audit.specs.declared.call.Call.{Call}
-use Rattle.rt_audit.specs.declared.call.Call.TheVariants.{Spawn, Abort, AbortTask, Join, GiveUp}
-use Rattle.rt_audit.specs.declared.reply.CallReply.{CallReply}
-use Rattle.rt_audit.specs.declared.reply.CallReply.TheVariants.{Done, TaskAt, Pending as StillPending, Ready as IsReady}
-use Rattle.rt_audit.specs.declared.answer.AnswerKind.{AnswerKind}
-use Rattle.rt_audit.specs.declared.answer.AnswerKind.TheVariants.{Pending, Ready, Panicked, Stopped, NoMemory, Ended}
-use Rattle.rt_audit.specs.declared.finish.FinishCause.{FinishCause}
-use Rattle.rt_audit.specs.declared.finish.FinishCause.TheVariants.{Completed, TaskPanicked}
-use Rattle.rt_audit.specs.declared.entry.Entry.{Entry}
-use Rattle.rt_audit.specs.declared.entry.Entry.TheVariants.{Start, Call as CallEntry, Event, Root, Round, Visit, Answer, NodeEnd, Advance, Cleanup, Crash, Finish}
-use Rattle.rt_super.specs.Ancestry.{is_ended, is_known}
-use Rattle.rt_model.specs.declared.begin.Begin.{Begin}
-use Rattle.rt_model.specs.declared.mark.Mark.{Mark}
-use Rattle.rt_model.specs.declared.result.Outcome.{Outcome}
-use Rattle.rt_model.specs.declared.result.Outcome.TheVariants.{Open, There, Exited, Closed as IsClosed}
-use Rattle.rt_model.specs.declared.result.TaskResult.{TaskResult}
-use Rattle.rt_model.specs.Results.{new_result}
-use Rattle.rt_model.specs.Lists.{find, has_number, with_number, without_number, without, replaced, is_some_number}
-use Rattle.rt_model.specs.Marks.{new_mark, is_flagged, flagged, flag, flag_all}
-use Rattle.rt_model.specs.State.{State, Phase, Entered, Polling, Ending, Leaving, Cleaning, Closing, begun}
-use Rattle.rt_model.specs.Causes.{from_running, ends_next, reached}
-use Rattle.rt_model.specs.Effects.{after, after_all, is_settled, numbers_called, running_called, running_answered, results_answered, marks_called, marks_answered, marks_ended, results_called, results_ended, results_left, flagged_by, leaving, unmarked, left_of, answered, entered, entered_by, node_ended, cleans, leaves, ended, left_pending, finished}
-use Rattle.rt_model.specs.Rules.{May, MayEnd, MayAnswer, CallsAt, Answers, Unless, SpawnAnswers, is_free, IsLawful}
+use Rattle.rt_laws.proofs.Prelude.{◌≡◌, ◌<◌, ◌+◌, ◌-◌, ◌^◌, ◌⊎◌, inl, inr, ℕ, List, [], ◌∷◌, ◌++◌, Option, Some, None, is_some, Bool, true, false, not, ◌&&◌, eqb, leb, drop, refl, arith, cases_Bool, Error, UnknownToken, TooManyTasks, Call, Spawn, Abort, AbortTask, Join, GiveUp, CallReply, Done, TaskAt, StillPending, IsReady, AnswerKind, Pending, Ready, Panicked, Stopped, NoMemory, Ended, FinishCause, Completed, TaskPanicked, Entry, Start, CallEntry, Event, Root, Round, Visit, Answer, NodeEnd, Advance, Cleanup, Crash, Finish, is_ended, is_known, Begin, Mark, Outcome, Open, There, Exited, IsClosed, TaskResult, new_result, find, has_number, with_number, without_number, without, replaced, is_some_number, new_mark, is_flagged, flagged, flag, flag_all, State, Phase, Entered, Polling, Ending, Leaving, Cleaning, Closing, begun, from_running, ends_next, reached, after, after_all, is_settled, numbers_called, running_called, running_answered, results_answered, marks_called, marks_answered, marks_ended, results_called, results_ended, results_left, flagged_by, leaving, unmarked, left_of, answered, entered, entered_by, node_ended, cleans, leaves, ended, left_pending, finished, May, MayEnd, MayAnswer, CallsAt, Answers, Unless, SpawnAnswers, is_free, IsLawful}
 
 -- lists of numbers
 

@@ -1,32 +1,8 @@
 -- Outside a clock step no alarm is overdue, and in a clock step none by a cycle.
-use Rattle.std.proofs.Common.{◌≡◌, ◌≢◌, ◌≤◌, ◌<◌, ◌+◌, ◌&&◌, ◌-◌, ◌↔◌, ℕ, List, [], ◌∷◌, ◌++◌, Option, Some, None, false, refl, arith, All, Contains, Bool, true}
-use Rattle.std.proofs.lemmas.List.Elements.{All-weaker}
-use Rattle.rt_audit.specs.declared.call.Call.{Call}
-use Rattle.rt_audit.specs.declared.call.Call.TheVariants.{SleepPoll}
-use Rattle.rt_audit.specs.declared.reply.CallReply.{CallReply}
-use Rattle.rt_audit.specs.declared.reply.CallReply.TheVariants.{PendingAt, Ready as IsReady}
-use Rattle.rt_audit.specs.declared.answer.AnswerKind.{AnswerKind}
-use Rattle.rt_audit.specs.declared.answer.AnswerKind.TheVariants.{Pending, Ready, Panicked, Stopped, NoMemory, Ended}
-use Rattle.rt_audit.specs.declared.finish.FinishCause.{FinishCause}
-use Rattle.rt_audit.specs.declared.finish.FinishCause.TheVariants.{Completed, TaskPanicked}
-use Rattle.rt_audit.specs.declared.entry.Entry.{Entry}
-use Rattle.rt_audit.specs.declared.entry.Entry.TheVariants.{Start, Call as CallEntry, Event, Root, Round, Visit, Answer, NodeEnd, Advance, Skip, Fire, Cleanup, Crash, Finish}
-use Rattle.rt_super.specs.Alarms.{Alarm, AlarmList}
-use Rattle.rt_model.specs.declared.begin.Begin.{Begin}
-use Rattle.rt_model.specs.declared.result.Outcome.{Outcome}
-use Rattle.rt_model.specs.declared.result.Outcome.TheVariants.{There, Exited}
-use Rattle.rt_super.specs.Ancestry.{is_ended}
-use Rattle.rt_model.specs.Marks.{is_flagged}
-use Rattle.rt_model.specs.State.{State, Phase, Between, Entered, Ending, Leaving, Turning, Cleaning, Closing, Crashed, begun}
-use Rattle.rt_model.specs.Alarms.{slept, skip_to, ahead, fires}
-use Rattle.rt_model.specs.Effects.{after, after_all, alarms_called, is_settled, answered, entered, entered_by, node_ended, cleans, leaves, ended, left_pending, finished, left_of}
-use Rattle.rt_model.specs.Rules.{May, MayAnswer, MayRound, MayCrash, MayFinish, Answers, IsLawful}
-use Rattle.rt_model.specs.Causes.{is_late, reached}
-use Rattle.rt_laws.specs.Earliest.{IsEarliest}
+use Rattle.rt_laws.proofs.Prelude.{◌≡◌, ◌≢◌, ◌≤◌, ◌<◌, ◌+◌, ◌&&◌, ◌-◌, ◌↔◌, ℕ, List, [], ◌∷◌, ◌++◌, Option, Some, None, false, refl, arith, All, Contains, Bool, true, All-weaker, Call, SleepPoll, CallReply, PendingAt, IsReady, AnswerKind, Pending, Ready, Panicked, Stopped, NoMemory, Ended, FinishCause, Completed, TaskPanicked, Entry, Start, CallEntry, Event, Root, Round, Visit, Answer, NodeEnd, Advance, Skip, Fire, Cleanup, Crash, Finish, Alarm, AlarmList, Begin, Outcome, There, Exited, is_ended, is_flagged, State, Phase, Between, Entered, Ending, Leaving, Turning, Cleaning, Closing, Crashed, begun, slept, skip_to, ahead, fires, after, after_all, alarms_called, is_settled, answered, entered, entered_by, node_ended, cleans, leaves, ended, left_pending, finished, left_of, May, MayAnswer, MayRound, MayCrash, MayFinish, Answers, IsLawful, is_late, reached, IsEarliest, is_some_number, find}
 use Rattle.rt_laws.proofs.Clock.{lawful-front, lawful-tail}
 use Rattle.rt_laws.proofs.Order.{NoneBefore, none-before, none-sooner, AreOrdered, order-after, run_order}
 use Rattle.rt_laws.proofs.Each.{each-with, each-waking, each-drop}
-use Rattle.rt_model.specs.Lists.{is_some_number, find}
 
 -- no alarm that is set is due before this moment
 abbrev pub earliest_due : Phase → ℕ → ℕ → ℕ

@@ -1,12 +1,5 @@
 -- Ends in a tree of nodes whose numbers are of their own: who has ended stays ended, and so is what stands below.
-use Rattle.std.proofs.Common.{◌≡◌, ◌⊎◌, inl, inr, ℕ, List, [], ◌∷◌, ◌++◌, map, filter, filter_map, Option, Some, None, is_some, option_and_then, option_map, eq-eqb, Bool, true, false, not, ◌||◌, ◌==◌, eqb, if◌then◌else◌, refl, sym, ap, ◌∙◌, arith}
-use Rattle.std.specs.Prelude.{find as find_by}
-use Rattle.std.specs.List.{list_any}
-use Rattle.std.specs.Option.{option_map_or}
-use Rattle.std.proofs.lemmas.Bool.{cases_Bool}
-use Rattle.rt_super.specs.Ancestry.{NodeState, TreeRecord, new_node, node_at, is_known, is_live, task_on, links, is_child, nodes_below, subtree, stands_in, was_born_ended, is_ended, newly_ended, tasks_on, with_new, changed, with_task, with_release, with_end}
-use Rattle.rt_super.proofs.Below.{stands-append}
-use Rattle.rt_model.specs.Lists.{has_number}
+use Rattle.rt_laws.proofs.Prelude.{◌≡◌, ◌⊎◌, inl, inr, ℕ, List, [], ◌∷◌, ◌++◌, map, filter, filter_map, Option, Some, None, is_some, option_and_then, option_map, eq-eqb, Bool, true, false, not, ◌||◌, ◌==◌, eqb, if◌then◌else◌, refl, sym, ap, ◌∙◌, arith, find_by, list_any, option_map_or, cases_Bool, NodeState, TreeRecord, new_node, node_at, is_known, is_live, task_on, links, is_child, nodes_below, subtree, stands_in, was_born_ended, is_ended, newly_ended, tasks_on, with_new, changed, with_task, with_release, with_end, stands-append, has_number}
 
 pub or-cases : (a b : Bool) → (a || b) ≡ true → (a ≡ true) ⊎ (b ≡ true)
 or-cases true b h = inl refl

@@ -1,28 +1,5 @@
 -- Below an ended node: nobody is polled there, and who is born there is ended.
-use Rattle.std.proofs.Common.{◌≡◌, ◌⊎◌, inl, inr, ℕ, zero, suc, List, [], ◌∷◌, ◌++◌, Option, Some, None, is_some, option_map, Bool, true, false, ◌&&◌, eqb, if◌then◌else◌, refl, sym, ap, ◌∙◌, arith, Contains}
-use Rattle.std.proofs.lemmas.List.Elements.{Contains-append_right}
-use Rattle.rt_audit.specs.declared.call.Call.{Call}
-use Rattle.rt_audit.specs.declared.call.Call.TheVariants.{Child, CloseNode, Spawn}
-use Rattle.rt_audit.specs.declared.reply.CallReply.{CallReply}
-use Rattle.rt_audit.specs.declared.reply.CallReply.TheVariants.{Done, NodeAt, TaskAt, Closed}
-use Rattle.rt_audit.specs.declared.answer.AnswerKind.{AnswerKind}
-use Rattle.rt_audit.specs.declared.answer.AnswerKind.TheVariants.{Ended}
-use Rattle.rt_audit.specs.declared.finish.FinishCause.{FinishCause}
-use Rattle.rt_audit.specs.declared.entry.Entry.{Entry}
-use Rattle.rt_audit.specs.declared.entry.Entry.TheVariants.{Call as CallEntry, Event, Wake, Answer, NodeEnd}
-use Rattle.rt_super.specs.Ancestry.{NodeState, TreeRecord, is_known, is_ended, links, nodes_below, stands_in, with_child, with_task, with_release, with_end}
-use Rattle.rt_model.specs.declared.begin.Begin.{Begin}
-use Rattle.rt_model.specs.declared.mark.Mark.{Mark}
-use Rattle.rt_model.specs.declared.result.Outcome.{Outcome}
-use Rattle.rt_model.specs.Lists.{find, is_some_number}
-use Rattle.rt_model.specs.Marks.{is_flagged, flagged, flag, flag_all}
-use Rattle.rt_model.specs.State.{State, Phase, Entered, Ending, Leaving, Closing, begun}
-use Rattle.rt_model.specs.Causes.{ends_next}
-use Rattle.rt_model.specs.Effects.{after, after_all, is_settled, nodes_called, nodes_answered, released, unflagged, flagged_by, entered, entered_by}
-use Rattle.rt_model.specs.Rules.{May, MayEnd, MayEndNode, Answers, IsLawful}
-use Rattle.rt_model.proofs.Append.{after_all-append}
-use Rattle.rt_laws.specs.Aborts.{IsAbortOf}
-use Rattle.rt_laws.specs.Polls.{BeginsPoll, PollsNone}
+use Rattle.rt_laws.proofs.Prelude.{◌≡◌, ◌⊎◌, inl, inr, ℕ, zero, suc, List, [], ◌∷◌, ◌++◌, Option, Some, None, is_some, option_map, Bool, true, false, ◌&&◌, eqb, if◌then◌else◌, refl, sym, ap, ◌∙◌, arith, Contains, Contains-append_right, Call, Child, CloseNode, Spawn, CallReply, Done, NodeAt, TaskAt, Closed, AnswerKind, Ended, FinishCause, Entry, CallEntry, Event, Wake, Answer, NodeEnd, NodeState, TreeRecord, is_known, is_ended, links, nodes_below, stands_in, with_child, with_task, with_release, with_end, Begin, Mark, Outcome, find, is_some_number, is_flagged, flagged, flag, flag_all, State, Phase, Entered, Ending, Leaving, Closing, begun, ends_next, after, after_all, is_settled, nodes_called, nodes_answered, released, unflagged, flagged_by, entered, entered_by, May, MayEnd, MayEndNode, Answers, IsLawful, after_all-append, IsAbortOf, BeginsPoll, PollsNone}
 use Rattle.rt_laws.proofs.Clock.{lawful-front, lawful-tail}
 use Rattle.rt_laws.proofs.Endings.{EndsFor, ends-entry}
 use Rattle.rt_laws.proofs.Stands.{stands, may_stand}

@@ -1,22 +1,8 @@
 -- The inputs of the examples are valid.
-use Rattle.std.proofs.Common.{◌≡◌, ◌≤◌, ◌<◌, ◌+◌, inl, inr, Contains, ℕ, zero, suc, true, false, leb, ltb, List, [], ◌∷◌, ◌++◌, Option, Some, None, refl, arith, eq-zero-or-pos}
-use Rattle.std.proofs.lemmas.Bool.{cases_Bool}
-use Rattle.std.specs.List.Sorted.{IsPermutation}
-use Rattle.std.proofs.lemmas.List.Sorted.{Contains-permutation, length_permutation}
-use Rattle.rt_audit.specs.declared.call.Call.TheVariants.{SleepPoll}
-use Rattle.rt_audit.specs.declared.reply.CallReply.TheVariants.{PendingAt, Ready as IsOver}
-use Rattle.rt_audit.specs.declared.answer.AnswerKind.TheVariants.{Pending as AnswersPending}
-use Rattle.rt_audit.specs.declared.entry.Entry.TheVariants.{Start, Call, Event, Wake, Root, Round, Visit, Answer as Answered, Advance, Fire}
+use Rattle.rt_laws.proofs.Prelude.{◌≡◌, ◌≤◌, ◌<◌, ◌+◌, inl, inr, Contains, ℕ, zero, suc, true, false, leb, ltb, List, [], ◌∷◌, ◌++◌, Option, Some, None, refl, arith, eq-zero-or-pos, cases_Bool, IsPermutation, Contains-permutation, length_permutation, SleepPoll, PendingAt, IsOver, AnswersPending, Start, Event, Wake, Root, Round, Visit, Answered, Advance, Fire, process_task, task_fields, Entry, FinishCause, Completed, State, begun, after, after_all, Held, put, Gives, Steps, Value, nothing, IsRun, IsValidInput, small_begin, ready_root, Sleeper, sleeper_heard, sleeping_root, opening, visiting_root, still_asleep}
+use Rattle.rt_audit.specs.declared.entry.Entry.TheVariants.{Call}
 use Rattle.rt_model.specs.declared.answer.Answer.TheVariants.{Pending, Ready}
-use Rattle.rt_model.specs.Events.{process_task, task_fields}
-use Rattle.rt_model.specs.State.{State, begun}
-use Rattle.rt_model.specs.Effects.{after, after_all}
-use Rattle.rt_model.specs.Turns.{Held, put}
-use Rattle.rt_model.specs.Walk.{Gives}
-use Rattle.rt_model.specs.Tied.{Steps, Value, nothing}
-use Rattle.rt_model.specs.Run.{IsValidInput}
-use Rattle.rt_laws.specs.Examples.{small_begin, ready_root, Sleeper, sleeper_heard, sleeping_root, opening, visiting_root, still_asleep}
-use Rattle.rt_laws.proofs.Completing.{Completes, begins, making_gives, rounds, visiting, entered, visited, polling_gives, polling_sleeps, polling_wakes, fired, skips, woken}
+use Rattle.rt_laws.proofs.Completing.{Course, any, Completes, begins_known, making_gives, rounds, visiting, entered, visited, polling_gives, polling_sleeps, polling_wakes, fired, skips, woken}
 
 -- there is one order of one number
 one : (k x : ℕ) → Contains (x ∷ []) k → x ≡ k
@@ -36,25 +22,28 @@ with_state root = record nothing { held = put 0 root nothing.held }
 abbrev pub first_polled : State
 first_polled = after_all (begun small_begin) (opening ++ visiting_root)
 
-pub first_poll : {A O : Type 0} (p : Steps A O) (root : A) → p.first 0 ≡ Gives tt root → Completes p first_polled (with_state root) → IsValidInput p small_begin
+pub first_poll_known : {A O : Type 0} (p : Course A O) (root : A) → p.steps.first 0 ≡ Gives tt root → Completes p first_polled (with_state root) → (x : List Entry) (cause : FinishCause) (end : State) (value : Value A O) → IsRun p.steps small_begin x cause end value → p.Known (begun small_begin) x → cause ≡ Completed
 unfolding begun after
-first_poll {A = A} {O = O} p root makes more =
+first_poll_known {A = A} {O = O} p root makes more =
     let s1 = after (begun small_begin) (Start 0 0 None 1000000) in
     let s2 = after s1 (Root 0) in
     let s3 = after s2 (Round (0 ∷ [])) in
     let v : Value A O = with_state root in
     let now : Held A O = nothing.held in
     let visits : Completes p s3 v = visiting p s3 v refl 0 (0 ∷ []) [] refl refl tt (entered p (after s3 (Visit 0)) v refl 0 [] refl more) in
-    begins p small_begin
+    begins_known p small_begin
     (making_gives p s1 nothing refl root now refl (makes, refl) tt
     (rounds p s2 v (inl refl) tt (λ order perm. rw (only 0 order perm) visits) refl refl))
+
+pub first_poll : {A O : Type 0} (p : Steps A O) (root : A) → p.first 0 ≡ Gives tt root → Completes (any p) first_polled (with_state root) → IsValidInput p small_begin
+first_poll p root makes more x cause end value r = first_poll_known (any p) root makes more x cause end value r tt
 
 pub ready_valid : (number : ℕ) → IsValidInput (ready_root number) small_begin
 unfolding begun after
 ready_valid number =
-    let p = ready_root number in
+    let p = any (ready_root number) in
     let now : Held (Unit {0}) ℕ = nothing.held in
-    first_poll p tt refl (polling_gives p first_polled (with_state tt) refl 0 [] tt refl refl now (Ready number) tt refl (λ text e. cc) (refl, refl) (λ e. absurd (cc)))
+    first_poll (ready_root number) tt refl (polling_gives p first_polled (with_state tt) refl 0 [] tt refl refl now (Ready number) tt refl (λ text e. cc) (refl, refl) (λ e. absurd (cc)))
 
 -- a root that sleeps
 
@@ -68,15 +57,15 @@ with_root due alarm = with_state (record { due = due; alarm = alarm })
 abbrev pub no_values : Held Sleeper ℕ
 no_values = nothing.held
 
-first-poll : (due : ℕ) → Completes (sleeping_root due) first_polled (with_root due None) → IsValidInput (sleeping_root due) small_begin
+first-poll : (due : ℕ) → Completes (any (sleeping_root due)) first_polled (with_root due None) → IsValidInput (sleeping_root due) small_begin
 first-poll due more =
     let none : 0 + due ≡ due = omega arith in
     first_poll (sleeping_root due) (record { due = due; alarm = None }) (rw none refl) more
 
-falls-asleep : (due : ℕ) → 0 < due → Completes (sleeping_root due) (asleep due 1000000) (with_root due (Some 0)) → Completes (sleeping_root due) first_polled (with_root due None)
+falls-asleep : (due : ℕ) → 0 < due → Completes (any (sleeping_root due)) (asleep due 1000000) (with_root due (Some 0)) → Completes (any (sleeping_root due)) first_polled (with_root due None)
 unfolding begun after
 falls-asleep due later more =
-    let p = sleeping_root due in
+    let p = any (sleeping_root due) in
     let root : Sleeper = record { due = due; alarm = None } in
     let s = after first_polled (Call (Some 0) (SleepPoll due) (PendingAt 0)) in
     let v = with_root due None in
@@ -85,10 +74,10 @@ falls-asleep due later more =
     let answers : Completes p s v = polling_gives p s v refl 0 [] root refl refl no_values Pending (record { due = due; alarm = Some 0 }) refl (λ text e. cc) ((refl, refl), (refl, refl)) (λ e. steps) in
     polling_sleeps p first_polled v refl 0 [] root refl refl no_values due None (sleeper_heard root) (refl, refl) later answers
 
-stays-awake : Completes (sleeping_root 0) first_polled (with_root 0 None)
+stays-awake : Completes (any (sleeping_root 0)) first_polled (with_root 0 None)
 unfolding begun after
 stays-awake =
-    let p = sleeping_root 0 in
+    let p = any (sleeping_root 0) in
     let root : Sleeper = record { due = 0; alarm = None } in
     let s = after first_polled (Call (Some 0) (SleepPoll 0) IsOver) in
     let v = with_root 0 None in
@@ -96,10 +85,10 @@ stays-awake =
     polling_wakes p first_polled v refl 0 [] root refl refl no_values 0 None (sleeper_heard root) (refl, refl) (omega arith) answers
 
 -- where its alarm goes off
-wakes-up : (due time : ℕ) → due ≤ time → Completes (sleeping_root due) (asleep due time) (with_root due (Some 0))
+wakes-up : (due time : ℕ) → due ≤ time → Completes (any (sleeping_root due)) (asleep due time) (with_root due (Some 0))
 unfolding begun after
 wakes-up due time late =
-    let p = sleeping_root due in
+    let p = any (sleeping_root due) in
     let root : Sleeper = record { due = due; alarm = Some 0 } in
     let s1 = asleep due time in
     let s2 = after s1 (Fire 0) in
@@ -118,12 +107,12 @@ wakes-up due time late =
     fired p s1 v refl 0 refl (rw over refl) (rw now refl) (rw (over, now) tt) (woken p s2 v 0 [] refl (λ cause e. cc) round)
 
 -- where the clock skips to it
-skipped : (due : ℕ) → 1000000 < due → Completes (sleeping_root due) (asleep due 1000000) (with_root due (Some 0))
+skipped : (due : ℕ) → 1000000 < due → Completes (any (sleeping_root due)) (asleep due 1000000) (with_root due (Some 0))
 unfolding begun after
 skipped due later =
     let ahead : ltb 1000000 due ≡ true = grind arith in
     let early : leb due 1000000 ≡ false = grind arith in
-    skips (sleeping_root due) (asleep due 1000000) (with_root due (Some 0)) refl due refl refl (rw early refl) (rw ahead refl) (rw ahead tt) (wakes-up due due (omega arith))
+    skips (any (sleeping_root due)) (asleep due 1000000) (with_root due (Some 0)) refl due refl refl (rw early refl) (rw ahead refl) (rw ahead tt) (wakes-up due due (omega arith))
 
 pub sleeping_valid : (due : ℕ) → IsValidInput (sleeping_root due) small_begin
 sleeping_valid due = elim (eq-zero-or-pos due) [

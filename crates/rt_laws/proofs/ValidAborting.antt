@@ -1,31 +1,9 @@
 -- The input of a run whose root joins a task that aborts itself is valid, whatever numbers its nodes get.
-use Rattle.std.proofs.Common.{◌≡◌, inl, inr, ℕ, true, false, List, [], ◌∷◌, Some, None, refl}
-use Rattle.std.specs.List.Sorted.{IsPermutation}
-use Rattle.rt_base.specs.declared.error.Error.{Error}
-use Rattle.rt_base.specs.declared.error.Error.TheVariants.{Closed as ErrClosed}
-use Rattle.rt_base.specs.declared.execution.Execution.TheVariants.{Shared}
-use Rattle.rt_audit.specs.declared.call.Call.TheVariants.{Child, CloseNode, Spawn, AbortTask, Join, GiveUp}
-use Rattle.rt_audit.specs.declared.reply.CallReply.{CallReply}
-use Rattle.rt_audit.specs.declared.reply.CallReply.TheVariants.{Done, NodeAt, TaskAt, Pending as StillPending, Ready as IsReady, Refused}
-use Rattle.rt_audit.specs.declared.answer.AnswerKind.TheVariants.{Pending as AnswersPending, Ready as AnswersReady, Ended}
-use Rattle.rt_audit.specs.declared.entry.Entry.TheVariants.{Call, Event, Wake, Round, Visit, Answer as Answered, NodeEnd, Advance}
+use Rattle.rt_laws.proofs.Prelude.{◌≡◌, inl, inr, ℕ, true, false, List, [], ◌∷◌, Some, None, refl, IsPermutation, Error, ErrClosed, Shared, Child, CloseNode, Spawn, AbortTask, Join, GiveUp, CallReply, Done, NodeAt, TaskAt, StillPending, IsReady, Refused, AnswersPending, AnswersReady, Ended, Event, Wake, Round, Visit, Answered, NodeEnd, Advance, There, IsClosed, process_task, task_fields, new_result, State, Visiting, Entered, Leaving, begun, from_running, after, after_all, OutcomeAnswers, label_refusal, Ask, Held, Heard, Plain, Handed, Plainly, Spawning, put, with_spawned, freed, Spends, Gives, Steps, Value, taken, with_result, IsValidInput, first_record, is_known, is_live, small_begin, Parent, Joining, Aborter, handle, join_heard, aborting_root, without_value}
+use Rattle.rt_audit.specs.declared.entry.Entry.TheVariants.{Call}
 use Rattle.rt_model.specs.declared.answer.Answer.{Answer}
 use Rattle.rt_model.specs.declared.answer.Answer.TheVariants.{Pending, Ready}
-use Rattle.rt_model.specs.declared.result.Outcome.TheVariants.{There, Closed as IsClosed}
-use Rattle.rt_model.specs.Events.{process_task, task_fields}
-use Rattle.rt_model.specs.Results.{new_result}
-use Rattle.rt_model.specs.State.{State, Visiting, Entered, Leaving, begun}
-use Rattle.rt_model.specs.Causes.{from_running}
-use Rattle.rt_model.specs.Effects.{after, after_all}
-use Rattle.rt_model.specs.Rules.{OutcomeAnswers, label_refusal}
-use Rattle.rt_model.specs.Turns.{Ask, Held, Heard, Plain, Handed, Plainly, Spawning, put, with_spawned, freed}
-use Rattle.rt_model.specs.Walk.{Spends, Gives}
-use Rattle.rt_model.specs.Tied.{Steps, Value, taken, with_result}
-use Rattle.rt_model.specs.Run.{IsValidInput}
-use Rattle.rt_super.specs.Ancestry.{first_record, is_known, is_live}
-use Rattle.rt_laws.specs.Examples.{small_begin}
-use Rattle.rt_laws.specs.Supervised.{Parent, Joining, Aborter, handle, join_heard, aborting_root, without_value}
-use Rattle.rt_laws.proofs.Completing.{Completes, rounds, visiting, visited, entered, polling_does, polling_answers, polling_gives, woken}
+use Rattle.rt_laws.proofs.Completing.{Course, any, Completes, rounds, visiting, visited, entered, polling_does, polling_answers, polling_gives, woken}
 use Rattle.rt_laws.proofs.OneTask.{one_child, grown, free, not_ended, spawned, closed, left, still, live, known, flags}
 use Rattle.rt_laws.proofs.Supervising.{either, polling_spends, ending_spends, ending_gives, leaving, in_form, never, Calls, behind, placed, told, child_told, spawn_told, abort_told, join_told}
 use Rattle.rt_laws.proofs.Valid.{only, with_state, first_polled, first_poll}
@@ -57,7 +35,10 @@ pub record JoinsAborted {A O : Type 0} (p : Steps A O) (answer : Answer O) : Typ
   pub joins_again : Calls (p.task.next joins 2000000 0) (Plainly (Join 1))
   pub gives_up : behind (p.task.next joins 2000000 0) (heard_behind answer) ≡ Spends (Plainly (GiveUp 1)) (Gives (Ready output) over)
 
-module _ {A O : Type 0} (p : Steps A O) (answer : Answer O) (is : JoinsAborted p answer) where
+module _ {A O : Type 0} (q : Steps A O) (answer : Answer O) (is : JoinsAborted q answer) where
+  abbrev p : Course A O
+  p = any q
+
   abbrev v : Value A O
   v = with_state is.root
 
@@ -101,7 +82,7 @@ module _ {A O : Type 0} (p : Steps A O) (answer : Answer O) (is : JoinsAborted p
         let s2 = after s1 (Visit 1) in
         let s3 = after s2 (Event process_task (task_fields 1 is.label)) in
         let at = is.task own in
-        let polls : Completes p s3 w = polling_does p s3 w refl 1 [] at refl refl (taken 1 w.held) (Plainly (AbortTask 1)) (behind (p.task.next (is.task own) 1000000 1)) (is.aborts own, refl) (λ reply. refl) (abort_told p s3 w (Some 1) 1 refl (follows child fresh own other)) in
+        let polls : Completes p s3 w = polling_does p s3 w refl 1 [] at refl refl (taken 1 w.held) (Plainly (AbortTask 1)) (behind (q.task.next (is.task own) 1000000 1)) (is.aborts own, refl) (λ stood reply. refl) (abort_told p s3 w (Some 1) 1 refl (follows child fresh own other)) in
         let visits : Completes p s1 w = visiting p s1 w refl 1 (1 ∷ []) [] refl refl tt (entered p s2 w refl 1 [] refl polls) in
         rounds p (waits child own) w (inr (refl, refl, refl)) tt (λ order perm. rw (only 1 order perm) visits) refl refl
 
@@ -114,7 +95,7 @@ module _ {A O : Type 0} (p : Steps A O) (answer : Answer O) (is : JoinsAborted p
         let s2 = after s1 (Answered 0 AnswersPending) in
         let left : Completes p s2 w = visited p s2 w refl [] refl refl tt (task_aborts child fresh own other) in
         let answers : Completes p s1 v = polling_gives p s1 v refl 0 [] is.root refl refl (task_alone child own) Pending is.joins refl (λ text e. cc) (rw is.asks ((refl, tt), rw (is.spawns child) ((refl, tt), rw (is.awaits child own) ((refl, tt), (is.pends child own, refl))))) (λ e. left) in
-        polling_does p s v refl 0 [] is.root refl refl (task_alone child own) (Plainly (Join 1)) (behind (told (p.task.next is.root 0 0) child 1 own)) (rw is.asks ((refl, tt), rw (is.spawns child) ((refl, tt), (is.awaits child own, refl)))) (λ reply. refl) (join_told p s v (Some 0) 1 new_result refl (λ reply e. rw e answers))
+        polling_does p s v refl 0 [] is.root refl refl (task_alone child own) (Plainly (Join 1)) (behind (told (q.task.next is.root 0 0) child 1 own)) (rw is.asks ((refl, tt), rw (is.spawns child) ((refl, tt), (is.awaits child own, refl)))) (λ stood reply. refl) (join_told p s v (Some 0) 1 new_result refl (λ reply e. rw e answers))
 
     child_made : (child : ℕ) → is_known first_record child ≡ false → Completes p (with_node child) v
     unfolding begun after
@@ -122,7 +103,7 @@ module _ {A O : Type 0} (p : Steps A O) (answer : Answer O) (is : JoinsAborted p
         let s = with_node child in
         let asks : Ask A O = Spawning child (Shared false) is.task in
         let spawns : (own : ℕ) → is_known (one_child child) own ≡ false → Completes p (after s (Call (Some 0) (Spawn child) (TaskAt 1 own))) v = λ own other. in_form p (after s (Call (Some 0) (Spawn child) (TaskAt 1 own))) (spawned_in child own) v (rw (spawned child fresh own other 1) refl) (root_waits child fresh own other) in
-        polling_does p s v refl 0 [] is.root refl refl (taken 0 v.held) asks (behind (placed (p.task.next is.root 0 0) child)) (rw is.asks ((refl, tt), (is.spawns child, refl))) (λ reply. refl) (spawn_told p s v (Some 0) child (Shared false) is.task (free child fresh) (not_ended child fresh) refl spawns)
+        polling_does p s v refl 0 [] is.root refl refl (taken 0 v.held) asks (behind (placed (q.task.next is.root 0 0) child)) (rw is.asks ((refl, tt), (is.spawns child, refl))) (λ stood reply. refl) (spawn_told p s v (Some 0) child (Shared false) is.task (free child fresh) (not_ended child fresh) refl spawns)
 
     child_refused : (error : Error) → Some error ≡ label_refusal [] is.label → Completes p (after first_polled (Call (Some 0) (Child 0 is.label) (Refused error))) v
     unfolding begun after
@@ -131,11 +112,11 @@ module _ {A O : Type 0} (p : Steps A O) (answer : Answer O) (is : JoinsAborted p
         let r = is.refused error e in
         polling_gives p s v refl 0 [] is.root refl refl (taken 0 v.held) (Ready r.0) r.1 refl (λ text e. cc) (rw is.asks ((refl, tt), (r.2, refl))) (λ e. absurd (cc))
 
-    valid-from : IsValidInput p small_begin
+    valid-from : IsValidInput q small_begin
     unfolding begun after
     valid-from =
-        first_poll p is.root is.makes
-        (polling_does p first_polled v refl 0 [] is.root refl refl (taken 0 v.held) (Plainly (Child 0 is.label)) (behind (p.task.next is.root 0 0)) (is.asks, refl) (λ reply. refl) (child_told p first_polled v (Some 0) 0 is.label refl child_made child_refused))
+        first_poll q is.root is.makes
+        (polling_does p first_polled v refl 0 [] is.root refl refl (taken 0 v.held) (Plainly (Child 0 is.label)) (behind (q.task.next is.root 0 0)) (is.asks, refl) (λ stood reply. refl) (child_told p first_polled v (Some 0) 0 is.label refl child_made child_refused))
 
   -- it is ready, and its result is handed out
   module _ (number : O) (gives : answer ≡ Ready number) where
@@ -180,10 +161,10 @@ module _ {A O : Type 0} (p : Steps A O) (answer : Answer O) (is : JoinsAborted p
           let s6 = after s5 (Call (Some 0) (GiveUp 1) Done) in
           let at = is.joins in
           let rest = taken 0 w.held in
-          let hands : behind (p.task.next is.joins 2000000 0) (Handed number) ≡ Spends (Plainly (GiveUp 1)) (Gives (Ready is.output) is.over) = rw gives at is.gives_up in
+          let hands : behind (q.task.next is.joins 2000000 0) (Handed number) ≡ Spends (Plainly (GiveUp 1)) (Gives (Ready is.output) is.over) = rw gives at is.gives_up in
           let ends : Completes p s6 w = polling_gives p s6 w refl 0 [] at refl refl (freed 1 (freed 1 rest)) (Ready is.output) is.over refl (λ text e. cc) (rw is.joins_again ((refl, tt), rw hands (λ there. (refl, refl, (refl, refl)), λ gone. absurd (cc)))) (λ e. absurd (cc)) in
-          let frees : Completes p s5 w = polling_spends p s5 w refl 0 [] at refl refl (freed 1 rest) (Plainly (GiveUp 1)) (Gives (Ready is.output) is.over) (rw is.joins_again ((refl, tt), (hands, refl))) (λ reply. refl) refl ends in
-          let polls : Completes p s4 w = polling_does p s4 w refl 0 [] at refl refl rest (Plainly (Join 1)) (behind (p.task.next is.joins 2000000 0)) (is.joins_again, refl) (λ reply. refl) (join_told p s4 w (Some 0) 1 (record { outcome = There; aborted = false }) refl (λ reply e. rw e frees)) in
+          let frees : Completes p s5 w = polling_spends p s5 w refl 0 [] at refl refl (freed 1 rest) (Plainly (GiveUp 1)) (Gives (Ready is.output) is.over) (rw is.joins_again ((refl, tt), (hands, refl))) (λ stood reply. refl) refl ends in
+          let polls : Completes p s4 w = polling_does p s4 w refl 0 [] at refl refl rest (Plainly (Join 1)) (behind (q.task.next is.joins 2000000 0)) (is.joins_again, refl) (λ stood reply. refl) (join_told p s4 w (Some 0) 1 (record { outcome = There; aborted = false }) refl (λ reply e. rw e frees)) in
           let visits : Completes p s2 w = visiting p s2 w refl 0 (0 ∷ []) [] refl refl tt (entered p s3 w refl 0 [] refl polls) in
           let round : Completes p s1 w = rounds p s1 w (inr (refl, refl, refl)) tt (λ order perm. rw (only 0 order perm) visits) refl refl in
           visited p node_ended w refl [] refl refl tt round
@@ -203,10 +184,10 @@ module _ {A O : Type 0} (p : Steps A O) (answer : Answer O) (is : JoinsAborted p
           let leaves : Completes p s7 w = leaving p s7 w refl 1 (Some There) [] child refl refl (in_form p (after s7 (NodeEnd child)) node_ended w leave root_joins) in
           let wakes : Completes p task_ended w = woken p task_ended w 0 [] refl (λ cause e. cc) leaves in
           let ends : Completes p s6 ready = ending_gives p s6 ready refl 1 (Some There) [] at refl refl (taken 1 ready.held) (rw (is.ends own) (λ there. (refl, refl, (refl, refl)), λ gone. never (is_live (grown child own 1 true true) own) (live child fresh own other 1) gone)) (in_form p (after s6 (Answered 1 Ended)) task_ended w end wakes) in
-          let closes : Completes p s5 ready = ending_spends p s5 ready refl 1 (Some There) [] at refl refl (taken 1 ready.held) (Plainly (CloseNode own)) (Gives tt tt) (is.ends own, refl) (λ reply. refl) (live child fresh own other 1) (in_form p (after s5 (Call (Some 1) (CloseNode own) Done)) s6 ready (rw close refl) ends) in
+          let closes : Completes p s5 ready = ending_spends p s5 ready refl 1 (Some There) [] at refl refl (taken 1 ready.held) (Plainly (CloseNode own)) (Gives tt tt) (is.ends own, refl) (λ stood reply. refl) (live child fresh own other 1) (in_form p (after s5 (Call (Some 1) (CloseNode own) Done)) s6 ready (rw close refl) ends) in
           polling_answers p s4 (waiting child own) refl 1 [] (is.task own) refl refl (root_alone child own) answer at (λ text e. cc) (rw (is.aborts own) ((refl, tt), (is.answers own, refl))) (λ e. absurd (cc)) (λ o e. let same : o ≡ number = cc in rw same closes)
 
-    pub handed_valid : IsValidInput p small_begin
+    pub handed_valid : IsValidInput q small_begin
     handed_valid = valid-from task_gives
 
   -- it is left pending and ends without a result, and the join is refused
@@ -255,10 +236,10 @@ module _ {A O : Type 0} (p : Steps A O) (answer : Answer O) (is : JoinsAborted p
           let s6 = after s5 (Call (Some 0) (GiveUp 1) Done) in
           let at = is.joins in
           let held = taken 0 w.held in
-          let refuses : behind (p.task.next is.joins 2000000 0) (Plain (Refused ErrClosed)) ≡ Spends (Plainly (GiveUp 1)) (Gives (Ready is.output) is.over) = rw stays at is.gives_up in
+          let refuses : behind (q.task.next is.joins 2000000 0) (Plain (Refused ErrClosed)) ≡ Spends (Plainly (GiveUp 1)) (Gives (Ready is.output) is.over) = rw stays at is.gives_up in
           let gives : Completes p s6 w = polling_gives p s6 w refl 0 rest at refl refl (freed 1 held) (Ready is.output) is.over refl (λ text e. cc) (rw is.joins_again ((refl, tt), rw refuses (λ there. (refl, refl, (refl, refl)), λ gone. absurd (cc)))) (λ e. absurd (cc)) in
-          let frees : Completes p s5 w = polling_spends p s5 w refl 0 rest at refl refl held (Plainly (GiveUp 1)) (Gives (Ready is.output) is.over) (rw is.joins_again ((refl, tt), (refuses, refl))) (λ reply. refl) refl gives in
-          let polls : Completes p s4 w = polling_does p s4 w refl 0 rest at refl refl held (Plainly (Join 1)) (behind (p.task.next is.joins 2000000 0)) (is.joins_again, refl) (λ reply. refl) (join_told p s4 w (Some 0) 1 (record { outcome = IsClosed; aborted = false }) refl (refused_told s4 w frees)) in
+          let frees : Completes p s5 w = polling_spends p s5 w refl 0 rest at refl refl held (Plainly (GiveUp 1)) (Gives (Ready is.output) is.over) (rw is.joins_again ((refl, tt), (refuses, refl))) (λ stood reply. refl) refl gives in
+          let polls : Completes p s4 w = polling_does p s4 w refl 0 rest at refl refl held (Plainly (Join 1)) (behind (q.task.next is.joins 2000000 0)) (is.joins_again, refl) (λ stood reply. refl) (join_told p s4 w (Some 0) 1 (record { outcome = IsClosed; aborted = false }) refl (refused_told s4 w frees)) in
           let enters : Completes p (after s2 (Visit 0)) w = in_form p (after s2 (Visit 0)) s3 w (rw next refl) (entered p s3 w refl 0 rest refl polls) in
           visiting p s2 w refl 0 order rest refl next (rw next tt) enters
         where
@@ -289,10 +270,10 @@ module _ {A O : Type 0} (p : Steps A O) (answer : Answer O) (is : JoinsAborted p
           let wakes : Completes p node_stopped w = woken p node_stopped w 1 (0 ∷ []) refl (λ cause e. cc) (woken p s7 w 0 [] refl (λ cause e. cc) visits) in
           let leaves : Completes p task_stopped w = leaving p task_stopped w refl 1 None [] child refl refl (in_form p (after task_stopped (NodeEnd child)) node_stopped w leave wakes) in
           let ends : Completes p s6 u = ending_gives p s6 u refl 1 None [] at refl refl rest (rw (is.ends own) (λ there. (refl, refl, (refl, refl)), λ gone. never (is_live (grown child own 1 true true) own) (live child fresh own other 1) gone)) (in_form p (after s6 (Answered 1 Ended)) task_stopped w end leaves) in
-          let closes : Completes p s5 u = ending_spends p s5 u refl 1 None [] at refl refl rest (Plainly (CloseNode own)) (Gives tt tt) (is.ends own, refl) (λ reply. refl) (live child fresh own other 1) (in_form p (after s5 (Call (Some 1) (CloseNode own) Done)) s6 u (rw close refl) ends) in
+          let closes : Completes p s5 u = ending_spends p s5 u refl 1 None [] at refl refl rest (Plainly (CloseNode own)) (Gives tt tt) (is.ends own, refl) (λ stood reply. refl) (live child fresh own other 1) (in_form p (after s5 (Call (Some 1) (CloseNode own) Done)) s6 u (rw close refl) ends) in
           polling_answers p s4 (waiting child own) refl 1 [] (is.task own) refl refl rest answer at (λ text e. cc) (rw (is.aborts own) ((refl, tt), (is.answers own, refl))) (λ e. closes) (λ o e. absurd (cc))
 
-    pub closed_valid : IsValidInput p small_begin
+    pub closed_valid : IsValidInput q small_begin
     closed_valid = valid-from task_stops
 
 -- the examples' root is one

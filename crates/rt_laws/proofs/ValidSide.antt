@@ -1,26 +1,8 @@
 -- The input of a run whose maker spawns a task is valid, whatever numbers its nodes get.
-use Rattle.std.proofs.Common.{◌≡◌, inl, inr, ℕ, true, false, List, [], ◌∷◌, Some, None, refl}
-use Rattle.std.specs.List.Sorted.{IsPermutation}
-use Rattle.rt_base.specs.declared.error.Error.{Error}
-use Rattle.rt_base.specs.declared.execution.Execution.TheVariants.{Shared}
-use Rattle.rt_audit.specs.declared.call.Call.TheVariants.{Child, CloseNode, Spawn, GiveUp}
-use Rattle.rt_audit.specs.declared.reply.CallReply.TheVariants.{Done, NodeAt, TaskAt, Refused}
-use Rattle.rt_audit.specs.declared.answer.AnswerKind.TheVariants.{Ready as AnswersReady, Ended}
-use Rattle.rt_audit.specs.declared.entry.Entry.TheVariants.{Start, Call, Event, Root, Round, Visit, Answer as Answered, NodeEnd}
+use Rattle.rt_laws.proofs.Prelude.{◌≡◌, inl, inr, ℕ, true, false, List, [], ◌∷◌, Some, None, refl, IsPermutation, Error, Shared, Child, CloseNode, Spawn, GiveUp, Done, NodeAt, TaskAt, Refused, AnswersReady, Ended, Start, Event, Root, Round, Visit, Answered, NodeEnd, There, process_task, task_fields, State, Visiting, Leaving, begun, after, after_all, label_refusal, Ask, Held, Plain, Plainly, Spawning, put, with_spawned, Spends, Gives, Steps, Value, nothing, taken, IsValidInput, first_record, is_known, is_live, small_begin, prompt_root, side, with_side}
+use Rattle.rt_audit.specs.declared.entry.Entry.TheVariants.{Call}
 use Rattle.rt_model.specs.declared.answer.Answer.TheVariants.{Ready}
-use Rattle.rt_model.specs.declared.result.Outcome.TheVariants.{There}
-use Rattle.rt_model.specs.Events.{process_task, task_fields}
-use Rattle.rt_model.specs.State.{State, Visiting, Leaving, begun}
-use Rattle.rt_model.specs.Effects.{after, after_all}
-use Rattle.rt_model.specs.Rules.{label_refusal}
-use Rattle.rt_model.specs.Turns.{Ask, Held, Plain, Plainly, Spawning, put, with_spawned}
-use Rattle.rt_model.specs.Walk.{Spends, Gives}
-use Rattle.rt_model.specs.Tied.{Steps, Value, nothing, taken}
-use Rattle.rt_model.specs.Run.{IsValidInput}
-use Rattle.rt_super.specs.Ancestry.{first_record, is_known, is_live}
-use Rattle.rt_laws.specs.Examples.{small_begin}
-use Rattle.rt_laws.specs.Supervised.{prompt_root, side, with_side}
-use Rattle.rt_laws.proofs.Completing.{Completes, begins, making_gives, rounds, visiting, entered, polling_answers, polling_gives}
+use Rattle.rt_laws.proofs.Completing.{Course, any, Completes, begins, making_gives, rounds, visiting, entered, polling_answers, polling_gives}
 use Rattle.rt_laws.proofs.OneTask.{one_child, grown, free, not_ended, spawned, closed, left, still, live, known, flags}
 use Rattle.rt_laws.proofs.Supervising.{either, making_does, making_spends, ending_spends, ending_gives, leaving, in_form, never, Calls, Replied, behind, placed, told, child_told, spawn_told}
 use Rattle.rt_laws.proofs.Valid.{only, with_state}
@@ -41,7 +23,10 @@ pub record MakesBeside {A O : Type 0} (p : Steps A O) : Type 0 where
   pub task_ready : (own : ℕ) → p.task.next (task own) 0 0 ≡ Gives (Ready value) (task own)
   pub task_ends : (own : ℕ) → p.task.last (task own) 0 0 ≡ Spends (Plainly (CloseNode own)) (Gives tt tt)
 
-module _ {A O : Type 0} (p : Steps A O) (is : MakesBeside p) where
+module _ {A O : Type 0} (q : Steps A O) (is : MakesBeside q) where
+  abbrev p : Course A O
+  p = any q
+
   module _ (child : ℕ) (fresh : is_known first_record child ≡ false) (own : ℕ) (other : is_known (one_child child) own ≡ false) where
     abbrev v : Value A O
     v = record nothing { held = put 1 is.root (with_spawned 0 (Shared false) (is.task own) nothing.held) }
@@ -105,7 +90,7 @@ module _ {A O : Type 0} (p : Steps A O) (is : MakesBeside p) where
         let leave : after ended (NodeEnd child) ≡ node_ended = rw (known child fresh own other 0, flags child fresh own other 0) refl in
         let leaves : Completes p ended w = leaving p ended w refl 0 (Some There) (1 ∷ []) child refl refl (in_form p (after ended (NodeEnd child)) node_ended w leave root_second) in
         let ends : Completes p s5 v = ending_gives p s5 v refl 0 (Some There) (1 ∷ []) (is.task own) refl refl rest (rw (is.task_ends own) (λ there. (refl, refl, (refl, refl)), λ gone. never (is_live (grown child own 0 true true) own) (live child fresh own other 0) gone)) (in_form p (after s5 (Answered 0 Ended)) ended w end leaves) in
-        let closes : Completes p s4 v = ending_spends p s4 v refl 0 (Some There) (1 ∷ []) (is.task own) refl refl rest (Plainly (CloseNode own)) (Gives tt tt) (is.task_ends own, refl) (λ reply. refl) (live child fresh own other 0) (in_form p (after s4 (Call (Some 0) (CloseNode own) Done)) s5 v (rw close refl) ends) in
+        let closes : Completes p s4 v = ending_spends p s4 v refl 0 (Some There) (1 ∷ []) (is.task own) refl refl rest (Plainly (CloseNode own)) (Gives tt tt) (is.task_ends own, refl) (λ stood reply. refl) (live child fresh own other 0) (in_form p (after s4 (Call (Some 0) (CloseNode own) Done)) s5 v (rw close refl) ends) in
         let polls : Completes p s3 v = polling_answers p s3 v refl 0 (1 ∷ []) (is.task own) refl refl rest (Ready is.value) (is.task own) (λ text e. cc) (is.task_ready own, refl) (λ e. absurd (cc)) (λ o e. closes) in
         visiting p s1 v refl 0 (0 ∷ 1 ∷ []) (1 ∷ []) refl refl tt (entered p s2 v refl 0 (1 ∷ []) refl polls)
 
@@ -120,7 +105,7 @@ module _ {A O : Type 0} (p : Steps A O) (is : MakesBeside p) where
         let now : Held A O = with_spawned 0 (Shared false) (is.task own) nothing.held in
         let round : Completes p s2 v = rounds p s2 v (inl refl) tt in_order refl refl in
         let makes : Completes p s1 nothing = making_gives p s1 nothing refl is.root now refl (rw is.asks ((refl, tt), rw (is.spawns child) ((refl, tt), rw (is.gives_up child own) (λ there. (refl, refl, (refl, refl)), λ gone. absurd (cc))))) tt round in
-        making_spends p beside nothing refl refl tt now (Plainly (GiveUp 0)) (Gives tt is.root) (rw is.asks ((refl, tt), rw (is.spawns child) ((refl, tt), (is.gives_up child own, refl)))) (λ reply. refl) refl makes
+        making_spends p beside nothing refl refl tt now (Plainly (GiveUp 0)) (Gives tt is.root) (rw is.asks ((refl, tt), rw (is.spawns child) ((refl, tt), (is.gives_up child own, refl)))) (λ stood reply. refl) refl makes
 
   -- the maker spawns its task
 
@@ -137,7 +122,7 @@ module _ {A O : Type 0} (p : Steps A O) (is : MakesBeside p) where
       let spawns : (own : ℕ) → is_known (one_child child) own ≡ false → Completes p (after s (Call None (Spawn child) (TaskAt 0 own))) nothing = λ own other. in_form p (after s (Call None (Spawn child) (TaskAt 0 own))) (beside child fresh own other) nothing (rw (spawned child fresh own other 0) refl) (spawned_beside child fresh own other) in
       let asks : Ask A O = Spawning child (Shared false) is.task in
       let told : Replied p s nothing None asks = spawn_told p s nothing None child (Shared false) is.task (free child fresh) (not_ended child fresh) refl spawns in
-      making_does p s nothing refl refl tt nothing.held asks (behind (placed (p.first 0) child)) (rw is.asks ((refl, tt), (is.spawns child, refl))) (λ reply. refl) told
+      making_does p s nothing refl refl tt nothing.held asks (behind (placed (q.first 0) child)) (rw is.asks ((refl, tt), (is.spawns child, refl))) (λ stood reply. refl) told
 
   -- the root is alone
 
@@ -154,11 +139,11 @@ module _ {A O : Type 0} (p : Steps A O) (is : MakesBeside p) where
       let visits : Completes p s2 v = visiting p s2 v refl 0 (0 ∷ []) [] refl refl tt (entered p s3 v refl 0 [] refl polls) in
       making_gives p s nothing refl is.root now refl (rw is.asks ((refl, tt), (is.refused error e, refl))) tt (rounds p s1 v (inl refl) tt (λ order perm. rw (only 0 order perm) visits) refl refl)
 
-  pub beside_valid : IsValidInput p small_begin
+  pub beside_valid : IsValidInput q small_begin
   unfolding begun after
   beside_valid =
       let told : Replied p starting nothing None (Plainly (Child 0 is.label)) = child_told p starting nothing None 0 is.label refl child_made alone in
-      begins p small_begin (making_does p starting nothing refl refl tt nothing.held (Plainly (Child 0 is.label)) (behind (p.first 0)) (is.asks, refl) (λ reply. refl) told)
+      begins q small_begin (making_does p starting nothing refl refl tt nothing.held (Plainly (Child 0 is.label)) (behind (q.first 0)) (is.asks, refl) (λ stood reply. refl) told)
 
 pub side_valid : IsValidInput with_side small_begin
 side_valid =

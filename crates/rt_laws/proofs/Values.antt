@@ -1,20 +1,8 @@
 -- The entries of a run determine what it moves: the steps decide each walk, as long as no part lacked memory.
-use Rattle.std.proofs.Common.{◌≡◌, inl, inr, ℕ, List, [], ◌∷◌, Option, Some, None, is_some, if◌then◌else◌, Bool, true, false, refl, ap, sym, ◌∙◌}
-use Rattle.rt_audit.specs.declared.answer.AnswerKind.{AnswerKind}
-use Rattle.rt_audit.specs.declared.answer.AnswerKind.TheVariants.{Pending as IsPending, Ready as IsReady, Panicked as IsPanicked, Stopped as IsStopped, NoMemory as LacksMemory, Ended as IsEnded}
-use Rattle.rt_audit.specs.declared.finish.FinishCause.{FinishCause}
-use Rattle.rt_audit.specs.declared.entry.Entry.{Entry}
-use Rattle.rt_audit.specs.declared.entry.Entry.TheVariants.{Root, Round, Visit, Answer as AnswerEntry, Advance, Skip, Fire, Cleanup, Crash}
+use Rattle.rt_laws.proofs.Prelude.{◌≡◌, inl, inr, ℕ, List, [], ◌∷◌, Option, Some, None, is_some, if◌then◌else◌, Bool, true, false, refl, ap, sym, ◌∙◌, AnswerKind, IsPending, IsPanicked, IsStopped, LacksMemory, IsEnded, FinishCause, Entry, Root, Round, Visit, AnswerEntry, Advance, Skip, Fire, Cleanup, Crash, Begin, State, Phase, Making, Stood, Turn, stood_in, begun, after, find, is_some_number, counted, Held, put, Step, Does, Spends, Counts, Gives, Gave, Walks, Steps, Value, Polls, EndsState, Makes, MakerBreaks, MovesAnswer, MovesCleanup, MovesCrash, Moves, IsTied, taken, no_number, nothing, given, kept_text, with_result, IsRun}
+use Rattle.rt_audit.specs.declared.answer.AnswerKind.TheVariants.{Ready as IsReady}
 use Rattle.rt_model.specs.declared.answer.Answer.{Answer}
 use Rattle.rt_model.specs.declared.answer.Answer.TheVariants.{Pending, Ready, Panicked}
-use Rattle.rt_model.specs.declared.begin.Begin.{Begin}
-use Rattle.rt_model.specs.State.{State, Phase, Making, Stood, Turn, stood_in, begun}
-use Rattle.rt_model.specs.Effects.{after}
-use Rattle.rt_model.specs.Lists.{find, is_some_number}
-use Rattle.rt_model.specs.Turns.{Held, put}
-use Rattle.rt_model.specs.Walk.{Step, Does, Spends, Gives, Gave, Walks}
-use Rattle.rt_model.specs.Tied.{Steps, Value, Polls, EndsState, Makes, MakerBreaks, MovesAnswer, MovesCleanup, MovesCrash, Moves, IsTied, taken, no_number, nothing, given, kept_text, with_result}
-use Rattle.rt_model.specs.Run.{IsRun}
 use Rattle.rt_laws.proofs.Same.{same_begin}
 use Rattle.rt_laws.proofs.Fronts.{goes-both}
 
@@ -26,6 +14,7 @@ module _ {A L O R : Type 0} (stood : Stood) (a b : R) (l m : L) (e f : Held A O)
   gave-same : (held : Held A O) (step : Step A L O R) → Gave stood held step a l e → Gave stood held step b m f → Same
   gave-same held (Does ask on) h k = absurd h
   gave-same held (Spends ask next) h k = gave-same held next h.1 k.1
+  gave-same held (Counts change next) h k = gave-same (counted change held) next h k
   gave-same held (Gives given state) h k = (sym h.0 ∙ k.0, sym h.1 ∙ k.1, h.2 ∙ sym k.2)
 
   walks-same : (turns : List Turn) (held : Held A O) (step : Step A L O R) → Walks step held turns stood a l e → Walks step held turns stood b m f → Same

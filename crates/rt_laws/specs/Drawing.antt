@@ -1,5 +1,6 @@
 -- Roots that draw, and what comes near to the run of one that draws a number and then bytes.
-use Rattle.std.specs.Prelude.{ℕ, List, [], ◌∷◌, ◌++◌, ◌==◌, if◌then◌else◌, map, Some, codes}
+use Rattle.std.specs.Prelude.{◌≢◌, ℕ, List, [], ◌∷◌, ◌++◌, ◌==◌, if◌then◌else◌, map, Some, codes}
+use Rattle.rand_core.specs.Stream.{Stream, Call as Drawing}
 use Rattle.rt_audit.specs.declared.call.Call.{Call as CallOf}
 use Rattle.rt_audit.specs.declared.call.Call.TheVariants.{Wake as WakeCall, NextU64, FillBytes, Auditor}
 use Rattle.rt_audit.specs.declared.reply.CallReply.{CallReply}
@@ -53,6 +54,14 @@ moody_root =
       last = λ state now own. closes_node;
     })
     (λ now. Gives tt tt)
+
+-- a generator that never gives this number of 64 bits, whatever was drawn of it before
+abbrev pub NeverGives : ℕ → Stream → Type 0
+NeverGives number stream = (calls : List Drawing) → stream.u64_after calls ≢ number
+
+-- one that gives this number again and again
+abbrev pub always : ℕ → Stream
+always number = record { u32_after = λ calls. number; u64_after = λ calls. number; bytes_after = λ calls len. [] }
 
 -- 6 was drawn for the round of its second visit, in which these entries come
 abbrev pub visited_again : List Entry → List Entry

@@ -1,5 +1,5 @@
 -- Small roots, and what a run of each writes. The definitions are tried on them.
-use Rattle.std.specs.Prelude.{ℕ, ◌+◌, ◌-◌, ◌^◌, List, [], ◌∷◌, ◌++◌, Option, Some, None, false}
+use Rattle.std.specs.Prelude.{ℕ, pos, ◌+◌, ◌-◌, ◌^◌, List, [], ◌∷◌, ◌++◌, Option, Some, None, false}
 use Rattle.rt_base.specs.declared.time.TheConstants.{MAX_TIME}
 use Rattle.rt_audit.specs.declared.call.Call.{Call as CallOf}
 use Rattle.rt_audit.specs.declared.call.Call.TheVariants.{CloseNode, SleepPoll, Wake as WakeCall}
@@ -15,7 +15,7 @@ use Rattle.rt_model.specs.declared.answer.Answer.TheVariants.{Pending, Ready}
 use Rattle.rt_model.specs.declared.begin.Begin.{Begin}
 use Rattle.rt_model.specs.Events.{process_task, task_fields}
 use Rattle.rt_model.specs.Turns.{Plainly, Sleeping, Heard, Plain}
-use Rattle.rt_model.specs.Walk.{Step, Does, Spends, Gives, Last}
+use Rattle.rt_model.specs.Walk.{Step, Does, Spends, Counts, Gives, Last}
 use Rattle.rt_model.specs.Tied.{Steps, Value, with_first, nothing}
 
 -- from time 0 and number 0, by cycles of a millisecond, without a deadline
@@ -34,6 +34,14 @@ closes_node = Spends (Plainly (CloseNode 0)) (Gives tt tt)
 abbrev pub ready_root : ℕ → Steps (Unit {0}) ℕ
 ready_root number =
     with_first (record { next = λ state now task. Gives (Ready number) state; last = λ state now task. closes_node }) (λ now. Gives tt tt)
+
+-- a root that counts one more of a metric, and then is ready
+abbrev pub counting : ℕ → Step (Unit {0}) (Unit {0}) ℕ (Answer ℕ)
+counting number = Counts (record { metric = 0; by = pos 1 }) (Gives (Ready number) tt)
+
+abbrev pub counting_root : ℕ → Steps (Unit {0}) ℕ
+counting_root number =
+    with_first (record { next = λ state now task. counting number; last = λ state now task. closes_node }) (λ now. Gives tt tt)
 
 -- a root that is never ready
 abbrev pub pending_root : Steps (Unit {0}) ℕ

@@ -43,7 +43,7 @@ raising_root text = with_first (record { next = raising_next text; last = aborti
 -- the values behind a run that failed with this text, where one task was spawned
 abbrev pub failed_beside : {A : Type 0} → ℕ → List ℕ → Value A ℕ
 failed_beside task text =
-    record nothing { held = record { tasks = []; results = []; sent = []; executions = (task, Shared false) ∷ [] }; panic = Some text }
+    record nothing { held = record { tasks = []; results = []; sent = []; executions = (task, Shared false) ∷ []; counts = [] }; panic = Some text }
 
 -- the task panics, and ends
 abbrev pub raises : List Entry

@@ -23,7 +23,7 @@ closes node = Spends (Plainly (CloseNode node)) (Gives tt tt)
 -- the values behind a run that gave this output, and where one task was spawned, on no thread of its own
 abbrev pub gave_beside : {A : Type 0} → ℕ → ℕ → Value A ℕ
 gave_beside task number =
-    record nothing { held = record { tasks = []; results = []; sent = []; executions = (task, Shared false) ∷ [] }; output = Some number }
+    record nothing { held = record { tasks = []; results = []; sent = []; executions = (task, Shared false) ∷ []; counts = [] }; output = Some number }
 
 -- a task of the maker
 

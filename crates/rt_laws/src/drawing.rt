@@ -1,6 +1,7 @@
 //! The definitions tried on calls that draw.
 
 ghost use Rattle.std.specs.Prelude.{◌≡◌, ◌≢◌, ◌≤◌, ◌<◌, ◌^◌, ◌++◌, [], ◌∷◌, ℕ, List, Option, Some, length, codes};
+ghost use Rattle.rand_core.specs.Stream.{Stream};
 ghost use Rattle.rt_base.specs.declared.error.Error.{Error};
 ghost use Rattle.rt_audit.specs.declared.call.Call.{Call as CallOf};
 ghost use Rattle.rt_audit.specs.declared.call.Call.TheVariants.{NextU32, NextU64, FillBytes, Auditor};
@@ -8,17 +9,19 @@ ghost use Rattle.rt_audit.specs.declared.reply.CallReply.{CallReply};
 ghost use Rattle.rt_audit.specs.declared.reply.CallReply.TheVariants.{Number, Bytes, Refused};
 ghost use Rattle.rt_audit.specs.declared.entry.Entry.{Entry};
 ghost use Rattle.rt_audit.specs.declared.entry.Entry.TheVariants.{Call};
+ghost use Rattle.rt_audit.specs.declared.finish.FinishCause.{FinishCause};
 ghost use Rattle.rt_audit.specs.declared.finish.FinishCause.TheVariants.{Completed, Stalled};
 ghost use Rattle.rt_model.specs.declared.begin.Begin.{Begin};
 ghost use Rattle.rt_model.specs.Draws.{Drawn, Long, Filled};
-ghost use Rattle.rt_model.specs.State.{State, begun};
+ghost use Rattle.rt_model.specs.State.{stood_in, State, begun};
 ghost use Rattle.rt_model.specs.Effects.{after_all};
 ghost use Rattle.rt_model.specs.Events.{announced_by};
 ghost use Rattle.rt_model.specs.Rules.{Answers, IsLawful, AreDrawn};
 ghost use Rattle.rt_model.specs.Run.{IsRun, IsValidInput};
-ghost use Rattle.rt_model.specs.Tied.{nothing};
+ghost use Rattle.rt_model.specs.Tied.{Value, nothing};
+ghost use Rattle.rt_machine.specs.Draws.{Gave};
 ghost use Rattle.rt_laws.specs.Examples.{small_begin, gave};
-ghost use Rattle.rt_laws.specs.Drawing.{drawing_root, asking_root, moody_root, visited_again, draws_by, drawing_journal, asking_journal, moody_journal, events_of};
+ghost use Rattle.rt_laws.specs.Drawing.{NeverGives, always, drawing_root, asking_root, moody_root, visited_again, draws_by, drawing_journal, asking_journal, moody_journal, events_of};
 
 /// A root draws a number and then four bytes in a round for which 6 was drawn, and gives the number, whichever that is and
 /// whichever the bytes are. These three were drawn, in this order.
@@ -41,6 +44,13 @@ pub fn a_root_that_pends_by_what_is_drawn_is_not_valid()
     ensures invalid { IsValidInput moody_root small_begin → ⊥ }
 {}
 
+/// For a generator that never gives 1 that root is valid, though it isn't for all draws: each of its runs in which that
+/// generator gave what was drawn completes. There are such generators (`there`).
+pub fn a_root_is_valid_for_its_generator()
+    ensures valid { (stream left : Stream) → NeverGives 1 stream → (x : List Entry) (cause : FinishCause) (end : State) (value : Value (Unit {0}) ℕ) → IsRun moody_root small_begin x cause end value → Gave stream (after_all (begun small_begin) x).drawn left → cause ≡ Completed }
+    ensures there { (number : ℕ) → number ≢ 1 → NeverGives 1 (always number) }
+{}
+
 /// A root that draws four bytes in its first poll and then asks an auditor gives their count, whichever the bytes and the digest are.
 pub fn a_root_that_asks_has_its_run()
     ensures { (bytes digest : List ℕ) → length bytes ≡ 4 → length digest ≡ 4 → IsRun (asking_root 4) small_begin (asking_journal bytes digest) Completed (after_all (begun small_begin) (asking_journal bytes digest)) (gave 4) }
@@ -49,8 +59,8 @@ pub fn a_root_that_asks_has_its_run()
 /// The events of calls that a state keeps are those that announce the call which comes next, and no others (`state`). In the entries
 /// of a run these stand directly before the call, and directly before these no other event of a call (`behind`).
 pub fn a_call_comes_behind_its_own_event()
-    ensures state { (s : State) (by : Option ℕ) (call : CallOf) (reply : CallReply) → IsLawful s (Call by call reply ∷ []) → s.announced ≡ announced_by call reply }
-    ensures behind { (b : Begin) (x : List Entry) (by : Option ℕ) (call : CallOf) (reply : CallReply) → IsLawful (begun b) (x ++ Call by call reply ∷ []) → (front : List Entry) × (x ≡ front ++ events_of (announced_by call reply)) × ((after_all (begun b) front).announced ≡ []) }
+    ensures state { (s : State) (by : Option ℕ) (call : CallOf) (reply : CallReply) → IsLawful s (Call by call reply ∷ []) → s.announced ≡ announced_by (stood_in s) call reply }
+    ensures behind { (b : Begin) (x : List Entry) (by : Option ℕ) (call : CallOf) (reply : CallReply) → IsLawful (begun b) (x ++ Call by call reply ∷ []) → (front : List Entry) × (x ≡ front ++ events_of (announced_by (stood_in (after_all (begun b) x)) call reply)) × ((after_all (begun b) front).announced ≡ []) }
 {}
 
 /// What was drawn stays, and what is drawn later stands behind it. It decides nothing of what may come.

@@ -1,7 +1,7 @@
 //! The definitions tried on small roots: what they write is a run, what comes near it is none, and their inputs are
 //! valid.
 
-ghost use Rattle.std.specs.Prelude.{◌≡◌, ◌≢◌, ◌≤◌, ◌<◌, ◌+◌, ◌-◌, ◌^◌, ◌++◌, [], ◌∷◌, ℕ, List, Some, None, Result, false};
+ghost use Rattle.std.specs.Prelude.{◌≡◌, ◌≢◌, ◌≤◌, ◌<◌, ◌+◌, ◌-◌, ◌^◌, ◌++◌, [], ◌∷◌, ℕ, pos, List, Some, None, Result, false};
 ghost use Rattle.rt_base.specs.declared.error.Error.{Error};
 ghost use Rattle.rt_base.specs.declared.execution.Execution.TheVariants.{Shared};
 ghost use Rattle.rt_base.specs.declared.time.TheConstants.{MAX_TIME};
@@ -12,23 +12,31 @@ ghost use Rattle.rt_audit.specs.declared.reply.CallReply.TheVariants.{Done};
 ghost use Rattle.rt_audit.specs.declared.entry.Entry.TheVariants.{Wake};
 ghost use Rattle.rt_audit.specs.declared.finish.FinishCause.{FinishCause};
 ghost use Rattle.rt_audit.specs.declared.finish.FinishCause.TheVariants.{Completed, Timeout, Stalled, TimeOverflow, TooManyTasks, NoMemory};
-ghost use Rattle.rt_model.specs.declared.answer.Answer.TheVariants.{Pending};
-ghost use Rattle.rt_model.specs.State.{State, begun, stood_in};
+ghost use Rattle.rt_model.specs.declared.answer.Answer.{Answer};
+ghost use Rattle.rt_model.specs.declared.answer.Answer.TheVariants.{Pending, Ready};
+ghost use Rattle.rt_model.specs.State.{State, Stood, begun, stood_in};
 ghost use Rattle.rt_model.specs.Effects.{after_all};
 ghost use Rattle.rt_model.specs.Rules.{IsLawful, AreDrawn};
-ghost use Rattle.rt_model.specs.Turns.{Held, with_spawned};
-ghost use Rattle.rt_model.specs.Walk.{Stops};
+ghost use Rattle.rt_model.specs.Turns.{IsCounted, Held, with_change, with_spawned};
+ghost use Rattle.rt_model.specs.Walk.{Stops, Walks};
 ghost use Rattle.rt_model.specs.Tied.{Value, nothing, IsTied};
 ghost use Rattle.rt_model.specs.Run.{IsRun, IsCutOff, IsValidInput};
 ghost use Rattle.rt_laws.specs.Supervised.{Aborting, Parent, Aborter, aborting_root, aborting_next, aborter_spawned, beside_journal, lacking_join};
 ghost use Rattle.rt_laws.specs.Slotting.{sending_root, send_lacks, sending_journal};
-ghost use Rattle.rt_laws.specs.Examples.{small_begin, opening, visiting_root, begin_by, ready_root, pending_root, sleeping_root, gave, ready_journal, skipped_journal, short_journal, cut_journal, stalled_journal, late_journal, at_once_late_journal, overflow_journal, no_number_journal, drawn, open_node, ordered, finished_for, called, fires_with, early_fire, early_sleep, silent_end, busy_root, lacking_journal, invented_in_poll, invented_in_end, called_by_maker, asking_maker, maker_lacks};
+ghost use Rattle.rt_laws.specs.Examples.{small_begin, opening, visiting_root, begin_by, ready_root, counting, counting_root, pending_root, sleeping_root, gave, ready_journal, skipped_journal, short_journal, cut_journal, stalled_journal, late_journal, at_once_late_journal, overflow_journal, no_number_journal, drawn, open_node, ordered, finished_for, called, fires_with, early_fire, early_sleep, silent_end, busy_root, lacking_journal, invented_in_poll, invented_in_end, called_by_maker, asking_maker, maker_lacks};
 
 /// A root that is ready with a number at its first poll gives it, at time 0.
 #[tactic(auto, using(crate::proofs::Runs::ready_time))]
 pub fn a_ready_root_has_its_run()
     ensures run { (number : ℕ) → IsRun (ready_root number) small_begin ready_journal Completed (after_all (begun small_begin) ready_journal) (gave number) }
     ensures time { (after_all (begun small_begin) ready_journal).clock.time ≡ 0 }
+{}
+
+/// A root that counts and is ready has the journal of one that only is ready, and what it counted is held (`run`). No poll of it
+/// counts otherwise (`poll`).
+pub fn a_root_that_counts_has_its_run()
+    ensures run { (number : ℕ) → IsRun (counting_root number) small_begin ready_journal Completed (after_all (begun small_begin) ready_journal) (record nothing { held = record nothing.held { counts = (0, pos 1) ∷ [] }; output = Some number }) }
+    ensures poll { (number : ℕ) (held end : Held (Unit {0}) ℕ) (stood : Stood) (answer : Answer ℕ) → Walks (counting number) held [] stood answer tt end → (answer ≡ Ready number) × (end ≡ record held { counts = with_change 0 (pos 1) held.counts }) }
 {}
 
 /// A root that sleeps for more than a cycle gives 0 when its sleep is due: the clock skips to that moment. One that
@@ -123,6 +131,6 @@ pub fn near_misses_are_not_cut_off()
 /// What a part made before it lacked memory is held. A task that it spawned is in the state that its spawn made, and in no other,
 /// where the lack came behind that. What it sent before any call that may lack memory is held wherever it lacked it.
 pub fn what_was_made_before_a_lack_is_held()
-    ensures spawned { (mid : Held Aborting ℕ) → let s = after_all (begun small_begin) (opening ++ visiting_root ++ aborter_spawned) in Stops (aborting_next Pending Parent 0 0) nothing.held s.turns (stood_in s) mid → mid ≡ with_spawned 1 (Shared false) (Aborter 2) nothing.held }
+    ensures spawned { (mid : Held Aborting ℕ) → let s = after_all (begun small_begin) (opening ++ visiting_root ++ aborter_spawned) in Stops (aborting_next Pending Parent 0 0) nothing.held s.turns (stood_in s) mid → IsCounted (with_spawned 1 (Shared false) (Aborter 2) nothing.held) mid }
     ensures sent { (sent : Result ℕ Error) (w : Value (Unit {0}) ℕ) → IsTied (sending_root sent) (begun small_begin) nothing send_lacks w → w.held.sent ≡ (0, sent) ∷ [] }
 {}

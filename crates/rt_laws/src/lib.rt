@@ -16,7 +16,8 @@ mod twice;
 ghost use Rattle.std.specs.Prelude.{Bool, ◌≡◌, ◌≢◌, ◌≤◌, ◌<◌, ◌+◌, ◌-◌, ◌^◌, ◌++◌, ◌⊎◌, ◌↔◌, [], ◌∷◌, ℕ, List, Option, Some, None, true, false, All, Contains};
 ghost use Rattle.rt_base.specs.declared.time.TheConstants.{MAX_TIME};
 ghost use Rattle.rt_audit.specs.declared.call.Call.{Call};
-ghost use Rattle.rt_audit.specs.declared.call.Call.TheVariants.{Child, Join, SleepPoll, SlotPoll};
+ghost use Rattle.rt_audit.specs.declared.call.Call.TheVariants.{Child, Join, SleepPoll, Slots};
+ghost use Rattle.rt_audit.specs.declared.slot_call.SlotCall.TheVariants.{Poll as SlotPoll};
 ghost use Rattle.rt_audit.specs.declared.reply.CallReply.{CallReply};
 ghost use Rattle.rt_audit.specs.declared.reply.CallReply.TheVariants.{NodeAt, PendingAt, Ready};
 ghost use Rattle.rt_audit.specs.declared.answer.AnswerKind.TheVariants.{Stopped, NoMemory, Ended};
@@ -38,7 +39,7 @@ ghost use Rattle.rt_model.specs.Tied.{Steps, Value, Moves, IsTied, taken};
 ghost use Rattle.rt_model.specs.Turns.{Held};
 ghost use Rattle.rt_model.specs.Walk.{Walks};
 ghost use Rattle.rt_model.specs.Run.{IsRun};
-ghost use Rattle.rt_model.specs.Runs.{AreLawful, runs_from};
+ghost use Rattle.rt_model.specs.Runs.{AreLawful, next_begin};
 ghost use Rattle.rt_laws.specs.Aborts.{IsAbortOf};
 ghost use Rattle.rt_laws.specs.Cleanup.{IsOfCleanup};
 ghost use Rattle.rt_laws.specs.Earliest.{IsEarliest};
@@ -54,19 +55,20 @@ pub use auditing::{
     an_auditor_is_answered_by_four_bytes, an_auditor_tells_four_zeros_at_first,
     an_auditor_tells_the_digest_of_the_events_before,
 };
-pub use chained::{a_run_that_begins_too_early_goes_back, time_never_goes_back_over_a_chain};
+pub use chained::{a_run_goes_on_where_another_ended, time_never_goes_back_over_a_chain};
 pub use drawing::{
     a_call_comes_behind_its_own_event, a_draw_is_answered_by_what_it_asks_for,
-    a_root_that_asks_has_its_run, a_root_that_draws_has_its_run,
+    a_root_is_valid_for_its_generator, a_root_that_asks_has_its_run, a_root_that_draws_has_its_run,
     a_root_that_pends_by_what_is_drawn_is_not_valid, inputs_that_draw_are_valid,
     near_misses_of_drawing_are_lawful_but_for_one_place, near_misses_of_drawing_are_not_lawful,
     other_answers_of_draws_are_refused, what_was_drawn_stays,
 };
 pub use examples::{
-    a_ready_root_has_its_run, a_run_that_lacked_memory_is_cut_off, a_sleeping_root_has_its_run,
-    each_other_cause_ends_a_run, near_misses_are_lawful_but_for_one_place, near_misses_are_no_runs,
-    near_misses_are_not_cut_off, near_misses_are_not_lawful, small_inputs_are_valid,
-    small_rounds_are_not_drawn, what_was_made_before_a_lack_is_held,
+    a_ready_root_has_its_run, a_root_that_counts_has_its_run, a_run_that_lacked_memory_is_cut_off,
+    a_sleeping_root_has_its_run, each_other_cause_ends_a_run,
+    near_misses_are_lawful_but_for_one_place, near_misses_are_no_runs, near_misses_are_not_cut_off,
+    near_misses_are_not_lawful, small_inputs_are_valid, small_rounds_are_not_drawn,
+    what_was_made_before_a_lack_is_held,
 };
 pub use giving::{
     a_counting_stream_gives_its_counts, a_draw_orders_two_numbers,
@@ -251,12 +253,12 @@ pub fn behind_a_lack_of_memory_a_run_only_ends<A, O>()
     ensures ends { (p : Steps A O) (s : State) (v w : Value A O) (task : ℕ) (x y : List Entry) (e : Entry) → IsOnward e → IsTied p s v (Answer task Ended ∷ x ++ e ∷ y) w → (a : A) × (find task v.held.tasks ≡ Some a) × ((end : Held A O) × Walks (p.task.last a s.clock.time task) (taken task v.held) s.turns (stood_in s) tt tt end) }
 {}
 
-/// Several runs in one journal are walked one after another: runs that are lawful each from its own beginning are lawful
-/// together, where each but the last has completed, and no other journals are.
+/// Several runs in one journal are walked one after another: runs that are lawful each from its beginning are lawful
+/// together, where each but the last has completed and each but the first goes on behind the one ahead of it. No other journals are.
 pub fn runs_stand_one_after_another()
-    ensures joined { (b next : Begin) (others : List Begin) (x y : List Entry) → IsLawful (begun b) x → (after_all (begun b) x).phase ≡ Finished Completed → AreLawful (runs_from next others) y → AreLawful (runs_from b (next ∷ others)) (x ++ y) }
-    ensures alone { (b : Begin) (others : List Begin) (x : List Entry) → IsLawful (begun b) x → AreLawful (runs_from b others) x }
-    ensures apart { (b : Begin) (others : List Begin) (z : List Entry) → AreLawful (runs_from b others) z → IsLawful (begun b) z ⊎ GoesOn (begun b) others z }
+    ensures joined { (b : Begin) (x y : List Entry) → IsLawful (begun b) x → (after_all (begun b) x).phase ≡ Finished Completed → AreLawful (begun (next_begin (after_all (begun b) x))) y → AreLawful (begun b) (x ++ y) }
+    ensures alone { (b : Begin) (x : List Entry) → IsLawful (begun b) x → AreLawful (begun b) x }
+    ensures apart { (b : Begin) (z : List Entry) → AreLawful (begun b) z → IsLawful (begun b) z ⊎ GoesOn (begun b) z }
 {}
 
 /// From the moment at which a task is flagged on, no poll of it begins. One that is under way goes on.
@@ -276,7 +278,7 @@ pub fn a_result_is_stored_and_handed_out_once()
 /// at most once.
 pub fn a_value_of_a_slot_is_sent_and_handed_out_once()
     ensures sent { (b : Begin) (x y : List Entry) (e : Entry) (slot : ℕ) → IsLawful (begun b) (x ++ e ∷ y) → SpendsSender slot e → All (λ (f : Entry). SpendsSender slot f → ⊥) y }
-    ensures handed_out { (b : Begin) (x y : List Entry) (by : Option ℕ) (slot : ℕ) → IsLawful (begun b) (x ++ Called by (SlotPoll slot) Ready ∷ y) → All (λ (e : Entry). (other : Option ℕ) → e ≢ Called other (SlotPoll slot) Ready) y }
+    ensures handed_out { (b : Begin) (x y : List Entry) (by : Option ℕ) (slot : ℕ) → IsLawful (begun b) (x ++ Called by (Slots (SlotPoll slot)) Ready ∷ y) → All (λ (e : Entry). (other : Option ℕ) → e ≢ Called other (Slots (SlotPoll slot)) Ready) y }
 {}
 
 /// No poll begins of a task on an ended node. From the visit that ends a task on, none begins of a task below its node,

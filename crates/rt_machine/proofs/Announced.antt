@@ -54,12 +54,12 @@ after-event s by label fields may =
     rw (entered-same s s.phase s.root (ends_next s.running s.root) by may, announces-one s.phase s.root (ends_next s.running s.root) by s.announced label fields may) refl
 
 -- and the call of a stop behind its own
-pub after-stop : (s : State) (by : Option ℕ) (value : ℤ) (number : ℕ) (label : List ℕ) (fields : List (List ℕ)) → MayCall s by → after (after s (Event label fields)) (CallEntry by (Stop value) (CompletionAt number)) ≡ record s { signals = stop_after s.signals s.stop value; stop = with_stop s.stop value; announced = []; owed = due_called (is_closing s.phase) s.marks (stood_in s) (Stop value) (CompletionAt number); turns = s.turns ++ turn_in s (Stop value) (CompletionAt number) ∷ [] }
+pub after-stop : (s : State) (by : Option ℕ) (value : ℤ) (number : ℕ) (label : List ℕ) (fields : List (List ℕ)) → MayCall s by → after (after s (Event label fields)) (CallEntry by (Stop value) (CompletionAt number)) ≡ record s { draws = []; signals = stop_after s.signals s.stop value; stop = with_stop s.stop value; announced = []; owed = due_called (is_closing s.phase) s.marks (stood_in s) (Stop value) (CompletionAt number); turns = s.turns ++ turn_in s by (Stop value) (CompletionAt number) ∷ [] }
 unfolding after
 after-stop s by value number label fields may = ap (λ u. after u (CallEntry by (Stop value) (CompletionAt number))) (after-event s by label fields may)
 
 -- where nothing is announced an event of a call may come
-may-event : (s : State) (by : Option ℕ) (label : List ℕ) (fields : List (List ℕ)) (p : Phase) → CallsAt p s.root (ends_next s.running s.root) by → IsOfCall s.announced label fields → MayEvent p s label fields
+may-event : (s : State) (by : Option ℕ) (label : List ℕ) (fields : List (List ℕ)) (p : Phase) → CallsAt p s.root (ends_next s.running s.root) by → IsOfCall (stood_in s) s.announced label fields → MayEvent p s label fields
 may-event s by label fields (Entered task left) may of = absurd may
 may-event s by label fields _ may of = (by, may, of)
 
@@ -69,7 +69,7 @@ may-stop s by value may owes none = (owes, may-event s by _ _ s.phase may (Stop 
 pub may-stopped : (s : State) (by : Option ℕ) → MayCall s by → s.owed ≡ [] → s.announced ≡ [] → May s (Event (codes "stopped") [])
 may-stopped s by may owes none = (owes, may-event s by _ _ s.phase may (Stopped, Done, rw none refl))
 
-pub may-drawing : (s : State) (by : Option ℕ) (call : Call) (name : List ℕ) → announced_by call Done ≡ drawing name → MayCall s by → s.owed ≡ [] → s.announced ≡ [] → May s (Event (codes "rand") (name ∷ []))
+pub may-drawing : (s : State) (by : Option ℕ) (call : Call) (name : List ℕ) → announced_by (stood_in s) call Done ≡ drawing name → MayCall s by → s.owed ≡ [] → s.announced ≡ [] → May s (Event (codes "rand") (name ∷ []))
 may-drawing s by call name is may owes none = (owes, may-event s by _ _ s.phase may (call, Done, rw none is))
 
 pub ruleset event_laws = (after-event)

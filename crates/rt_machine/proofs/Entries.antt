@@ -23,13 +23,6 @@ AreCalls-append : (es : List Entry) (e : Entry) → AreCalls es → is_call e �
 AreCalls-append [] e h k = (k, tt)
 AreCalls-append (x ∷ es) e h k = (h.0, AreCalls-append es e h.1 k)
 
--- nothing is drawn for a call
-call-drawn : (s : State) (e : Entry) → is_call e ≡ true → IsDrawn s e
-call-drawn s (Call by call reply) h = tt
-call-drawn s (Event label fields) h = tt
-call-drawn s (Wake task) h = tt
-call-drawn s _ h = cc
-
 state-more : (s : State) (es : List Entry) (e : Entry) → after_all s (es ++ e ∷ []) ≡ after (after_all s es) e
 state-more s es e = after_all-append s es (e ∷ [])
 
@@ -62,12 +55,12 @@ module _ (b : Begin) (xs : List Entry) (start mark : ℕ) (lacked : Option ℕ) 
   start_within : start ≤ length xs
   start_within = omega (arith, kept.start_first, kept.mark_within)
 
-  pub note-kept : May (after_all (begun b) (drop start xs)) e → is_call e ≡ true → IsDigested (digest_of xs) e → IsKept b (xs ++ e ∷ []) start mark lacked
-  note-kept m k g = record {
+  pub note-kept : May (after_all (begun b) (drop start xs)) e → is_call e ≡ true → IsDrawn (after_all (begun b) (drop start xs)) e → IsDigested (digest_of xs) e → IsKept b (xs ++ e ∷ []) start mark lacked
+  note-kept m k d g = record {
     start_first = kept.start_first;
     mark_within = omega (arith, kept.mark_within, length-append xs (e ∷ []));
     lawful = rw (drop-append-le start xs (e ∷ []) start_within) (lawful-more (begun b) (drop start xs) e kept.lawful m);
-    drawn = rw (drop-append-le start xs (e ∷ []) start_within) (drawn-more (begun b) (drop start xs) e kept.drawn (call-drawn (after_all (begun b) (drop start xs)) e k));
+    drawn = rw (drop-append-le start xs (e ∷ []) start_within) (drawn-more (begun b) (drop start xs) e kept.drawn d);
     digested = rw (drop-append-le start xs (e ∷ []) start_within, take-append-le start xs (e ∷ []) start_within) (digested-more xs start e kept.digested g);
     calls = rw (drop-append-le mark xs (e ∷ []) kept.mark_within) (AreCalls-append (drop mark xs) e kept.calls k);
     lacked_within = within-more lacked xs e kept.lacked_within;

@@ -11,7 +11,8 @@ use Rattle.rt_model.specs.Lists.{find, without, replaced, those}
 use Rattle.rt_model.specs.Rows.{total}
 use Rattle.rt_model.specs.Signals.{has_signaler}
 use Rattle.rt_machine.specs.Places.{ones, group_places, token_places, signal_places, stopped_places}
-use Rattle.rt_machine.proofs.Totals.{more-places, replaced-places, without-places, without-fewer}
+use Rattle.rt_parts.proofs.Totals.{more-places, replaced-places, without-places}
+use Rattle.rt_machine.proofs.Totals.{without-fewer}
 
 ones-waits : (waits : Option ℕ) → length (those waits) ≡ ones (is_some waits)
 ones-waits None = refl

@@ -8,6 +8,8 @@ pub mod Counts
 pub mod Refused
 pub mod Nodes
 pub mod Owed
+pub mod CallRoom
+pub mod Gone
 pub mod Announced
 pub mod Grouped
 pub mod Fine

@@ -1,13 +1,14 @@
 -- Calls that wake nobody.
 use Rattle.std.proofs.Common.{◌≡◌, ℕ, ℤ, List, [], refl, true, false, Bool, not, ◌&&◌, if◌then◌else◌}
-use Rattle.rt_audit.specs.declared.call.Call.TheVariants.{Child, CloseNode, Spawn, Abort, AbortTask, Join, GiveUp, Slot, SlotSend, SlotClose, SlotPoll, SlotGiveUp, AbortWait, Stop}
+use Rattle.rt_audit.specs.declared.call.Call.TheVariants.{Child, CloseNode, Spawn, Abort, AbortTask, Join, GiveUp, Slots, Stop}
+use Rattle.rt_audit.specs.declared.slot_call.SlotCall.{SlotCall}
 use Rattle.rt_audit.specs.declared.reply.CallReply.{CallReply}
-use Rattle.rt_audit.specs.declared.reply.CallReply.TheVariants.{Done, NodeAt, SlotAt, CompletionAt}
+use Rattle.rt_audit.specs.declared.reply.CallReply.TheVariants.{Done, NodeAt, CompletionAt}
 use Rattle.rt_model.specs.declared.mark.Mark.{Mark}
 use Rattle.rt_model.specs.Lists.{find}
 use Rattle.rt_model.specs.State.{Stood}
 use Rattle.rt_model.specs.Marks.{due_if, is_left}
-use Rattle.rt_model.specs.Results.{waiting}
+use Rattle.rt_model.specs.Slots.{slots_wake}
 use Rattle.rt_super.specs.Signals.{woken_by_stop}
 use Rattle.rt_model.specs.Effects.{due_called}
 
@@ -39,32 +40,12 @@ pub due-abort-task : (closing : Bool) (ms : List (ℕ × Mark)) (st : Stood) (ta
 due-abort-task true ms st task = refl
 due-abort-task false ms st task = refl
 
-pub due-slot : (closing : Bool) (ms : List (ℕ × Mark)) (st : Stood) (slot : ℕ) → due_called closing ms st Slot (SlotAt slot) ≡ []
-due-slot true ms st slot = refl
-due-slot false ms st slot = refl
-
-pub due-poll : (closing : Bool) (ms : List (ℕ × Mark)) (st : Stood) (slot : ℕ) (reply : CallReply) → due_called closing ms st (SlotPoll slot) reply ≡ []
-due-poll true ms st slot reply = refl
-due-poll false ms st slot reply = refl
-
-pub due-let-go : (closing : Bool) (ms : List (ℕ × Mark)) (st : Stood) (slot : ℕ) → due_called closing ms st (SlotGiveUp slot) Done ≡ []
-due-let-go true ms st slot = refl
-due-let-go false ms st slot = refl
-
-pub due-send : (closing : Bool) (ms : List (ℕ × Mark)) (st : Stood) (slot : ℕ) → due_called closing ms st (SlotSend slot) Done ≡ (if closing then [] else waiting (find slot st.slots.results))
-due-send true ms st slot = refl
-due-send false ms st slot = refl
-
-pub due-close-slot : (closing : Bool) (ms : List (ℕ × Mark)) (st : Stood) (slot : ℕ) → due_called closing ms st (SlotClose slot) Done ≡ (if closing then [] else waiting (find slot st.slots.results))
-due-close-slot true ms st slot = refl
-due-close-slot false ms st slot = refl
-
-pub due-abort-wait : (closing : Bool) (ms : List (ℕ × Mark)) (st : Stood) (slot : ℕ) → due_called closing ms st (AbortWait slot) Done ≡ (if closing then [] else waiting (find slot st.slots.results))
-due-abort-wait true ms st slot = refl
-due-abort-wait false ms st slot = refl
+pub due-slots : (closing : Bool) (ms : List (ℕ × Mark)) (st : Stood) (call : SlotCall) (reply : CallReply) → due_called closing ms st (Slots call) reply ≡ (if closing then [] else slots_wake st.slots call reply)
+due-slots true ms st call reply = refl
+due-slots false ms st call reply = refl
 
 pub due-stop : (closing : Bool) (ms : List (ℕ × Mark)) (st : Stood) (value : ℤ) (number : ℕ) → due_called closing ms st (Stop value) (CompletionAt number) ≡ (if closing then [] else woken_by_stop st.signals st.stop value)
 due-stop true ms st value number = refl
 due-stop false ms st value number = refl
 
-pub ruleset owed_laws = (due-slot, due-poll, due-let-go, due-send, due-close-slot, due-abort-wait, due-abort, due-abort-task, due-close, due-child, due-spawn, due-join, due-give-up)
+pub ruleset owed_laws = (due-slots, due-abort, due-abort-task, due-close, due-child, due-spawn, due-join, due-give-up)

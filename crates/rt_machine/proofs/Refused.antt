@@ -2,7 +2,7 @@
 use Rattle.std.proofs.Common.{◌≡◌, ℕ, List, [], ◌∷◌, ◌++◌, refl, true, false, Bool, Option}
 use Rattle.rt_base.specs.declared.error.Error.{Error}
 use Rattle.rt_audit.specs.declared.call.Call.{Call}
-use Rattle.rt_audit.specs.declared.call.Call.TheVariants.{Child, CloseNode, Spawn, Abort, AbortTask, Wake, Join, GiveUp, SleepPoll, Slot, SlotSend, SlotClose, SlotPoll, SlotGiveUp, AbortWait, Signaler, CloneSignal, Signal, SignalPoll, SignalClose, SignalerClose, CompletionPoll, CompletionClose, Stop, Stopped, NextU32, NextU64, FillBytes, Auditor}
+use Rattle.rt_audit.specs.declared.call.Call.TheVariants.{Child, CloseNode, Spawn, Abort, AbortTask, Wake, Join, GiveUp, SleepPoll, Slots, Signaler, CloneSignal, Signal, SignalPoll, SignalClose, SignalerClose, CompletionPoll, CompletionClose, Stop, Stopped, NextU32, NextU64, FillBytes, Auditor}
 use Rattle.rt_audit.specs.declared.reply.CallReply.TheVariants.{Refused}
 use Rattle.rt_audit.specs.declared.entry.Entry.TheVariants.{Call as CallEntry}
 use Rattle.rt_model.specs.declared.mark.Mark.{Mark}
@@ -21,12 +21,7 @@ due-refused false ms st (Wake task) e = refl
 due-refused false ms st (Join task) e = refl
 due-refused false ms st (GiveUp task) e = refl
 due-refused false ms st (SleepPoll due) e = refl
-due-refused false ms st Slot e = refl
-due-refused false ms st (SlotSend slot) e = refl
-due-refused false ms st (SlotClose slot) e = refl
-due-refused false ms st (SlotPoll slot) e = refl
-due-refused false ms st (SlotGiveUp slot) e = refl
-due-refused false ms st (AbortWait slot) e = refl
+due-refused false ms st (Slots call) e = refl
 due-refused false ms st Signaler e = refl
 due-refused false ms st (CloneSignal signal) e = refl
 due-refused false ms st (Signal signaler value) e = refl
@@ -42,7 +37,7 @@ due-refused false ms st NextU64 e = refl
 due-refused false ms st (FillBytes len) e = refl
 due-refused false ms st Auditor e = refl
 
-pub after-refused : (s : State) (by : Option ℕ) (call : Call) (e : Error) → after s (CallEntry by call (Refused e)) ≡ record s { announced = []; owed = []; turns = s.turns ++ turn_in s call (Refused e) ∷ [] }
+pub after-refused : (s : State) (by : Option ℕ) (call : Call) (e : Error) → after s (CallEntry by call (Refused e)) ≡ record s { draws = []; announced = []; owed = []; turns = s.turns ++ turn_in s by call (Refused e) ∷ [] }
 unfolding after
 after-refused s by (Child node label) e = rw (due-refused (is_closing s.phase) s.marks (stood_in s) (Child node label) e) refl
 after-refused s by (CloseNode node) e = rw (due-refused (is_closing s.phase) s.marks (stood_in s) (CloseNode node) e) refl
@@ -53,12 +48,7 @@ after-refused s by (Wake task) e = rw (due-refused (is_closing s.phase) s.marks 
 after-refused s by (Join task) e = rw (due-refused (is_closing s.phase) s.marks (stood_in s) (Join task) e) refl
 after-refused s by (GiveUp task) e = rw (due-refused (is_closing s.phase) s.marks (stood_in s) (GiveUp task) e) refl
 after-refused s by (SleepPoll due) e = rw (due-refused (is_closing s.phase) s.marks (stood_in s) (SleepPoll due) e) refl
-after-refused s by Slot e = rw (due-refused (is_closing s.phase) s.marks (stood_in s) Slot e) refl
-after-refused s by (SlotSend slot) e = rw (due-refused (is_closing s.phase) s.marks (stood_in s) (SlotSend slot) e) refl
-after-refused s by (SlotClose slot) e = rw (due-refused (is_closing s.phase) s.marks (stood_in s) (SlotClose slot) e) refl
-after-refused s by (SlotPoll slot) e = rw (due-refused (is_closing s.phase) s.marks (stood_in s) (SlotPoll slot) e) refl
-after-refused s by (SlotGiveUp slot) e = rw (due-refused (is_closing s.phase) s.marks (stood_in s) (SlotGiveUp slot) e) refl
-after-refused s by (AbortWait slot) e = rw (due-refused (is_closing s.phase) s.marks (stood_in s) (AbortWait slot) e) refl
+after-refused s by (Slots call) e = rw (due-refused (is_closing s.phase) s.marks (stood_in s) (Slots call) e) refl
 after-refused s by Signaler e = rw (due-refused (is_closing s.phase) s.marks (stood_in s) Signaler e) refl
 after-refused s by (CloneSignal signal) e = rw (due-refused (is_closing s.phase) s.marks (stood_in s) (CloneSignal signal) e) refl
 after-refused s by (Signal signaler value) e = rw (due-refused (is_closing s.phase) s.marks (stood_in s) (Signal signaler value) e) refl

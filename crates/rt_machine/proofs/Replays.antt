@@ -3,7 +3,7 @@ use Rattle.std.proofs.Common.{◌≡◌, ◌⊎◌, inl, inr, ◌∙◌, sym, ap
 use Rattle.std.specs.List.{list_any}
 use Rattle.rt_base.specs.declared.error.Error.{Error}
 use Rattle.rt_audit.specs.declared.call.Call.{Call}
-use Rattle.rt_audit.specs.declared.call.Call.TheVariants.{Child, CloseNode, Spawn, Abort, AbortTask, Wake, Join, GiveUp, SleepPoll, Slot, SlotSend, SlotClose, SlotPoll, SlotGiveUp, AbortWait, Signaler, CloneSignal, Signal, SignalPoll, SignalClose, SignalerClose, CompletionPoll, CompletionClose, Stop, Stopped, NextU32, NextU64, FillBytes, Auditor}
+use Rattle.rt_audit.specs.declared.call.Call.TheVariants.{Child, CloseNode, Spawn, Abort, AbortTask, Wake, Join, GiveUp, SleepPoll, Slots, Signaler, CloneSignal, Signal, SignalPoll, SignalClose, SignalerClose, CompletionPoll, CompletionClose, Stop, Stopped, NextU32, NextU64, FillBytes, Auditor}
 use Rattle.rt_audit.specs.declared.reply.CallReply.TheVariants.{Refused}
 use Rattle.rt_audit.specs.declared.finish.FinishCause.{FinishCause}
 use Rattle.rt_audit.specs.declared.finish.FinishCause.TheVariants.{NoMemory, Completed, Timeout, Stalled, TaskPanicked, TimeOverflow, TooManyTasks}
@@ -68,12 +68,7 @@ running-refused ns (Wake task) error = refl
 running-refused ns (Join task) error = refl
 running-refused ns (GiveUp task) error = refl
 running-refused ns (SleepPoll due) error = refl
-running-refused ns Slot error = refl
-running-refused ns (SlotSend slot) error = refl
-running-refused ns (SlotClose slot) error = refl
-running-refused ns (SlotPoll slot) error = refl
-running-refused ns (SlotGiveUp slot) error = refl
-running-refused ns (AbortWait slot) error = refl
+running-refused ns (Slots call) error = refl
 running-refused ns Signaler error = refl
 running-refused ns (CloneSignal signal) error = refl
 running-refused ns (Signal signaler value) error = refl

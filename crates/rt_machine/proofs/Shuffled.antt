@@ -17,8 +17,8 @@ use Rattle.rt_model.specs.Rows.{Rows}
 use Rattle.rt_model.specs.Draws.{Drawn, Short, Long, Filled, shuffled_from, shuffled}
 use Rattle.rt_model.specs.State.{State, Phase, Between, Turning}
 use Rattle.rt_model.specs.Effects.{after, is_closing}
-use Rattle.rt_model.specs.Rules.{May, MayRound, IsDrawn}
-use Rattle.rt_model.proofs.Draws.{shuffled-permutes}
+use Rattle.rt_model.specs.Rules.{May, MayRound, MayDraw, RoundNeeds, IsDrawn}
+use Rattle.rt_model.proofs.Draws.{shuffled-permutes, round-draws}
 use Rattle.rt_machine.specs.Told.{Told, Journaled, pushed, pushed_all}
 use Rattle.rt_machine.specs.Draws.{Gave, Shuffles, Drains}
 use Rattle.rt_machine.specs.Groups.{Grouped}
@@ -116,12 +116,17 @@ round-drawn Between s draws drawn m = m
 round-drawn Turning s draws drawn m = m
 round-drawn _ s draws drawn m = m
 
-pub shuffling-may : (from now : Stream) (old new : Journaled) (numbers order : List ℕ) (left : ℕ) → MayRound old.told.state.phase old.told.state → IsShuffling from now old new numbers order left → MayRound new.told.state.phase new.told.state
-shuffling-may from now old new numbers order left may i = rw i.state (round-drawn old.told.state.phase old.told.state i.draws _ may)
+pub shuffling-may : (from now : Stream) (old new : Journaled) (numbers order : List ℕ) (left : ℕ) → MayRound old.told.state.phase old.told.state → IsShuffling from now old new numbers order left → (value : ℕ) → MayDraw new.told.state.phase new.told.state value
+shuffling-may from now old new numbers order left may i value = rw i.state (round-draws old.told.state.phase _ value (round-drawn old.told.state.phase old.told.state i.draws _ may))
 
 -- while a place is left a draw is wanted
+round-wants : (p : Phase) (s : State) (draws : List ℕ) → length draws + 1 < length s.ready → RoundNeeds p s draws
+round-wants Between s draws h = h
+round-wants Turning s draws h = h
+round-wants _ s draws h = tt
+
 pub shuffling-wants : (from now : Stream) (old new : Journaled) (numbers order : List ℕ) (left value : ℕ) → 0 < left → old.told.state.ready ≡ numbers → IsShuffling from now old new numbers order left → IsDrawn new.told.state (Draw value)
-shuffling-wants from now old new numbers order left value lt ready i = rw (i.state, ready) (omega (arith, i.count, lt))
+shuffling-wants from now old new numbers order left value lt ready i = rw i.state (round-wants old.told.state.phase _ i.draws (rw ready (omega (arith, i.count, lt))))
 
 pub ruleset shuffle_laws = (shuffling-begins, shuffling-more, shuffling-ends, shuffling-may, shuffling-wants)
 

@@ -3,7 +3,8 @@ use Rattle.std.specs.Prelude.{◌≡◌, ◌⊎◌, ℕ, [], ◌∷◌, ◌++◌
 use Rattle.rt_base.specs.declared.error.Error.{Error}
 use Rattle.rt_base.specs.declared.error.Error.TheVariants.{NoMemory}
 use Rattle.rt_audit.specs.declared.call.Call.{Call}
-use Rattle.rt_audit.specs.declared.call.Call.TheVariants.{SlotPoll}
+use Rattle.rt_audit.specs.declared.call.Call.TheVariants.{Slots}
+use Rattle.rt_audit.specs.declared.slot_call.SlotCall.TheVariants.{Poll}
 use Rattle.rt_audit.specs.declared.reply.CallReply.{CallReply}
 use Rattle.rt_audit.specs.declared.reply.CallReply.TheVariants.{Done, TaskAt, Closed, Pending, PendingAt, Ready, Refused}
 use Rattle.rt_super.specs.Alarms.{AlarmList}
@@ -15,14 +16,14 @@ use Rattle.rt_model.specs.Turns.{has_place}
 use Rattle.rt_model.specs.Effects.{stood_called, running_called, numbers_called, drawn_called}
 use Rattle.rt_machine.specs.Places.{Seen}
 
--- a call with its reply, and what was there when it was made
-abbrev pub turn_in : State → Call → CallReply → Turn
-turn_in s call reply = record { call = call; reply = reply; stood = stood_in s }
+-- a call with its reply, who made it, and what was there when it was made
+abbrev pub turn_in : State → Option ℕ → Call → CallReply → Turn
+turn_in s by call reply = record { by = by; call = call; reply = reply; stood = stood_in s }
 
 -- the call was noted with this reply, which it may have, and nothing that decides what comes next has changed
 pub record Noted (by : Option ℕ) (old new : Seen) (call : Call) (reply : CallReply) : Type 0 where
   pub answers : Answers old.told.state call reply
-  pub turns : new.told.state.turns ≡ old.told.state.turns ++ turn_in old.told.state call reply ∷ []
+  pub turns : new.told.state.turns ≡ old.told.state.turns ++ turn_in old.told.state by call reply ∷ []
   pub begin : new.told.begin ≡ old.told.begin
   pub given : new.told.given ≡ old.told.given
   pub past : new.told.past ≡ old.told.past
@@ -50,7 +51,7 @@ IsRefused by old new call error = ((error ≡ NoMemory) × (new ≡ lacking old)
 -- a poll of a slot was refused with the error that was sent, or it ran out of memory
 abbrev pub Shown : Option ℕ → Seen → Seen → ℕ → Error → Error → Type 0
 Shown by old new slot sent answer =
-    ((answer ≡ NoMemory) × (new ≡ lacking old)) ⊎ ((answer ≡ sent) × Noted by old new (SlotPoll slot) (Refused sent))
+    ((answer ≡ NoMemory) × (new ≡ lacking old)) ⊎ ((answer ≡ sent) × Noted by old new (Slots (Poll slot)) (Refused sent))
 
 -- the call spends a token: where that isn't there it does nothing
 pub record Spent (by : Option ℕ) (old new : Seen) (call : Call) : Type 0 where

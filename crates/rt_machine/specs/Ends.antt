@@ -6,12 +6,13 @@ use Rattle.rt_super.specs.Ancestry.{TreeRecord, is_ended}
 use Rattle.rt_model.specs.declared.result.Outcome.{Outcome}
 use Rattle.rt_model.specs.declared.result.Outcome.TheVariants.{Closed}
 use Rattle.rt_model.specs.declared.result.TaskResult.{TaskResult}
-use Rattle.rt_model.specs.Results.{waiting, waits_for, with_outcome}
+use Rattle.rt_model.specs.Results.{waiting, with_outcome}
 use Rattle.rt_model.specs.Lists.{without_number, those}
 use Rattle.rt_model.specs.State.{State, Visiting}
 use Rattle.rt_model.specs.Effects.{left_of, leaves, marks_ended, is_panic}
 use Rattle.rt_machine.specs.Told.{Told, pushed_all}
-use Rattle.rt_machine.specs.Places.{Seen, open_places}
+pub use Rattle.rt_parts.specs.Room.{open_in, waiter_in}
+use Rattle.rt_machine.specs.Places.{Seen}
 
 -- the end of a node, or a wake
 abbrev pub is_calm : Entry → Bool
@@ -36,15 +37,6 @@ cleanup_by false = Cleanup ∷ NodeEnd 0 ∷ []
 
 abbrev pub cleanup_entries : TreeRecord → List Entry
 cleanup_entries nodes = cleanup_by (is_ended nodes 0)
-
--- the entries that an outcome asks for, and who waits by it
-abbrev pub open_in : Option Outcome → ℕ
-open_in None = 0
-open_in (Some outcome) = open_places outcome
-
-abbrev pub waiter_in : Option Outcome → Option ℕ
-waiter_in None = None
-waiter_in (Some outcome) = waits_for outcome
 
 -- the results when a task ends: it leaves its own, or none where nothing of it is left
 abbrev pub ended_results : Option Outcome → Bool → ℕ → List (ℕ × TaskResult) → List (ℕ × TaskResult)

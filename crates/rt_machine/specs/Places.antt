@@ -9,12 +9,11 @@ use Rattle.rt_super.specs.declared.stopper.Stopped.TheVariants.{Waiting, Resolve
 use Rattle.rt_super.specs.declared.signal_group.SignalGroup.{SignalGroup}
 use Rattle.rt_super.specs.declared.signal_token.SignalToken.{SignalToken}
 use Rattle.rt_model.specs.declared.mark.Mark.{Mark}
-use Rattle.rt_model.specs.declared.result.Outcome.{Outcome}
-use Rattle.rt_model.specs.declared.result.Outcome.TheVariants.{Open}
 use Rattle.rt_model.specs.declared.result.TaskResult.{TaskResult}
 use Rattle.rt_model.specs.Rows.{Rows, total}
 use Rattle.rt_model.specs.State.{Phase, Blank, Entered, Polling, Halted, Cleaning, Closing, Crashed, Finished, State, Turn}
 use Rattle.rt_model.specs.Effects.{is_closing}
+pub use Rattle.rt_parts.specs.Room.{ones, open_places, result_places, sender_places}
 use Rattle.rt_machine.specs.Told.{Told, Journaled}
 use Rattle.rt_machine.specs.Labels.{Labelled}
 use Rattle.rt_machine.specs.Groups.{Grouped}
@@ -37,11 +36,6 @@ places (Crashed cause) = 1
 places (Finished cause) = 0
 places _ = 4
 
--- 1 where it is so
-abbrev pub ones : Bool → ℕ
-ones true = 1
-ones false = 0
-
 -- the closing of each live node
 abbrev pub live_count : List NodeState → ℕ
 live_count [] = 0
@@ -50,19 +44,6 @@ live_count (x ∷ xs) = ones x.live + live_count xs
 -- the end of a task's node, and a wake by its flag where the task was left pending
 abbrev pub mark_places : Mark → ℕ
 mark_places m = 1 + ones m.left
-
--- a wake of who waits for a result that is open
-abbrev pub open_places : Outcome → ℕ
-open_places (Open waits) = 1
-open_places _ = 0
-
--- the giving up of a result, the abort by it, and that wake
-abbrev pub result_places : TaskResult → ℕ
-result_places r = 1 + ones (not r.aborted) + open_places r.outcome
-
--- the sending into a slot, or its closing
-abbrev pub sender_places : Unit {0} → ℕ
-sender_places sender = 1
 
 -- the value of a group, or the giving up of its signaler
 abbrev pub group_places : SignalGroup → ℕ

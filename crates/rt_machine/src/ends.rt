@@ -15,10 +15,11 @@ ghost use Rattle.rt_machine.specs.Told.{pushed, pushed_all};
 
 use crate::Machine;
 use crate::marks::flag_all;
-use crate::results::{end_result, settle, waiter_of};
+use crate::results::end_result;
 use crate::wakes::{wake_flags, wake_those};
 use rt_audit::{AnswerKind, Entry};
 use rt_model::{Mark, Outcome, Table};
+use rt_parts::{settle, waiter_of};
 use rt_super::Tree;
 
 /// Gives the node of a task up. The task's mark goes too, where nothing of it is left.

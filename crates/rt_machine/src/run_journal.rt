@@ -92,6 +92,7 @@ impl RunJournal {
         requires room { 0 < self.old.spare }
         requires may { May self.old.told.state entry }
         requires call { is_call entry ≡ true }
+        requires drawn { IsDrawn self.old.told.state entry }
         requires digested { IsDigested (digest_of (self.old.told.given ++ own self.old.told)) entry }
         ensures told { self.new.told ≡ noted self.old.told entry }
         ensures spare { self.new.spare + 1 ≡ self.old.spare }

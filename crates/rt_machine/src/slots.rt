@@ -1,50 +1,99 @@
 //! Calls on slots.
 
-ghost use Rattle.std.specs.Prelude.{◌≡◌, ◌≤◌, ◌<◌, ◌+◌, ◌-◌, ◌^◌, ◌&&◌, IfOk, IfErr, OnErr, OnOk, true, false, Some, None, is_some, length};
-ghost use Rattle.rt_model.specs.Lists.{find, replaced, those};
-ghost use Rattle.rt_model.specs.Results.{may_abort, waiting};
-ghost use Rattle.rt_model.specs.Rows.{total};
-ghost use Rattle.rt_model.specs.Slots.{aborted, is_open, is_there, settled};
-ghost use Rattle.rt_model.specs.Rules.{Answers, MayCall};
+ghost use Rattle.std.specs.Prelude.{◌≡◌, ◌≤◌, ◌<◌, ◌+◌, ◌-◌, ◌^◌, ◌&&◌, IfOk, IfErr, IsOk, OnErr, OnOk, true, false, None, is_some, vec_len, vec_capacity};
+ghost use Rattle.rt_audit.specs.declared.slot_call.SlotCall.TheVariants.{Make, Send, Close, Poll, GiveUp, AbortWait};
+ghost use Rattle.rt_model.specs.Lists.{find};
+ghost use Rattle.rt_model.specs.Results.{may_abort};
+ghost use Rattle.rt_model.specs.Slots.{AnswersSlot, is_open, is_there, slot_place};
+ghost use Rattle.rt_model.specs.Rules.{MayCall};
 ghost use Rattle.rt_machine.specs.Calls.{Noted, Shown, Spent, IsRefused, lacking};
-ghost use Rattle.rt_machine.specs.Places.{open_places, result_places};
+ghost use Rattle.rt_parts.specs.Slots.{HasRoom, is_spending, slot_cost, slotted};
 
-use crate::Machine;
 use crate::cause::Cause;
-use crate::results::{may_abort, places_of, settle, waiter_of};
 use crate::room::take_places;
 use crate::wakes::wake_waiter;
-use rt_audit::{Call, CallReply, Caller, Entry, Refusal};
+use crate::{Machine, RunJournal};
+use rt_audit::{Call, CallReply, Caller, Entry, Refusal, SlotCall};
 use rt_base::{Error, NoMemory};
 use rt_model::{Outcome, Table, TaskResult};
+use rt_parts::{apply, may_abort, reserve_slot};
 use std::alloc::Global;
 
 #[tactic(auto, using(crate::proofs::Counts::count_laws, crate::proofs::Totals::place_laws, crate::proofs::Owed::owed_laws), unfolding(rt_model::specs::Effects::after))]
 impl Machine {
-    /// Makes a slot, and returns its number, which is the next. It takes memory.
-    pub fn slot(&mut self, by: Option<u64>) -> Result<u64, NoMemory>
-        requires { MayCall self.old.told.state by }
-        ensures ok { IfOk result (λ slot. Noted by self.old self.new Call.Slot (CallReply.SlotAt slot)) }
-        ensures fits { IfOk result (λ slot. slot < 2 ^ 64) }
+    /// Notes a call on slots with its reply, does what it says, and wakes whom it must wake. One that spends a token takes
+    /// no memory.
+    fn perform(&mut self, by: Option<u64>, call: SlotCall, reply: CallReply) -> Result<(), NoMemory>
+        requires calling { MayCall self.old.told.state by }
+        requires answers { AnswersSlot self.old.told.state.slots call reply }
+        ensures ok { OnOk result (Noted by self.old self.new (Call.Slots call) reply) }
         ensures err { OnErr result (self.new ≡ lacking self.old) }
+        ensures spends { is_spending call ≡ true → IsOk result }
     {
-        let room = take_places(&mut self.journal, &mut self.ready, self.promised, 5);
-        let places = reserve_slot(&mut self.slots, &mut self.senders);
-        let (Ok(()), Ok(slot)) = (room, places) else {
+        let Ok(()) = take_room(
+            &mut self.journal,
+            &mut self.ready,
+            &mut self.slots,
+            &mut self.senders,
+            self.promised,
+            call,
+        ) else {
             self.lack();
             return Err(NoMemory);
         };
+        let (waiter, freed) = apply(&mut self.slots, &mut self.senders, by, call, &reply);
         self.journal.note(Entry::Call {
             by: Caller::of(by),
-            call: Call::Slot,
-            reply: CallReply::SlotAt { slot },
+            call: Call::Slots(call),
+            reply,
         });
-        self.slots.push(TaskResult {
-            outcome: Outcome::Open { waits: None },
-            aborted: false,
-        });
-        self.senders.push(());
-        self.promised += 4;
+        self.promised += cost_of(call);
+        self.promised -= freed;
+        wake_waiter(&mut self.journal, &mut self.ready, self.closing, waiter);
+        Ok(())
+    }
+}
+
+#[tactic(auto, using(crate::proofs::Counts::count_laws, crate::proofs::Totals::place_laws, crate::proofs::Owed::owed_laws, rt_parts::proofs::SlotLaws::call_laws), unfolding(rt_model::specs::Effects::after))]
+impl Machine {
+    /// Spends the token of a call on slots. Where it isn't there it does nothing, and writes no entry.
+    fn spend(&mut self, by: Option<u64>, call: SlotCall)
+        requires calling { MayCall self.old.told.state by }
+        requires spends { is_spending call ≡ true }
+        ensures { Spent by self.old self.new (Call.Slots call) }
+    {
+        if self.has_place(call) {
+            match self.perform(by, call, CallReply::Done) {
+                Ok(()) => {}
+                Err(NoMemory) => unreachable!(),
+            }
+        }
+    }
+
+    /// Returns whether the token is there that a call on slots spends.
+    fn has_place(&self, call: SlotCall) -> bool
+        ensures { result ≡ slot_place self.now.told.state.slots call }
+    {
+        match call {
+            SlotCall::Send { slot } | SlotCall::Close { slot } => self.senders.get(slot).is_some(),
+            SlotCall::GiveUp { slot } => self.slots.get(slot).is_some(),
+            SlotCall::AbortWait { slot } => may_abort(&self.slots, slot),
+            SlotCall::Make | SlotCall::Poll { .. } => true,
+        }
+    }
+
+    /// Makes a slot, and returns its number, which is the next. It takes memory.
+    pub fn slot(&mut self, by: Option<u64>) -> Result<u64, NoMemory>
+        requires { MayCall self.old.told.state by }
+        ensures ok { IfOk result (λ slot. Noted by self.old self.new (Call.Slots Make) (CallReply.SlotAt slot)) }
+        ensures fits { IfOk result (λ slot. slot < 2 ^ 64) }
+        ensures err { OnErr result (self.new ≡ lacking self.old) }
+    {
+        let Some(slot) = self.slots.next() else {
+            self.lack();
+            return Err(NoMemory);
+        };
+        self.perform(by, SlotCall::Make, CallReply::SlotAt { slot })?;
         Ok(slot)
     }
 
@@ -52,59 +101,27 @@ impl Machine {
     /// does nothing, and writes no entry.
     pub fn slot_send(&mut self, by: Option<u64>, slot: u64)
         requires { MayCall self.old.told.state by }
-        ensures { Spent by self.old self.new (Call.SlotSend slot) }
+        ensures { Spent by self.old self.new (Call.Slots (Send slot)) }
     {
-        if self.senders.get(slot).is_none() {
-            return;
-        }
-        self.journal.note(Entry::Call {
-            by: Caller::of(by),
-            call: Call::SlotSend { slot },
-            reply: CallReply::Done,
-        });
-        self.senders.remove(slot);
-        let (waiter, places) = settle_open(&mut self.slots, slot, Outcome::There);
-        self.promised -= 1 + places;
-        wake_waiter(&mut self.journal, &mut self.ready, self.closing, waiter);
+        self.spend(by, SlotCall::Send { slot })
     }
 
     /// Closes a slot, and wakes who waits for it. It takes no memory. Where the sender was spent before it does nothing,
     /// and writes no entry.
     pub fn slot_close(&mut self, by: Option<u64>, slot: u64)
         requires { MayCall self.old.told.state by }
-        ensures { Spent by self.old self.new (Call.SlotClose slot) }
+        ensures { Spent by self.old self.new (Call.Slots (Close slot)) }
     {
-        if self.senders.get(slot).is_none() {
-            return;
-        }
-        self.journal.note(Entry::Call {
-            by: Caller::of(by),
-            call: Call::SlotClose { slot },
-            reply: CallReply::Done,
-        });
-        self.senders.remove(slot);
-        let (waiter, places) = settle_open(&mut self.slots, slot, Outcome::Closed);
-        self.promised -= 1 + places;
-        wake_waiter(&mut self.journal, &mut self.ready, self.closing, waiter);
+        self.spend(by, SlotCall::Close { slot })
     }
 
     /// Aborts the wait for what comes by a slot, and wakes who waits. It takes no memory. Where it was aborted before it
     /// does nothing, and writes no entry.
     pub fn abort_wait(&mut self, by: Option<u64>, slot: u64)
         requires { MayCall self.old.told.state by }
-        ensures { Spent by self.old self.new (Call.AbortWait slot) }
+        ensures { Spent by self.old self.new (Call.Slots (AbortWait slot)) }
     {
-        if !may_abort(&self.slots, slot) {
-            return;
-        }
-        self.journal.note(Entry::Call {
-            by: Caller::of(by),
-            call: Call::AbortWait { slot },
-            reply: CallReply::Done,
-        });
-        let (waiter, places) = abort_slot(&mut self.slots, slot);
-        self.promised -= 1 + places;
-        wake_waiter(&mut self.journal, &mut self.ready, self.closing, waiter);
+        self.spend(by, SlotCall::AbortWait { slot })
     }
 
     /// Returns whether what is sent into a slot now is kept there: its sender wasn't spent, and nothing else is there
@@ -156,19 +173,11 @@ impl Machine {
     /// no entry.
     pub fn slot_give_up(&mut self, by: Option<u64>, slot: u64)
         requires { MayCall self.old.told.state by }
-        ensures spent { Spent by self.old self.new (Call.SlotGiveUp slot) }
+        ensures spent { Spent by self.old self.new (Call.Slots (GiveUp slot)) }
         ensures gone { find slot self.new.told.state.slots.results ≡ None }
     {
-        let Some(found) = self.slots.get(slot) else {
-            return;
-        };
-        self.journal.note(Entry::Call {
-            by: Caller::of(by),
-            call: Call::SlotGiveUp { slot },
-            reply: CallReply::Done,
-        });
-        self.slots.remove(slot);
-        self.promised -= places_of(found);
+        self.slots.facts();
+        self.spend(by, SlotCall::GiveUp { slot })
     }
 
     /// Polls a slot into which nothing was sent that is left, for which the caller waits then. It takes memory.
@@ -178,62 +187,32 @@ impl Machine {
     pub fn slot_poll(&mut self, by: Option<u64>, slot: u64) -> Result<(), Error>
         requires calling { MayCall self.old.told.state by }
         requires unsent { is_there (find slot self.old.told.state.slots.results) ≡ false }
-        ensures ok { OnOk result (Noted by self.old self.new (Call.SlotPoll slot) CallReply.Pending) }
-        ensures err { IfErr result (λ e. IsRefused by self.old self.new (Call.SlotPoll slot) e) }
+        ensures ok { OnOk result (Noted by self.old self.new (Call.Slots (Poll slot)) CallReply.Pending) }
+        ensures err { IfErr result (λ e. IsRefused by self.old self.new (Call.Slots (Poll slot)) e) }
     {
-        let call = Call::SlotPoll { slot };
+        let poll = SlotCall::Poll { slot };
         let Some(found) = self.slots.get(slot) else {
-            return Err(self.refuse(by, call, Cause::UnknownToken));
+            return Err(self.refuse(by, Call::Slots(poll), Cause::UnknownToken));
         };
         if found.aborted {
-            return Err(self.refuse(by, call, Cause::Aborted));
+            return Err(self.refuse(by, Call::Slots(poll), Cause::Aborted));
         }
         match found.outcome {
-            Outcome::Open { .. } => self.poll_open(by, slot),
+            Outcome::Open { .. } => Ok(self.perform(by, poll, CallReply::Pending)?),
             Outcome::There => unreachable!(),
-            Outcome::Exited => Err(self.refuse(by, call, Cause::Exited)),
-            Outcome::Closed => Err(self.refuse(by, call, Cause::Closed)),
+            Outcome::Exited => Err(self.refuse(by, Call::Slots(poll), Cause::Exited)),
+            Outcome::Closed => Err(self.refuse(by, Call::Slots(poll), Cause::Closed)),
         }
-    }
-
-    /// Notes a poll of a slot that is open.
-    fn poll_open(&mut self, by: Option<u64>, slot: u64) -> Result<(), Error>
-        requires calling { MayCall self.old.told.state by }
-        requires open { (r : TaskResult) × (find slot self.old.told.state.slots.results ≡ Some r) × (open_places r.outcome ≡ 1) × Answers self.old.told.state (Call.SlotPoll slot) CallReply.Pending }
-        ensures ok { OnOk result (Noted by self.old self.new (Call.SlotPoll slot) CallReply.Pending) }
-        ensures err { IfErr result (λ e. (e ≡ Error.NoMemory) × (self.new ≡ lacking self.old)) }
-    {
-        let Ok(()) = take_places(&mut self.journal, &mut self.ready, self.promised, 1) else {
-            self.lack();
-            return Err(Error::NoMemory);
-        };
-        self.journal.note(Entry::Call {
-            by: Caller::of(by),
-            call: Call::SlotPoll { slot },
-            reply: CallReply::Pending,
-        });
-        let _before = settle(&mut self.slots, slot, Outcome::Open { waits: by });
-        Ok(())
     }
 
     /// Takes the value that was sent into a slot. It takes memory.
     pub fn take_sent(&mut self, by: Option<u64>, slot: u64) -> Result<(), NoMemory>
         requires calling { MayCall self.old.told.state by }
         requires sent { is_there (find slot self.old.told.state.slots.results) ≡ true }
-        ensures ok { OnOk result (Noted by self.old self.new (Call.SlotPoll slot) CallReply.Ready) }
+        ensures ok { OnOk result (Noted by self.old self.new (Call.Slots (Poll slot)) CallReply.Ready) }
         ensures err { OnErr result (self.new ≡ lacking self.old) }
     {
-        let Ok(()) = take_places(&mut self.journal, &mut self.ready, self.promised, 1) else {
-            self.lack();
-            return Err(NoMemory);
-        };
-        self.journal.note(Entry::Call {
-            by: Caller::of(by),
-            call: Call::SlotPoll { slot },
-            reply: CallReply::Ready,
-        });
-        let _before = settle(&mut self.slots, slot, Outcome::Closed);
-        Ok(())
+        self.perform(by, SlotCall::Poll { slot }, CallReply::Ready)
     }
 
     /// Refuses a poll of a slot with the error that was sent into it, which stays there, and returns a copy of that
@@ -243,20 +222,61 @@ impl Machine {
         requires sent { is_there (find slot self.old.told.state.slots.results) ≡ true }
         ensures { Shown by self.old self.new slot sent.now result }
     {
-        let Ok(()) = take_places(&mut self.journal, &mut self.ready, self.promised, 1) else {
-            self.lack();
-            return Error::NoMemory;
-        };
         let Ok((error, answer)) = copies(*self.ready.allocator(), sent) else {
             self.lack();
             return Error::NoMemory;
         };
-        self.journal.note(Entry::Call {
-            by: Caller::of(by),
-            call: Call::SlotPoll { slot },
-            reply: CallReply::Refused { error },
-        });
-        answer
+        let reply = CallReply::Refused { error };
+        match self.perform(by, SlotCall::Poll { slot }, reply) {
+            Ok(()) => answer,
+            Err(NoMemory) => Error::NoMemory,
+        }
+    }
+}
+
+/// The entries for which a slot asks that a call makes.
+fn cost_of(call: SlotCall) -> usize
+    ensures { result ≡ slot_cost call }
+{
+    match call {
+        SlotCall::Make => 4,
+        _ => 0,
+    }
+}
+
+/// Takes the room of a call on slots, where it takes any.
+fn take_room(
+    journal: &mut RunJournal,
+    ready: &mut Vec<u64>,
+    slots: &mut Table<TaskResult>,
+    senders: &mut Table<()>,
+    promised: usize,
+    call: SlotCall,
+) -> Result<(), NoMemory>
+    ensures told { journal.new.told ≡ journal.old.told }
+    ensures lacked { journal.new.lacked ≡ journal.old.lacked }
+    ensures kept { journal.old.spare ≤ journal.new.spare }
+    ensures items { ready.new.items ≡ ready.old.items }
+    ensures seated { vec_capacity ready.old - vec_len ready.old ≤ vec_capacity ready.new - vec_len ready.new }
+    ensures room { OnOk result (is_spending call ≡ false → promised + 7 + slot_cost call ≤ journal.new.spare) }
+    ensures seats { OnOk result (is_spending call ≡ false → promised + slot_cost call ≤ vec_capacity ready.new - vec_len ready.new) }
+    ensures fits { OnOk result (promised + slot_cost call < 2 ^ 64) }
+    ensures slotted { slotted slots.new senders.new ≡ slotted slots.old senders.old }
+    ensures next { senders.new.next ≡ senders.old.next }
+    ensures places { OnOk result (HasRoom slots.new senders.new call) }
+    ensures spends { is_spending call ≡ true → IsOk result }
+{
+    match call {
+        SlotCall::Make => {
+            take_places(journal, ready, promised, 5)?;
+            let _slot = reserve_slot(slots, senders)?;
+            Ok(())
+        }
+        SlotCall::Poll { .. } => take_places(journal, ready, promised, 1),
+        SlotCall::Send { .. }
+        | SlotCall::Close { .. }
+        | SlotCall::GiveUp { .. }
+        | SlotCall::AbortWait { .. } => Ok(()),
     }
 }
 
@@ -267,73 +287,4 @@ fn copies(alloc: Global, error: &Error) -> Result<(Refusal, Error), NoMemory>
     let refusal = Refusal::new(alloc, error.clone_value()?)?;
     let answer = error.clone_value()?;
     Ok((refusal, answer))
-}
-
-/// Takes room for a further slot, and returns its number.
-fn reserve_slot(slots: &mut Table<TaskResult>, senders: &mut Table<()>) -> Result<u64, NoMemory>
-    ensures number { IfOk result (λ slot. slot ≡ slots.old.next) }
-    ensures items { slots.new.items ≡ slots.old.items }
-    ensures next { slots.new.next ≡ slots.old.next }
-    ensures spare { OnOk result (0 < slots.new.spare) }
-    ensures sender_items { senders.new.items ≡ senders.old.items }
-    ensures sender_next { senders.new.next ≡ senders.old.next }
-    ensures sender_spare { OnOk result (0 < senders.new.spare) }
-{
-    slots.reserve(1)?;
-    senders.reserve(1)?;
-    match slots.next() {
-        Some(slot) => Ok(slot),
-        None => Err(NoMemory),
-    }
-}
-
-/// Notes what was sent where the slot is open, or that nothing comes. It returns who waits for it, and how many entries
-/// that asks for.
-#[tactic(auto, using(crate::proofs::Changed::change_laws, crate::proofs::Totals::place_laws))]
-fn settle_open(slots: &mut Table<TaskResult>, slot: u64, outcome: Outcome) -> (Option<u64>, usize)
-    requires { open_places outcome ≡ 0 }
-    ensures items { slots.new.items ≡ replaced (settled outcome) slot slots.old.items }
-    ensures waiter { those result.0 ≡ waiting (find slot slots.old.items) }
-    ensures fits { length (those result.0) ≤ result.1 }
-    ensures places { total result_places slots.new.items + result.1 ≡ total result_places slots.old.items }
-    ensures next { slots.new.next ≡ slots.old.next }
-    ensures spare { slots.new.spare ≡ slots.old.spare }
-{
-    let Some(found) = slots.get(slot) else {
-        return (None, 0);
-    };
-    match found.outcome {
-        Outcome::Open { waits } => {
-            let aborted = found.aborted;
-            slots.set(slot, TaskResult { outcome, aborted });
-            (waits, 1)
-        }
-        Outcome::There | Outcome::Exited | Outcome::Closed => (None, 0),
-    }
-}
-
-/// Notes that nothing is waited for by a slot any more. It returns who waits, and how many entries that asks for.
-#[tactic(auto, using(crate::proofs::Changed::change_laws, crate::proofs::Totals::place_laws))]
-fn abort_slot(slots: &mut Table<TaskResult>, slot: u64) -> (Option<u64>, usize)
-    requires { may_abort (find slot slots.old.items) ≡ true }
-    ensures items { slots.new.items ≡ replaced aborted slot slots.old.items }
-    ensures waiter { those result.0 ≡ waiting (find slot slots.old.items) }
-    ensures fits { length (those result.0) ≤ result.1 }
-    ensures places { total result_places slots.new.items + 1 + result.1 ≡ total result_places slots.old.items }
-    ensures next { slots.new.next ≡ slots.old.next }
-    ensures spare { slots.new.spare ≡ slots.old.spare }
-{
-    match slots.get(slot) {
-        Some(found) => {
-            slots.set(
-                slot,
-                TaskResult {
-                    outcome: Outcome::Closed,
-                    aborted: true,
-                },
-            );
-            waiter_of(Some(found.outcome))
-        }
-        None => (None, 0),
-    }
 }

@@ -11,12 +11,13 @@ ghost use Rattle.rt_machine.specs.Places.{open_places};
 use crate::Machine;
 use crate::cause::Cause;
 use crate::labels::Labels;
-use crate::results::{may_abort, note_abort, places_of, settle};
+use crate::results::note_abort;
 use crate::room::take_places;
 use crate::wakes::wake_flagged;
 use rt_audit::{Call, CallReply, Caller, Entry};
 use rt_base::{Error, NoMemory, Packed};
 use rt_model::{Mark, Outcome, Table, TaskResult};
+use rt_parts::{may_abort, places_of, settle};
 use rt_super::Tree;
 
 #[tactic(auto, using(crate::proofs::Counts::count_laws, crate::proofs::Totals::place_laws, crate::proofs::Nodes::node_laws, crate::proofs::Over::over_laws, crate::proofs::Owed::owed_laws), unfolding(rt_model::specs::Effects::after))]

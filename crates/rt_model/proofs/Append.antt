@@ -6,7 +6,7 @@ use Rattle.rt_audit.specs.Journal.{digest_from, digest_after}
 use Rattle.rt_model.specs.Digests.{AreDigested}
 use Rattle.rt_model.specs.Effects.{after, after_all}
 use Rattle.rt_model.specs.Rules.{IsLawful, AreDrawn}
-use Rattle.rt_model.specs.Runs.{Runs, run_after, runs_after, AreLawful}
+use Rattle.rt_model.specs.Runs.{run_after, runs_after, AreLawful}
 use Rattle.rt_model.specs.Tied.{Steps, Value, IsTied}
 
 pub after_all-append : (s : State) (xs ys : List Entry) → after_all s (xs ++ ys) ≡ after_all (after_all s xs) ys
@@ -17,11 +17,11 @@ pub IsLawful-append : (s : State) (xs ys : List Entry) → IsLawful s xs → IsL
 IsLawful-append s [] ys p q = q
 IsLawful-append s (x ∷ xs) ys p q = (p.0, IsLawful-append (after s x) xs ys p.1 q)
 
-pub runs_after-append : (r : Runs) (xs ys : List Entry) → runs_after r (xs ++ ys) ≡ runs_after (runs_after r xs) ys
+pub runs_after-append : (r : State) (xs ys : List Entry) → runs_after r (xs ++ ys) ≡ runs_after (runs_after r xs) ys
 runs_after-append r [] ys = refl
 runs_after-append r (x ∷ xs) ys = runs_after-append (run_after r x) xs ys
 
-pub AreLawful-append : (r : Runs) (xs ys : List Entry) → AreLawful r xs → AreLawful (runs_after r xs) ys → AreLawful r (xs ++ ys)
+pub AreLawful-append : (r : State) (xs ys : List Entry) → AreLawful r xs → AreLawful (runs_after r xs) ys → AreLawful r (xs ++ ys)
 AreLawful-append r [] ys p q = q
 AreLawful-append r (x ∷ xs) ys p q = (p.0, AreLawful-append (run_after r x) xs ys p.1 q)
 

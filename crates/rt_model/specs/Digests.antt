@@ -9,12 +9,12 @@ use Rattle.rt_audit.specs.declared.entry.Entry.TheVariants.{Call as CallEntry}
 use Rattle.rt_audit.specs.Journal.{digest_after}
 
 -- an auditor's answer is the digest of the events so far
-abbrev pub IsAnswered : List ℕ → CallReply → Call → Type 0
-IsAnswered digest (Bytes bytes) Auditor = bytes ≡ digest
+abbrev pub IsAnswered : List ℕ → Call → CallReply → Type 0
+IsAnswered digest Auditor (Bytes bytes) = bytes ≡ digest
 IsAnswered digest _ _ = Unit {0}
 
 abbrev pub IsDigested : List ℕ → Entry → Type 0
-IsDigested digest (CallEntry by call reply) = IsAnswered digest reply call
+IsDigested digest (CallEntry by call reply) = IsAnswered digest call reply
 IsDigested digest _ = Unit {0}
 
 -- each of the entries says so, after events of this digest

@@ -3,7 +3,7 @@ use Rattle.std.specs.Prelude.{ℕ, List, [], ◌∷◌, ◌++◌, Option, Some, 
 use Rattle.std.specs.Option.{option_map_or}
 use Rattle.rt_base.specs.Label.{prefixed}
 use Rattle.rt_audit.specs.declared.call.Call.{Call}
-use Rattle.rt_audit.specs.declared.call.Call.TheVariants.{Child, CloseNode, Spawn, Abort, AbortTask, Wake as WakeCall, Join, GiveUp, SleepPoll, Slot, SlotSend, SlotClose, SlotPoll, SlotGiveUp, AbortWait, Signaler, CloneSignal, Signal, SignalPoll, SignalClose, SignalerClose, CompletionPoll, CompletionClose, Stop, Stopped as StoppedCall, NextU32, NextU64, FillBytes}
+use Rattle.rt_audit.specs.declared.call.Call.TheVariants.{Child, CloseNode, Spawn, Abort, AbortTask, Wake as WakeCall, Join, GiveUp, SleepPoll, Slots, Signaler, CloneSignal, Signal, SignalPoll, SignalClose, SignalerClose, CompletionPoll, CompletionClose, Stop, Stopped as StoppedCall, NextU32, NextU64, FillBytes}
 use Rattle.rt_audit.specs.declared.reply.CallReply.{CallReply}
 use Rattle.rt_audit.specs.declared.reply.CallReply.TheVariants.{Done, NodeAt, TaskAt, Closed, SlotAt, SignalAt, CompletionAt, Pending as StillPending, PendingAt, Ready as IsReady, Number, Bytes}
 use Rattle.rt_audit.specs.declared.answer.AnswerKind.{AnswerKind}
@@ -23,7 +23,7 @@ use Rattle.rt_model.specs.Draws.{Drawn, Short, Long, Filled}
 use Rattle.rt_model.specs.Lists.{find, without, those, without_number, with_number, is_some_number}
 use Rattle.rt_model.specs.Marks.{new_mark, is_flagged, is_ended_at, flag, flag_all, due_of, due_all, leave}
 use Rattle.rt_model.specs.Results.{new_result, waiting, with_outcome, with_abort}
-use Rattle.rt_model.specs.Slots.{Slotted, with_slot, with_sent, with_polled, without_slot, with_wait_aborted}
+use Rattle.rt_model.specs.Slots.{Slotted, slots_by, slots_wake}
 use Rattle.rt_model.specs.State.{Phase, Making, Between, Visiting, Entered, Polling, Halted, Ending, Leaving, Turning, Over, Cleaning, Closing, Crashed, Finished, Clock, Numbers, Announced, Turn, Stood, State, stood_in}
 use Rattle.rt_model.specs.Alarms.{slept, woken_by}
 use Rattle.rt_model.specs.Causes.{reached, from_running}
@@ -114,11 +114,13 @@ ready_after ready (Round order) = []
 ready_after ready Cleanup = []
 ready_after ready _ = ready
 
--- what was drawn for the next round
+-- what was drawn since the last entry that took some
 
 abbrev pub draws_after : List ℕ → Entry → List ℕ
 draws_after draws (Draw value) = draws ++ value ∷ []
 draws_after draws (Round order) = []
+draws_after draws (CallEntry by call reply) = []
+draws_after draws (Crash choices) = []
 draws_after draws _ = draws
 
 -- all that was drawn
@@ -266,13 +268,7 @@ results_after s _ = s.results
 -- slots
 
 abbrev pub slots_called : Slotted → Option ℕ → Call → CallReply → Slotted
-slots_called ss by Slot (SlotAt slot) = with_slot slot ss
-slots_called ss by (SlotSend slot) Done = with_sent There slot ss
-slots_called ss by (SlotClose slot) Done = with_sent IsClosed slot ss
-slots_called ss by (SlotPoll slot) StillPending = with_polled (Open by) slot ss
-slots_called ss by (SlotPoll slot) IsReady = with_polled IsClosed slot ss
-slots_called ss by (SlotGiveUp slot) Done = without_slot slot ss
-slots_called ss by (AbortWait slot) Done = with_wait_aborted slot ss
+slots_called ss by (Slots call) reply = slots_by ss by call reply
 slots_called ss by _ _ = ss
 
 abbrev pub slots_after : Slotted → Entry → Slotted
@@ -319,18 +315,20 @@ stood_called s by call reply = record {
 
 -- whom an event must wake
 
+abbrev pub wakes_called : List (ℕ × Mark) → Stood → Call → CallReply → List ℕ
+wakes_called ms s (WakeCall task) Done = task ∷ []
+wakes_called ms s (Abort task) Done = due_of task ms
+wakes_called ms s (AbortTask task) Done = due_of task ms
+wakes_called ms s (Slots call) reply = slots_wake s.slots call reply
+wakes_called ms s (Signal signaler value) Done = woken_by_value s.signals signaler
+wakes_called ms s (SignalClose signal) Done = woken_by_last s.signals signal
+wakes_called ms s (SignalerClose signaler) Done = woken_by_closing s.signals signaler
+wakes_called ms s (Stop value) (CompletionAt number) = woken_by_stop s.signals s.stop value
+wakes_called ms s _ _ = []
+
 abbrev pub due_called : Bool → List (ℕ × Mark) → Stood → Call → CallReply → List ℕ
-due_called false ms s (WakeCall task) Done = task ∷ []
-due_called false ms s (Abort task) Done = due_of task ms
-due_called false ms s (AbortTask task) Done = due_of task ms
-due_called false ms s (SlotSend slot) Done = waiting (find slot s.slots.results)
-due_called false ms s (SlotClose slot) Done = waiting (find slot s.slots.results)
-due_called false ms s (AbortWait slot) Done = waiting (find slot s.slots.results)
-due_called false ms s (Signal signaler value) Done = woken_by_value s.signals signaler
-due_called false ms s (SignalClose signal) Done = woken_by_last s.signals signal
-due_called false ms s (SignalerClose signaler) Done = woken_by_closing s.signals signaler
-due_called false ms s (Stop value) (CompletionAt number) = woken_by_stop s.signals s.stop value
-due_called _ ms s _ _ = []
+due_called true ms s call reply = []
+due_called false ms s call reply = wakes_called ms s call reply
 
 -- a panic that is kept now wakes the root, where it was left pending once
 abbrev pub due_panic : State → List ℕ
@@ -379,7 +377,7 @@ announced_after s _ = []
 -- the calls of the part under way
 
 abbrev pub turns_after : State → Entry → List Turn
-turns_after s (CallEntry by call reply) = s.turns ++ record { call = call; reply = reply; stood = stood_in s } ∷ []
+turns_after s (CallEntry by call reply) = s.turns ++ record { by = by; call = call; reply = reply; stood = stood_in s } ∷ []
 turns_after s (Wake task) = s.turns
 turns_after s (Event label fields) = s.turns
 turns_after s (Draw value) = s.turns

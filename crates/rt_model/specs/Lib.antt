@@ -2,6 +2,7 @@ pub mod Lists
 pub mod Rows
 pub mod Marks
 pub mod Results
+pub mod Replies
 pub mod Slots
 pub mod Signals
 pub mod Draws

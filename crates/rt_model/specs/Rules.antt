@@ -1,6 +1,8 @@
 -- What may come next in a journal.
-use Rattle.std.specs.Prelude.{◌≡◌, ◌≢◌, ◌⊎◌, ◌<◌, ◌≤◌, ◌+◌, ◌-◌, ◌^◌, ℕ, List, [], ◌∷◌, Option, Some, None, is_some, option_map, Bool, true, false, not, ◌&&◌, leb, if◌then◌else◌, drop, length, Result, Ok, Err}
+use Rattle.std.specs.Prelude.{◌≡◌, ◌≢◌, ◌⊎◌, ◌<◌, ◌≤◌, ◌+◌, ◌++◌, ◌-◌, ◌^◌, ℕ, List, [], ◌∷◌, Option, Some, None, is_some, option_map, Bool, true, false, not, ◌&&◌, leb, if◌then◌else◌, drop, length, Result, Ok, Err}
 use Rattle.std.specs.List.Sorted.{IsPermutation}
+use Rattle.rt_base.specs.declared.choice.Choice.{Choice}
+use Rattle.rt_base.specs.declared.items.Items.{Items}
 use Rattle.rt_base.specs.declared.error.Error.{Error}
 use Rattle.rt_base.specs.declared.error.Error.TheVariants.{UnknownToken, TooManyTasks, Exited as HasExited, Closed as ErrClosed, Aborted, Metric}
 use Rattle.rt_base.specs.declared.metric_error.MetricError.TheVariants.{BadLabel, Reserved}
@@ -8,7 +10,7 @@ use Rattle.rt_base.specs.declared.poll.Poll.{Poll}
 use Rattle.rt_base.specs.Label.{is_label, is_reserved, prefixed}
 use Rattle.rt_base.specs.declared.time.TheConstants.{MAX_TIME}
 use Rattle.rt_audit.specs.declared.call.Call.{Call}
-use Rattle.rt_audit.specs.declared.call.Call.TheVariants.{Child, CloseNode, Spawn, Abort, AbortTask, Wake as WakeCall, Join, GiveUp, SleepPoll, Slot, SlotSend, SlotClose, SlotPoll, SlotGiveUp, AbortWait, Signaler, CloneSignal, Signal, SignalPoll, SignalClose, SignalerClose, CompletionPoll, CompletionClose, Stop, Stopped as StoppedCall, NextU32, NextU64, FillBytes, Auditor}
+use Rattle.rt_audit.specs.declared.call.Call.TheVariants.{Child, CloseNode, Spawn, Abort, AbortTask, Wake as WakeCall, Join, GiveUp, SleepPoll, Slots, Signaler, CloneSignal, Signal, SignalPoll, SignalClose, SignalerClose, CompletionPoll, CompletionClose, Stop, Stopped as StoppedCall, NextU32, NextU64, FillBytes, Auditor}
 use Rattle.rt_audit.specs.declared.reply.CallReply.{CallReply}
 use Rattle.rt_audit.specs.declared.reply.CallReply.TheVariants.{Done, NodeAt, TaskAt, Closed, SlotAt, SignalAt, CompletionAt, Pending as StillPending, PendingAt, Ready as IsReady, Number, Bytes, Refused}
 use Rattle.rt_audit.specs.declared.answer.AnswerKind.{AnswerKind}
@@ -24,9 +26,11 @@ use Rattle.rt_model.specs.declared.result.Outcome.{Outcome}
 use Rattle.rt_model.specs.declared.result.Outcome.TheVariants.{Open, There, Exited, Closed as IsClosed}
 use Rattle.rt_model.specs.declared.result.TaskResult.{TaskResult}
 use Rattle.rt_model.specs.Lists.{find}
+pub use Rattle.rt_model.specs.Replies.{IsRefusal, OutcomeAnswers, Unless}
+pub use Rattle.rt_model.specs.Slots.{IsSent, SlotAnswers, ReceiveAnswers, AnswersSlot}
 use Rattle.rt_model.specs.Results.{may_abort}
 use Rattle.rt_model.specs.Signals.{has_signaler, shown_reply, met_reply, stopped_reply}
-use Rattle.rt_model.specs.State.{Phase, Blank, Making, Between, Visiting, Entered, Polling, Halted, Ending, Leaving, Turning, Cleaning, Closing, Crashed, Finished, Numbers, Announced, State}
+use Rattle.rt_model.specs.State.{Phase, Blank, Making, Between, Visiting, Entered, Polling, Halted, Ending, Leaving, Turning, Cleaning, Closing, Crashed, Finished, Numbers, Announced, Stood, State, stood_in}
 use Rattle.rt_model.specs.Alarms.{is_set, skip_to, fires}
 use Rattle.rt_model.specs.Causes.{is_late, from_running, ends_next}
 use Rattle.rt_model.specs.Draws.{shuffled}
@@ -36,17 +40,6 @@ use Rattle.rt_model.specs.Events.{process_task, task_fields, announced_by, IsOfC
 -- this number was given to a task of this run
 abbrev pub WasGiven : Numbers → ℕ → Type 0
 WasGiven n task = (n.first ≤ task) × (task < n.next)
-
--- the call was refused for this
-abbrev pub IsRefusal : Error → CallReply → Type 0
-IsRefusal error (Refused other) = other ≡ error
-IsRefusal error _ = ⊥
-
-abbrev pub OutcomeAnswers : Outcome → CallReply → Type 0
-OutcomeAnswers (Open waits) reply = reply ≡ StillPending
-OutcomeAnswers There reply = reply ≡ IsReady
-OutcomeAnswers Exited reply = IsRefusal HasExited reply
-OutcomeAnswers IsClosed reply = IsRefusal ErrClosed reply
 
 -- a task can be put on the node: it is live, and without one
 abbrev pub is_free : TreeRecord → ℕ → Bool
@@ -73,30 +66,10 @@ SpawnAnswers s node (TaskAt task number) =
 SpawnAnswers s node Closed = is_ended s.nodes node ≡ true
 SpawnAnswers s node _ = ⊥
 
--- the refusals of a call in their order: the first that holds, or what the call returns without one
-abbrev pub Unless : Bool → Error → (CallReply → Type 0) → CallReply → Type 0
-Unless true error otherwise reply = IsRefusal error reply
-Unless false error otherwise reply = otherwise reply
-
 -- a poll of a result
 abbrev pub JoinAnswers : Option TaskResult → CallReply → Type 0
 JoinAnswers None reply = IsRefusal UnknownToken reply
 JoinAnswers (Some r) reply = OutcomeAnswers r.outcome reply
-
--- a result that was sent: a value, or any error
-abbrev pub IsSent : CallReply → Type 0
-IsSent IsReady = Unit {0}
-IsSent (Refused error) = Unit {0}
-IsSent _ = ⊥
-
--- a poll of a slot
-abbrev pub SlotAnswers : Outcome → CallReply → Type 0
-SlotAnswers There reply = IsSent reply
-SlotAnswers outcome reply = OutcomeAnswers outcome reply
-
-abbrev pub ReceiveAnswers : Option TaskResult → CallReply → Type 0
-ReceiveAnswers None reply = IsRefusal UnknownToken reply
-ReceiveAnswers (Some r) reply = Unless r.aborted Aborted (SlotAnswers r.outcome) reply
 
 -- a poll of a signal or of a completion, by what it shows
 abbrev pub ShownAs : {V : Type 0} → (Poll V → CallReply) → Result (Poll V) Error → CallReply → Type 0
@@ -121,12 +94,7 @@ Answers s (WakeCall task) (Refused error) = (error ≡ UnknownToken) × (WasGive
 Answers s (SleepPoll due) IsReady = due ≤ s.clock.time
 Answers s (SleepPoll due) (PendingAt alarm) =
     (s.clock.time < due) × (due ≤ MAX_TIME) × ((alarm ≡ s.alarms.count) ⊎ (is_set s.alarms.alarms due alarm ≡ true))
-Answers s Slot (SlotAt slot) = slot ≡ s.slots.count
-Answers s (SlotSend slot) Done = is_some (find slot s.slots.senders) ≡ true
-Answers s (SlotClose slot) Done = is_some (find slot s.slots.senders) ≡ true
-Answers s (SlotPoll slot) reply = ReceiveAnswers (find slot s.slots.results) reply
-Answers s (SlotGiveUp slot) Done = is_some (find slot s.slots.results) ≡ true
-Answers s (AbortWait slot) Done = may_abort (find slot s.slots.results) ≡ true
+Answers s (Slots call) reply = AnswersSlot s.slots call reply
 Answers s Signaler (SignalAt signal) = signal ≡ s.signals.count
 Answers s (CloneSignal signal) reply =
     Unless (not (is_some (find signal s.signals.signals))) UnknownToken (λ reply. reply ≡ SignalAt s.signals.count) reply
@@ -164,7 +132,7 @@ MayCall s by = CallsAt s.phase s.root (ends_next s.running s.root) by
 -- an event may come here: that of a visit at its beginning, and where calls are made those of a call
 abbrev pub MayEvent : Phase → State → List ℕ → List (List ℕ) → Type 0
 MayEvent (Entered task left) s label fields = (label ≡ process_task) × (fields ≡ task_fields task (task_label s task))
-MayEvent p s label fields = (by : Option ℕ) × CallsAt p s.root (ends_next s.running s.root) by × IsOfCall s.announced label fields
+MayEvent p s label fields = (by : Option ℕ) × CallsAt p s.root (ends_next s.running s.root) by × IsOfCall (stood_in s) s.announced label fields
 
 -- this task's end may be over
 abbrev pub MayEnd : Phase → Option ℕ → ℕ → Type 0
@@ -186,6 +154,31 @@ abbrev pub MayRound : Phase → State → Type 0
 MayRound Between s = is_late s.clock ≡ false
 MayRound Turning s = (s.ready ≢ []) × (is_late s.clock ≡ false) × (fires s.alarms.alarms s.clock.time ≡ None)
 MayRound _ s = ⊥
+
+-- a call with this reply takes these draws, which are before its events. None does so far
+abbrev pub CallNeeds : Stood → Call → CallReply → List ℕ → Type 0
+CallNeeds stood call reply draws = draws ≡ []
+
+-- the crash takes these draws
+abbrev pub CrashNeeds : Items Choice → List ℕ → Type 0
+CrashNeeds choices draws = (choices ≡ []) × (draws ≡ [])
+
+-- these draws and this one are the first that a call takes, or the crash
+abbrev pub IsOfDraws : State → Option ℕ → ℕ → Type 0
+IsOfDraws s by value =
+    (s.announced ≡ [])
+    × (call : Call) × (reply : CallReply) × (more : List ℕ) × CallNeeds (stood_in s) call reply (s.draws ++ value ∷ more)
+
+abbrev pub IsOfCrash : State → ℕ → Type 0
+IsOfCrash s value = (s.running ≡ []) × (choices : Items Choice) × (more : List ℕ) × CrashNeeds choices (s.draws ++ value ∷ more)
+
+-- a number may be drawn here: for the order of a round, where calls are made for one of those, and in a cleanup for the crash
+abbrev pub MayDraw : Phase → State → ℕ → Type 0
+MayDraw Between s value = MayRound Between s
+MayDraw Turning s value = MayRound Turning s
+MayDraw (Closing cause) s value =
+    ((by : Option ℕ) × IsEndedNext s.root (ends_next s.running s.root) by × IsOfDraws s by value) ⊎ IsOfCrash s value
+MayDraw p s value = (by : Option ℕ) × CallsAt p s.root (ends_next s.running s.root) by × IsOfDraws s by value
 
 -- the cleanup may begin here. A run that is out of memory is cut off between its parts
 abbrev pub MayClose : Phase → Type 0
@@ -222,10 +215,10 @@ MayFree s (Start next now deadline cycle) =
     × (now ≡ s.clock.fixed.start)
     × (deadline ≡ s.clock.fixed.deadline)
     × (cycle ≡ s.clock.fixed.cycle)
-MayFree s (CallEntry by call reply) = MayCall s by × Answers s call reply × (s.announced ≡ announced_by call reply)
+MayFree s (CallEntry by call reply) = MayCall s by × Answers s call reply × (s.announced ≡ announced_by (stood_in s) call reply)
 MayFree s (Event label fields) = MayEvent s.phase s label fields
 MayFree s (Wake task) = ⊥
-MayFree s (Draw value) = MayRound s.phase s
+MayFree s (Draw value) = MayDraw s.phase s value
 MayFree s (Root task) = (s.phase ≡ Making) × (task ≡ s.numbers.next) × (task < 2 ^ 64 - 1) × (s.announced ≡ [])
 MayFree s (Round order) = MayRound s.phase s × IsPermutation s.ready order
 MayFree s (Visit task) =
@@ -256,10 +249,21 @@ IsLawful s (e ∷ es) = May s e × IsLawful (after s e) es
 
 -- A round's order is the ready list as its draws shuffle it, one draw for each place but the first, and no more. This is what decides among
 -- the permutations
+abbrev pub RoundNeeds : Phase → State → List ℕ → Type 0
+RoundNeeds Between s draws = length draws + 1 < length s.ready
+RoundNeeds Turning s draws = length draws + 1 < length s.ready
+RoundNeeds _ s draws = Unit {0}
+
+-- what an entry needs of the draws since the last entry that took some
+abbrev pub Needs : State → Entry → List ℕ → Type 0
+Needs s (Draw value) draws = RoundNeeds s.phase s draws
+Needs s (Round order) draws = (order ≡ shuffled s.ready draws) × (length draws ≡ length s.ready - 1)
+Needs s (CallEntry by call reply) draws = CallNeeds (stood_in s) call reply draws
+Needs s (Crash choices) draws = CrashNeeds choices draws
+Needs s _ draws = Unit {0}
+
 abbrev pub IsDrawn : State → Entry → Type 0
-IsDrawn s (Draw value) = length s.draws + 1 < length s.ready
-IsDrawn s (Round order) = (order ≡ shuffled s.ready s.draws) × (length s.draws ≡ length s.ready - 1)
-IsDrawn s _ = Unit {0}
+IsDrawn s e = Needs s e s.draws
 
 abbrev pub AreDrawn : State → List Entry → Type 0
 AreDrawn s [] = Unit {0}

@@ -8,34 +8,26 @@ use Rattle.rt_model.specs.State.{Phase, Finished, State, begun}
 use Rattle.rt_model.specs.Effects.{after}
 use Rattle.rt_model.specs.Rules.{May}
 
--- the run under way, and how those begin that are to come
-pub record Runs : Type 0 where
-  pub state : State
-  pub later : List Begin
-
-abbrev pub runs_from : Begin → List Begin → Runs
-runs_from begin later = record { state = begun begin; later = later }
+-- how a run begins that goes on after another: at its last moment, with all that its start fixed but the first task number
+abbrev pub next_begin : State → Begin
+next_begin s = record s.clock.fixed { start = s.clock.time; first = 0 }
 
 abbrev pub renews : Entry → Phase → Bool
 renews (Start next now deadline cycle) (Finished Completed) = true
 renews _ _ = false
 
-abbrev pub next_run : Runs → List Begin → Runs
-next_run r [] = r
-next_run r (begin ∷ later) = runs_from begin later
-
 -- after a completed run a start begins the next one
-abbrev pub renewed : Runs → Entry → Runs
-renewed r e = if renews e r.state.phase then next_run r r.later else r
+abbrev pub renewed : State → Entry → State
+renewed s e = if renews e s.phase then begun (next_begin s) else s
 
-abbrev pub run_after : Runs → Entry → Runs
-run_after r e = record { state = after (renewed r e).state e; later = (renewed r e).later }
+abbrev pub run_after : State → Entry → State
+run_after s e = after (renewed s e) e
 
-abbrev pub runs_after : Runs → List Entry → Runs
-runs_after r [] = r
-runs_after r (e ∷ es) = runs_after (run_after r e) es
+abbrev pub runs_after : State → List Entry → State
+runs_after s [] = s
+runs_after s (e ∷ es) = runs_after (run_after s e) es
 
 -- each of the entries may come at its place, in its run
-abbrev pub AreLawful : Runs → List Entry → Type 0
-AreLawful r [] = Unit {0}
-AreLawful r (e ∷ es) = May (renewed r e).state e × AreLawful (run_after r e) es
+abbrev pub AreLawful : State → List Entry → Type 0
+AreLawful s [] = Unit {0}
+AreLawful s (e ∷ es) = May (renewed s e) e × AreLawful (run_after s e) es

@@ -69,8 +69,9 @@ pub record Stood : Type 0 where
   pub signals : SignalRecord
   pub stop : StopRecord
 
--- a call with its reply, and what was there when it was made
+-- a call with its reply, who made it, and what was there when it was made
 pub record Turn : Type 0 where
+  pub by : Option ℕ
   pub call : Call
   pub reply : CallReply
   pub stood : Stood
@@ -89,7 +90,7 @@ pub record State : Type 0 where
   pub running : List ℕ
   -- the numbers to visit in the next round, with duplicates
   pub ready : List ℕ
-  -- what was drawn for the order of the next round
+  -- what was drawn since the last entry that took some
   pub draws : List ℕ
   -- all that was drawn so far, in order
   pub drawn : List Drawn

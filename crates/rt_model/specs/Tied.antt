@@ -40,7 +40,7 @@ pub record Value (A O : Type 0) : Type 0 where
 
 -- no task, no output, and no part that ran out of memory
 abbrev pub nothing : {A O : Type 0} → Value A O
-nothing = record { held = record { tasks = []; results = []; sent = []; executions = [] }; output = None; panic = None; unmade = None; whole = true }
+nothing = record { held = record { tasks = []; results = []; sent = []; executions = []; counts = [] }; output = None; panic = None; unmade = None; whole = true }
 
 -- with the state of this task taken out
 abbrev pub taken : {A O : Type 0} → ℕ → Held A O → Held A O

@@ -1,17 +1,18 @@
 -- A call of a part: what it carries beside its entry, what is heard of it, and which values it moves. Each has a line for each
 -- call.
-use Rattle.std.specs.Prelude.{◌≡◌, ℕ, List, [], ◌∷◌, ◌++◌, Option, Some, None, is_some, option_and_then, Result, Ok, Err, Bool, true, ltb, if◌then◌else◌}
+use Rattle.std.specs.Prelude.{◌≡◌, ◌+ℤ◌, ℕ, ℤ, List, [], ◌∷◌, ◌++◌, Option, Some, None, is_some, option_and_then, Result, Ok, Err, Bool, true, eqb, ltb, if◌then◌else◌}
 use Rattle.rt_base.specs.declared.error.Error.{Error}
 use Rattle.rt_base.specs.declared.execution.Execution.{Execution}
 use Rattle.rt_audit.specs.declared.call.Call.{Call}
-use Rattle.rt_audit.specs.declared.call.Call.TheVariants.{CloseNode, Spawn, Abort, Join, GiveUp, SleepPoll, SlotSend, SlotClose, SlotPoll, SlotGiveUp, AbortWait, Signal, SignalClose, SignalerClose, CompletionClose}
+use Rattle.rt_audit.specs.declared.call.Call.TheVariants.{CloseNode, Spawn, Abort, Join, GiveUp, SleepPoll, Slots, Signal, SignalClose, SignalerClose, CompletionClose}
+use Rattle.rt_audit.specs.declared.slot_call.SlotCall.TheVariants.{Send as SlotSend, Poll as SlotPoll, GiveUp as SlotGiveUp, AbortWait}
 use Rattle.rt_audit.specs.declared.reply.CallReply.{CallReply}
 use Rattle.rt_audit.specs.declared.reply.CallReply.TheVariants.{Done, TaskAt, PendingAt, Ready as IsReady, Refused}
 use Rattle.rt_super.specs.Alarms.{AlarmList}
 use Rattle.rt_super.specs.Ancestry.{is_live}
 use Rattle.rt_model.specs.Lists.{find, without}
 use Rattle.rt_model.specs.Results.{may_abort}
-use Rattle.rt_model.specs.Slots.{Slotted, is_open}
+use Rattle.rt_model.specs.Slots.{Slotted, is_open, slot_place}
 use Rattle.rt_model.specs.Signals.{has_signaler}
 use Rattle.rt_model.specs.State.{Stood, Turn}
 use Rattle.rt_model.specs.Alarms.{alarm_of}
@@ -36,11 +37,30 @@ pub record Held (A O : Type 0) : Type 0 where
   pub results : List (ℕ × O)
   pub sent : List (ℕ × Result O Error)
   pub executions : List (ℕ × Execution)
+  -- by how much each metric was changed
+  pub counts : List (ℕ × ℤ)
+
+-- a change of a metric, which writes no entry and of which nothing is heard
+pub record Change : Type 0 where
+  pub metric : ℕ
+  pub by : ℤ
+
+abbrev pub with_change : ℕ → ℤ → List (ℕ × ℤ) → List (ℕ × ℤ)
+with_change k by [] = (k, by) ∷ []
+with_change k by (x ∷ xs) = if eqb x.0 k then (k, x.1 +ℤ by) ∷ xs else x ∷ with_change k by xs
+
+-- the values after a change of a metric
+abbrev pub counted : {A O : Type 0} → Change → Held A O → Held A O
+counted change held = record held { counts = with_change change.metric change.by held.counts }
+
+-- the same values, but for the metrics'
+abbrev pub IsCounted : {A O : Type 0} → Held A O → Held A O → Type 0
+IsCounted held end = (counts : List (ℕ × ℤ)) × (end ≡ record held { counts = counts })
 
 abbrev pub call_of : {A O : Type 0} → Ask A O → Call
 call_of (Plainly call) = call
 call_of (Sleeping due alarm) = SleepPoll due
-call_of (Sending slot sent) = SlotSend slot
+call_of (Sending slot sent) = Slots (SlotSend slot)
 call_of (Spawning node execution made) = Spawn node
 
 -- a pending sleep receives the number of its own alarm
@@ -52,7 +72,7 @@ IsOwn alarms due alarm _ = Unit {0}
 abbrev pub IsPlain : Call → Type 0
 IsPlain (SleepPoll due) = ⊥
 IsPlain (Spawn node) = ⊥
-IsPlain (SlotSend slot) = ⊥
+IsPlain (Slots (SlotSend slot)) = ⊥
 IsPlain _ = Unit {0}
 
 -- what was sent into a slot decides what its poll returns: it is ready with a value, and refused with the error that was sent
@@ -61,14 +81,14 @@ IsAnswerOf None reply = Unit {0}
 IsAnswerOf (Some (Ok value)) reply = reply ≡ IsReady
 IsAnswerOf (Some (Err error)) reply = reply ≡ Refused error
 
--- a call that carries nothing beside its entry, with a reply that goes by what is held
-abbrev pub IsPlainly : {O : Type 0} → List (ℕ × Result O Error) → Call → CallReply → Type 0
-IsPlainly sent (SlotPoll slot) reply = IsAnswerOf (find slot sent) reply
-IsPlainly sent call reply = IsPlain call
+-- a call that carries nothing beside its entry, with a reply that goes by what is held and what was there
+abbrev pub IsPlainly : {A O : Type 0} → Held A O → Stood → Call → CallReply → Type 0
+IsPlainly held stood (Slots (SlotPoll slot)) reply = IsAnswerOf (find slot held.sent) reply
+IsPlainly held stood call reply = IsPlain call
 
 -- the reply is one that is given to what the call carries, and to what is held
 abbrev pub Fits : {A O : Type 0} → Held A O → Ask A O → Turn → Type 0
-Fits held (Plainly call) t = IsPlainly held.sent call t.reply
+Fits held (Plainly call) t = IsPlainly held t.stood call t.reply
 Fits held (Sleeping due alarm) t = IsOwn t.stood.alarms due alarm t.reply
 Fits held (Sending slot sent) t = Unit {0}
 Fits held (Spawning node execution made) t = Unit {0}
@@ -103,7 +123,7 @@ sent_value (Err error) = None
 
 abbrev pub heard_by : {A O : Type 0} → Held A O → Call → CallReply → Heard O
 heard_by held (Join task) IsReady = handed (find task held.results) IsReady
-heard_by held (SlotPoll slot) IsReady = handed (option_and_then sent_value (find slot held.sent)) IsReady
+heard_by held (Slots (SlotPoll slot)) IsReady = handed (option_and_then sent_value (find slot held.sent)) IsReady
 heard_by held _ reply = Plain reply
 
 abbrev pub heard_of : {A O : Type 0} → Held A O → Turn → Heard O
@@ -121,9 +141,9 @@ unsent slot held = record held { sent = without slot held.sent }
 abbrev pub freed_by : {A O : Type 0} → Held A O → Call → CallReply → Held A O
 freed_by held (Join task) IsReady = freed task held
 freed_by held (GiveUp task) Done = freed task held
-freed_by held (SlotPoll slot) IsReady = unsent slot held
-freed_by held (SlotGiveUp slot) Done = unsent slot held
-freed_by held (AbortWait slot) Done = unsent slot held
+freed_by held (Slots (SlotPoll slot)) IsReady = unsent slot held
+freed_by held (Slots (SlotGiveUp slot)) Done = unsent slot held
+freed_by held (Slots (AbortWait slot)) Done = unsent slot held
 freed_by held _ _ = held
 
 -- what is sent is held from then on, where the slot is open. Elsewhere it is dropped
@@ -147,22 +167,21 @@ moved held ask t = moved_by t.stood held ask t.call t.reply
 abbrev pub FreesOne : {A O : Type 0} → Stood → Held A O → Call → CallReply → Held A O → Type 0
 FreesOne {A = A} stood held (Spawn node) (TaskAt task number) end =
     (execution : Execution) × (a : A) × (end ≡ with_spawned task execution a held)
-FreesOne {O = O} stood held (SlotSend slot) Done end = (sent : Result O Error) × (end ≡ with_sent stood.slots slot sent held)
+FreesOne {O = O} stood held (Slots (SlotSend slot)) Done end = (sent : Result O Error) × (end ≡ with_sent stood.slots slot sent held)
 FreesOne stood held call reply end = end ≡ freed_by held call reply
 
+-- the same of several calls. The metrics may have any values between them
 abbrev pub Frees : {A O : Type 0} → Held A O → List Turn → Held A O → Type 0
-Frees held [] end = end ≡ held
-Frees {A = A} {O = O} held (t ∷ ts) end = (mid : Held A O) × FreesOne t.stood held t.call t.reply mid × Frees mid ts end
+Frees held [] end = IsCounted held end
+Frees {A = A} {O = O} held (t ∷ ts) end =
+    (counts : List (ℕ × ℤ)) × (mid : Held A O) × FreesOne t.stood (record held { counts = counts }) t.call t.reply mid × Frees mid ts end
 
 -- the token that a call spends is there, and so is the place of its entry. Otherwise the call writes none
 abbrev pub has_place : Stood → Call → Bool
 has_place stood (CloseNode node) = is_live stood.nodes node
 has_place stood (Abort task) = may_abort (find task stood.results)
 has_place stood (GiveUp task) = is_some (find task stood.results)
-has_place stood (SlotSend slot) = is_some (find slot stood.slots.senders)
-has_place stood (SlotClose slot) = is_some (find slot stood.slots.senders)
-has_place stood (SlotGiveUp slot) = is_some (find slot stood.slots.results)
-has_place stood (AbortWait slot) = may_abort (find slot stood.slots.results)
+has_place stood (Slots call) = slot_place stood.slots call
 has_place stood (Signal signaler value) = has_signaler stood.signals stood.stop signaler
 has_place stood (SignalClose signal) = is_some (find signal stood.signals.signals)
 has_place stood (SignalerClose signaler) = has_signaler stood.signals stood.stop signaler

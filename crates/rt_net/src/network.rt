@@ -90,6 +90,7 @@ pub trait Network {
 
     /// Takes the room in an environment for the entries of one call, and for `more` beside them.
     fn take_room<E: Env>(env: &mut E, more: usize) -> Result<(), NoMemory>
+        ensures lasts { (start : E) → E.lasts start env.old → E.lasts start env.new }
         ensures room { OnOk result (most + more ≤ E.spare env.new) }
         ensures kept { E.spare env.old ≤ E.spare env.new }
         ensures noted { E.noted env.new ≡ E.noted env.old };
@@ -106,6 +107,7 @@ pub trait Network {
         task: u64,
     ) -> Reply<Result<Poll<()>, Error>>
         requires { Self.Sink.sending sink.old ≡ false }
+        ensures lasts { (start : E) → E.lasts start env.old → E.lasts start env.new }
         ensures gives { Notes (E.noted env.old) (λ x. sends self.old sink.old bufs task result self.new sink.new x) (E.noted env.new) }
         ensures spent { E.spare env.old ≤ E.spare env.new + most }
         ensures half { Self.Sink.sending sink.new ≡ is_pending result.value }
@@ -121,6 +123,7 @@ pub trait Network {
         task: u64,
     ) -> Result<Poll<()>, Error>
         requires { Self.Sink.sending sink.old ≡ true }
+        ensures lasts { (start : E) → E.lasts start env.old → E.lasts start env.new }
         ensures gives { Notes (E.noted env.old) (λ x. polls_send self.old sink.old task result self.new sink.new x) (E.noted env.new) }
         ensures spent { E.spare env.old ≤ E.spare env.new + most }
         ensures half { Self.Sink.sending sink.new ≡ still_waits result }
@@ -138,6 +141,7 @@ pub trait Network {
         task: u64,
     ) -> Result<Reply<Poll<IoBufs>>, Error>
         requires { Self.Stream.receiving stream.old ≡ false }
+        ensures lasts { (start : E) → E.lasts start env.old → E.lasts start env.new }
         ensures gives { Notes (E.noted env.old) (λ x. receives self.old stream.old len task result self.new stream.new x) (E.noted env.new) }
         ensures spent { E.spare env.old ≤ E.spare env.new + most }
         ensures half { Self.Stream.receiving stream.new ≡ waits result }
@@ -157,6 +161,7 @@ pub trait Network {
         task: u64,
     ) -> Result<Poll<IoBufs>, Error>
         requires { Self.Stream.receiving stream.old ≡ true }
+        ensures lasts { (start : E) → E.lasts start env.old → E.lasts start env.new }
         ensures gives { Notes (E.noted env.old) (λ x. polls_recv self.old stream.old task result self.new stream.new x) (E.noted env.new) }
         ensures spent { E.spare env.old ≤ E.spare env.new + most }
         ensures half { Self.Stream.receiving stream.new ≡ still_waits result }
@@ -175,6 +180,7 @@ pub trait Network {
         stream: &Self::Stream,
         max_len: usize,
     ) -> Result<IoBuf, Error>
+        ensures lasts { (start : E) → E.lasts start env.old → E.lasts start env.new }
         ensures gives { Notes (E.noted env.old) (λ x. peeks self.old stream.now max_len result self.new x) (E.noted env.new) }
         ensures spent { E.spare env.old ≤ E.spare env.new + most }
         ensures counts { Counts (refusals self.old) (refusals self.new) result };
@@ -208,6 +214,7 @@ pub trait Network {
     /// Errors: `BindFailed` where the address is one that dialers have, or was bound before, even if that listener
     /// was closed.
     fn bind<E: Env>(&mut self, env: &mut E, socket: Addr) -> Result<Self::Listener, Error>
+        ensures lasts { (start : E) → E.lasts start env.old → E.lasts start env.new }
         ensures gives { Notes (E.noted env.old) (λ x. binds self.old socket result self.new x) (E.noted env.new) }
         ensures spent { E.spare env.old ≤ E.spare env.new + most }
         ensures counts { Counts (refusals self.old) (refusals self.new) result };
@@ -221,6 +228,7 @@ pub trait Network {
         env: &mut E,
         socket: Addr,
     ) -> Result<Reply<(Self::Sink, Self::Stream)>, Error>
+        ensures lasts { (start : E) → E.lasts start env.old → E.lasts start env.new }
         ensures gives { Notes (E.noted env.old) (λ x. dials self.old socket result self.new x) (E.noted env.new) }
         ensures spent { E.spare env.old ≤ E.spare env.new + most }
         ensures half { AreIdle Self.Sink.sending Self.Stream.receiving result }
@@ -234,6 +242,7 @@ pub trait Network {
         listener: &mut Self::Listener,
         task: u64,
     ) -> Result<Poll<(Addr, Self::Sink, Self::Stream)>, Error>
+        ensures lasts { (start : E) → E.lasts start env.old → E.lasts start env.new }
         ensures gives { Notes (E.noted env.old) (λ x. accepts self.old listener.old task result self.new listener.new x) (E.noted env.new) }
         ensures spent { E.spare env.old ≤ E.spare env.new + most }
         ensures half { TakesIdle Self.Sink.sending Self.Stream.receiving result }
@@ -246,6 +255,7 @@ pub trait Network {
         listener: &mut Self::Listener,
         task: u64,
     ) -> Result<Poll<(Addr, Self::Sink, Self::Stream)>, Error>
+        ensures lasts { (start : E) → E.lasts start env.old → E.lasts start env.new }
         ensures gives { Notes (E.noted env.old) (λ x. polls_accept self.old listener.old task result self.new listener.new x) (E.noted env.new) }
         ensures spent { E.spare env.old ≤ E.spare env.new + most }
         ensures half { TakesIdle Self.Sink.sending Self.Stream.receiving result }

@@ -6,8 +6,8 @@ use rt_base::{
     DEFAULT_BLOB_VERSION, Env, Error, Event, Execution, Failed, IoKind, Ip, Items, ListSink,
     ListSource, MAX_TIME, MetricError, Name, NoEnv, NoMemory, Poll, ReadOptions, Refused, SafeSink,
     SafeSource, Sink8, SmallText, Source, StdSink, StdSource, Text, Unread, WriteOptions,
-    add_attribute, check_child_label, child_label, prefixed_name, read_retried, read_whole,
-    spawn_cell, validate_label, write_retried, write_whole,
+    add_attribute, check_child_label, child_label, error_text, prefixed_name, read_retried,
+    read_whole, spawn_cell, validate_label, write_retried, write_whole,
 };
 use std::alloc::Global;
 use std::io;
@@ -492,6 +492,25 @@ fn words_of_errors_and_addresses(rt: HostRuntime) {
     let ip = Ip::V6([0x2001, 0xdb8, 0, 0, 0, 0, 0, 0x1f]);
     add_addr(&rt, &mut said, ip, 0);
     assert!(rt; said.as_str() == WORDS, "{said}");
+}
+
+#[test]
+fn texts_of_errors_in_events(rt: HostRuntime) {
+    let rows = [
+        (Error::Closed, Some("closed")),
+        (Error::BindFailed, Some("bind failed")),
+        (Error::ConnectionFailed, Some("connection failed")),
+        (Error::SendFailed, Some("send failed")),
+        (Error::RecvFailed, Some("recv failed")),
+        (Error::PortsExhausted, Some("ports exhausted")),
+        (Error::ClockOverflow, Some("clock overflow")),
+        (Error::UnknownToken, Some("unknown token")),
+        (missing(&rt, rt.alloc()), Some("other")),
+        (Error::NoMemory, None),
+    ];
+    for (error, wanted) in &rows {
+        assert!(rt; error_text(error) == *wanted, "{error}");
+    }
 }
 
 const BAD_LABELS: &[&str] = &["", "9a", "_a", "a-b", "a b", "\u{e9}"];

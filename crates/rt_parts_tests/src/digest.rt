@@ -5,8 +5,8 @@ use crate::told::{holds, same};
 use rand_chacha::ChaCha12Rng;
 use rand_core::{Rng, SeedableRng};
 use rt_audit::{
-    AuditEnv, AuditHasher, Auditor, Crc32c, Entry, EventFields, EventLabel, Journal, Label, Order,
-    ShortLabel,
+    AuditEnv, AuditHasher, Auditor, Crc32c, Dice, Entry, EventFields, EventLabel, Journal, Label,
+    Note, Order, ShortLabel,
 };
 use rt_base::{Env, Event, Items, Text};
 use std::alloc::Global;
@@ -255,4 +255,19 @@ pub fn agree_on_an_event(rt: &impl Abort, alloc: Global) -> bool {
     let of_journal = told_journal(rt, alloc, entry(rt, alloc, "ok", &[3]));
     let next = ChaCha12Rng::seed_from_u64(7).next_u64();
     (of_env == auditor) & (of_journal == auditor) & (drawn == next)
+}
+
+/// Whether dice keep what they are told and what is drawn, and draw from their generator.
+pub fn note_all(rt: &impl Abort, alloc: Global) -> bool {
+    let mut dice = Dice::new(alloc, ChaCha12Rng::seed_from_u64(7));
+    dice.reserve(2).expect(rt, "room");
+    dice.event(event(rt, alloc, "ok", &[3]));
+    let drawn = dice.draw();
+    let next = ChaCha12Rng::seed_from_u64(7).next_u64();
+    match dice.notes.as_slice() {
+        [Note::Happened(event), Note::Drawn(number)] => {
+            (event.label.as_str() == "ok") & (*number == drawn) & (drawn == next)
+        }
+        _ => false,
+    }
 }

@@ -1,6 +1,6 @@
 // The line of each entry, and each call once.
 
-use crate::digest::{agree_on_an_event, in_place, kept, listed, push};
+use crate::digest::{agree_on_an_event, in_place, kept, listed, note_all, push};
 use crate::told::{holds, same};
 use rt_audit::{
     AnswerKind, Call, CallReply, Caller, Entry, EventFields, EventLabel, FinishCause, Journal,
@@ -298,7 +298,9 @@ fn is_order_shown(rt: &impl Abort, alloc: Global, numbers: &[u64]) {
 }
 
 fn is_numbered(rt: &impl Abort, alloc: Global, error: Error, number: u64) {
-    let refusal = Refusal::new(alloc, error).expect(rt, "room");
+    let mut refusal = Refusal::new(alloc, Error::Closed).expect(rt, "room");
+    same(rt, "a number", error_code(refusal.error()), 2);
+    refusal.set(error);
     same(rt, "a number", error_code(refusal.error()), number);
 }
 
@@ -309,6 +311,7 @@ fn surface(rt: HostRuntime) {
     have_words(&rt);
     holds(&rt, "entries", keeps_entries(&rt, alloc));
     holds(&rt, "an event", agree_on_an_event(&rt, alloc));
+    holds(&rt, "dice", note_all(&rt, alloc));
     fields_are_shown(&rt, alloc);
     shows(&rt, EventLabel::process_task(), "process_task");
     let named = label(&rt, alloc, "process_task");

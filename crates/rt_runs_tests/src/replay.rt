@@ -12,7 +12,7 @@ ghost use Rattle.rt_machine.specs.Ends.{open_in};
 
 use crate::numbers::{add_number, ends_next, has_number, remove_number};
 use crate::steady::Steady;
-use rt_audit::{AnswerKind, Call, FinishCause, Journal};
+use rt_audit::{AnswerKind, Call, FinishCause, Journal, SlotCall};
 use rt_base::{Error, MAX_TIME, Nanos, NoMemory};
 use rt_machine::Machine;
 use rt_model::{Begin, Outcome};
@@ -167,11 +167,11 @@ impl<'a> Replay<'a> {
         ensures runs { IfSome by (λ task. has_number task self.new.told.state.running ≡ true) }
     {
         match call {
-            Call::Slot => Ok(drop(self.machine.slot(by)?)),
-            Call::SlotSend { slot } => Ok(self.machine.slot_send(by, *slot)),
-            Call::SlotClose { slot } => Ok(self.machine.slot_close(by, *slot)),
-            Call::SlotGiveUp { slot } => Ok(self.machine.slot_give_up(by, *slot)),
-            Call::AbortWait { slot } => Ok(self.machine.abort_wait(by, *slot)),
+            Call::Slots(SlotCall::Make) => Ok(drop(self.machine.slot(by)?)),
+            Call::Slots(SlotCall::Send { slot }) => Ok(self.machine.slot_send(by, *slot)),
+            Call::Slots(SlotCall::Close { slot }) => Ok(self.machine.slot_close(by, *slot)),
+            Call::Slots(SlotCall::GiveUp { slot }) => Ok(self.machine.slot_give_up(by, *slot)),
+            Call::Slots(SlotCall::AbortWait { slot }) => Ok(self.machine.abort_wait(by, *slot)),
             call => self.call_on_signal(by, call),
         }
     }

@@ -1,7 +1,7 @@
 //! What the entries of a journal say to a replay.
 
 use crate::replay::Said;
-use rt_audit::{AnswerKind, Call, CallReply, Entry};
+use rt_audit::{AnswerKind, Call, CallReply, Entry, SlotCall};
 use rt_base::{Error, NoMemory};
 use std::alloc::Global;
 
@@ -53,7 +53,7 @@ fn answered<'a>(kind: AnswerKind) -> Option<Said<'a>> {
 fn called<'a>(call: &'a Call, reply: &CallReply) -> Said<'a> {
     match call {
         Call::SleepPoll { due } => Said::Sleep(due.nanos(), alarm_in(reply)),
-        Call::SlotPoll { slot } => Said::SlotPoll(*slot, !is_failed(reply)),
+        Call::Slots(SlotCall::Poll { slot }) => Said::SlotPoll(*slot, !is_failed(reply)),
         call => Said::Call(call),
     }
 }

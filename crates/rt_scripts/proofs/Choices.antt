@@ -1,21 +1,5 @@
 -- The names of a choice, and what is done with each.
-use Rattle.std.proofs.Common.{◌≡◌, ◌+◌, ◌-◌, ◌<◌, ◌≤◌, ℕ, suc, ℤ, Bool, true, false, eqb, List, [], ◌∷◌, refl, ap, arith, Option, Some, None}
-use Rattle.std.proofs.Common.{Result}
-use Rattle.rt_base.specs.declared.error.Error.{Error}
-use Rattle.rt_base.specs.declared.poll.Poll.{Poll}
-use Rattle.rt_base.specs.declared.poll.Poll.TheVariants.{Ready as IsReady, Pending as IsPending}
-use Rattle.rt_model.specs.Lists.{find, without}
-use Rattle.rt_model.specs.Turns.{with_task}
-use Rattle.rt_model.specs.Walk.{Step, Last, Gives, then, followed_by}
-use Rattle.rt_core.specs.Handles.{TaskHandle, task_polls}
-use Rattle.rt_world.specs.World.{World}
-use Rattle.rt_world.specs.Walked.{Goes, Spends}
-use Rattle.rt_world.proofs.Walked.{goes-on, spends-on, spent-nothing, walked-followed, walked-gives, walked-then}
-use Rattle.rt_scenario.specs.declared.scenario.ScriptText.{ScriptText}
-use Rattle.rt_scripts.specs.Program.{choice_at, choices_in, some_choices}
-use Rattle.rt_scripts.specs.Script.{Choosing, Script, Tries, aborted_at, aborts_chosen, aborts_of, as_handle, bound, decides, handle_at, leaves_choice, loosed, polls_choice, polls_chosen, polls_name, unless_ready, put_back, releases, releases_chosen, tried, tried_by, unchosen}
-use Rattle.rt_scripts.specs.declared.held.Held.{Held}
-use Rattle.rt_scripts.specs.declared.held.Held.TheVariants.{Handle}
+use Rattle.rt_scripts.proofs.Prelude.{◌≡◌, ◌+◌, ◌-◌, ◌<◌, ◌≤◌, ℕ, suc, ℤ, Bool, true, false, eqb, List, [], ◌∷◌, refl, ap, arith, Option, Some, None, Result, Error, Poll, IsReady, IsPending, find, without, with_task, Step, Last, Gives, then, followed_by, TaskHandle, task_polls, World, Goes, Spends, goes-on, spends-on, spent-nothing, walked-followed, walked-gives, walked-then, ScriptText, choice_at, choices_in, some_choices, Choosing, Script, Tries, aborted_at, aborts_chosen, aborts_of, as_handle, bound, decides, handle_at, leaves_choice, loosed, polls_choice, polls_chosen, polls_name, unless_ready, put_back, releases, releases_chosen, tried, tried_by, unchosen, Held, Handle}
 
 -- no name is left, or one more
 pub choices-none : (text : ScriptText) (first past : ℕ) → past ≤ first → choices_in text first past ≡ []
@@ -26,7 +10,7 @@ choices-more text first past some =
     let count : past - first ≡ suc (past - (first + 1)) = omega (arith, some) in
     ap (some_choices text first) count
 
-pub without-free : (k at : ℕ) (xs : List (ℕ × Held)) → find k xs ≡ None → find k (without at xs) ≡ None
+without-free : (k at : ℕ) (xs : List (ℕ × Held)) → find k xs ≡ None → find k (without at xs) ≡ None
 without-free k at [] none = refl
 without-free k at (x ∷ xs) none = grind (arith, without-free k at xs)
 

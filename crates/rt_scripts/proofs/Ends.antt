@@ -1,9 +1,5 @@
 -- How calls end.
-use Rattle.std.proofs.Common.{◌≡◌, ◌<◌, ◌+◌, ℕ, zero, suc, List, [], ◌∷◌, length, Option, Some, None, IfSome, true, false, refl, ap, inl, inr, arith}
-use Rattle.std.specs.Prelude.{nat_lt}
-use Rattle.std.proofs.lemmas.Bool.Decides.{nat_tests}
-use Rattle.rt_scripts.specs.Asked.{Asked, NoCommand, TooLong, asked_of, says_run, IsAsked, EndsAs}
-use Rattle.rt_scripts.specs.declared.outcome.Outcome.{Outcome}
+use Rattle.rt_scripts.proofs.Prelude.{◌≡◌, ◌<◌, ◌+◌, ℕ, zero, suc, List, [], ◌∷◌, length, Option, Some, None, IfSome, true, false, refl, ap, inl, inr, arith, nat_lt, nat_tests, Asked, NoCommand, TooLong, asked_of, says_run, IsAsked, EndsAs, Outcome}
 
 -- what is so of the outcome under each status is so of its end
 pub ends_as : (P Q : Outcome → Type 0) (text : List ℕ) (o : Outcome) (before after : Option (List ℕ)) → ((status : ℕ) → P (record o { status = status }) → Q (record o { status = status })) → EndsAs P text o before after → EndsAs Q text o before after

@@ -1,14 +1,7 @@
 -- The journal of a run decides what is kept of it.
-use Rattle.std.proofs.Common.{◌≡◌, ◌∙◌, ◌++◌, refl, sym, ap, subst}
-use Rattle.std.proofs.lemmas.List.{append_cancel_left}
-use Rattle.rand_core.specs.Stream.{Stream}
-use Rattle.rt_model.specs.State.{State, begun}
-use Rattle.rt_model.specs.Effects.{after_all}
-use Rattle.rt_model.specs.Tied.{Steps}
+use Rattle.rt_scripts.proofs.Prelude.{◌≡◌, ◌∙◌, ◌++◌, refl, sym, ap, subst, append_cancel_left, Stream, State, after_all, Steps, Completes, Starting, Kept, one_left}
+use Rattle.rt_model.specs.State.{begun}
 use Rattle.rt_machine.specs.Draws.{Gave}
-use Rattle.rt_core.specs.Outcome.{Completes}
-use Rattle.rt_core.specs.Starting.{Starting, Kept}
-use Rattle.rt_laws.proofs.Given.{one_left}
 
 module _ {A O G : Type 0} (stream : G → Stream) (p : Steps A O) (s : Starting G) where
   -- runs from one beginning that leave the same entries end in one state
@@ -23,5 +16,6 @@ module _ {A O G : Type 0} (stream : G → Stream) (p : Steps A O) (s : Starting 
   one_checkpoint one two kept other c d is =
       let end = same-end one two kept other c d is in
       let journal : s.given ++ c.entries ≡ s.given ++ d.entries = sym (ap (λ (k : Kept G). k.journal) c.keeps) ∙ is ∙ ap (λ (k : Kept G). k.journal) d.keeps in
-      let gave : Gave (stream s.rng) c.end.drawn (stream other.rng) = subst (λ (e : State). Gave (stream s.rng) e.drawn (stream other.rng)) (sym end) d.draws in
-      (d.keeps ∙ rw (← end, ← journal) refl ∙ sym (ap (λ (k : Kept G). record k { rng = other.rng }) c.keeps), one_left (stream s.rng) (stream other.rng) (stream kept.rng) c.end.drawn gave c.draws)
+      let entries = append_cancel_left s.given c.entries d.entries journal in
+      let gave : Gave (stream s.rng) (after_all (begun s.begin) c.entries).drawn (stream other.rng) = rw entries d.facts.draws in
+      (d.keeps ∙ rw (← end, ← journal) refl ∙ sym (ap (λ (k : Kept G). record k { rng = other.rng }) c.keeps), one_left (stream s.rng) (stream other.rng) (stream kept.rng) (after_all (begun s.begin) c.entries).drawn gave c.facts.draws)

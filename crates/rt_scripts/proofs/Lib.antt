@@ -1,5 +1,4 @@
 pub mod Choices
-pub mod Chosen
 pub mod Ends
 pub mod InOrder
 pub mod Kept
@@ -10,3 +9,4 @@ pub mod Scripts
 pub mod Written
 pub mod Worked
 pub mod WorkedTasks
+pub mod Prelude

@@ -1,16 +1,6 @@
 -- A maker goes on script by script.
-use Rattle.std.proofs.Common.{◌≡◌, ◌≢◌, ℕ, ℤ, List, [], ◌∷◌, length, Result, Ok, Err, refl, arith}
-use Rattle.rt_base.specs.declared.error.Error.{Error}
-use Rattle.rt_base.specs.declared.error.Error.TheVariants.{NoMemory as LacksMemory}
+use Rattle.rt_scripts.proofs.Prelude.{◌≡◌, ◌≢◌, ℕ, ℤ, List, [], ◌∷◌, length, Result, Ok, Err, refl, arith, Error, LacksMemory, World, Rooted, rooted-gives, Gives, Context, root_context, ScriptText, Making, Prepares, beside, besides, passed_over, Script}
 use Rattle.rt_base.specs.declared.no_memory.NoMemory.{NoMemory}
-use Rattle.rt_world.specs.World.{World}
-use Rattle.rt_world.specs.Walked.{Rooted}
-use Rattle.rt_world.proofs.Walked.{rooted-gives}
-use Rattle.rt_model.specs.Walk.{Gives}
-use Rattle.rt_core.specs.Contexts.{Context, root_context}
-use Rattle.rt_scenario.specs.declared.scenario.ScriptText.{ScriptText}
-use Rattle.rt_scripts.specs.Making.{Making, Prepares, beside, besides, passed_over}
-use Rattle.rt_scripts.specs.Script.{Script}
 
 -- steps that lead to others, and these go on so
 pub prepares-after : {G : Type 0} (step other next : Making) (old mid new : World Script ℤ G) (result : Result Context NoMemory) → ((end : World Script ℤ G) (root : Result Script NoMemory) → Rooted other mid end root → Rooted step old end root) → Prepares other next mid new result → Prepares step next old new result

@@ -1,16 +1,6 @@
 -- Reports that no runs have.
-use Rattle.std.proofs.Common.{◌≡◌, ◌∙◌, ◌+◌, ◌++◌, List, [], ◌∷◌, ℕ, suc, Bool, true, Some, None, length, refl, sym, ap, arith, append-nil, length-append}
-use Rattle.rand_chacha.specs.ChaCha.{ChaCha}
-use Rattle.rt_audit.specs.declared.entry.Entry.{Entry}
-use Rattle.rt_core.specs.Starting.{Starting, Kept, resumed}
-use Rattle.rt_core.specs.declared.run_error.RunError.{RunError}
-use Rattle.rt_scenario.specs.declared.scenario.RunLine.{RunLine}
-use Rattle.rt_scenario.specs.declared.scenario.ScriptText.{ScriptText}
-use Rattle.rt_scripts.specs.declared.outcome.RunReport.{RunReport}
-use Rattle.rt_scripts.specs.declared.outcome.RunResult.{RunResult}
-use Rattle.rt_scripts.specs.declared.outcome.RunResult.TheVariants.{Ok as Gave, Failed}
-use Rattle.rt_scripts.specs.Making.{Maker}
-use Rattle.rt_scripts.specs.Ran.{Chain, Comes, last_status, report_of, status_of}
+use Rattle.rt_scripts.proofs.Prelude.{◌≡◌, ◌∙◌, ◌+◌, ◌++◌, List, [], ◌∷◌, ℕ, suc, Bool, true, Some, None, length, refl, sym, ap, arith, length-append, ChaCha, Entry, Starting, Kept, resumed, RunError, RunLine, ScriptText, RunReport, RunResult, Gave, Failed, Maker, Chain, Comes, last_status, report_of, status_of}
+use Rattle.std.proofs.Common.{append-nil}
 use Rattle.rt_scripts.proofs.Runs.{kept-journal}
 
 module _ (scripts : List ScriptText) (from : Starting ChaCha) where

@@ -1,32 +1,8 @@
 -- Runs as a simulation reports them.
-use Rattle.std.proofs.Common.{subst, inl, ◌≡◌, ◌∙◌, ◌++◌, ◌∷◌, ◌≢◌, ℕ, ◌+◌, ◌≤◌, List, [], refl, sym, ap, ℤ, Bool, true, false, Option, Some, None, Ok as IsOk, ◌<◌, length, take, drop, All, arith, append_assoc, length-append, ltb, eqb}
-use Rattle.std.proofs.lemmas.List.{append-nil, take-append-drop, length-take-le}
-use Rattle.std.proofs.lemmas.List.Elements.{All-nil, All-cons, All-weaker}
-use Rattle.std.proofs.lemmas.Option.{slice_get-get_or}
-use Rattle.std.proofs.Math.Seq.{take-append_seam, drop-append_seam}
-use Rattle.rt_base.specs.declared.time.TheConstants.{MAX_TIME}
-use Rattle.rand_chacha.specs.ChaCha.{ChaCha}
-use Rattle.rt_audit.specs.Journal.{digest_of, last_time, rounds_in}
-use Rattle.rt_audit.proofs.Times.{rounds-append}
-use Rattle.rt_audit.specs.declared.journal.Journal.{Journal}
-use Rattle.rt_audit.specs.declared.entry.Entry.{Entry}
+use Rattle.rt_scripts.proofs.Prelude.{subst, inl, ◌≡◌, ◌∙◌, ◌++◌, ◌∷◌, ◌≢◌, ℕ, ◌+◌, ◌≤◌, List, [], refl, sym, ap, ℤ, Bool, true, false, Option, Some, None, IsOk, ◌<◌, length, take, drop, All, arith, append_assoc, length-append, ltb, eqb, append-nil, take-append-drop, length-take-le, All-nil, All-cons, All-weaker, slice_get-get_or, take-append_seam, drop-append_seam, MAX_TIME, ChaCha, digest_of, last_time, rounds_in, rounds-append, Journal, Entry, Completes, Fails, RunError, Starting, Kept, resumed, chacha_stream, assert_of, deadline_of, is_too_late, CanRun, CanRunLine, RunLine, Settings, ScriptText, RunReport, RunResult, Gave, Failed, Maker, no_text, text_at, HasFailed, Lacked, CameOf, HasScripts, root_steps, Comes, Makes, IsReported, Halts, Chain, report_of, maker_of, status_of, last_status, StandsIn}
 use Rattle.rt_model.specs.State.{begun}
-use Rattle.rt_core.specs.Outcome.{Completes, Fails, AreShuffled, AreAudited}
-use Rattle.rt_core.specs.declared.run_error.RunError.{RunError}
 use Rattle.rt_core.specs.declared.run_error.RunError.TheVariants.{NoMemory}
-use Rattle.rt_core.specs.Starting.{Starting, Kept, resumed, chacha_stream, assert_of, deadline_of, is_too_late}
-use Rattle.rt_scenario.specs.Scenario.{CanRun, CanRunLine}
-use Rattle.rt_scenario.specs.declared.scenario.RunLine.{RunLine}
-use Rattle.rt_scenario.specs.declared.scenario.Settings.{Settings}
-use Rattle.rt_scenario.specs.declared.scenario.ScriptText.{ScriptText}
-use Rattle.rt_scripts.specs.declared.outcome.RunReport.{RunReport}
-use Rattle.rt_scripts.specs.declared.outcome.RunResult.{RunResult}
-use Rattle.rt_scripts.specs.declared.outcome.RunResult.TheVariants.{Ok as Gave, Failed}
-use Rattle.rt_scripts.specs.Making.{Maker}
-use Rattle.rt_scenario.specs.Texts.{no_text, text_at}
-use Rattle.rt_scripts.specs.declared.simulate.Came.TheVariants.{Completed, Failed as HasFailed, Lacked}
-use Rattle.rt_scripts.specs.Ran.{CameOf, HasScripts, root_steps, Comes, Makes, IsReported, Halts, Chain, report_of, maker_of, status_of, last_status}
-use Rattle.rt_scripts.specs.Report.{StandsIn}
+use Rattle.rt_scripts.specs.declared.simulate.Came.TheVariants.{Completed}
 
 -- runs so far, and how the rest goes on
 module _ (scripts : List ScriptText) (first : Starting ChaCha) (lines : List RunLine) where
@@ -126,17 +102,15 @@ module _ (scripts : List ScriptText) (line : RunLine) (from : Starting ChaCha) (
     script = text_at scripts line.root;
     maker = maker_of scripts line;
     makes = makes-at scripts line there;
-    lacks = record { entries = []; extends = refl; failed = inl refl };
-    drawn = record { entries = []; extends = refl; drawn = tt; left = chacha_stream from.rng; draws = refl };
-    audited = record { entries = []; extends = refl; digested = tt };
+    lacks = record { entries = []; left = chacha_stream from.rng; extends = refl; failed = inl refl; facts = record { drawn = tt; draws = refl; digested = tt } };
   }
 
   made-at : (m : Maker) → m ≡ maker_of scripts line → Makes scripts line (text_at scripts line.root) m
   made-at m is = rw is (makes-at scripts line there)
 
   -- it gave an output
-  pub comes-whole : (m : Maker) (run : RunReport) (output : ℤ) (kept : Kept ChaCha) (place : ℕ) → m ≡ maker_of scripts line → Completes chacha_stream (root_steps m) from output kept → AreShuffled chacha_stream from kept.journal → AreAudited from kept.journal → place ≡ length from.given → run ≡ report_of (text_at scripts line.root).name (Gave output) kept.time (take place kept.journal) (drop place kept.journal) → CameOf scripts line from (Completed run kept)
-  comes-whole m run output kept place is completes drawn audited at ran =
+  pub comes-whole : (m : Maker) (run : RunReport) (output : ℤ) (kept : Kept ChaCha) (place : ℕ) → m ≡ maker_of scripts line → Completes chacha_stream (root_steps m) from output kept → place ≡ length from.given → run ≡ report_of (text_at scripts line.root).name (Gave output) kept.time (take place kept.journal) (drop place kept.journal) → CameOf scripts line from (Completed run kept)
+  comes-whole m run output kept place is completes at ran =
       let own = completes.entries in
       let journal = ap (λ (k : Kept ChaCha). k.journal) completes.keeps in
       rw ran (
@@ -147,15 +121,13 @@ module _ (scripts : List ScriptText) (line : RunLine) (from : Starting ChaCha) (
           maker = m;
           makes = made-at m is;
           comes = (journal, refl, completes);
-          drawn = subst (λ all. AreShuffled chacha_stream from all) journal drawn;
-          audited = subst (λ all. AreAudited from all) journal audited;
           is = reported-at (text_at scripts line.root).name (Gave output) kept.time place from.given own kept.journal journal at;
         },
       )
 
   -- it failed
-  pub comes-failed : (m : Maker) (run : RunReport) (journal : Journal) (error : RunError) (place : ℕ) → m ≡ maker_of scripts line → error ≢ NoMemory → Fails (root_steps m) from journal.entries error → AreShuffled chacha_stream from journal.entries → AreAudited from journal.entries → place ≡ length from.given → run ≡ report_of (text_at scripts line.root).name (Failed error) (last_time journal.entries) (take place journal.entries) (drop place journal.entries) → CameOf scripts line from (HasFailed run journal)
-  comes-failed m run journal error place is other fails drawn audited at ran =
+  pub comes-failed : (m : Maker) (run : RunReport) (journal : Journal) (error : RunError) (place : ℕ) → m ≡ maker_of scripts line → error ≢ NoMemory → Fails chacha_stream (root_steps m) from journal.entries error → place ≡ length from.given → run ≡ report_of (text_at scripts line.root).name (Failed error) (last_time journal.entries) (take place journal.entries) (drop place journal.entries) → CameOf scripts line from (HasFailed run journal)
+  comes-failed m run journal error place is other fails at ran =
       let own = fails.entries in
       rw ran (
         own,
@@ -164,25 +136,21 @@ module _ (scripts : List ScriptText) (line : RunLine) (from : Starting ChaCha) (
           script = text_at scripts line.root;
           maker = m;
           makes = made-at m is;
-          comes = (other, ap last_time (sym fails.extends), subst (λ all. Fails (root_steps m) from all error) fails.extends fails);
-          drawn = subst (λ all. AreShuffled chacha_stream from all) fails.extends drawn;
-          audited = subst (λ all. AreAudited from all) fails.extends audited;
+          comes = (other, ap last_time (sym fails.extends), subst (λ all. Fails chacha_stream (root_steps m) from all error) fails.extends fails);
           is = reported-at (text_at scripts line.root).name (Failed error) (last_time journal.entries) place from.given own journal.entries fails.extends at;
         },
       )
 
   -- it lacked memory
-  pub halts-at : (m : Maker) (journal : Journal) (error : RunError) → m ≡ maker_of scripts line → error ≡ NoMemory → Fails (root_steps m) from journal.entries error → AreShuffled chacha_stream from journal.entries → AreAudited from journal.entries → CameOf scripts line from (Lacked journal)
-  halts-at m journal error is lacked fails drawn audited = (
+  pub halts-at : (m : Maker) (journal : Journal) (error : RunError) → m ≡ maker_of scripts line → error ≡ NoMemory → Fails chacha_stream (root_steps m) from journal.entries error → CameOf scripts line from (Lacked journal)
+  halts-at m journal error is lacked fails = (
     fails.entries,
     fails.extends,
     record {
       script = text_at scripts line.root;
       maker = m;
       makes = made-at m is;
-      lacks = subst (λ cause. Fails (root_steps m) from (from.given ++ fails.entries) cause) lacked (subst (λ all. Fails (root_steps m) from all error) fails.extends fails);
-      drawn = subst (λ all. AreShuffled chacha_stream from all) fails.extends drawn;
-      audited = subst (λ all. AreAudited from all) fails.extends audited;
+      lacks = subst (λ cause. Fails chacha_stream (root_steps m) from (from.given ++ fails.entries) cause) lacked (subst (λ all. Fails chacha_stream (root_steps m) from all error) fails.extends fails);
     },
   )
 

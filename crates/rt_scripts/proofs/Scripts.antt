@@ -1,21 +1,5 @@
 -- A script goes on line by line.
-use Rattle.std.proofs.Common.{◌≡◌, ◌≢◌, ◌∷◌, ◌+◌, ◌≤◌, ◌<◌, ℕ, zero, suc, ℤ, List, [], drop, length, pos, refl, sym, ap, subst, ◌∙◌, arith, add-one, slice_get, Option, Some, None, IfNone, IfSome}
-use Rattle.std.proofs.lemmas.List.{drop_all}
-use Rattle.rt_base.specs.declared.error.Error.{Error}
-use Rattle.rt_base.specs.declared.error.Error.TheVariants.{NoMemory as LacksMemory}
-use Rattle.rt_model.specs.declared.answer.Answer.{Answer}
-use Rattle.rt_model.specs.declared.answer.Answer.TheVariants.{Ready, NoMemory}
-use Rattle.rt_model.specs.Lists.{find, without}
-use Rattle.rt_model.specs.Causes.{ends_next}
-use Rattle.rt_model.specs.Walk.{Gives, Last}
-use Rattle.rt_world.specs.Seats.{numbers_of}
-use Rattle.rt_world.specs.World.{World}
-use Rattle.rt_world.specs.Walked.{Advanced, Leads, Polled, Spends, Spent}
-use Rattle.rt_world.proofs.Walked.{leads-same, polled-gives, polled-lacks}
-use Rattle.rt_scenario.specs.declared.line.Line.{Line}
-use Rattle.rt_scripts.specs.Program.{line_at}
-use Rattle.rt_scripts.specs.Script.{Next, Script, goes_on, held_spends, lines_from, passed, polled, refused, releases_all, value_of}
-use Rattle.rt_scripts.specs.declared.held.Held.{Held}
+use Rattle.rt_scripts.proofs.Prelude.{◌≡◌, ◌≢◌, ◌∷◌, ◌+◌, ◌≤◌, ◌<◌, ℕ, zero, suc, ℤ, List, [], drop, length, pos, refl, sym, ap, subst, ◌∙◌, arith, add-one, slice_get, Option, Some, None, IfNone, IfSome, drop_all, Error, LacksMemory, Answer, Ready, NoMemory, find, without, ends_next, Gives, Last, numbers_of, World, Advanced, Leads, Polled, Spends, Spent, leads-same, polled-gives, polled-lacks, Line, line_at, Next, Script, goes_on, held_spends, lines_from, passed, polled, refused, releases_all, value_of, Held}
 
 module _ {G : Type 0} (s mid new : Script) (time task : ℕ) (old world end : World Script ℤ G) where
   -- a line more

@@ -1,35 +1,8 @@
 -- The journals of the worked examples are runs of their scripts, and their inputs are valid.
-use Rattle.std.proofs.Common.{◌≡◌, ◌≤◌, ◌<◌, ◌+◌, inl, inr, ℕ, ℤ, true, false, leb, ltb, [], ◌∷◌, ◌++◌, Option, Some, None, refl, arith, rules}
+use Rattle.rt_scripts.proofs.Prelude.{◌≡◌, ◌≤◌, ◌<◌, ◌+◌, inl, inr, ℕ, ℤ, true, false, leb, ltb, [], ◌∷◌, ◌++◌, Option, Some, None, refl, arith, rules, cases_Bool, IsPermutation-refl, MAX_TIME, AnswersPending, AnswersReady, SleepPoll, PendingAt, IsOver, Completed, Answered, Advance, Skip, Round, Visit, Event, Call, Fire, Wake, Pending, Ready, from_begin, process_task, task_fields, after, after_all, put, Gives, followed_by, then, Value, nothing, taken, IsTied, IsRun, IsValidInput, small_begin, closes_node, opening, visiting_root, still_asleep, awake_then, alarm_fires, root_ends, finishing, ready_journal, skipped_journal, short_journal, ends-tied, skipped_run, short_run, rounds, visiting, entered, visited, polling_gives, polling_sleeps, polling_wakes, fired, skips, woken, asleep_at, first_poll, first_polled, only, with_state, IsTied-append, sleep_for, sleep_heard, sleep_polls, Sleeper, End, Sleep, Sleeps, Maker, begun, besides, making, text_at, root_steps, Script, Next, aborted_in, aborts_chosen, freed_of, goes_on, passed, polled, ended, releases_all, releases_chosen, sleeps, slept, waiting}
 use Rattle.std.specs.Prelude.{pos}
-use Rattle.std.proofs.lemmas.Bool.{cases_Bool}
-use Rattle.std.proofs.lemmas.List.Sorted.{IsPermutation-refl}
-use Rattle.rt_base.specs.declared.time.TheConstants.{MAX_TIME}
-use Rattle.rt_audit.specs.declared.answer.AnswerKind.TheVariants.{Pending as AnswersPending, Ready as AnswersReady}
-use Rattle.rt_audit.specs.declared.call.Call.TheVariants.{SleepPoll}
-use Rattle.rt_audit.specs.declared.reply.CallReply.TheVariants.{PendingAt, Ready as IsOver}
-use Rattle.rt_audit.specs.declared.finish.FinishCause.TheVariants.{Completed}
-use Rattle.rt_audit.specs.declared.entry.Entry.TheVariants.{Answer as Answered, Advance, Skip, Round, Visit, Event, Call, Fire, Wake}
-use Rattle.rt_model.specs.declared.answer.Answer.TheVariants.{Pending, Ready}
-use Rattle.rt_model.specs.State.{begun as from_begin}
-use Rattle.rt_model.specs.Events.{process_task, task_fields}
-use Rattle.rt_model.specs.Effects.{after, after_all}
-use Rattle.rt_model.specs.Turns.{Held, put}
-use Rattle.rt_model.specs.Walk.{Gives, followed_by, then}
-use Rattle.rt_model.specs.Tied.{Value, nothing, taken, IsTied}
-use Rattle.rt_model.specs.Run.{IsRun, IsValidInput}
-use Rattle.rt_laws.specs.Examples.{small_begin, closes_node, opening, visiting_root, still_asleep, awake as awake_then, alarm_fires, root_ends, finishing, ready_journal, skipped_journal, short_journal}
-use Rattle.rt_laws.proofs.Runs.{ends-tied, skipped_run, short_run}
-use Rattle.rt_laws.proofs.Completing.{Completes, rounds, visiting, entered, visited, polling_gives, polling_sleeps, polling_wakes, fired, skips, woken}
-use Rattle.rt_laws.proofs.Valid.{asleep as asleep_at, first_poll, first_polled, only, with_state}
-use Rattle.rt_model.proofs.Append.{IsTied-append}
-use Rattle.rt_core.specs.Pollers.{sleep_for, sleep_heard, sleep_polls}
-use Rattle.rt_core.specs.Sleeper.{Sleeper}
-use Rattle.rt_scenario.specs.declared.line.Line.TheVariants.{End, Sleep}
-use Rattle.rt_scripts.specs.declared.script.Waits.TheVariants.{Sleeps}
-use Rattle.rt_scripts.specs.Making.{Maker, begun, besides, making}
-use Rattle.rt_scenario.specs.Texts.{text_at}
-use Rattle.rt_scripts.specs.Ran.{root_steps}
-use Rattle.rt_scripts.specs.Script.{Script, Next, aborted_in, aborts_chosen, freed_of, goes_on, passed, polled, ended, releases_all, releases_chosen, sleeps, slept, waiting}
+use Rattle.rt_model.specs.Turns.{Held}
+use Rattle.rt_laws.proofs.Completing.{any, Completes}
 
 -- a root without scripts beside it
 module _ (m : Maker) (alone : m.with ≡ []) where
@@ -67,7 +40,7 @@ module _ (m : Maker) (alone : m.with ≡ []) where
     ready-valid =
         let held : Held Script ℤ = nothing.held in
         first_poll (root_steps m) (begun m) made
-        (polling_gives (root_steps m) first_polled (with_state (begun m)) refl 0 [] (begun m) refl refl held (Ready number) (begun m) refl (λ text e. cc) (rw (polls 0 0) (refl, refl)) (λ e. absurd (cc)))
+        (polling_gives (any (root_steps m)) first_polled (with_state (begun m)) refl 0 [] (begun m) refl refl held (Ready number) (begun m) refl (λ text e. cc) (rw (polls 0 0) (refl, refl)) (λ e. absurd (cc)))
 
   -- one that sleeps first gives its number once the sleep is over
 
@@ -148,10 +121,10 @@ module _ (m : Maker) (alone : m.with ≡ []) where
           whole = refl;
         }
 
-    falls-asleep : 0 < due → due ≤ MAX_TIME → Completes (root_steps m) (asleep_at due 1000000) (holding asleep) → Completes (root_steps m) first_polled (holding (begun m))
+    falls-asleep : 0 < due → due ≤ MAX_TIME → Completes (any (root_steps m)) (asleep_at due 1000000) (holding asleep) → Completes (any (root_steps m)) first_polled (holding (begun m))
     unfolding from_begin after then sleep_polls
     falls-asleep later within more =
-        let p = root_steps m in
+        let p = any (root_steps m) in
         let s = after first_polled (Call (Some 0) (SleepPoll due) (PendingAt 0)) in
         let v = holding (begun m) in
         let w = holding asleep in
@@ -161,10 +134,10 @@ module _ (m : Maker) (alone : m.with ≡ []) where
 
     -- where its alarm goes off
 
-    wakes-up : (time : ℕ) → due ≤ time → Completes (root_steps m) (asleep_at due time) (holding asleep)
+    wakes-up : (time : ℕ) → due ≤ time → Completes (any (root_steps m)) (asleep_at due time) (holding asleep)
     unfolding from_begin after then sleep_polls goes_on
     wakes-up time late =
-        let p = root_steps m in
+        let p = any (root_steps m) in
         let s1 = asleep_at due time in
         let s2 = after s1 (Fire 0) in
         let s3 = after s2 (Wake 0) in
@@ -183,12 +156,12 @@ module _ (m : Maker) (alone : m.with ≡ []) where
 
     -- where the clock skips to it
 
-    skipped : 1000000 < due → Completes (root_steps m) (asleep_at due 1000000) (holding asleep)
+    skipped : 1000000 < due → Completes (any (root_steps m)) (asleep_at due 1000000) (holding asleep)
     unfolding from_begin after
     skipped later =
         let ahead : ltb 1000000 due ≡ true = grind arith in
         let early : leb due 1000000 ≡ false = grind arith in
-        skips (root_steps m) (asleep_at due 1000000) (holding asleep) refl due refl refl (rw early refl) (rw ahead refl) (rw ahead tt) (wakes-up due (omega arith))
+        skips (any (root_steps m)) (asleep_at due 1000000) (holding asleep) refl due refl refl (rw early refl) (rw ahead refl) (rw ahead tt) (wakes-up due (omega arith))
 
     pub sleeping-valid : 0 < due → due ≤ MAX_TIME → IsValidInput (root_steps m) small_begin
     sleeping-valid later within = elim (cases_Bool (leb due 1000000)) [

@@ -1,54 +1,11 @@
 -- The inputs of worked examples are valid whose scripts spawn others or stop their run.
-use Rattle.std.proofs.Common.{◌≡◌, ℕ, ℤ, List, [], ◌∷◌, None, true, false, Bool, eqb, eq-eqb, not, if◌then◌else◌, refl, ◌≤◌, ◌+◌, codes, Option, Some, ltb, Ok, arith}
-use Rattle.std.specs.Prelude.{pos, negsuc}
-use Rattle.std.specs.Int.{w32, cast_unsigned, to_be_bytes}
-use Rattle.rt_base.specs.Label.{is_label, is_reserved, prefixed}
-use Rattle.rt_base.specs.declared.error.Error.{Error}
-use Rattle.rt_base.specs.declared.error.Error.TheVariants.{Metric}
-use Rattle.rt_base.specs.declared.metric_error.MetricError.{MetricError}
-use Rattle.rt_base.specs.declared.metric_error.MetricError.TheVariants.{BadLabel, Reserved}
-use Rattle.rt_base.specs.declared.execution.Execution.TheVariants.{Shared}
-use Rattle.rt_base.specs.declared.time.TheConstants.{MAX_TIME}
-use Rattle.rt_base.specs.declared.poll.Poll.TheVariants.{Ready as IsMet}
-use Rattle.rt_audit.specs.declared.call.Call.TheVariants.{AbortTask, Child, CloseNode, GiveUp, Join, Stop, CompletionPoll, CompletionClose}
-use Rattle.rt_audit.specs.declared.reply.CallReply.TheVariants.{Done, Pending as StillPending, NodeAt, CompletionAt, Refused}
-use Rattle.rt_audit.specs.declared.entry.Entry.TheVariants.{Call as CallEntry, Event}
-use Rattle.rt_model.specs.declared.answer.Answer.{Answer}
-use Rattle.rt_model.specs.declared.answer.Answer.TheVariants.{Pending, Ready}
-use Rattle.rt_model.specs.Rules.{label_refusal}
-use Rattle.rt_model.specs.Turns.{Plain, Plainly, Spawning, Held}
-use Rattle.rt_model.specs.Walk.{Spends, Gives, followed_by, then}
-use Rattle.rt_model.specs.Tied.{Steps, Value, taken}
-use Rattle.rt_model.specs.Run.{IsValidInput}
-use Rattle.rt_model.specs.State.{State, begun as from_begin}
-use Rattle.rt_model.specs.Effects.{after}
-use Rattle.rt_super.specs.Ancestry.{first_record, is_known, is_live}
-use Rattle.rt_super.specs.Signals.{completion_answer}
-use Rattle.rt_world.specs.Walked.{tells}
-use Rattle.rt_core.specs.Contexts.{Context, child_name, childs, context_on, root_context, spawns as spawns_on}
-use Rattle.rt_core.specs.Handles.{handle_polls, handle_spends, task_handle}
-use Rattle.rt_core.specs.Pollers.{sleep_for, until}
-use Rattle.rt_core.specs.Signals.{completion_polls, completion_spends}
-use Rattle.rt_core.specs.Sleeper.{Sleeper}
-use Rattle.rt_core.specs.Stopping.{begins, limit_for, stage_spends, still, stop_polls, stop_spends}
-use Rattle.rt_core.specs.Timeouts.{timeout_polls, timeout_spends}
-use Rattle.rt_laws.specs.Examples.{small_begin}
-use Rattle.rt_laws.proofs.Supervising.{Calls, behind, placed, told, Replied, child_told, polling_spends, never}
-use Rattle.rt_laws.proofs.ValidAborting.{JoinsAborted, heard_behind, handed_valid, closed_valid}
-use Rattle.rt_laws.proofs.ValidSide.{beside_valid}
-use Rattle.rt_laws.proofs.Announcing.{polling_announces}
-use Rattle.rt_laws.proofs.Completing.{Completes, polling_does, polling_gives}
-use Rattle.rt_laws.proofs.OneTask.{one_child, alive}
-use Rattle.rt_laws.proofs.Valid.{with_state, first_polled, first_poll}
-use Rattle.rt_scenario.specs.declared.line.Line.{Line}
-use Rattle.rt_scenario.specs.declared.line.Line.TheVariants.{AbortSelf, End, EndLast, Join as JoinLine, Pend, Spawn, Stop as StopLine, StopWithin}
-use Rattle.rt_scenario.specs.declared.scenario.ScriptText.{ScriptText}
-use Rattle.rt_scenario.specs.Texts.{text_at}
-use Rattle.rt_scripts.specs.declared.held.Held.TheVariants.{Handle}
-use Rattle.rt_scripts.specs.Making.{Maker, begun, beside, besides, making}
-use Rattle.rt_scripts.specs.Program.{name_at}
-use Rattle.rt_scripts.specs.Ran.{root_steps}
-use Rattle.rt_scripts.specs.Script.{Script, aborted_in, aborts_chosen, aborts_itself, bound, ended, freed_of, goes_on, joins, loosed, passed, polled, releases_all, releases_chosen, roomed, spawns, started, Next, stop_goes, stops, unheld}
+use Rattle.rt_scripts.proofs.Prelude.{◌≡◌, ℕ, ℤ, List, [], ◌∷◌, None, true, false, Bool, eqb, eq-eqb, not, if◌then◌else◌, refl, ◌≤◌, ◌+◌, codes, Option, Some, ltb, Ok, arith, negsuc, cast_unsigned, to_be_bytes, is_label, is_reserved, prefixed, Error, Metric, MetricError, BadLabel, Reserved, Shared, MAX_TIME, IsMet, AbortTask, Child, CloseNode, GiveUp, Join, Stop, CompletionPoll, CompletionClose, Done, StillPending, NodeAt, CompletionAt, Refused, CallEntry, Event, Answer, Pending, Ready, label_refusal, Plain, Plainly, Spawning, Gives, followed_by, then, Steps, Value, taken, IsValidInput, State, from_begin, after, first_record, is_known, is_live, completion_answer, tells, Context, child_name, childs, context_on, root_context, spawns_on, handle_polls, handle_spends, task_handle, sleep_for, until, completion_polls, completion_spends, Sleeper, begins, limit_for, stage_spends, still, stop_polls, stop_spends, timeout_polls, timeout_spends, small_begin, Calls, behind, told, Replied, child_told, polling_spends, never, JoinsAborted, heard_behind, handed_valid, closed_valid, beside_valid, polling_announces, polling_does, polling_gives, one_child, alive, with_state, first_polled, first_poll, Line, AbortSelf, End, EndLast, JoinLine, Pend, Spawn, StopLine, StopWithin, ScriptText, text_at, Handle, Maker, begun, beside, besides, making, name_at, root_steps, Script, aborted_in, aborts_chosen, aborts_itself, bound, ended, freed_of, goes_on, joins, loosed, passed, polled, releases_all, releases_chosen, roomed, spawns, started, Next, stop_goes, stops, unheld}
+use Rattle.std.specs.Prelude.{pos}
+use Rattle.std.specs.Int.{w32}
+use Rattle.rt_model.specs.Turns.{Held}
+use Rattle.rt_model.specs.Walk.{Spends}
+use Rattle.rt_laws.proofs.Supervising.{placed}
+use Rattle.rt_laws.proofs.Completing.{Course, any, Completes}
 use Rattle.rt_scripts.proofs.Worked.{made}
 
 -- a script as it is spawned on a child of the root that has this name
@@ -172,7 +129,7 @@ module _ (m : Maker) (alone : m.with ≡ []) (at script : ℕ) (lines : (text_at
   pending-valid task_lines = left-valid m alone at script lines (Pend ∷ []) Pending task_lines (λ s. refl) refl
 
 -- what is replied to a stop, and to a poll of a completion that is met
-module _ {A O : Type 0} (q : Steps A O) (s : State) (v : Value A O) (by : Option ℕ) where
+module _ {A O : Type 0} (q : Course A O) (s : State) (v : Value A O) (by : Option ℕ) where
   stop_told : (value : ℤ) → Completes q (after s (CallEntry by (Stop value) (CompletionAt s.signals.count))) v → Replied q s v by (Plainly (Stop value))
   stop_told value more (CompletionAt completion) m held f = rw m more
   stop_told value more _ m held f = absurd m
@@ -182,8 +139,8 @@ module _ {A O : Type 0} (q : Steps A O) (s : State) (v : Value A O) (by : Option
 
 -- a script that stops the run at its first line, maybe within a limit, and ends at the second
 module _ (m : Maker) (alone : m.with ≡ []) (value number : ℤ) (limit : Option ℕ) (goes : polled (begun m) 0 0 ≡ stops (begun m) (λ next. goes_on (End number ∷ []) next 0 0) value limit 0 0) where
-  abbrev q : Steps Script ℤ
-  q = root_steps m
+  abbrev q : Course Script ℤ
+  q = any (root_steps m)
 
   -- what it does behind its child, and behind the stop
   abbrev placed_stop : ℕ → Next
@@ -235,16 +192,16 @@ module _ (m : Maker) (alone : m.with ≡ []) (value number : ℤ) (limit : Optio
         let end : Next = Spends (Plainly (CloseNode child)) ready_then in
         let lives : is_live (one_child child) child ≡ true = alive child fresh in
         let gives : Completes q s5 v = polling_gives q s5 v refl 0 [] (begun m) refl refl now (Ready number) (passed (begun m) (pos 0)) refl (λ text e. cc) (rw asks ((refl, tt), rw stop ((refl, tt), rw poll ((refl, tt), rw close (λ there. (refl, refl, (λ there. (refl, refl, (refl, refl)), λ gone. never (is_live (one_child child) child) lives gone)), λ gone. absurd (cc)))))) (λ e. absurd (cc)) in
-        let closes : Completes q s4 v = polling_spends q s4 v refl 0 [] (begun m) refl refl now (Plainly (CloseNode child)) ready_then (rw asks ((refl, tt), rw stop ((refl, tt), rw poll ((refl, tt), rw close (λ there. (refl, refl, (refl, refl)), λ gone. absurd (cc)))))) (λ reply. refl) lives gives in
-        let frees : Completes q s3 v = polling_spends q s3 v refl 0 [] (begun m) refl refl now (Plainly (CompletionClose 1)) end (rw asks ((refl, tt), rw stop ((refl, tt), rw poll ((refl, tt), (close, refl))))) (λ reply. refl) refl closes in
-        let polls : Completes q s2 v = polling_does q s2 v refl 0 [] (begun m) refl refl now (Plainly (CompletionPoll 1)) (behind (stopped child)) (rw asks ((refl, tt), rw stop ((refl, tt), (poll, refl)))) (λ reply. refl) (met_told q s2 v (Some 0) 1 refl frees) in
-        polling_announces q s v refl refl 0 [] (begun m) refl refl now (Plainly (Stop value)) (behind (placed_stop child)) (codes "stop") fields (rw asks ((refl, tt), (stop, refl))) (λ reply. refl) (stop_told q s1 v (Some 0) value polls)
+        let closes : Completes q s4 v = polling_spends q s4 v refl 0 [] (begun m) refl refl now (Plainly (CloseNode child)) ready_then (rw asks ((refl, tt), rw stop ((refl, tt), rw poll ((refl, tt), rw close (λ there. (refl, refl, (refl, refl)), λ gone. absurd (cc)))))) (λ stood reply. refl) lives gives in
+        let frees : Completes q s3 v = polling_spends q s3 v refl 0 [] (begun m) refl refl now (Plainly (CompletionClose 1)) end (rw asks ((refl, tt), rw stop ((refl, tt), rw poll ((refl, tt), (close, refl))))) (λ stood reply. refl) refl closes in
+        let polls : Completes q s2 v = polling_does q s2 v refl 0 [] (begun m) refl refl now (Plainly (CompletionPoll 1)) (behind (stopped child)) (rw asks ((refl, tt), rw stop ((refl, tt), (poll, refl)))) (λ stood reply. refl) (met_told q s2 v (Some 0) 1 refl frees) in
+        polling_announces q s v refl refl 0 [] (begun m) refl refl now (Plainly (Stop value)) (behind (placed_stop child)) (codes "stop") fields (rw asks ((refl, tt), (stop, refl))) (λ stood reply. refl) (stop_told q s1 v (Some 0) value polls)
 
-    stops-valid : IsValidInput q small_begin
+    stops-valid : IsValidInput (root_steps m) small_begin
     unfolding from_begin after
     stops-valid =
-        first_poll q (begun m) (made m alone)
-        (polling_does q first_polled v refl 0 [] (begun m) refl refl (taken 0 v.held) (Plainly (Child 0 (codes "stop"))) (behind (polled (begun m) 0 0)) (asks-stopper, refl) (λ reply. refl) (child_told q first_polled v (Some 0) 0 (codes "stop") refl stops-at-once (λ error e. let none : Some error ≡ None = e in absurd (cc))))
+        first_poll (root_steps m) (begun m) (made m alone)
+        (polling_does q first_polled v refl 0 [] (begun m) refl refl (taken 0 v.held) (Plainly (Child 0 (codes "stop"))) (behind (polled (begun m) 0 0)) (asks-stopper, refl) (λ stood reply. refl) (child_told q first_polled v (Some 0) 0 (codes "stop") refl stops-at-once (λ error e. let none : Some error ≡ None = e in absurd (cc))))
 
 module _ (m : Maker) (alone : m.with ≡ []) (value number : ℤ) where
   pub stopping-valid : (text_at m.program m.root).lines ≡ StopLine value ∷ End number ∷ [] → IsValidInput (root_steps m) small_begin

@@ -1,12 +1,5 @@
 -- Texts that are written through a buffer.
-use Rattle.std.proofs.Common.{◌≡◌, ℕ, List, [], ◌∷◌, ◌++◌, Option, Some, None, Result, Ok, Err, OnErr, refl, sym, ap, subst, ◌∙◌, append_assoc, codes, take, drop}
-use Rattle.std.proofs.lemmas.List.{append-nil, take-append-drop}
-use Rattle.rt_base.specs.Outside.{Appends}
-use Rattle.rt_base.proofs.Outsides.{appends_more}
-use Rattle.rt_audit.specs.declared.entry.Entry.{Entry}
-use Rattle.rt_audit.specs.Lines.{line_of}
-use Rattle.rt_scripts.specs.Report.{IsWritten, IsPart, entries_text, result_text, numbers_text, report_text}
-use Rattle.rt_scripts.specs.declared.outcome.RunReport.{RunReport}
+use Rattle.rt_scripts.proofs.Prelude.{◌≡◌, ℕ, List, [], ◌∷◌, ◌++◌, Option, Some, None, Result, Ok, Err, OnErr, refl, sym, ap, subst, ◌∙◌, append_assoc, codes, take, drop, append-nil, take-append-drop, Appends, appends_more, Entry, line_of, IsWritten, IsPart, entries_text, result_text, numbers_text, report_text, RunReport}
 
 pub appends_nothing : (held : Option (List ℕ)) → Appends held [] held
 appends_nothing None = tt

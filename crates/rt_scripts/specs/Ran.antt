@@ -7,7 +7,7 @@ use Rattle.rt_audit.specs.Journal.{digest_of, last_time, rounds_in}
 use Rattle.rt_model.specs.Tied.{Steps, with_first}
 use Rattle.rt_core.specs.declared.run_error.RunError.TheVariants.{NoMemory}
 use Rattle.rt_core.specs.Starting.{Starting, Kept, first_begin, resumed, seeded, default_seed, chacha_stream}
-use Rattle.rt_core.specs.Outcome.{Completes, Fails, AreShuffled, AreAudited}
+use Rattle.rt_core.specs.Outcome.{Completes, Fails}
 use Rattle.rt_scenario.specs.declared.scenario.RunLine.{RunLine}
 use Rattle.rt_scenario.specs.declared.scenario.Scenario.{Scenario}
 use Rattle.rt_scenario.specs.declared.scenario.Settings.{Settings}
@@ -52,7 +52,7 @@ abbrev pub Comes : Maker → Starting ChaCha → List Entry → ℕ → RunResul
 Comes m s entries time (Ok output) (Some kept) =
     (kept.journal ≡ s.given ++ entries) × (kept.time ≡ time) × Completes chacha_stream (root_steps m) s output kept
 Comes m s entries time (Failed error) None =
-    (error ≢ NoMemory) × (last_time (s.given ++ entries) ≡ time) × Fails (root_steps m) s (s.given ++ entries) error
+    (error ≢ NoMemory) × (last_time (s.given ++ entries) ≡ time) × Fails chacha_stream (root_steps m) s (s.given ++ entries) error
 Comes m s entries time result kept = ⊥
 
 -- these entries are those of a run that ran out of memory
@@ -60,9 +60,7 @@ pub record Halts (scripts : List ScriptText) (line : RunLine) (from : Starting C
   pub script : ScriptText
   pub maker : Maker
   pub makes : Makes scripts line script maker
-  pub lacks : Fails (root_steps maker) from (from.given ++ entries) NoMemory
-  pub drawn : AreShuffled chacha_stream from (from.given ++ entries)
-  pub audited : AreAudited from (from.given ++ entries)
+  pub lacks : Fails chacha_stream (root_steps maker) from (from.given ++ entries) NoMemory
 
 -- the report of a run of these entries, which are in the journal after those that were given
 abbrev pub report_of : List ℕ → RunResult → ℕ → List Entry → List Entry → RunReport
@@ -82,8 +80,6 @@ pub record IsReported (scripts : List ScriptText) (line : RunLine) (from : Start
   pub maker : Maker
   pub makes : Makes scripts line script maker
   pub comes : Comes maker from entries run.time run.result kept
-  pub drawn : AreShuffled chacha_stream from (from.given ++ entries)
-  pub audited : AreAudited from (from.given ++ entries)
   pub is : run ≡ report_of script.name run.result run.time from.given entries
 
 -- the run of a line from this beginning has come to this, and these are all entries

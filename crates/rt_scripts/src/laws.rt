@@ -6,15 +6,14 @@ ghost use Rattle.rand_core.specs.Stream.{Stream};
 ghost use Rattle.rt_audit.specs.declared.entry.Entry.{Entry};
 ghost use Rattle.rt_audit.specs.declared.finish.FinishCause.TheVariants.{Completed};
 ghost use Rattle.rt_base.specs.declared.time.TheConstants.{MAX_TIME};
-ghost use Rattle.rt_core.specs.Outcome.{Completes};
+ghost use Rattle.rt_core.specs.Outcome.{Completes, IsValid};
 ghost use Rattle.rt_core.specs.Starting.{Kept, Starting};
 ghost use Rattle.rt_core.specs.declared.run_error.RunError.{RunError};
-ghost use Rattle.rt_laws.specs.Chained.{BeginInOrder};
+ghost use Rattle.rt_laws.specs.Drawing.{NeverGives, moody_root};
 ghost use Rattle.rt_laws.specs.Examples.{small_begin, ready_journal, skipped_journal, short_journal};
-ghost use Rattle.rt_model.specs.declared.begin.Begin.{Begin};
 ghost use Rattle.rt_model.specs.Effects.{after_all};
 ghost use Rattle.rt_model.specs.Run.{IsRun, IsValidInput};
-ghost use Rattle.rt_model.specs.Runs.{AreLawful, runs_from};
+ghost use Rattle.rt_model.specs.Runs.{AreLawful};
 ghost use Rattle.rt_model.specs.State.{begun};
 ghost use Rattle.rt_model.specs.Tied.{Steps, nothing};
 ghost use Rattle.rt_scenario.specs.Texts.{text_at};
@@ -39,6 +38,12 @@ pub fn reports_tell_the_runs_of_all_lines()
 /// The journal of a completed run decides what is kept of it, except for how a generator that gives the same is kept.
 pub fn a_journal_decides_its_checkpoint<A, O, G>()
     ensures { (stream : G → Stream) (p : Steps A O) (s : Starting G) (one two : O) (kept other : Kept G) → Completes stream p s one kept → Completes stream p s two other → kept.journal ≡ other.journal → (other ≡ record kept { rng = other.rng }) × (stream other.rng ≡ stream kept.rng) }
+{}
+
+/// A root that draws a number, and pends where that is 1, is valid as the run contract asks it for each generator that never
+/// gives 1.
+pub fn a_root_is_valid_for_its_generator<G>()
+    ensures { (stream : G → Stream) (s : Starting G) → s.begin ≡ small_begin → NeverGives 1 (stream s.rng) → IsValid stream moody_root s }
 {}
 
 /// A script that ends at its first line gives its number and has the journal of a root that does so (`ready`), and so has one that
@@ -68,7 +73,7 @@ pub fn scripts_with_tasks_are_valid()
     ensures pending { (m : Maker) → m.with ≡ [] → (at script : ℕ) → (text_at m.program m.root).lines ≡ Spawn at script ∷ Join at ∷ EndLast ∷ [] → (text_at m.program script).lines ≡ AbortSelf ∷ Pend ∷ [] → IsValidInput (root_steps m) small_begin }
 {}
 
-/// The entries of a scenario's runs are lawful one run after another, and no run begins before the end of the one before it.
+/// The entries of a scenario's runs are lawful one run after another, each of which begins at the end of the one before it.
 pub fn runs_of_a_scenario_begin_in_order()
-    ensures { (whole : Bool) (scripts : List ScriptText) (from : Starting ChaCha) (lines : List RunLine) (runs : List RunReport) (entries : List Entry) → Chain whole scripts from lines runs entries → (later : List Begin) × AreLawful (runs_from from.begin later) entries × BeginInOrder (runs_from from.begin later) entries }
+    ensures { (whole : Bool) (scripts : List ScriptText) (from : Starting ChaCha) (lines : List RunLine) (runs : List RunReport) (entries : List Entry) → Chain whole scripts from lines runs entries → AreLawful (begun from.begin) entries }
 {}

@@ -70,7 +70,7 @@ fn are_lawful(alloc: Global, catch: bool, entries: &[Entry]) -> Result<bool, NoM
     let Some(begin) = entries.first().and_then(|start| begin_in(start, catch)) else {
         return Ok(false);
     };
-    Ok(first_unlawful(alloc, begin, &[], entries)?.is_none())
+    Ok(first_unlawful(alloc, begin, entries)?.is_none())
 }
 
 /// Whether the lines of these entries are these.

@@ -1,8 +1,8 @@
 -- Fields that a checksum takes in, one list after the other.
 use Rattle.std.proofs.Common.{◌≡◌, ℕ, List, [], ◌∷◌, ◌++◌, ap, sym, subst, ◌∙◌, append_assoc, append-nil, Vec, Global}
 use Rattle.std.specs.List.{flat_map}
-use Rattle.rt_audit.specs.Crc32c.{register_of}
-use Rattle.rt_audit.specs.Framing.{framed}
+use Rattle.rt_hasher.specs.Crc32c.{register_of}
+use Rattle.rt_hasher.specs.Framing.{framed}
 use Rattle.rt_store.proofs.Named.{Owned, shown}
 use Rattle.rt_store.specs.Audit.{TakesFields}
 

@@ -2,8 +2,8 @@
 use Rattle.std.specs.Prelude.{◌≡◌, ℕ, List, [], ◌∷◌, ◌++◌, Option, None, Some, slice_get}
 use Rattle.std.specs.Int.{w16, to_be_bytes}
 use Rattle.std.specs.List.{flat_map}
-use Rattle.rt_audit.specs.Crc32c.{register_of}
-use Rattle.rt_audit.specs.Framing.{framed}
+use Rattle.rt_hasher.specs.Crc32c.{register_of}
+use Rattle.rt_hasher.specs.Framing.{framed}
 use Rattle.rt_store.specs.Directory.{Names}
 use Rattle.rt_store.specs.File.{FileState}
 use Rattle.rt_store.specs.Store.{StoreState}

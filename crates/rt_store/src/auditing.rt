@@ -5,7 +5,7 @@ ghost use Rattle.rt_store.specs.Audit.{TakesFields, blob_fields, names_fields, p
 use crate::directory::Directory;
 use crate::files::Files;
 use crate::names::Names;
-use rt_audit::AuditHasher;
+use rt_hasher::AuditHasher;
 
 /// Takes the fields of all blobs in, in the order of partitions and names.
 pub fn audit_all(directory: &Directory, files: &Files, hasher: &mut AuditHasher)

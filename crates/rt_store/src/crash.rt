@@ -38,6 +38,7 @@ pub fn redo<E: Env>(
     requires room { All (HasRoom (vec_capacity content.old)) later.now }
     requires draws { 2 * length later.now ≤ E.spare env.old }
     requires places { vec_len choices.old + length later.now ≤ vec_capacity choices.old }
+    ensures lasts { (start : E) → E.lasts start env.old → E.lasts start env.new }
     ensures gives { (cs : List Choice) × Chooses faults.now (mutations later.now) cs (E.noted env.old) (E.noted env.new) × (choices.new.items ≡ choices.old.items ++ cs) × (content.new.items ≡ replay (mutations later.now) cs content.old.items) }
     ensures spent { E.spare env.old ≤ E.spare env.new + 2 * length later.now }
     ensures used { vec_len choices.new ≡ vec_len choices.old + length later.now }
@@ -78,6 +79,7 @@ fn replay_one(content: &mut Vec<u8>, choice: Choice, mutation: &Mutation)
 // What becomes of a change.
 fn choose<E: Env>(env: &mut E, faults: &FaultConfig, mutation: &Mutation) -> Choice
     requires { 2 ≤ E.spare env.old }
+    ensures lasts { (start : E) → E.lasts start env.old → E.lasts start env.new }
     ensures gives { Notes (E.noted env.old) (Chosen faults.now mutation.now result) (E.noted env.new) }
     ensures spent { E.spare env.old ≤ E.spare env.new + 2 }
 {
@@ -99,6 +101,7 @@ fn choose<E: Env>(env: &mut E, faults: &FaultConfig, mutation: &Mutation) -> Cho
 // Kept or dropped, by a number where it may be kept.
 fn choose_whole<E: Env>(env: &mut E, keep: u32) -> Choice
     requires { 1 ≤ E.spare env.old }
+    ensures lasts { (start : E) → E.lasts start env.old → E.lasts start env.new }
     ensures gives { Notes (E.noted env.old) (ResizeChosen keep result) (E.noted env.new) }
     ensures spent { E.spare env.old ≤ E.spare env.new + 1 }
 {
@@ -117,6 +120,7 @@ fn choose_whole<E: Env>(env: &mut E, keep: u32) -> Choice
 fn choose_write<E: Env>(env: &mut E, config: &WriteConfig, len: usize) -> Choice
     requires room { 2 ≤ E.spare env.old }
     requires fits { len < 2 ^ 63 }
+    ensures lasts { (start : E) → E.lasts start env.old → E.lasts start env.new }
     ensures gives { Notes (E.noted env.old) (WriteChosen config.now.keep config.now.partial len result) (E.noted env.new) }
     ensures spent { E.spare env.old ≤ E.spare env.new + 2 }
 {

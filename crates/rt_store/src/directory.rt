@@ -97,6 +97,7 @@ impl Directory {
     ) -> usize
         requires draws { 2 * count_later files.old ≤ E.spare env.old }
         requires places { vec_len choices.old + count_later files.old ≤ vec_capacity choices.old }
+        ensures lasts { (start : E) → E.lasts start env.old → E.lasts start env.new }
         ensures gives { (cs : List Choice) × ChoosesAll faults.now (named_numbers self.now) files.old cs (E.noted env.old) (E.noted env.new) × (choices.new.items ≡ choices.old.items ++ cs) × (files.new ≡ all_crashed (named_numbers self.now) cs files.old) }
         ensures later { count_later files.new + result ≡ count_later files.old }
         ensures spent { E.spare env.old ≤ E.spare env.new + 2 * result }
@@ -121,6 +122,7 @@ impl Directory {
     ) -> usize
         requires draws { 2 * count_later files.old ≤ E.spare env.old }
         requires places { vec_len choices.old + count_later files.old ≤ vec_capacity choices.old }
+        ensures lasts { (start : E) → E.lasts start env.old → E.lasts start env.new }
         ensures gives { (cs : List Choice) × ChoosesAll faults.now (numbers_of (slice_get self.now.shelves shelf)) files.old cs (E.noted env.old) (E.noted env.new) × (choices.new.items ≡ choices.old.items ++ cs) × (files.new ≡ all_crashed (numbers_of (slice_get self.now.shelves shelf)) cs files.old) }
         ensures later { count_later files.new + result ≡ count_later files.old }
         ensures spent { E.spare env.old ≤ E.spare env.new + 2 * result }
@@ -165,6 +167,7 @@ impl Directory {
         number: u64,
     ) -> Result<(), Error>
         requires { 0 < rate → 0 < E.spare env.old }
+        ensures lasts { (start : E) → E.lasts start env.old → E.lasts start env.new }
         ensures gives { Notes (E.noted env.old) (Answers None rate (λ _. ⊤) result) (E.noted env.new) }
         ensures after { self.new ≡ if_ok result (named partition.now name.now number self.old) self.old }
         ensures spent { E.spare env.old ≤ E.spare env.new + 1 }

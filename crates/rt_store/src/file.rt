@@ -102,6 +102,7 @@ impl File {
         mutation: Mutation,
     ) -> Result<usize, Error>
         requires { 0 < rate → 0 < E.spare env.old }
+        ensures lasts { (start : E) → E.lasts start env.old → E.lasts start env.new }
         ensures gives { Notes (E.noted env.old) (Answers None rate (λ _. ⊤) result) (E.noted env.new) }
         ensures later { IfOk result (λ n. (n ≤ 1) × (length self.new.later ≡ length self.old.later + n)) }
         ensures after { self.new ≡ if_ok result (mutated mutation self.old) self.old }
@@ -130,6 +131,7 @@ impl File {
         requires draw { 0 < rate → 0 < E.spare env.old }
         requires fits { end_of mutation.now < 2 ^ 63 }
         requires settled { is_settled mutation.now self.old ≡ true }
+        ensures lasts { (start : E) → E.lasts start env.old → E.lasts start env.new }
         ensures gives { Notes (E.noted env.old) (Answers None rate (λ _. ⊤) result) (E.noted env.new) }
         ensures none { IfOk result (λ n. n ≡ 0) }
         ensures after { self.new ≡ if_ok result (mutated mutation.now self.old) self.old }
@@ -155,6 +157,7 @@ impl File {
         requires draw { 0 < rate → 0 < E.spare env.old }
         requires fits { end_of mutation < 2 ^ 63 }
         requires opened { is_settled mutation self.old ≡ false }
+        ensures lasts { (start : E) → E.lasts start env.old → E.lasts start env.new }
         ensures gives { Notes (E.noted env.old) (Answers None rate (λ _. ⊤) result) (E.noted env.new) }
         ensures one { IfOk result (λ n. n ≡ 1) }
         ensures after { self.new ≡ if_ok result (mutated mutation self.old) self.old }
@@ -208,6 +211,7 @@ impl File {
     ) -> usize
         requires draws { 2 * length self.old.later ≤ E.spare env.old }
         requires places { vec_len choices.old + length self.old.later ≤ vec_capacity choices.old }
+        ensures lasts { (start : E) → E.lasts start env.old → E.lasts start env.new }
         ensures gives { (cs : List Choice) × Chooses faults.now self.old.later cs (E.noted env.old) (E.noted env.new) × (choices.new.items ≡ choices.old.items ++ cs) × (self.new ≡ crashed cs self.old) }
         ensures spent { E.spare env.old ≤ E.spare env.new + 2 * length self.old.later }
         ensures used { vec_len choices.new ≡ vec_len choices.old + length self.old.later }
@@ -290,6 +294,7 @@ fn begin<E: Env>(
     requires draw { 0 < rate → 0 < E.spare env.old }
     requires fits { end_of mutation.now < 2 ^ 63 }
     requires within { len ≤ length held.old.items }
+    ensures lasts { (start : E) → E.lasts start env.old → E.lasts start env.new }
     ensures gives { Notes (E.noted env.old) (Answers None rate (λ _. ⊤) result) (E.noted env.new) }
     ensures undoes { IfOk result (λ b. undone b (laid mutation.now len held.old.items) ≡ held.old.items) }
     ensures len { IfOk result (λ b. b.len ≡ len) }

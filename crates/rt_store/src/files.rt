@@ -127,6 +127,7 @@ impl Files {
         mutation: Mutation,
     ) -> Result<usize, Error>
         requires { 0 < rate → 0 < E.spare env.old }
+        ensures lasts { (start : E) → E.lasts start env.old → E.lasts start env.new }
         ensures gives { Notes (E.noted env.old) (Answers (refusal_at (live self.old blob.now) (end_refusal (end_of mutation))) rate (λ _. ⊤) result) (E.noted env.new) }
         ensures later { IfOk result (λ n. (n ≤ 1) × (count_later self.new ≡ count_later self.old + n)) }
         ensures after { self.new ≡ if_ok result (at_blob self.old blob.now.place (mutated mutation) (live self.old blob.now)) self.old }
@@ -206,6 +207,7 @@ impl Files {
     ) -> usize
         requires draws { 2 * count_later self.old ≤ E.spare env.old }
         requires places { vec_len choices.old + count_later self.old ≤ vec_capacity choices.old }
+        ensures lasts { (start : E) → E.lasts start env.old → E.lasts start env.new }
         ensures gives { (cs : List Choice) × Chooses faults.now (later_at self.old place) cs (E.noted env.old) (E.noted env.new) × (choices.new.items ≡ choices.old.items ++ cs) × (self.new ≡ at_place self.old place (crashed cs)) }
         ensures later { count_later self.new + result ≡ count_later self.old }
         ensures spent { E.spare env.old ≤ E.spare env.new + 2 * result }
@@ -228,6 +230,7 @@ impl Files {
     ) -> usize
         requires draws { 2 * count_later self.old ≤ E.spare env.old }
         requires places { vec_len choices.old + count_later self.old ≤ vec_capacity choices.old }
+        ensures lasts { (start : E) → E.lasts start env.old → E.lasts start env.new }
         ensures gives { (cs : List Choice) × ChoosesAll faults.now (numbers names.now) self.old cs (E.noted env.old) (E.noted env.new) × (choices.new.items ≡ choices.old.items ++ cs) × (self.new ≡ all_crashed (numbers names.now) cs self.old) }
         ensures later { count_later self.new + result ≡ count_later self.old }
         ensures spent { E.spare env.old ≤ E.spare env.new + 2 * result }

@@ -21,6 +21,7 @@ pub fn find<E: Env>(
     name: Option<&[u8]>,
 ) -> Result<(), Error>
     requires { 0 < rate → 0 < E.spare env.old }
+    ensures lasts { (start : E) → E.lasts start env.old → E.lasts start env.new }
     ensures gives { Notes (E.noted env.old) (Answers (name_refusal directory.now partition.now (option_copied name.entry)) rate (λ _. ⊤) result) (E.noted env.new) }
     ensures spent { E.spare env.old ≤ E.spare env.new + 1 }
 {

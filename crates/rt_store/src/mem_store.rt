@@ -3,7 +3,7 @@ ghost use Rattle.std.specs.Prelude.{◌≡◌, ◌+◌, ◌*◌, ◌<◌, ◌≤
 ghost use Rattle.std.specs.Borrow.{sem};
 ghost use Rattle.std.specs.Option.{option_copied};
 ghost use Rattle.rt_base.specs.Counted.{counted, Counts, Notes};
-ghost use Rattle.rt_audit.specs.Digest.{fields_digest};
+ghost use Rattle.rt_hasher.specs.Digest.{fields_digest};
 ghost use Rattle.rt_store.specs.Answered.{CountsStart, StartsOrLacks};
 ghost use Rattle.rt_store.specs.Audit.{audit_fields};
 ghost use Rattle.rt_store.specs.Calls.{IsNow, KeepsRoom, Reads, ReadsMany, ReadsInOrder, Writes, Resizes, Syncs, Saves, Opens, Removes, Scans, IsOpened, started, default_range, blob_of, many_refusal, with_blob, after_write, after_resize, after_sync, after_open, after_remove, without_blob, without_blobs, open_refusal};
@@ -32,12 +32,12 @@ use crate::snapshot::Snapshot;
 use crate::storage::Storage;
 use crate::store::{draw, range_of, take_draw};
 use crate::ticket::{Done, Ticket, copy_of};
-use rt_audit::AuditHasher;
 use rt_base::{
     BlobVersion, Choice, DEFAULT_BLOB_VERSION, Env, Error, NoMemory, Poll, ReadOptions,
     WriteOptions,
 };
 use rt_bufs::{IoBufMut, IoBufs, IoBufsMut};
+use rt_hasher::AuditHasher;
 use std::alloc::Global;
 use std::marker::Model;
 
@@ -188,6 +188,7 @@ impl MemStore {
     pub fn crash<E: Env>(&mut self, env: &mut E, choices: &mut Vec<Choice>)
         requires draws { 2 * count_later self.old.state.files ≤ E.spare env.old }
         requires places { vec_len choices.old + count_later self.old.state.files ≤ vec_capacity choices.old }
+        ensures lasts { (start : E) → E.lasts start env.old → E.lasts start env.new }
         ensures gives { (cs : List Choice) × ChoosesAll self.old.faults (named_numbers self.old.state.directory) self.old.state.files cs (E.noted env.old) (E.noted env.new) × (choices.new.items ≡ choices.old.items ++ cs) × (self.new ≡ moved_to self.old (after_crash self.old.state cs)) }
         ensures spent { E.spare env.old ≤ E.spare env.new + 2 * count_later self.old.state.files }
         ensures places { vec_capacity choices.new ≡ vec_capacity choices.old }
@@ -252,6 +253,7 @@ impl MemStore {
         bufs: Option<IoBufsMut>,
     ) -> Result<IoBufsMut, Error>
         requires { IfSome bufs (λ b. len ≤ b.capacity) }
+        ensures lasts { (start : E) → E.lasts start env.old → E.lasts start env.new }
         ensures room { IfSome bufs (λ b. KeepsRoom b result) }
         ensures len { IfOk result (λ b. length b.bytes ≡ len) }
         ensures gives { Notes (E.noted env.old) (Reads self.now blob.now offset len result) (E.noted env.new) }
@@ -297,6 +299,7 @@ impl MemStore {
         blob: &Blob,
         ranges: &[(u64, usize)],
     ) -> Result<Vec<IoBufsMut>, Error>
+        ensures lasts { (start : E) → E.lasts start env.old → E.lasts start env.new }
         ensures gives { Notes (E.noted env.old) (ReadsInOrder self.now blob.now ranges.now result) (E.noted env.new) }
         ensures len { IfOk result (λ bufs. HaveLengths ranges.now bufs.items) }
         ensures spent { E.spare env.old ≤ E.spare env.new + 1 }
@@ -320,6 +323,7 @@ impl MemStore {
         blob: &Blob,
         ranges: &[(u64, usize)],
     ) -> Result<Vec<(usize, IoBufsMut)>, Error>
+        ensures lasts { (start : E) → E.lasts start env.old → E.lasts start env.new }
         ensures gives { Notes (E.noted env.old) (ReadsMany self.now blob.now ranges.now result) (E.noted env.new) }
         ensures whole { IfOk result (λ reads. IsWhole (length ranges.now) reads.items) }
         ensures each { IfOk result (λ reads. length reads.items ≡ length ranges.now) }
@@ -348,6 +352,7 @@ impl MemStore {
         bufs: IoBufs,
         options: WriteOptions,
     ) -> Result<Done, Error>
+        ensures lasts { (start : E) → E.lasts start env.old → E.lasts start env.new }
         ensures now { IfOk result IsNow }
         ensures gives { Notes (E.noted env.old) (Writes self.old blob.now offset bufs.bytes result) (E.noted env.new) }
         ensures after { self.new ≡ moved_to self.old (if_ok result (after_write self.old blob.now offset bufs.bytes options) self.old.state) }
@@ -369,6 +374,7 @@ impl MemStore {
 
     // Changes the length.
     fn set_len<E: Env>(&mut self, env: &mut E, blob: &Blob, len: u64) -> Result<(), Error>
+        ensures lasts { (start : E) → E.lasts start env.old → E.lasts start env.new }
         ensures gives { Notes (E.noted env.old) (Resizes self.old blob.now len result) (E.noted env.new) }
         ensures after { self.new ≡ moved_to self.old (if_ok result (after_resize self.old blob.now len) self.old.state) }
         ensures spent { E.spare env.old ≤ E.spare env.new + 1 }
@@ -389,6 +395,7 @@ impl MemStore {
         mutation: Mutation,
     ) -> Result<(), Error>
         requires { 0 < rate → 0 < E.spare env.old }
+        ensures lasts { (start : E) → E.lasts start env.old → E.lasts start env.new }
         ensures gives { Notes (E.noted env.old) (Answers (refusal_at (blob_of self.old blob.now) (end_refusal (end_of mutation))) rate (λ _. ⊤) result) (E.noted env.new) }
         ensures after { self.new ≡ moved_to self.old (if_ok result (with_blob self.old blob.now (mutated mutation)) self.old.state) }
         ensures spent { E.spare env.old ≤ E.spare env.new + 1 }
@@ -405,6 +412,7 @@ impl MemStore {
     // Syncs a blob: its base becomes its content.
     #[tactic(auto, using(crate::proofs::Leading::keeps_synced))]
     fn save<E: Env>(&mut self, env: &mut E, blob: &Blob) -> Result<(), Error>
+        ensures lasts { (start : E) → E.lasts start env.old → E.lasts start env.new }
         ensures gives { Notes (E.noted env.old) (Saves self.old blob.now result) (E.noted env.new) }
         ensures after { self.new ≡ moved_to self.old (if_ok result (after_sync self.old blob.now) self.old.state) }
         ensures spent { E.spare env.old ≤ E.spare env.new + 1 }
@@ -422,6 +430,7 @@ impl MemStore {
 
     // Syncs a blob, with the answer of a call that may wait.
     fn save_now<E: Env>(&mut self, env: &mut E, blob: &Blob) -> Result<Done, Error>
+        ensures lasts { (start : E) → E.lasts start env.old → E.lasts start env.new }
         ensures now { IfOk result IsNow }
         ensures gives { Notes (E.noted env.old) (Syncs self.old blob.now result) (E.noted env.new) }
         ensures after { self.new ≡ moved_to self.old (if_ok result (after_sync self.old blob.now) self.old.state) }
@@ -438,6 +447,7 @@ impl MemStore {
         partition: &str,
         name: &[u8],
     ) -> Result<(Blob, u64), Error>
+        ensures lasts { (start : E) → E.lasts start env.old → E.lasts start env.new }
         ensures gives { Notes (E.noted env.old) (Opens self.old partition.now name.now result) (E.noted env.new) }
         ensures after { self.new ≡ moved_to self.old (if_ok result (after_open self.old.state partition.now name.now default_range) self.old.state) }
         ensures spent { E.spare env.old ≤ E.spare env.new + 1 }
@@ -454,6 +464,7 @@ impl MemStore {
         partition: &str,
         name: Option<&[u8]>,
     ) -> Result<(), Error>
+        ensures lasts { (start : E) → E.lasts start env.old → E.lasts start env.new }
         ensures gives { Notes (E.noted env.old) (Removes self.old partition.now (option_copied name.entry) result) (E.noted env.new) }
         ensures after { self.new ≡ moved_to self.old (if_ok result (after_remove self.old.state partition.now (option_copied name.entry)) self.old.state) }
         ensures spent { E.spare env.old ≤ E.spare env.new + 1 }
@@ -495,6 +506,7 @@ impl MemStore {
     // The names of a partition.
     #[tactic(auto, using(crate::proofs::Named::none_ascend))]
     fn list<E: Env>(&self, env: &mut E, partition: &str) -> Result<Vec<Vec<u8>>, Error>
+        ensures lasts { (start : E) → E.lasts start env.old → E.lasts start env.new }
         ensures gives { Notes (E.noted env.old) (Scans self.now partition.now result) (E.noted env.new) }
         ensures spent { E.spare env.old ≤ E.spare env.new + 1 }
     {
@@ -518,6 +530,7 @@ impl MemStore {
         name: &[u8],
         versions: (BlobVersion, BlobVersion),
     ) -> Result<(Blob, u64, BlobVersion), Error>
+        ensures lasts { (start : E) → E.lasts start env.old → E.lasts start env.new }
         ensures gives { Notes (E.noted env.old) (Answers (open_refusal self.old.state partition.now name.now versions) self.old.faults.open_rate (IsOpened self.old.state partition.now name.now versions) result) (E.noted env.new) }
         ensures after { self.new ≡ moved_to self.old (if_ok result (after_open self.old.state partition.now name.now versions) self.old.state) }
         ensures spent { E.spare env.old ≤ E.spare env.new + 1 }

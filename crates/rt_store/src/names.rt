@@ -93,6 +93,7 @@ impl Names {
         number: u64,
     ) -> Result<(), Error>
         requires draw { 0 < rate → 0 < E.spare env.old }
+        ensures lasts { (start : E) → E.lasts start env.old → E.lasts start env.new }
         ensures gives { Notes (E.noted env.old) (Answers None rate (λ _. ⊤) result) (E.noted env.new) }
         ensures after { self.new ≡ if_ok result (put_name name.items number self.old) self.old }
         ensures spent { E.spare env.old ≤ E.spare env.new + 1 }
@@ -112,6 +113,7 @@ fn put_number<E: Env>(
     number: u64,
 ) -> Result<(), Error>
     requires draw { 0 < rate → 0 < E.spare env.old }
+    ensures lasts { (start : E) → E.lasts start env.old → E.lasts start env.new }
     ensures gives { Notes (E.noted env.old) (Answers None rate (λ _. ⊤) result) (E.noted env.new) }
     ensures after { numbers.new.entries ≡ if_ok result (insert_entry (λ a b. slice_cmp nat_cmp a.items b.items) numbers.old.entries name number) numbers.old.entries }
     ensures spent { E.spare env.old ≤ E.spare env.new + 1 }

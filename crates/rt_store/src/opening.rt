@@ -36,6 +36,7 @@ pub fn reopen<E: Env>(
     versions: (BlobVersion, BlobVersion),
 ) -> Result<(u64, BlobVersion), Error>
     requires { 0 < rate → 0 < E.spare env.old }
+    ensures lasts { (start : E) → E.lasts start env.old → E.lasts start env.new }
     ensures gives { Notes (E.noted env.old) (Answers (open_refusal_of partition.now name.now versions (Some file.now)) rate (λ a. (a.0 ≡ length file.now.content) × (a.1 ≡ file.now.version)) result) (E.noted env.new) }
     ensures spent { E.spare env.old ≤ E.spare env.new + 1 }
 {

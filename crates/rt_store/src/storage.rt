@@ -78,6 +78,7 @@ pub trait Storage {
         ranges: usize,
         more: usize,
     ) -> Result<(), NoMemory>
+        ensures lasts { (start : E) → E.lasts start env.old → E.lasts start env.new }
         ensures room { OnOk result (most * calls + per_range * ranges + more ≤ E.spare env.new) }
         ensures kept { E.spare env.old ≤ E.spare env.new }
         ensures noted { E.noted env.new ≡ E.noted env.old };
@@ -92,6 +93,7 @@ pub trait Storage {
         versions: (BlobVersion, BlobVersion),
     ) -> Result<(Self::Blob, u64, BlobVersion), Error>
         requires { versions.0.version ≤ versions.1.version }
+        ensures lasts { (start : E) → E.lasts start env.old → E.lasts start env.new }
         ensures gives { Notes (E.noted env.old) (λ x. opens_versioned self.old partition.now name.now versions result self.new x) (E.noted env.new) }
         ensures spent { E.spare env.old ≤ E.spare env.new + most }
         ensures counts { Counts (refusals self.old) (refusals self.new) result };
@@ -103,6 +105,7 @@ pub trait Storage {
         partition: &str,
         name: &[u8],
     ) -> Result<(Self::Blob, u64), Error>
+        ensures lasts { (start : E) → E.lasts start env.old → E.lasts start env.new }
         ensures gives { Notes (E.noted env.old) (λ x. opens self.old partition.now name.now result self.new x) (E.noted env.new) }
         ensures spent { E.spare env.old ≤ E.spare env.new + most }
         ensures counts { Counts (refusals self.old) (refusals self.new) result };
@@ -115,12 +118,14 @@ pub trait Storage {
         partition: &str,
         name: Option<&[u8]>,
     ) -> Result<(), Error>
+        ensures lasts { (start : E) → E.lasts start env.old → E.lasts start env.new }
         ensures gives { Notes (E.noted env.old) (λ x. removes self.old partition.now (option_copied name.entry) result self.new x) (E.noted env.new) }
         ensures spent { E.spare env.old ≤ E.spare env.new + most }
         ensures counts { Counts (refusals self.old) (refusals self.new) result };
 
     /// Returns the names of the blobs of a partition, in the order of their bytes.
     fn scan<E: Env>(&mut self, env: &mut E, partition: &str) -> Result<Vec<Vec<u8>>, Error>
+        ensures lasts { (start : E) → E.lasts start env.old → E.lasts start env.new }
         ensures gives { Notes (E.noted env.old) (λ x. scans self.old partition.now result self.new x) (E.noted env.new) }
         ensures spent { E.spare env.old ≤ E.spare env.new + most }
         ensures counts { Counts (refusals self.old) (refusals self.new) result };
@@ -134,6 +139,7 @@ pub trait Storage {
         len: usize,
         options: ReadOptions,
     ) -> Result<IoBufsMut, Error>
+        ensures lasts { (start : E) → E.lasts start env.old → E.lasts start env.new }
         ensures gives { Notes (E.noted env.old) (λ x. reads self.old blob.now offset len options result self.new x) (E.noted env.new) }
         ensures len { IfOk result (λ b. length b.bytes ≡ len) }
         ensures spent { E.spare env.old ≤ E.spare env.new + most }
@@ -151,6 +157,7 @@ pub trait Storage {
         options: ReadOptions,
     ) -> Result<IoBufsMut, Error>
         requires { len ≤ bufs.capacity }
+        ensures lasts { (start : E) → E.lasts start env.old → E.lasts start env.new }
         ensures gives { Notes (E.noted env.old) (λ x. reads_into self.old blob.now offset len bufs options result self.new x) (E.noted env.new) }
         ensures len { IfOk result (λ b. length b.bytes ≡ len) }
         ensures spent { E.spare env.old ≤ E.spare env.new + most }
@@ -165,6 +172,7 @@ pub trait Storage {
         ranges: &[(u64, usize)],
         options: ReadOptions,
     ) -> Result<Vec<(usize, IoBufsMut)>, Error>
+        ensures lasts { (start : E) → E.lasts start env.old → E.lasts start env.new }
         ensures gives { Notes (E.noted env.old) (λ x. reads_many self.old blob.now ranges.now options result self.new x) (E.noted env.new) }
         ensures whole { IfOk result (λ reads. IsWhole (length ranges.now) reads.items) }
         ensures each { IfOk result (λ reads. length reads.items ≡ length ranges.now) }
@@ -180,6 +188,7 @@ pub trait Storage {
         ranges: &[(u64, usize)],
         options: ReadOptions,
     ) -> Result<Vec<IoBufsMut>, Error>
+        ensures lasts { (start : E) → E.lasts start env.old → E.lasts start env.new }
         ensures gives { Notes (E.noted env.old) (λ x. reads_in_order self.old blob.now ranges.now options result self.new x) (E.noted env.new) }
         ensures len { IfOk result (λ bufs. HaveLengths ranges.now bufs.items) }
         ensures spent { E.spare env.old ≤ E.spare env.new + (most + per_range * length ranges.now) }
@@ -194,18 +203,21 @@ pub trait Storage {
         bufs: IoBufs,
         options: WriteOptions,
     ) -> Result<Done, Error>
+        ensures lasts { (start : E) → E.lasts start env.old → E.lasts start env.new }
         ensures gives { Notes (E.noted env.old) (λ x. writes self.old blob.now offset bufs options result self.new x) (E.noted env.new) }
         ensures spent { E.spare env.old ≤ E.spare env.new + most }
         ensures counts { CountsDone (refusals self.old) (refusals self.new) result };
 
     /// Cuts the blob to `len` bytes, or extends it with zeros.
     fn resize<E: Env>(&mut self, env: &mut E, blob: &Self::Blob, len: u64) -> Result<(), Error>
+        ensures lasts { (start : E) → E.lasts start env.old → E.lasts start env.new }
         ensures gives { Notes (E.noted env.old) (λ x. resizes self.old blob.now len result self.new x) (E.noted env.new) }
         ensures spent { E.spare env.old ≤ E.spare env.new + most }
         ensures counts { Counts (refusals self.old) (refusals self.new) result };
 
     /// Makes all changes of the blob durable.
     fn sync<E: Env>(&mut self, env: &mut E, blob: &Self::Blob) -> Result<Done, Error>
+        ensures lasts { (start : E) → E.lasts start env.old → E.lasts start env.new }
         ensures gives { Notes (E.noted env.old) (λ x. syncs self.old blob.now result self.new x) (E.noted env.new) }
         ensures spent { E.spare env.old ≤ E.spare env.new + most }
         ensures counts { CountsDone (refusals self.old) (refusals self.new) result };
@@ -213,6 +225,7 @@ pub trait Storage {
     /// Starts a sync of the blob, and returns its ticket. Any answer that is there at once is in the ticket: the call
     /// itself is refused with `NoMemory` or `UnknownToken` alone.
     fn start_sync<E: Env>(&mut self, env: &mut E, blob: &Self::Blob) -> Result<Ticket, Error>
+        ensures lasts { (start : E) → E.lasts start env.old → E.lasts start env.new }
         ensures gives { Notes (E.noted env.old) (λ x. starts_sync self.old blob.now result self.new x) (E.noted env.new) }
         ensures spent { E.spare env.old ≤ E.spare env.new + most }
         ensures refused { StartsOrLacks result }
@@ -227,6 +240,7 @@ pub trait Storage {
         ticket: &mut Ticket,
         task: u64,
     ) -> Poll<Result<(), Error>>
+        ensures lasts { (start : E) → E.lasts start env.old → E.lasts start env.new }
         ensures gives { Notes (E.noted env.old) (λ x. polls_sync self.old ticket.old task result self.new ticket.new x) (E.noted env.new) }
         ensures spent { E.spare env.old ≤ E.spare env.new + most }
         ensures ticket { PollsTicket ticket.old result ticket.new }

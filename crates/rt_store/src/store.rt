@@ -9,6 +9,7 @@ use rt_base::{Env, Error, IoKind, NoMemory};
 
 /// Takes the room of a draw, where the rate is above 0.
 pub fn take_draw<E: Env>(env: &mut E, rate: u32) -> Result<(), NoMemory>
+    ensures lasts { (start : E) → E.lasts start env.old → E.lasts start env.new }
     ensures room { OnOk result (0 < rate → 0 < E.spare env.new) }
     ensures kept { E.spare env.old ≤ E.spare env.new }
     ensures noted { E.noted env.new ≡ E.noted env.old }
@@ -39,6 +40,7 @@ pub fn range_of(content: &[u8], offset: u64, len: usize) -> Result<&[u8], Error>
 /// Draws where the rate is above 0, and is refused by a fault.
 pub fn draw<E: Env>(env: &mut E, rate: u32) -> Result<(), Error>
     requires { 0 < rate → 0 < E.spare env.old }
+    ensures lasts { (start : E) → E.lasts start env.old → E.lasts start env.new }
     ensures gives { Notes (E.noted env.old) (Answers None rate (λ _. ⊤) result) (E.noted env.new) }
     ensures spent { E.spare env.old ≤ E.spare env.new + 1 }
 {

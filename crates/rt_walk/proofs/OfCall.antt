@@ -5,7 +5,7 @@ use Rattle.rt_audit.specs.declared.call.Call.{Call}
 use Rattle.rt_audit.specs.declared.call.Call.TheVariants.{Stop, Stopped, NextU32, NextU64, FillBytes}
 use Rattle.rt_audit.specs.declared.reply.CallReply.{CallReply}
 use Rattle.rt_audit.specs.declared.reply.CallReply.TheVariants.{Done}
-use Rattle.rt_model.specs.State.{Announced}
+use Rattle.rt_model.specs.State.{Announced, Stood}
 use Rattle.rt_model.specs.Events.{announced_by, IsOfCall}
 
 -- the fields are this value
@@ -61,9 +61,9 @@ label-in (event ∷ events) = event.label
 rand-stop : codes "rand" ≡ codes "stop" → ⊥
 rand-stop e = let first : 114 ≡ 115 = ap (λ label. get_or label 0 0) e in omega (arith, first)
 
-module _ (announced : List Announced) (label : List ℕ) (fields : List (List ℕ)) (none : announced ≡ []) where
+module _ (stood : Stood) (announced : List Announced) (label : List ℕ) (fields : List (List ℕ)) (none : announced ≡ []) where
   abbrev IsIt : Call → CallReply → Type 0
-  IsIt call reply = announced_by call reply ≡ record { label = label; fields = fields } ∷ []
+  IsIt call reply = announced_by stood call reply ≡ record { label = label; fields = fields } ∷ []
 
   stop-value : label ≡ codes "stop" → (call : Call) (reply : CallReply) → IsIt call reply → (value : ℤ) × Holds fields value
   stop-value is (Stop value) reply e = (value, sym (ap fields-in e))
@@ -89,16 +89,16 @@ module _ (announced : List Announced) (label : List ℕ) (fields : List (List �
   draw-name is Stopped reply e = let other : codes "stopped" ≡ codes "rand" = ap label-in e ∙ is in let long = ap length other in absurd (cc)
   draw-name is _ reply e = absurd (cc)
 
-  draw-of : label ≡ codes "rand" → Names fields → IsOfCall announced label fields
+  draw-of : label ≡ codes "rand" → Names fields → IsOfCall stood announced label fields
   draw-of is (inl name) = (NextU32, Done, rw (none, is, name) refl)
   draw-of is (inr (inl name)) = (NextU64, Done, rw (none, is, name) refl)
   draw-of is (inr (inr name)) = (FillBytes 0, Done, rw (none, is, name) refl)
 
-  pub stop-decides : (r : Bool) → label ≡ codes "stop" → (IsTrue r ↔ ((value : ℤ) × Holds fields value)) → IsTrue r ↔ IsOfCall announced label fields
+  pub stop-decides : (r : Bool) → label ≡ codes "stop" → (IsTrue r ↔ ((value : ℤ) × Holds fields value)) → IsTrue r ↔ IsOfCall stood announced label fields
   stop-decides r is h = ((λ t. let v = h.0 t in (Stop v.0, Done, rw (none, is, v.1) refl)), (λ o. h.1 (stop-value is o.0 o.1 (rw none at o.2))))
 
-  pub stopped-decides : (r : Bool) → label ≡ codes "stopped" → (IsTrue r ↔ (fields ≡ [])) → IsTrue r ↔ IsOfCall announced label fields
+  pub stopped-decides : (r : Bool) → label ≡ codes "stopped" → (IsTrue r ↔ (fields ≡ [])) → IsTrue r ↔ IsOfCall stood announced label fields
   stopped-decides r is h = ((λ t. (Stopped, Done, rw (none, is, h.0 t) refl)), (λ o. h.1 (stopped-none is o.0 o.1 (rw none at o.2))))
 
-  pub draw-decides : (r : Bool) → label ≡ codes "rand" → (IsTrue r ↔ Names fields) → IsTrue r ↔ IsOfCall announced label fields
+  pub draw-decides : (r : Bool) → label ≡ codes "rand" → (IsTrue r ↔ Names fields) → IsTrue r ↔ IsOfCall stood announced label fields
   draw-decides r is h = ((λ t. draw-of is (h.0 t)), (λ o. h.1 (draw-name is o.0 o.1 (rw none at o.2))))

@@ -6,17 +6,17 @@ use Rattle.std.proofs.Common.{Result, Ok, Err, IfOk}
 use Rattle.rt_audit.specs.declared.answer.AnswerKind.{AnswerKind}
 use Rattle.rt_audit.specs.declared.answer.AnswerKind.TheVariants.{Pending, Ready, Panicked, Stopped, NoMemory, Ended}
 use Rattle.rt_audit.specs.declared.call.Call.{Call}
-use Rattle.rt_audit.specs.declared.call.Call.TheVariants.{Abort, AbortTask, Child, CloseNode, GiveUp, Join, Spawn, Wake as WakeCall, SleepPoll, Slot, SlotSend, SlotClose, SlotPoll, SlotGiveUp, AbortWait}
+use Rattle.rt_audit.specs.declared.call.Call.TheVariants.{Abort, AbortTask, Child, CloseNode, GiveUp, Join, Spawn, Wake as WakeCall, SleepPoll, Slots}
 use Rattle.rt_audit.specs.declared.reply.CallReply.{CallReply}
 use Rattle.rt_audit.specs.declared.reply.CallReply.TheVariants.{Closed, Done, NodeAt, PendingAt, Ready as IsReady, Refused, SlotAt, TaskAt}
 use Rattle.rt_audit.specs.declared.entry.Entry.{Entry}
 use Rattle.rt_audit.specs.declared.entry.Entry.TheVariants.{Call as CallEntry, Event, Wake, Draw, NodeEnd, Round, Answer, Cleanup}
 use Rattle.rt_super.specs.Ancestry.{is_ended, is_live}
 use Rattle.rt_model.specs.declared.begin.Begin.{Begin}
-use Rattle.rt_model.specs.State.{State, Phase, begun, Making, Between, Entered, Visiting, Turning}
+use Rattle.rt_model.specs.State.{State, Phase, begun, Making, Between, Entered, Visiting, Turning, Closing}
 use Rattle.rt_model.specs.Causes.{cause_at}
 use Rattle.rt_model.specs.Effects.{after, cleans, due_node, entered, is_closing, marks_after, nodes_after, owed_after, panicked_after, phase_after, results_after}
-use Rattle.rt_model.specs.Rules.{Answers, ChildAnswers, May, MayAnswer, MayEvent, MayRound, SpawnAnswers, Unless, is_free}
+use Rattle.rt_model.specs.Rules.{Answers, ChildAnswers, May, MayAnswer, MayEvent, MayRound, MayDraw, SpawnAnswers, Unless, is_free}
 use Rattle.rt_walk.specs.Quiet.{quiet}
 
 unless-same : (b : Bool) (e : Error) (f g : CallReply → Type 0) (r : CallReply) → f r ≡ g r → Unless b e f r ≡ Unless b e g r
@@ -49,12 +49,7 @@ answers-quiet s (WakeCall task) Done = refl
 answers-quiet s (WakeCall task) (Refused error) = refl
 answers-quiet s (SleepPoll due) IsReady = refl
 answers-quiet s (SleepPoll due) (PendingAt alarm) = refl
-answers-quiet s Slot (SlotAt slot) = refl
-answers-quiet s (SlotSend slot) Done = refl
-answers-quiet s (SlotClose slot) Done = refl
-answers-quiet s (SlotPoll slot) reply = refl
-answers-quiet s (SlotGiveUp slot) Done = refl
-answers-quiet s (AbortWait slot) Done = refl
+answers-quiet s (Slots call) reply = refl
 answers-quiet s _ _ = refl
 
 answer-quiet : (s : State) (task : ℕ) (kind : AnswerKind) → MayAnswer s task kind ≡ MayAnswer (quiet s) task kind
@@ -70,6 +65,12 @@ round-quiet Between s = refl
 round-quiet Turning s = refl
 round-quiet _ s = refl
 
+draw-quiet : (p : Phase) (s : State) (value : ℕ) → MayDraw p s value ≡ MayDraw p (quiet s) value
+draw-quiet Between s value = refl
+draw-quiet Turning s value = refl
+draw-quiet (Closing cause) s value = refl
+draw-quiet _ s value = refl
+
 event-quiet : (p : Phase) (s : State) (label : List ℕ) (fields : List (List ℕ)) → MayEvent p s label fields ≡ MayEvent p (quiet s) label fields
 event-quiet (Entered task left) s label fields = refl
 event-quiet _ s label fields = refl
@@ -79,7 +80,7 @@ may-quiet s (Event label fields) = rw (event-quiet s.phase s label fields) refl
 may-quiet s (CallEntry by call reply) = rw (answers-quiet s call reply) refl
 may-quiet s (Answer task kind) = rw (answer-quiet s task kind) refl
 may-quiet s (Round order) = rw (round-quiet s.phase s) refl
-may-quiet s (Draw value) = rw (round-quiet s.phase s) refl
+may-quiet s (Draw value) = rw (draw-quiet s.phase s value) refl
 may-quiet s (Wake task) = refl
 may-quiet s _ = refl
 

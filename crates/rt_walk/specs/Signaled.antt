@@ -1,16 +1,14 @@
 -- The groups of signals and the shutdown, as a walker keeps them.
 use Rattle.std.specs.Prelude.{ℕ, Bool, false, List, [], ◌∷◌, Option}
 use Rattle.rt_audit.specs.declared.call.Call.{Call}
-use Rattle.rt_audit.specs.declared.call.Call.TheVariants.{Abort, AbortTask, Wake as WakeCall, SlotSend, SlotClose, AbortWait, Signal, SignalClose, SignalerClose, Stop}
+use Rattle.rt_audit.specs.declared.call.Call.TheVariants.{Abort, AbortTask, Wake as WakeCall, Signal, SignalClose, SignalerClose, Stop, Slots}
 use Rattle.rt_audit.specs.declared.reply.CallReply.{CallReply}
 use Rattle.rt_audit.specs.declared.reply.CallReply.TheVariants.{Done, CompletionAt}
 use Rattle.rt_super.specs.Signals.{SignalRecord, StopRecord, woken_by_value, woken_by_last, woken_by_closing, woken_by_stop}
 use Rattle.rt_model.specs.Signals.{shutdown_alone, no_stop}
 use Rattle.rt_model.specs.Effects.{signals_called, stop_called}
-use Rattle.rt_model.specs.Lists.{find}
 use Rattle.rt_model.specs.Marks.{due_of}
-use Rattle.rt_model.specs.Results.{waiting}
-use Rattle.rt_model.specs.Slots.{Slotted}
+use Rattle.rt_model.specs.Slots.{Slotted, slots_wake}
 use Rattle.rt_model.specs.declared.mark.Mark.{Mark}
 
 pub record Signaled : Type 0 where
@@ -36,7 +34,5 @@ abbrev pub due_beside : Bool → List (ℕ × Mark) → Slotted → Call → Cal
 due_beside false ms ss (WakeCall task) Done = task ∷ []
 due_beside false ms ss (Abort task) Done = due_of task ms
 due_beside false ms ss (AbortTask task) Done = due_of task ms
-due_beside false ms ss (SlotSend slot) Done = waiting (find slot ss.results)
-due_beside false ms ss (SlotClose slot) Done = waiting (find slot ss.results)
-due_beside false ms ss (AbortWait slot) Done = waiting (find slot ss.results)
+due_beside false ms ss (Slots call) reply = slots_wake ss call reply
 due_beside _ ms ss _ _ = []

@@ -2,6 +2,7 @@
 
 ghost use Rattle.std.specs.Prelude.{◌≡◌, ◌≢◌, ◌∷◌, [], ◌↔◌, ◌⊎◌, IfOk, IfNone, IfSome, IsTrue, codes, length, ℤ};
 ghost use Rattle.std.specs.Int.{cast_unsigned, to_be_bytes, w32};
+ghost use Rattle.rt_model.specs.State.{Stood};
 ghost use Rattle.rt_model.specs.Events.{announced_by, IsOfCall};
 
 use rt_audit::{Call, CallReply, EventFields, EventLabel};
@@ -107,7 +108,7 @@ fn is_draw(event: &Announced, name: &str) -> bool
 
 /// Returns whether this event is the next of a call, after these.
 pub fn is_of_call(announced: &[Announced], label: &EventLabel, fields: &EventFields) -> bool
-    ensures { IsTrue result ↔ IsOfCall announced.now label.now fields.now }
+    ensures { (stood : Stood) → IsTrue result ↔ IsOfCall stood announced.now label.now fields.now }
 {
     announced.is_empty()
         && match label.as_str() {
@@ -160,7 +161,7 @@ fn value_of(field: &[u8]) -> Option<i32>
 
 /// Returns whether these are the events of a call with this reply.
 pub fn are_of(announced: &[Announced], call: &Call, reply: &CallReply) -> bool
-    ensures { IsTrue result ↔ (announced.now ≡ announced_by call.now reply.now) }
+    ensures { (stood : Stood) → IsTrue result ↔ (announced.now ≡ announced_by stood call.now reply.now) }
 {
     match (call, announced) {
         (Call::Stop { value }, [event]) => is_stop(event, *value),

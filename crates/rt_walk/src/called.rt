@@ -1,19 +1,19 @@
 //! What a call with its reply does to each part.
 
 ghost use Rattle.std.specs.Prelude.{◌≡◌, ◌++◌, [], OnOk};
-ghost use Rattle.rt_model.specs.Effects.{alarms_called, label_at, labels_called, marks_called, nodes_called, ready_called, results_called, running_called};
+ghost use Rattle.rt_model.specs.Effects.{alarms_called, label_at, labels_called, marks_called, nodes_called, ready_called, results_called, running_called, slots_called};
 ghost use Rattle.rt_walk.specs.Signaled.{due_beside};
 
 use crate::marks::{add_due, flag};
 use crate::nodes::Nodes;
 use crate::results::{note_abort, set_outcome};
 use crate::running::Running;
-use crate::slots::Slots;
 use crate::table::Table;
 use crate::told_alarms::ToldAlarms;
 use rt_audit::{Call, CallReply};
 use rt_base::{NoMemory, Packed, Text, prefixed_name};
 use rt_model::{Mark, Outcome, TaskResult};
+use rt_parts::WalkedSlots;
 use std::alloc::Global;
 
 /// Takes a call with its reply into the tasks that run.
@@ -154,11 +154,29 @@ pub fn call_results(
     Ok(())
 }
 
+/// The slots.
+pub fn call_slots(
+    slots: &mut WalkedSlots,
+    by: Option<u64>,
+    call: &Call,
+    reply: &CallReply,
+) -> Result<(), NoMemory>
+    ensures { OnOk result (slots.new ≡ slots_called slots.old by call.now reply.now) }
+{
+    match call {
+        Call::Slots(call) => {
+            let _waiter = slots.call(by, *call, reply)?;
+        }
+        _ => {}
+    }
+    Ok(())
+}
+
 /// Adds whom the call must wake.
 pub fn add_due_called(
     closing: bool,
     marks: &Table<Mark>,
-    slots: &Slots,
+    slots: &WalkedSlots,
     call: &Call,
     reply: &CallReply,
     due: &mut Vec<u64>,
@@ -172,9 +190,11 @@ pub fn add_due_called(
         (Call::Wake { task }, CallReply::Done) => due.push(*task)?,
         (Call::Abort { task }, CallReply::Done) | (Call::AbortTask { task }, CallReply::Done) =>
             add_due(marks, *task, due)?,
-        (Call::SlotSend { slot }, CallReply::Done)
-        | (Call::SlotClose { slot }, CallReply::Done)
-        | (Call::AbortWait { slot }, CallReply::Done) => slots.add_waiting(*slot, due)?,
+        (Call::Slots(call), reply) => {
+            if let Some(task) = slots.wakes(*call, reply) {
+                due.push(task)?;
+            }
+        }
         _ => {}
     }
     Ok(())

@@ -15,7 +15,6 @@ mod places;
 mod replies;
 mod results;
 mod running;
-mod slots;
 mod stage;
 mod step;
 mod table;

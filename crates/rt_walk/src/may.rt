@@ -2,10 +2,11 @@
 
 ghost use Rattle.std.specs.Prelude.{◌≡◌, ◌↔◌, ◌<◌, ◌-◌, ◌^◌, [], IfOk, IfNone, IfSome, OnErr, IsTrue, List, ℕ, Option, true};
 ghost use Rattle.rt_audit.specs.declared.entry.Entry.TheVariants.{Start, Event, Root, Round, Visit, Answer, NodeEnd, Advance, Skip, Fire, Crash, Finish};
-ghost use Rattle.rt_model.specs.State.{Halted, Making, Polling, State};
+ghost use Rattle.rt_model.specs.State.{Halted, Making, Polling, State, stood_in};
 ghost use Rattle.rt_model.specs.Causes.{ends_next};
 ghost use Rattle.rt_model.specs.Effects.{left_of};
-ghost use Rattle.rt_model.specs.Rules.{CallsAt, IsEndedNext, May, MayAnswer, MayCall, MayFree, MayRound};
+ghost use Rattle.rt_model.specs.Events.{announced_by, IsOfCall};
+ghost use Rattle.rt_model.specs.Rules.{CallsAt, IsEndedNext, May, MayAnswer, MayCall, MayFree, MayRound, MayDraw};
 ghost use Rattle.rt_walk.specs.Quiet.{quiet};
 ghost use Rattle.rt_walk.specs.Memory.{TakesMemory};
 
@@ -13,7 +14,7 @@ use crate::Walker;
 use crate::announced::{are_of, is_of_call};
 use crate::numbers::is_permutation;
 use crate::stage::Stage;
-use rt_audit::{AnswerKind, Entry, EventFields, EventLabel, FinishCause};
+use rt_audit::{AnswerKind, Call, CallReply, Entry, EventFields, EventLabel, FinishCause};
 use rt_base::{Choice, Items, MAX_TIME, Nanos, NoMemory};
 
 impl Walker {
@@ -51,11 +52,11 @@ impl Walker {
             Entry::Call { by, call, reply } => {
                 self.may_call(by.get())
                     && self.answers(call, reply)
-                    && are_of(self.announced.as_slice(), call, reply)
+                    && self.has_announced(call, reply)
             }
             Entry::Event { label, fields } => self.may_event(label, fields),
             Entry::Wake { .. } => false,
-            Entry::Draw { .. } => self.may_round(),
+            Entry::Draw { value } => self.may_draw(*value),
             Entry::Root { task } => self.may_root(*task) && self.announced.is_empty(),
             Entry::Round { order } => {
                 self.may_round()
@@ -124,8 +125,22 @@ impl Walker {
                 label.as_str() == "process_task"
                     && fields.are_of_task(*task, self.task_label(*task))
             }
-            _ => { self.are_calls_made() && is_of_call(self.announced.as_slice(), label, fields) }
+            _ => self.are_calls_made() && self.is_announced(label, fields),
         }
+    }
+
+    /// Returns whether this event is the next of a call.
+    fn is_announced(&self, label: &EventLabel, fields: &EventFields) -> bool
+        ensures { IsTrue result ↔ IsOfCall (stood_in self.now) self.now.announced label.now fields.now }
+    {
+        is_of_call(self.announced.as_slice(), label, fields)
+    }
+
+    /// Returns whether the events of this call are before it.
+    fn has_announced(&self, call: &Call, reply: &CallReply) -> bool
+        ensures { IsTrue result ↔ (self.now.announced ≡ announced_by (stood_in self.now) call.now reply.now) }
+    {
+        are_of(self.announced.as_slice(), call, reply)
     }
 
     /// Whether somebody makes calls here.
@@ -160,6 +175,12 @@ impl Walker {
         ensures { IsTrue result ↔ ((self.now.phase ≡ Making) × (task ≡ self.now.numbers.next) × (task < 2 ^ 64 - 1)) }
     {
         matches!(self.stage, Stage::Making) && task as u128 == self.next && task < u64::MAX
+    }
+
+    fn may_draw(&self, value: u64) -> bool
+        ensures { IsTrue result ↔ MayDraw self.now.phase self.now value }
+    {
+        self.may_round()
     }
 
     fn may_round(&self) -> bool

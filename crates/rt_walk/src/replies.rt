@@ -2,17 +2,17 @@
 
 ghost use Rattle.std.specs.Prelude.{◌≡◌, ◌↔◌, ◌⊎◌, ◌-◌, ◌^◌, IfErr, IsTrue};
 ghost use Rattle.rt_base.specs.declared.error.Error.TheVariants.{UnknownToken, Metric};
-ghost use Rattle.rt_audit.specs.declared.call.Call.TheVariants.{Abort, AbortTask, Auditor, Child, CloneSignal, CloseNode, FillBytes, GiveUp, NextU32, NextU64, SleepPoll, Slot, Spawn, Wake};
+ghost use Rattle.rt_audit.specs.declared.call.Call.TheVariants.{Abort, AbortTask, Auditor, Child, CloneSignal, CloseNode, FillBytes, GiveUp, NextU32, NextU64, SleepPoll, Spawn, Wake, Slots};
 ghost use Rattle.rt_model.specs.State.{State};
 ghost use Rattle.rt_model.specs.Signals.{met_reply, shown_reply, stopped_reply};
 ghost use Rattle.rt_model.specs.Lists.{find};
-ghost use Rattle.rt_model.specs.Rules.{Answers, ChildAnswers, IsRefusal, IsSent, JoinAnswers, OutcomeAnswers, ReceiveAnswers, ShownAs, SpawnAnswers, Unless};
+ghost use Rattle.rt_model.specs.Rules.{Answers, ChildAnswers, IsRefusal, JoinAnswers, ShownAs, SpawnAnswers, Unless};
 
 use crate::Walker;
 use crate::results::may_abort;
 use rt_audit::{Call, CallReply, Label};
 use rt_base::{Error, MAX_TIME, MetricError, Nanos, Poll, check_child_label};
-use rt_model::{Outcome, TaskResult};
+use rt_parts::{is_closed, is_done, is_unknown, outcome_answers};
 use rt_super::Stopped;
 
 impl Walker {
@@ -30,12 +30,7 @@ impl Walker {
             Call::Join { task } => self.join_answers(*task, reply),
             Call::GiveUp { task } => is_done(reply) && self.results.get(*task).is_some(),
             Call::SleepPoll { due } => self.sleep_answers(due.nanos(), reply),
-            Call::Slot => self.slot_answers(reply),
-            Call::SlotSend { slot } => is_done(reply) && self.slots.has_sender(*slot),
-            Call::SlotClose { slot } => is_done(reply) && self.slots.has_sender(*slot),
-            Call::SlotPoll { slot } => receive_answers(self.slots.get(*slot), reply),
-            Call::SlotGiveUp { slot } => is_done(reply) && self.slots.get(*slot).is_some(),
-            Call::AbortWait { slot } => is_done(reply) && self.slots.may_abort(*slot),
+            Call::Slots(call) => self.slots.answers(*call, reply),
             Call::Signaler => is_signal(reply, self.signals.count()),
             Call::CloneSignal { signal } => self.clone_answers(*signal, reply),
             Call::Signal { signaler, .. } => is_done(reply) && self.signals.has_signaler(*signaler),
@@ -131,15 +126,6 @@ impl Walker {
         }
     }
 
-    fn slot_answers(&self, reply: &CallReply) -> bool
-        ensures { IsTrue result ↔ Answers self.now Slot reply.now }
-    {
-        match reply {
-            CallReply::SlotAt { slot } => self.slots.is_next(*slot),
-            _ => false,
-        }
-    }
-
     fn clone_answers(&self, signal: u64, reply: &CallReply) -> bool
         ensures { IsTrue result ↔ Answers self.now (CloneSignal signal) reply.now }
     {
@@ -160,45 +146,6 @@ impl Walker {
             }
             _ => false,
         }
-    }
-}
-
-/// Whether a poll of a slot in this state may have this reply.
-fn receive_answers(found: Option<TaskResult>, reply: &CallReply) -> bool
-    ensures { IsTrue result ↔ ReceiveAnswers found reply.now }
-{
-    match found {
-        None => is_unknown(reply),
-        Some(found) if found.aborted => is_aborted(reply),
-        Some(found) => match found.outcome {
-            Outcome::There => is_sent(reply),
-            outcome => outcome_answers(outcome, reply),
-        },
-    }
-}
-
-/// Whether a result that was sent may have this reply: a value, or any error.
-fn is_sent(reply: &CallReply) -> bool
-    ensures { IsTrue result ↔ IsSent reply.now }
-{
-    matches!(reply, CallReply::Ready | CallReply::Refused { .. })
-}
-
-fn is_done(reply: &CallReply) -> bool
-    ensures { IsTrue result ↔ (reply.now ≡ CallReply.Done) }
-{
-    matches!(reply, CallReply::Done)
-}
-
-/// Whether a join of a result in this state has this reply.
-fn outcome_answers(outcome: Outcome, reply: &CallReply) -> bool
-    ensures { IsTrue result ↔ OutcomeAnswers outcome reply.now }
-{
-    match outcome {
-        Outcome::Open { .. } => matches!(reply, CallReply::Pending),
-        Outcome::There => matches!(reply, CallReply::Ready),
-        Outcome::Exited => is_exited(reply),
-        Outcome::Closed => is_closed(reply),
     }
 }
 
@@ -299,47 +246,11 @@ fn are_bytes(reply: &CallReply, len: u64) -> bool
     }
 }
 
-fn is_unknown(reply: &CallReply) -> bool
-    ensures { IsTrue result ↔ IsRefusal Error.UnknownToken reply.now }
-{
-    match reply {
-        CallReply::Refused { error } => matches!(error.error(), Error::UnknownToken),
-        _ => false,
-    }
-}
-
 fn is_too_many(reply: &CallReply) -> bool
     ensures { IsTrue result ↔ IsRefusal Error.TooManyTasks reply.now }
 {
     match reply {
         CallReply::Refused { error } => matches!(error.error(), Error::TooManyTasks),
-        _ => false,
-    }
-}
-
-fn is_exited(reply: &CallReply) -> bool
-    ensures { IsTrue result ↔ IsRefusal Error.Exited reply.now }
-{
-    match reply {
-        CallReply::Refused { error } => matches!(error.error(), Error::Exited),
-        _ => false,
-    }
-}
-
-fn is_closed(reply: &CallReply) -> bool
-    ensures { IsTrue result ↔ IsRefusal Error.Closed reply.now }
-{
-    match reply {
-        CallReply::Refused { error } => matches!(error.error(), Error::Closed),
-        _ => false,
-    }
-}
-
-fn is_aborted(reply: &CallReply) -> bool
-    ensures { IsTrue result ↔ IsRefusal Error.Aborted reply.now }
-{
-    match reply {
-        CallReply::Refused { error } => matches!(error.error(), Error::Aborted),
         _ => false,
     }
 }

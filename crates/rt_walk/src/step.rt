@@ -14,7 +14,7 @@ use crate::Walker;
 use crate::announced::Announced;
 use crate::called::{
     add_due_called, call_alarms, call_labels, call_marks, call_nodes, call_ready, call_results,
-    call_running,
+    call_running, call_slots,
 };
 use crate::left::Left;
 use crate::marks::{self, flag_all, is_flagged, remove_if, remove_left};
@@ -91,6 +91,7 @@ impl Walker {
     {
         let due = self.due_called(by, call, reply)?;
         self.owe(Left::from_vec(due));
+        self.draws.clear();
         if let (Call::Spawn { .. }, CallReply::TaskAt { task, .. }) = (call, reply) {
             self.next = *task as u128 + 1;
         }
@@ -101,7 +102,7 @@ impl Walker {
         call_labels(self.allocator(), &mut self.labels, call, reply)?;
         call_marks(&mut self.marks, call, reply)?;
         call_results(&mut self.results, by, call, reply)?;
-        self.slots.call(by, call, reply)
+        call_slots(&mut self.slots, by, call, reply)
     }
 
     /// Takes what a call does to signals in. Answers whom it must wake.
@@ -365,6 +366,7 @@ impl Walker {
         ensures { (choices : List Choice) → self.new ≡ quiet (after self.old (Crash choices)) }
     {
         let cause = self.stage.kept_cause();
+        self.draws.clear();
         self.stand_at(Stage::Crashed { cause });
     }
 

@@ -7,7 +7,7 @@ ghost use Rattle.rt_model.specs.Lists.{is_nil};
 ghost use Rattle.rt_model.specs.Causes.{from_running, is_late, overflows, reached, turning_cause, where_true};
 ghost use Rattle.rt_model.specs.Rules.{May, WasGiven};
 ghost use Rattle.rt_model.specs.Effects.{after, is_settled, label_at, task_label};
-ghost use Rattle.rt_model.specs.Runs.{renews};
+ghost use Rattle.rt_model.specs.Runs.{next_begin, renews};
 ghost use Rattle.rt_walk.specs.Quiet.{quiet};
 
 use crate::announced::Announced;
@@ -16,7 +16,6 @@ use crate::left::Left;
 use crate::marks::is_ended_at;
 use crate::nodes::Nodes;
 use crate::running::Running;
-use crate::slots::Slots;
 use crate::stage::Stage;
 use crate::table::Table;
 use crate::told_alarms::ToldAlarms;
@@ -24,6 +23,7 @@ use crate::told_signals::ToldSignals;
 use rt_audit::{Entry, FinishCause};
 use rt_base::{MAX_TIME, Nanos, NoMemory, Text};
 use rt_model::{Begin, Mark, TaskResult};
+use rt_parts::WalkedSlots;
 use std::alloc::Global;
 use std::marker::Model;
 
@@ -48,7 +48,7 @@ pub struct Walker {
     pub(crate) labels: Table<Text>,
     pub(crate) marks: Table<Mark>,
     pub(crate) results: Table<TaskResult>,
-    pub(crate) slots: Slots,
+    pub(crate) slots: WalkedSlots,
     pub(crate) signals: ToldSignals,
     pub(crate) announced: Vec<Announced>,
     pub(crate) owed: Left,
@@ -91,7 +91,7 @@ impl Walker {
             labels,
             marks: Table::new(alloc),
             results: Table::new(alloc),
-            slots: Slots::new(alloc),
+            slots: WalkedSlots::new(alloc),
             signals,
             announced: Vec::new(alloc),
             owed: Left::new(alloc),
@@ -116,6 +116,19 @@ impl Walker {
                 }
             )
         )
+    }
+
+    /// Returns how the run after this one begins.
+    pub(crate) fn next_begin(&self) -> Begin
+        ensures { result ≡ next_begin self.now }
+    {
+        Begin {
+            start: self.time,
+            cycle: self.begin.cycle,
+            deadline: self.begin.deadline,
+            first: 0,
+            catch: self.begin.catch,
+        }
     }
 
     /// Returns whether the deadline is there.

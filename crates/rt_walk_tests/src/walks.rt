@@ -43,14 +43,9 @@ fn changed(
 }
 
 /// The place of the first entry that may not come where it is.
-fn first_of(
-    alloc: Global,
-    begin: Begin,
-    later: &[Begin],
-    lines: &[&str],
-) -> Result<Option<usize>, Unread> {
+fn first_of(alloc: Global, begin: Begin, lines: &[&str]) -> Result<Option<usize>, Unread> {
     let entries = entries_of(alloc, lines)?;
-    let first = first_unlawful(alloc, begin, later, entries.as_slice());
+    let first = first_unlawful(alloc, begin, entries.as_slice());
     drop(entries);
     Ok(first?)
 }
@@ -75,17 +70,6 @@ fn add_lines(
     }
 }
 
-/// The beginnings of these names.
-fn begins_of(alloc: Global, names: &str) -> Result<Vec<Begin>, NoMemory> {
-    let mut begins = Vec::new(alloc);
-    for name in names.split(' ') {
-        if let Some(begin) = begin_of(name) {
-            begins.push(begin)?;
-        }
-    }
-    Ok(begins)
-}
-
 /// The place of a change, and the change: `3 missing`, `3 instead LINE` or `3 before LINE`.
 fn change_of(words: &'static str) -> Option<(usize, Change)> {
     let (place, kind) = words.split_once(' ')?;
@@ -103,11 +87,11 @@ fn change_of(words: &'static str) -> Option<(usize, Change)> {
 /// The end of the first front of these entries that isn't lawful.
 fn first_front(alloc: Global, begin: Begin, entries: &[Entry]) -> Result<Option<usize>, NoMemory> {
     for end in 0..entries.len() {
-        if first_unlawful(alloc, begin, &[], &entries[..end])?.is_some() {
+        if first_unlawful(alloc, begin, &entries[..end])?.is_some() {
             return Ok(Some(end));
         }
     }
-    first_unlawful(alloc, begin, &[], entries)
+    first_unlawful(alloc, begin, entries)
 }
 
 /// The end of the first front of a journal that isn't lawful.
@@ -151,7 +135,7 @@ fn first_changed(
     change: Change,
 ) -> Result<Option<usize>, Unread> {
     let lines = changed(lines_of(alloc, text)?, at, change)?;
-    first_of(alloc, begin, &[], lines.as_slice())
+    first_of(alloc, begin, lines.as_slice())
 }
 
 /// Whether the copy of a row is refused at its place.
@@ -189,11 +173,11 @@ fn damaged_copies(rt: HostRuntime) {
     }
 }
 
-/// Journals that follow one another, how each of their runs begins, a change, the place of the entry that is refused, and what
-/// that shows.
+/// Journals that follow one another, how the first of their runs begins, a change, the place of the entry that is refused, and
+/// what that shows.
 ///
-/// A change allows or makes something of a later line. A run after a completed one goes by the next beginning, from its own
-/// state: its root has its own number, and no alarm of the run before is set.
+/// A change allows or makes something of a later line. A run after a completed one begins where that ended, from a state of its
+/// own: its root has its own number, and no alarm of the run before is set.
 const WALKS: &str = "\
 sleep | begin | 5 instead call 0 sleep-poll 9223372036854775807999999999 -> pending 0 | 8 | a skip to before the last moment
 ready | begin | 5 before event stop 00000009 | 6 | an event in a poll that no call follows
@@ -201,18 +185,17 @@ made | begin | 9 instead call 0 sleep-poll 5 -> pending 0 | - | a sleep of a tas
 made | begin | 9 instead call 0 wake 1 -> ok | 10 | a wake of a task at its end, which comes next
 panic | catching | - | 17 | a second wake that is owed to nobody where the panic is caught
 caught | begin | - | 17 | a second wake that is owed where the panic is kept
-ready sleep late | begin begin timed | - | - | two runs that complete, and one that doesn't
-ready sleep late | begin timed timed | - | 12 | another beginning for the second
-ready sleep late | begin begin begin | - | 34 | another beginning for the third
-ready sleep late | begin begin timed | 10 missing | 10 | the crash of the first is missing
-ready sleep late | begin begin timed | 11 missing | 11 | the finish of the first is missing
-ready sleep late | begin begin timed | 33 missing | 33 | the finish of the second is missing
-ready sleep late | begin begin timed | 12 missing | 12 | the start of the second is missing
-ready sleep late | begin begin timed | 34 missing | 34 | the start of the third is missing
-ready sleep late | begin begin | - | 34 | a third run that nothing begins
-ready | begin timed | - | - | a beginning that no run has
-late ready | timed begin | - | 15 | a run after one that failed
-stall ready | begin begin | - | 26 | a run after one that stalled
+ready ready sleep | begin | - | - | three runs that complete
+ready ready sleep | begin | 10 missing | 10 | the crash of the first is missing
+ready ready sleep | begin | 11 missing | 11 | the finish of the first is missing
+ready ready sleep | begin | 12 missing | 12 | the start of the second is missing
+ready ready sleep | begin | 23 missing | 23 | the finish of the second is missing
+ready ready sleep | begin | 24 missing | 24 | the start of the third is missing
+sleep ready | begin | - | 22 | a second run that begins before the end of the first
+sleep ready | begin | 22 instead start 10000000 - 1000000 0 | - | a second run that begins where the first ended
+ready late | begin | - | 12 | another deadline for the second run
+late ready | timed | - | 15 | a run after one that failed
+stall ready | begin | - | 26 | a run after one that stalled
 ready | begin | 5 before call 0 sleep-poll 0 -> ready | - | a sleep that is over at once
 refused | begin | 6 before call 0 child 0  -> err label | - | an empty label, which is bad
 refused | begin | 6 before call 0 child 0 runtime-9 -> err 14 | - | a word that begins as what is reserved, and is no label
@@ -234,24 +217,6 @@ fn lines_in(alloc: Global, names: &str, change: &'static str) -> Result<Vec<&'st
     }
 }
 
-/// The place of the first entry that may not come where it is, in runs that begin so.
-fn first_in(alloc: Global, begins: &[Begin], lines: &[&str]) -> Result<Option<usize>, Unread> {
-    match begins.split_first() {
-        Some((begin, later)) => first_of(alloc, *begin, later, lines),
-        None => Err(Unread::Line(0)),
-    }
-}
-
-/// Whether each of these names is that of a beginning.
-fn are_beginnings(names: &str) -> bool {
-    for name in names.split(' ') {
-        if begin_of(name).is_none() {
-            return false;
-        }
-    }
-    true
-}
-
 /// The place that a word says, where `-` is none.
 fn place_in(word: &str) -> Option<Option<usize>> {
     if word == "-" {
@@ -264,12 +229,11 @@ fn place_in(word: &str) -> Option<Option<usize>> {
 fn walked(
     alloc: Global,
     names: &str,
-    begins: &str,
+    begin: Begin,
     change: &'static str,
 ) -> Result<Option<usize>, Unread> {
-    let begins = begins_of(alloc, begins)?;
     let lines = lines_in(alloc, names, change)?;
-    first_in(alloc, begins.as_slice(), lines.as_slice())
+    first_of(alloc, begin, lines.as_slice())
 }
 
 /// The place of the line that a row says is refused, and of the one that is.
@@ -278,13 +242,11 @@ fn places_of(
     row: &'static str,
 ) -> Option<(Option<usize>, Result<Option<usize>, Unread>)> {
     let (names, rest) = row.split_once(" | ")?;
-    let (begins, rest) = rest.split_once(" | ")?;
+    let (begin, rest) = rest.split_once(" | ")?;
     let (change, rest) = rest.split_once(" | ")?;
     let (first, _) = rest.split_once(" | ")?;
-    if !are_beginnings(begins) {
-        return None;
-    }
-    Some((place_in(first)?, walked(alloc, names, begins, change)))
+    let begin = begin_of(begin)?;
+    Some((place_in(first)?, walked(alloc, names, begin, change)))
 }
 
 /// Whether a row comes to what it says.
@@ -376,7 +338,7 @@ const MANY: &[(&[Piece], u64, u64, usize)] = &[
 fn entries_and_first(alloc: Global, text: &str) -> Result<(usize, Option<usize>), Unread> {
     let entries = entries_in(alloc, text)?;
     let count = entries.len();
-    let first = first_unlawful(alloc, BEGIN, &[], entries.as_slice());
+    let first = first_unlawful(alloc, BEGIN, entries.as_slice());
     drop(entries);
     Ok((count, first?))
 }
@@ -436,6 +398,6 @@ fn starts(alloc: Global, lines: &[&str]) -> Result<(usize, bool), Unread> {
 fn surface(rt: HostRuntime) -> Result<(), Fail> {
     let alloc = rt.alloc();
     assert!(rt; starts(alloc, &["start 0 - 1000000 0"])? == (1, true));
-    assert!(rt; first_unlawful(alloc, BEGIN, &[], &[])?.is_none());
+    assert!(rt; first_unlawful(alloc, BEGIN, &[])?.is_none());
     Ok(())
 }

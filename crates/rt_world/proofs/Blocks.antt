@@ -1,11 +1,5 @@
 -- States in blocks of their own.
-use Rattle.std.proofs.Common.{◌≡◌, ◌+◌, ℕ, List, [], ◌∷◌, ◌++◌, refl, arith, Option, Some, None, get_or, length, set}
-use Rattle.std.proofs.lemmas.List.{length-append}
-use Rattle.std.specs.Global.{Global}
-use Rattle.std.specs.Prelude.{Vec, slice_get}
-use Rattle.rt_model.specs.Lists.{find, without}
-use Rattle.rt_model.specs.Turns.{with_task}
-use Rattle.rt_world.specs.Seats.{AreFull, held_in, numbers_of, with_top}
+use Rattle.rt_world.proofs.Prelude.{◌≡◌, ◌+◌, ℕ, List, [], ◌∷◌, ◌++◌, refl, arith, Option, Some, None, get_or, length, set, length-append, Global, Vec, slice_get, find, without, with_task, AreFull, held_in, numbers_of, with_top}
 
 -- the state in the block that has a number, if one has
 abbrev pub top_of : {A : Type 0} → Option (Vec A Global) → Option A

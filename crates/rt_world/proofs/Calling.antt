@@ -1,28 +1,5 @@
 -- Who is seated behind a call, by what the machine says of it.
-use Rattle.std.proofs.Common.{◌≡◌, inl, inr, ◌+◌, ◌-◌, ◌^◌, leb, not, ◌∙◌, sym, ap, ℕ, List, [], ◌∷◌, ◌++◌, refl, Bool, true, false, Option, Some, None, Result, Ok, Err, IfOk, IfErr, OnOk, OnErr}
-use Rattle.rt_base.specs.declared.error.Error.{Error}
-use Rattle.rt_base.specs.declared.error.Error.TheVariants.{UnknownToken, TooManyTasks}
-use Rattle.rt_base.specs.declared.no_memory.NoMemory.{NoMemory as OutOfMemory}
-use Rattle.rt_base.specs.declared.execution.Execution.{Execution}
-use Rattle.rt_audit.specs.declared.call.Call.{Call}
-use Rattle.rt_audit.specs.declared.call.Call.TheVariants.{Child, CloseNode, Spawn, Abort, AbortTask, Wake, Join, GiveUp, SleepPoll, Slot, SlotSend, SlotClose, SlotPoll, SlotGiveUp, AbortWait, Signaler, CloneSignal, Signal, SignalPoll, SignalClose, SignalerClose, CompletionPoll, CompletionClose, Stop, Stopped, NextU32, NextU64, FillBytes, Auditor}
-use Rattle.rt_audit.specs.declared.reply.CallReply.{CallReply}
-use Rattle.rt_audit.specs.declared.reply.CallReply.TheVariants.{Done, NodeAt, TaskAt, SlotAt, Pending, PendingAt, Ready, Refused}
-use Rattle.rt_model.specs.declared.result.Outcome.{Outcome}
-use Rattle.rt_model.specs.declared.result.Outcome.TheVariants.{Open, There, Exited, Closed as IsClosed}
-use Rattle.rt_model.specs.declared.result.TaskResult.{TaskResult}
-use Rattle.rt_model.specs.Lists.{find, without, has_number, replaced}
-use Rattle.rt_model.specs.Results.{new_result, may_abort, with_outcome}
-use Rattle.rt_model.specs.State.{State, Stood, Phase, Ending, stood_in}
-use Rattle.rt_model.specs.Effects.{numbers_called, running_called, results_called}
-use Rattle.rt_model.specs.Rules.{Answers, CallsAt, JoinAnswers, OutcomeAnswers, SpawnAnswers, Unless, is_free}
-use Rattle.rt_model.specs.Turns.{Ask, Heard, Plainly, Spawning, Plain, Handed, unsent, with_task, Held, call_of, moved_by, has_place}
-use Rattle.rt_machine.specs.Calls.{Noted, Shown, Spent, IsRefused, lacking, sleep_reply, spawn_reply}
-use Rattle.rt_machine.specs.Places.{Seen}
-use Rattle.rt_world.specs.Seats.{Roomed, OutRuns, AreSeated, AreThere, AreOpen, IsComing}
-use Rattle.rt_world.specs.World.{World}
-use Rattle.rt_world.specs.Calls.{Made, IsUnsent, IsRefused as WorldRefused}
-use Rattle.rt_world.specs.Walked.{Called, child_told}
+use Rattle.rt_world.proofs.Prelude.{◌≡◌, inl, inr, ◌+◌, ◌-◌, ◌^◌, leb, not, ◌∙◌, sym, ap, ℕ, List, [], ◌∷◌, ◌++◌, refl, Bool, true, false, Option, Some, None, Result, Ok, Err, IfOk, IfErr, OnOk, OnErr, Error, UnknownToken, TooManyTasks, OutOfMemory, Execution, Call, Child, CloseNode, Spawn, Abort, AbortTask, Wake, Join, GiveUp, SleepPoll, Signaler, CloneSignal, Signal, SignalPoll, SignalClose, SignalerClose, CompletionPoll, CompletionClose, Stop, Stopped, NextU32, NextU64, FillBytes, Auditor, Slots, Slot, SlotSend, SlotClose, SlotPoll, SlotGiveUp, AbortWait, CallReply, Done, NodeAt, TaskAt, SlotAt, Pending, PendingAt, Ready, Refused, Outcome, Open, There, Exited, IsClosed, TaskResult, find, without, has_number, replaced, new_result, may_abort, with_outcome, State, Stood, Phase, Ending, stood_in, numbers_called, running_called, results_called, Answers, CallsAt, JoinAnswers, OutcomeAnswers, SpawnAnswers, Unless, is_free, Ask, Heard, Plainly, Spawning, Plain, Handed, unsent, with_task, Held, call_of, moved_by, has_place, Noted, Shown, Spent, IsRefused, lacking, sleep_reply, spawn_reply, Seen, Roomed, OutRuns, AreSeated, AreThere, AreOpen, IsComing, World, Made, IsUnsent, WorldRefused, Called, child_told}
 use Rattle.rt_world.proofs.Walked.{called-lacking, child-called, join-called, spawn-called, slot-called, receive-called}
 use Rattle.rt_world.proofs.Coming.{there-abort, there-open, there-given-up, there-taken, coming-changed, coming-given-up, coming-taken, there-spawned, coming-spawned, open-changed, open-given-up, open-spawned}
 use Rattle.rt_world.proofs.Seats.{numbers-with, seated-more, rising-more, rising-has, runs-more}
@@ -61,12 +38,12 @@ module _ {A O : Type 0} (tasks : Roomed (ℕ × A)) (outputs : Roomed (ℕ × O)
     quiet-refused (GiveUp task) e = (refl, refl, refl)
     quiet-refused (SleepPoll due) e = (refl, refl, refl)
     quiet-refused (Spawn node) e = (refl, refl, refl)
-    quiet-refused Slot e = (refl, refl, refl)
-    quiet-refused (SlotSend slot) e = (refl, refl, refl)
-    quiet-refused (SlotClose slot) e = (refl, refl, refl)
-    quiet-refused (SlotPoll slot) e = (refl, refl, refl)
-    quiet-refused (SlotGiveUp slot) e = (refl, refl, refl)
-    quiet-refused (AbortWait slot) e = (refl, refl, refl)
+    quiet-refused (Slots Slot) e = (refl, refl, refl)
+    quiet-refused (Slots (SlotSend slot)) e = (refl, refl, refl)
+    quiet-refused (Slots (SlotClose slot)) e = (refl, refl, refl)
+    quiet-refused (Slots (SlotPoll slot)) e = (refl, refl, refl)
+    quiet-refused (Slots (SlotGiveUp slot)) e = (refl, refl, refl)
+    quiet-refused (Slots (AbortWait slot)) e = (refl, refl, refl)
     quiet-refused Signaler e = (refl, refl, refl)
     quiet-refused (CloneSignal signal) e = (refl, refl, refl)
     quiet-refused (Signal signaler value) e = (refl, refl, refl)
@@ -254,21 +231,21 @@ module _ {A O G : Type 0} (old new : Seen) (held end : Held A O) (panic : Option
   pub lacking-calls : (ask : Ask A O) (heard : Heard O) → end ≡ held → new ≡ lacking old → Called ask before behind heard
   lacking-calls ask heard e lack = called-lacking before behind ask heard (rw (lack, e) refl)
 
-  pub slot-calls : (slot : ℕ) → end ≡ held → Noted out old new Slot (SlotAt slot) → Called (Plainly Slot) before behind (Plain (SlotAt slot))
-  slot-calls slot e n = slot-called before behind (Ok slot) (made-noted (Plainly Slot) (SlotAt slot) n e) tt
+  pub slot-calls : (slot : ℕ) → end ≡ held → Noted out old new (Slots Slot) (SlotAt slot) → Called (Plainly (Slots Slot)) before behind (Plain (SlotAt slot))
+  slot-calls slot e n = slot-called before behind (Ok slot) (made-noted (Plainly (Slots Slot)) (SlotAt slot) n e) tt
 
-  pub receive-pending : (slot : ℕ) → end ≡ held → IsUnsent before slot → Noted out old new (SlotPoll slot) Pending → Called (Plainly (SlotPoll slot)) before behind (Plain Pending)
-  receive-pending slot e none n = receive-called before behind slot (Ok None) (none, made-noted (Plainly (SlotPoll slot)) Pending n e) tt
+  pub receive-pending : (slot : ℕ) → end ≡ held → IsUnsent before slot → Noted out old new (Slots (SlotPoll slot)) Pending → Called (Plainly (Slots (SlotPoll slot))) before behind (Plain Pending)
+  receive-pending slot e none n = receive-called before behind slot (Ok None) (none, made-noted (Plainly (Slots (SlotPoll slot))) Pending n e) tt
 
-  pub receive-refused : (slot : ℕ) (error : Error) → end ≡ held → IsUnsent before slot → IsRefused out old new (SlotPoll slot) error → Called (Plainly (SlotPoll slot)) before behind (Plain (Refused error))
-  receive-refused slot error e none (inl lack) = lacking-calls (Plainly (SlotPoll slot)) (Plain (Refused error)) e lack.1
-  receive-refused slot error e none (inr n) = receive-called before behind slot (Err error) tt (inr (inl none, made-noted (Plainly (SlotPoll slot)) (Refused error) n e))
+  pub receive-refused : (slot : ℕ) (error : Error) → end ≡ held → IsUnsent before slot → IsRefused out old new (Slots (SlotPoll slot)) error → Called (Plainly (Slots (SlotPoll slot))) before behind (Plain (Refused error))
+  receive-refused slot error e none (inl lack) = lacking-calls (Plainly (Slots (SlotPoll slot))) (Plain (Refused error)) e lack.1
+  receive-refused slot error e none (inr n) = receive-called before behind slot (Err error) tt (inr (inl none, made-noted (Plainly (Slots (SlotPoll slot))) (Refused error) n e))
 
-  pub receive-shown : (slot : ℕ) (sent answer : Error) → end ≡ held → find slot held.sent ≡ Some (Err sent) → Shown out old new slot sent answer → Called (Plainly (SlotPoll slot)) before behind (Plain (Refused answer))
-  receive-shown slot sent answer e found (inl lack) = lacking-calls (Plainly (SlotPoll slot)) (Plain (Refused answer)) e lack.1
-  receive-shown slot sent answer e found (inr n) = rw n.0 (receive-called before behind slot (Err sent) tt (inr (inr found, made-noted (Plainly (SlotPoll slot)) (Refused sent) n.1 e)))
+  pub receive-shown : (slot : ℕ) (sent answer : Error) → end ≡ held → find slot held.sent ≡ Some (Err sent) → Shown out old new slot sent answer → Called (Plainly (Slots (SlotPoll slot))) before behind (Plain (Refused answer))
+  receive-shown slot sent answer e found (inl lack) = lacking-calls (Plainly (Slots (SlotPoll slot))) (Plain (Refused answer)) e lack.1
+  receive-shown slot sent answer e found (inr n) = rw n.0 (receive-called before behind slot (Err sent) tt (inr (inr found, made-noted (Plainly (Slots (SlotPoll slot))) (Refused sent) n.1 e)))
 
-  pub receive-value : (slot : ℕ) (value : O) → end ≡ unsent slot held → find slot held.sent ≡ Some (Ok value) → Noted out old new (SlotPoll slot) Ready → Called (Plainly (SlotPoll slot)) before behind (Handed value)
-  receive-value slot value e found n = receive-called before behind slot (Ok (Some value)) (found, made-noted (Plainly (SlotPoll slot)) Ready n e) tt
+  pub receive-value : (slot : ℕ) (value : O) → end ≡ unsent slot held → find slot held.sent ≡ Some (Ok value) → Noted out old new (Slots (SlotPoll slot)) Ready → Called (Plainly (Slots (SlotPoll slot))) before behind (Handed value)
+  receive-value slot value e found n = receive-called before behind slot (Ok (Some value)) (found, made-noted (Plainly (Slots (SlotPoll slot))) Ready n e) tt
 
 pub ruleset seated_laws = (abort-seated, close-seated, pending-seated, refused-seated, child-seated, wake-seated, abort-task-seated, sleep-seated)

@@ -1,18 +1,6 @@
 -- Which results have their values.
-use Rattle.std.proofs.Common.{◌≡◌, ◌≢◌, ◌<◌, ◌∙◌, sym, ap, ℕ, List, [], ◌∷◌, ◌++◌, refl, Bool, true, false, Option, Some, None, is_some, arith, eqb, ◌⊎◌, inl, inr}
-use Rattle.rt_audit.specs.declared.answer.AnswerKind.{AnswerKind}
-use Rattle.rt_audit.specs.declared.answer.AnswerKind.TheVariants.{Pending, Ready, Panicked, Stopped, NoMemory, Ended}
-use Rattle.rt_audit.specs.declared.finish.FinishCause.{FinishCause}
-use Rattle.rt_model.specs.declared.result.Outcome.{Outcome}
-use Rattle.rt_model.specs.declared.result.Outcome.TheVariants.{Open, There, Exited, Closed}
-use Rattle.rt_model.specs.declared.result.TaskResult.{TaskResult}
-use Rattle.rt_model.specs.Lists.{find, without, replaced, has_number, with_number, without_number}
-use Rattle.rt_model.specs.Turns.{with_task}
-use Rattle.rt_model.specs.Results.{new_result, with_abort, with_outcome}
-use Rattle.rt_model.specs.State.{State, Phase, Making, Between, Visiting, Polling, Halted, Ending, Turning, Over, Cleaning, Closing, Crashed, Finished}
-use Rattle.rt_model.specs.Effects.{answered, cleans, entered_by, finished, left_pending, node_ended, results_answered, results_left, running_answered}
-use Rattle.rt_model.specs.Rules.{MayClose}
-use Rattle.rt_world.specs.Seats.{AreThere, AreOpen, IsComing}
+use Rattle.rt_world.proofs.Prelude.{◌≡◌, ◌≢◌, ◌<◌, ◌∙◌, sym, ap, ℕ, List, [], ◌∷◌, ◌++◌, refl, Bool, true, false, Option, Some, None, is_some, arith, eqb, ◌⊎◌, inl, inr, AnswerKind, Panicked, Ended, FinishCause, Outcome, Open, There, Exited, Closed, TaskResult, find, without, replaced, has_number, with_number, without_number, with_task, new_result, with_abort, with_outcome, State, Phase, Making, Between, Visiting, Polling, Halted, Ending, Turning, Over, Cleaning, Closing, Crashed, Finished, answered, cleans, entered_by, finished, left_pending, node_ended, results_answered, results_left, running_answered, MayClose, AreThere, AreOpen, IsComing}
+use Rattle.rt_audit.specs.declared.answer.AnswerKind.TheVariants.{Pending, Ready, Stopped, NoMemory}
 
 module _ {O : Type 0} (rs : List (ℕ × TaskResult)) (os : List (ℕ × O)) where
   pub coming-making : IsComing Making rs os

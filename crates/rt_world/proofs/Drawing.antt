@@ -1,19 +1,5 @@
 -- Calls that draw, and the one that asks for the digest.
-use Rattle.std.proofs.Common.{◌≡◌, ◌∙◌, ap, ℕ, List, refl, true, Option, Result, Ok, Err, IfOk, IfErr, OnOk, OnErr, length}
-use Rattle.rand_core.specs.Stream.{Stream, next_u32, next_u64, fill_bytes}
-use Rattle.rt_base.specs.declared.error.Error.TheVariants.{NoMemory}
-use Rattle.rt_base.specs.declared.no_memory.NoMemory.{NoMemory as OutOfMemory}
-use Rattle.rt_audit.specs.declared.call.Call.{Call}
-use Rattle.rt_audit.specs.declared.call.Call.TheVariants.{NextU32, NextU64, FillBytes, Auditor}
-use Rattle.rt_audit.specs.declared.reply.CallReply.{CallReply}
-use Rattle.rt_audit.specs.declared.reply.CallReply.TheVariants.{Number, Bytes, Refused}
-use Rattle.rt_model.specs.Turns.{Heard, Held, Plainly, Plain}
-use Rattle.rt_machine.specs.Calls.{Noted, lacking}
-use Rattle.rt_machine.specs.Places.{Seen}
-use Rattle.rt_world.specs.Seats.{Roomed, AreSeated, AreSlotted}
-use Rattle.rt_world.specs.World.{World, Drew}
-use Rattle.rt_world.specs.Calls.{Kept, Made, lacking as world_lacking}
-use Rattle.rt_world.specs.Walked.{Called, Goes, tells, auditor_told, filled_told, number_told}
+use Rattle.rt_world.proofs.Prelude.{◌≡◌, ◌∙◌, ap, ℕ, List, refl, true, Option, Result, Ok, Err, IfOk, IfErr, OnOk, OnErr, length, Stream, next_u32, next_u64, fill_bytes, NoMemory, OutOfMemory, Call, NextU32, NextU64, FillBytes, Auditor, CallReply, Number, Bytes, Refused, Heard, Held, Plainly, Plain, Noted, lacking, Seen, Roomed, AreSeated, AreSlotted, World, Drew, Kept, Made, world_lacking, Called, Goes, tells, auditor_told, filled_told, number_told}
 use Rattle.rt_world.proofs.Lasting.{lasts-of}
 use Rattle.rt_world.proofs.Drawn.{drew-same, drew-short, drew-long, drew-filled}
 use Rattle.rt_world.proofs.Signaled.{Stand, is_apart, lacked, noted, quiet}

@@ -1,26 +1,6 @@
 -- What was drawn, over the parts of a run.
-use Rattle.std.proofs.Common.{◌≡◌, ◌∙◌, ap, ℕ, Bool, true, false, List, [], ◌∷◌, ◌++◌, map, length, Option, Some, None, refl, sym, append_assoc}
-use Rattle.std.proofs.lemmas.List.{append-nil}
-use Rattle.rand_core.specs.Stream.{Stream, next_u32, next_u64, fill_bytes}
-use Rattle.rt_audit.specs.declared.answer.AnswerKind.{AnswerKind}
-use Rattle.rt_audit.specs.declared.answer.AnswerKind.TheVariants.{Ended}
-use Rattle.rt_audit.specs.declared.finish.FinishCause.{FinishCause}
-use Rattle.rt_audit.specs.declared.entry.Entry.{Entry}
-use Rattle.rt_audit.specs.declared.entry.Entry.TheVariants.{Start, Event, Wake, Round, Visit, Answer, NodeEnd, Advance, Skip, Fire, Crash, Finish}
-use Rattle.rt_super.specs.Ancestry.{is_ended}
-use Rattle.rt_model.specs.Draws.{Drawn, Short, Long, Filled}
-use Rattle.rt_model.specs.Effects.{after, is_closing}
-use Rattle.rt_model.specs.State.{State}
-use Rattle.rt_model.specs.Tied.{taken}
-use Rattle.rt_model.specs.Turns.{Held}
-use Rattle.rt_machine.specs.Draws.{Gave, Draws, Drains}
-use Rattle.rt_machine.specs.Ends.{Calmly, is_calm, AreCalm, cleanup_by, cleanup_entries}
-use Rattle.rt_machine.specs.Told.{Told, pushed, pushed_all, is_quiet, AreQuiet, Quietly}
-use Rattle.rt_machine.proofs.Shuffled.{gave-gave}
-use Rattle.rt_world.specs.World.{World, IsFront, Drew, Writes}
-use Rattle.rt_world.specs.Calls.{Kept}
-use Rattle.rt_world.specs.Ends.{Ends, IsClosing, Seals}
-use Rattle.rt_world.specs.Visits.{Passes}
+use Rattle.rt_world.proofs.Prelude.{◌≡◌, ◌∙◌, ap, ℕ, Bool, true, false, List, [], ◌∷◌, ◌++◌, map, length, Option, Some, None, refl, sym, append_assoc, append-nil, Stream, next_u32, next_u64, fill_bytes, AnswerKind, Ended, FinishCause, Entry, Start, Event, Round, Visit, Answer, NodeEnd, Advance, Skip, Fire, Crash, Finish, is_ended, Drawn, Short, Long, Filled, after, is_closing, State, taken, Held, Gave, Draws, Drains, Calmly, is_calm, AreCalm, cleanup_by, cleanup_entries, Told, pushed, pushed_all, is_quiet, AreQuiet, Quietly, gave-gave, World, IsFront, Drew, Writes, Kept, Ends, IsClosing, Seals, Passes}
+use Rattle.rt_audit.specs.declared.entry.Entry.TheVariants.{Wake}
 use Rattle.rt_world.proofs.Lasting.{grows-of, drawn-of}
 use Rattle.rt_world.proofs.Fronts.{front-same, front-front, front-pushed, front-twice, front-called, front-kept}
 use Rattle.rt_world.proofs.Seats.{grows-closing}

@@ -1,24 +1,7 @@
 -- Who is seated behind what isn't a call.
-use Rattle.std.proofs.Common.{◌≡◌, ◌∙◌, sym, ℕ, List, Bool, true, false, Option, Some, None, is_some, unwrap_or, Result, Ok, Err}
+use Rattle.rt_world.proofs.Prelude.{◌≡◌, ◌∙◌, sym, ℕ, List, Bool, true, false, Option, Some, None, is_some, unwrap_or, Result, Ok, Err, Answer, FinishCause, Completed, Timeout, Stalled, TaskPanicked, TimeOverflow, Outcome, Open, There, Exited, Closed, reached, after, left_of, find, is_some_number, without, with_outcome, State, Ending, is_ended, Visited, cleanup_by, cleanup_entries, open_in, Seen, StandsFor, StepStands, Turns, Told, pushed_all, MayClose, Roomed, AreSeated, AreThere, IsComing, with_task}
 use Rattle.rt_audit.specs.declared.answer.AnswerKind.TheVariants.{Ready}
-use Rattle.rt_audit.specs.declared.entry.Entry.TheVariants.{Answer}
-use Rattle.rt_audit.specs.declared.finish.FinishCause.{FinishCause}
-use Rattle.rt_audit.specs.declared.finish.FinishCause.TheVariants.{Completed, Timeout, Stalled, TaskPanicked, TimeOverflow, TooManyTasks, NoMemory}
-use Rattle.rt_model.specs.declared.result.Outcome.{Outcome}
-use Rattle.rt_model.specs.declared.result.Outcome.TheVariants.{Open, There, Exited, Closed}
-use Rattle.rt_model.specs.Causes.{reached}
-use Rattle.rt_model.specs.Effects.{after, left_of}
-use Rattle.rt_model.specs.Lists.{find, is_some_number, without}
-use Rattle.rt_model.specs.Results.{with_outcome}
-use Rattle.rt_model.specs.State.{State, Ending}
-use Rattle.rt_super.specs.Ancestry.{is_ended}
-use Rattle.rt_machine.specs.Ends.{Visited, cleanup_by, cleanup_entries, open_in}
-use Rattle.rt_machine.specs.Places.{Seen}
-use Rattle.rt_machine.specs.Steps.{StandsFor, StepStands, Turns}
-use Rattle.rt_machine.specs.Told.{Told, pushed_all}
-use Rattle.rt_model.specs.Rules.{MayClose}
-use Rattle.rt_world.specs.Seats.{Roomed, AreSeated, AreThere, IsComing}
-use Rattle.rt_model.specs.Turns.{with_task}
+use Rattle.rt_audit.specs.declared.finish.FinishCause.TheVariants.{TooManyTasks, NoMemory}
 use Rattle.rt_world.proofs.Seats.{numbers-with, put-back, rising-without, rising-gone}
 use Rattle.rt_world.proofs.Coming.{coming-cleans, coming-cleaned, results-cleaned, coming-cut, coming-over, coming-turning, coming-put, coming-gone, coming-visiting, there-put, there-ended, there-exited, there-closed, open-ended}
 

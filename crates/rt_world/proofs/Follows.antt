@@ -1,29 +1,8 @@
 -- How a journal goes on following the steps.
-use Rattle.std.proofs.Common.{◌≡◌, ◌⊎◌, inl, inr, ℕ, List, [], ◌∷◌, ◌++◌, map, refl, ap, ◌∙◌, Bool, true, false, Option, Some, None}
-use Rattle.std.proofs.lemmas.List.{append-nil}
-use Rattle.rand_core.specs.Stream.{Stream}
-use Rattle.rt_audit.specs.declared.answer.AnswerKind.TheVariants.{Pending as IsPending, Ready as IsReady, Panicked as IsPanicked, Stopped as IsStopped, NoMemory as LacksMemory, Ended as IsEnded}
-use Rattle.rt_audit.specs.declared.finish.FinishCause.{FinishCause}
-use Rattle.rt_audit.specs.declared.entry.Entry.{Entry}
-use Rattle.rt_audit.specs.declared.entry.Entry.TheVariants.{Start, Call, Event, Wake, Draw, Root, Round, Visit, Answer as AnswerEntry, NodeEnd, Advance, Skip, Fire, Cleanup, Crash, Finish}
-use Rattle.rt_model.specs.declared.begin.Begin.{Begin}
+use Rattle.rt_world.proofs.Prelude.{◌≡◌, ◌⊎◌, inl, inr, ℕ, List, [], ◌∷◌, ◌++◌, map, refl, ap, ◌∙◌, Bool, true, false, Option, Some, None, append-nil, Stream, IsPending, IsReady, IsPanicked, IsStopped, LacksMemory, IsEnded, FinishCause, Entry, Start, Event, Draw, Root, Round, Visit, AnswerEntry, NodeEnd, Advance, Skip, Fire, Cleanup, Crash, Finish, Begin, is_ended, State, Clock, Phase, begun, stood_in, Making, after, after_all, process_task, find, is_some_number, Held, put, Walks, Fronts, Breaks, Steps, Value, nothing, Moves, MovesCleanup, MakerBreaks, EndsState, IsTied, Polls, given, kept_text, taken, no_number, after_all-append, IsTied-append, Drains, AreCalm, Calmly, cleanup_by, cleanup_entries, Told, fresh, pushed, pushed_all, AreCalls, AreQuiet, Quietly, own, World, Kept, Follows, Agrees, AgreesWith, value_of, unmade_of, IsMade, MakingAgrees}
+use Rattle.rt_audit.specs.declared.entry.Entry.TheVariants.{Call, Wake}
 use Rattle.rt_model.specs.declared.answer.Answer.{Answer}
 use Rattle.rt_model.specs.declared.answer.Answer.TheVariants.{Pending, Ready, Panicked}
-use Rattle.rt_super.specs.Ancestry.{is_ended}
-use Rattle.rt_model.specs.State.{State, Clock, Phase, begun, stood_in, Making}
-use Rattle.rt_model.specs.Effects.{after, after_all}
-use Rattle.rt_model.specs.Events.{process_task}
-use Rattle.rt_model.specs.Lists.{find, is_some_number}
-use Rattle.rt_model.specs.Turns.{Held, put}
-use Rattle.rt_model.specs.Walk.{Walks, Fronts, Breaks}
-use Rattle.rt_model.specs.Tied.{Steps, Value, nothing, Moves, MovesCleanup, MakerBreaks, EndsState, IsTied, Polls, given, kept_text, taken, no_number}
-use Rattle.rt_model.proofs.Append.{after_all-append, IsTied-append}
-use Rattle.rt_machine.specs.Draws.{Drains}
-use Rattle.rt_machine.specs.Ends.{AreCalm, Calmly, cleanup_by, cleanup_entries}
-use Rattle.rt_machine.specs.Told.{Told, fresh, pushed, pushed_all, AreCalls, AreQuiet, Quietly, own}
-use Rattle.rt_world.specs.World.{World}
-use Rattle.rt_world.specs.Calls.{Kept}
-use Rattle.rt_world.specs.Follows.{Follows, Agrees, AgreesWith, value_of, unmade_of, IsMade, MakingAgrees}
 
 -- calls and wakes are tied to nothing, and move no value
 tied-calls : {A O : Type 0} → (p : Steps A O) (s : State) (v : Value A O) (es : List Entry) → AreCalls es → IsTied p s v es v

@@ -1,15 +1,5 @@
 -- The entries so far stay a front.
-use Rattle.std.proofs.Common.{◌≡◌, ◌∙◌, ap, ℕ, List, [], ◌∷◌, ◌++◌, map, Some, refl, sym, append_assoc}
-use Rattle.std.proofs.lemmas.List.{append-nil}
-use Rattle.rand_core.specs.Stream.{Stream}
-use Rattle.rt_audit.specs.declared.entry.Entry.{Entry}
-use Rattle.rt_audit.specs.declared.entry.Entry.TheVariants.{Draw, Round}
-use Rattle.rt_model.specs.Tied.{taken}
-use Rattle.rt_machine.specs.Draws.{Drains}
-use Rattle.rt_machine.specs.Ends.{Calmly, cleanup_entries}
-use Rattle.rt_machine.specs.Told.{Told, pushed, pushed_all, Quietly, own}
-use Rattle.rt_world.specs.World.{World, IsFront}
-use Rattle.rt_world.specs.Calls.{Kept}
+use Rattle.rt_world.proofs.Prelude.{◌≡◌, ◌∙◌, ap, ℕ, List, [], ◌∷◌, ◌++◌, map, Some, refl, sym, append_assoc, append-nil, Stream, Entry, Draw, Round, taken, Drains, Calmly, cleanup_entries, Told, pushed, pushed_all, Quietly, own, World, IsFront, Kept}
 
 own-pushed : (t : Told) (e : Entry) → own (pushed t e) ≡ own t ++ e ∷ []
 own-pushed t e = append-nil (own t ++ e ∷ [])

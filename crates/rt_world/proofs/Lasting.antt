@@ -1,7 +1,5 @@
 -- What lasts over calls.
-use Rattle.rand_core.specs.Stream.{Stream}
-use Rattle.rt_world.specs.World.{World, Drew}
-use Rattle.rt_world.specs.Calls.{Grows, Stays, Lasts}
+use Rattle.rt_world.proofs.Prelude.{Stream, World, Drew, Grows, Stays, Lasts}
 
 module _ {A O G : Type 0} (stream : G → Stream) (a b : World A O G) where
   pub lasts-of : Grows a.told.state.phase a.told.state.running b.told.state.running → Stays a.lacked b.lacked → Drew stream a b → Lasts stream a b

@@ -14,3 +14,4 @@ pub mod Ending
 pub mod Slotted
 pub mod Signaled
 pub mod Drawing
+pub mod Prelude

@@ -1,13 +1,5 @@
 -- Who is in, by places.
-use Rattle.std.proofs.Common.{◌≡◌, ◌≤◌, ◌<◌, ◌+◌, ℕ, zero, suc, List, [], ◌∷◌, ◌++◌, refl, true, false, arith, Option, Some, None, is_some, length, get_or, set, eqb, ◌∙◌, sym}
-use Rattle.std.specs.Option.{option_eq}
-use Rattle.std.proofs.lemmas.Bool.{false≢true}
-use Rattle.rt_model.specs.Lists.{is_some_number}
-use Rattle.rt_model.specs.Lists.{find, without}
-use Rattle.rt_model.specs.Turns.{with_task}
-use Rattle.rt_model.specs.Causes.{ends_next}
-use Rattle.rt_machine.proofs.Counts.{ends-runs, ends-none}
-use Rattle.rt_world.specs.Seats.{seats_from, numbers_of, ArePassed}
+use Rattle.rt_world.proofs.Prelude.{◌≡◌, ◌≤◌, ◌<◌, ◌+◌, ℕ, zero, suc, List, [], ◌∷◌, ◌++◌, refl, true, false, arith, Option, Some, None, is_some, length, get_or, set, eqb, ◌∙◌, sym, option_eq, false≢true, is_some_number, find, without, with_task, ends_next, ends-runs, ends-none, seats_from, numbers_of, ArePassed}
 use Rattle.rt_world.proofs.Seats.{find-some}
 
 pub find-below : {A : Type 0} → (k n : ℕ) (ps : List (Option A)) → k < n → find k (seats_from n ps) ≡ None

@@ -1,20 +1,6 @@
 -- What lasts over rounds and clock steps, and over the ends of tasks.
-use Rattle.std.proofs.Common.{ap, ◌∙◌, ◌≡◌, ◌<◌, ◌+◌, List, [], ◌∷◌, ℕ, refl, map, None, true, false, length, drop, get_or, drop-cons, add-one, Result, Ok, Err, OnOk}
-use Rattle.rand_core.specs.Stream.{Stream}
+use Rattle.rt_world.proofs.Prelude.{ap, ◌∙◌, ◌≡◌, ◌<◌, ◌+◌, List, [], ◌∷◌, ℕ, refl, map, None, true, false, length, drop, get_or, drop-cons, add-one, Result, Ok, Err, OnOk, Stream, Draw, Event, Visit, Answer, from_running, after, left_of, process_task, has_number, Clock, State, Visiting, Drains, Turns, Told, pushed, all-begin, all-given, World, Passes, Runs}
 use Rattle.rt_audit.specs.declared.answer.AnswerKind.TheVariants.{Stopped}
-use Rattle.rt_audit.specs.declared.entry.Entry.TheVariants.{Draw, Event, Visit, Answer}
-use Rattle.rt_model.specs.Causes.{from_running}
-use Rattle.rt_model.specs.Effects.{after, left_of}
-use Rattle.rt_model.specs.Events.{process_task}
-use Rattle.rt_model.specs.Lists.{has_number}
-use Rattle.rt_model.specs.State.{Clock, State, Visiting}
-use Rattle.rt_machine.specs.Draws.{Drains}
-use Rattle.rt_machine.specs.Steps.{Turns}
-use Rattle.rt_machine.specs.Told.{Told, pushed}
-use Rattle.rt_machine.proofs.Turning.{all-begin, all-given}
-use Rattle.rt_world.specs.World.{World}
-use Rattle.rt_world.specs.Visits.{Passes}
-use Rattle.rt_world.specs.Rounds.{Runs}
 use Rattle.rt_world.proofs.Fronts.{front-pushed, front-twice, front-quietly, front-drained}
 use Rattle.rt_world.proofs.Drawn.{quietly-drawn, drew-same, drew-drained, writes-of, writes-same, writes-writes}
 

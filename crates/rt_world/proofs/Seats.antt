@@ -1,18 +1,6 @@
 -- Who is seated, as tasks are taken out and put back.
-use Rattle.std.proofs.Common.{◌≡◌, ◌≤◌, ◌<◌, ◌+◌, ℕ, List, [], ◌∷◌, refl, true, false, arith, Option, Some, None, is_some, ◌∙◌, ◌++◌, eq-eqb}
-use Rattle.rt_model.specs.Lists.{has_number, with_number, without_number}
-use Rattle.rt_model.specs.Causes.{from_running, ends_next}
-use Rattle.rt_machine.proofs.Counts.{ends-runs}
-use Rattle.rt_model.specs.Lists.{find, without}
-use Rattle.rt_model.specs.Turns.{with_task}
-use Rattle.std.proofs.Common.{Bool}
-use Rattle.rt_model.specs.State.{Phase}
-use Rattle.rt_model.specs.Effects.{is_closing}
-use Rattle.rand_core.specs.Stream.{Stream}
-use Rattle.rt_world.specs.World.{World}
-use Rattle.rt_world.specs.Calls.{Grows, Kept}
+use Rattle.rt_world.proofs.Prelude.{◌≡◌, ◌≤◌, ◌<◌, ◌+◌, ℕ, List, [], ◌∷◌, refl, true, false, arith, Option, Some, None, is_some, ◌∙◌, ◌++◌, eq-eqb, has_number, with_number, without_number, from_running, ends_next, ends-runs, find, without, with_task, Bool, Phase, is_closing, Stream, World, Grows, Kept, numbers_of, seated, OutRuns, AreRising}
 use Rattle.rt_world.proofs.Lasting.{grows-of}
-use Rattle.rt_world.specs.Seats.{numbers_of, seated, OutRuns, AreRising}
 
 pub numbers-without : {A : Type 0} → (k : ℕ) (ts : List (ℕ × A)) → numbers_of (without k ts) ≡ without_number k (numbers_of ts)
 numbers-without k [] = refl

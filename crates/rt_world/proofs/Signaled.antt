@@ -1,25 +1,5 @@
 -- Calls on signals move no value.
-use Rattle.std.proofs.Common.{◌≡◌, ◌∙◌, ap, inl, inr, ℕ, ℤ, List, refl, Bool, true, false, Option, Result, Ok, Err, IfOk, IfErr, OnErr}
-use Rattle.rand_core.specs.Stream.{Stream}
-use Rattle.rt_base.specs.declared.error.Error.{Error}
-use Rattle.rt_base.specs.declared.error.Error.TheVariants.{NoMemory}
-use Rattle.rt_base.specs.declared.no_memory.NoMemory.{NoMemory as OutOfMemory}
-use Rattle.rt_base.specs.declared.poll.Poll.{Poll}
-use Rattle.rt_audit.specs.declared.call.Call.{Call}
-use Rattle.rt_audit.specs.declared.call.Call.TheVariants.{Signaler, CloneSignal, Signal, SignalPoll, SignalClose, SignalerClose, CompletionPoll, CompletionClose, Stop, Stopped, NextU32, NextU64, FillBytes, Auditor}
-use Rattle.rt_audit.specs.declared.reply.CallReply.{CallReply}
-use Rattle.rt_audit.specs.declared.reply.CallReply.TheVariants.{Done, SignalAt, CompletionAt, Refused}
-use Rattle.rt_super.specs.declared.stopper.Stopped.{Stopped as StopAnswer}
-use Rattle.rt_model.specs.Signals.{met_reply, shown_reply, stopped_reply}
-use Rattle.rt_model.specs.State.{State, stood_in}
-use Rattle.rt_model.specs.Turns.{Held, Heard, Plainly, Plain, has_place}
-use Rattle.rt_model.specs.Effects.{drawn_called, numbers_called, results_called, running_called, slots_called}
-use Rattle.rt_machine.specs.Calls.{IsRefused, Noted, Spent, lacking}
-use Rattle.rt_machine.specs.Places.{Seen}
-use Rattle.rt_world.specs.Seats.{Roomed, AreSeated, AreSlotted}
-use Rattle.rt_world.specs.World.{World}
-use Rattle.rt_world.specs.Calls.{Kept, Made, IsRefused as WorldRefused, lacking as world_lacking}
-use Rattle.rt_world.specs.Walked.{Called, Goes, tells, clone_told, met_told, shown_told, signaler_told, stop_told, stopped_told}
+use Rattle.rt_world.proofs.Prelude.{◌≡◌, ◌∙◌, ap, inl, inr, ℕ, ℤ, List, refl, Bool, true, false, Option, Result, Ok, Err, IfOk, IfErr, OnErr, Stream, Error, NoMemory, OutOfMemory, Poll, Call, Signaler, CloneSignal, Signal, SignalPoll, SignalClose, SignalerClose, CompletionPoll, CompletionClose, Stop, Stopped, NextU32, NextU64, FillBytes, Auditor, CallReply, Done, SignalAt, CompletionAt, Refused, StopAnswer, met_reply, shown_reply, stopped_reply, State, stood_in, Held, Heard, Plainly, Plain, has_place, drawn_called, numbers_called, results_called, running_called, slots_called, IsRefused, Noted, Spent, lacking, Seen, Roomed, AreSeated, AreSlotted, World, Kept, Made, WorldRefused, world_lacking, Called, Goes, tells, clone_told, met_told, shown_told, signaler_told, stop_told, stopped_told}
 use Rattle.rt_world.proofs.Walked.{called-lacking, called-made, called-refused, tells-lacking, tells-made, tells-refused, stays-same, stays-marked, grows-same, lasts-kept, calling-kept}
 use Rattle.rt_world.proofs.Lasting.{lasts-of}
 use Rattle.rt_world.proofs.Drawn.{drew-same}

@@ -1,30 +1,6 @@
 -- What is held for slots, as calls change them.
-use Rattle.std.proofs.Common.{◌≡◌, ◌≢◌, ◌+◌, ◌∙◌, sym, ap, ℕ, List, [], ◌∷◌, ◌++◌, refl, Bool, true, false, Option, Some, None, Result, Ok, Err, IfOk, IfErr, OnOk, OnErr, is_some, option_map, arith, eqb, inl, inr, ◌&&◌}
-use Rattle.rt_base.specs.declared.error.Error.{Error}
-use Rattle.rt_base.specs.declared.no_memory.NoMemory.{NoMemory as OutOfMemory}
-use Rattle.rt_audit.specs.declared.call.Call.{Call}
-use Rattle.rt_audit.specs.declared.call.Call.TheVariants.{Child, CloseNode, Spawn, Abort, AbortTask, Wake, Join, GiveUp, SleepPoll, Slot, SlotSend, SlotClose, SlotPoll, SlotGiveUp, AbortWait, Signaler, CloneSignal, Signal, SignalPoll, SignalClose, SignalerClose, CompletionPoll, CompletionClose, Stop, Stopped, NextU32, NextU64, FillBytes, Auditor}
-use Rattle.rt_audit.specs.declared.reply.CallReply.{CallReply}
-use Rattle.rt_audit.specs.declared.reply.CallReply.TheVariants.{Done, NodeAt, SlotAt, Pending, PendingAt, Ready, Refused}
-use Rattle.rt_model.specs.Effects.{after, slots_called}
-use Rattle.rt_base.specs.declared.error.Error.TheVariants.{Aborted}
-use Rattle.rt_model.specs.declared.result.Outcome.{Outcome}
-use Rattle.rt_model.specs.declared.result.Outcome.TheVariants.{Open, There, Exited, Closed as IsClosed}
-use Rattle.rt_model.specs.declared.result.TaskResult.{TaskResult}
-use Rattle.rt_model.specs.Results.{new_result}
-use Rattle.rt_model.specs.Rules.{ReceiveAnswers, SlotAnswers, Unless}
-use Rattle.rt_model.specs.Lists.{find, replaced, without}
-use Rattle.rt_model.specs.Slots.{Slotted, no_slots, with_slot, with_sent, with_polled, with_wait_aborted, without_slot, settled, aborted, is_open, is_sent, is_there}
+use Rattle.rt_world.proofs.Prelude.{◌≡◌, ◌≢◌, ◌+◌, ◌∙◌, sym, ap, ℕ, List, [], ◌∷◌, ◌++◌, refl, Bool, true, false, Option, Some, None, Result, Ok, Err, IfOk, IfErr, OnOk, OnErr, is_some, option_map, arith, eqb, inl, inr, ◌&&◌, Error, OutOfMemory, Call, Child, CloseNode, Spawn, Abort, AbortTask, Wake, Join, GiveUp, SleepPoll, Signaler, CloneSignal, Signal, SignalPoll, SignalClose, SignalerClose, CompletionPoll, CompletionClose, Stop, Stopped, NextU32, NextU64, FillBytes, Auditor, Slots, Slot, SlotSend, SlotClose, SlotPoll, SlotGiveUp, AbortWait, CallReply, Done, NodeAt, SlotAt, Pending, PendingAt, Ready, Refused, after, slots_called, Aborted, Outcome, Open, There, Exited, IsClosed, TaskResult, new_result, ReceiveAnswers, SlotAnswers, Unless, find, replaced, without, Slotted, no_slots, with_slot, with_sent, with_polled, with_wait_aborted, without_slot, settled, aborted, is_open, is_sent, is_there, Stood, has_place, with_task, stood_in, Noted, Spent, IsRefused, lacking, sleep_reply, Seen, open_places, cleanup_by, cleanup_entries, Told, pushed_all, is_ended, Roomed, AreSlotted, AreSent, AreWaited}
 use Rattle.rt_world.proofs.Coming.{same-number, find-last, find-own, find-with, find-without}
-use Rattle.rt_model.specs.State.{Stood}
-use Rattle.rt_model.specs.Turns.{has_place, with_task}
-use Rattle.rt_model.specs.State.{stood_in}
-use Rattle.rt_machine.specs.Calls.{Noted, Spent, IsRefused, lacking, sleep_reply}
-use Rattle.rt_machine.specs.Places.{Seen, open_places}
-use Rattle.rt_machine.specs.Ends.{cleanup_by, cleanup_entries}
-use Rattle.rt_machine.specs.Told.{Told, pushed_all}
-use Rattle.rt_super.specs.Ancestry.{is_ended}
-use Rattle.rt_world.specs.Seats.{Roomed, AreSlotted, AreSent, AreWaited}
 
 module _ {V : Type 0} (sent : Roomed (ℕ × V)) where
   -- no slot yet
@@ -41,35 +17,8 @@ module _ {V : Type 0} (sent : Roomed (ℕ × V)) where
     slotted-lacking e = rw e i
 
     slots-refused : (call : Call) (e : Error) → slots_called old.told.state.slots by call (Refused e) ≡ old.told.state.slots
-    slots-refused (Child node label) e = refl
-    slots-refused (CloseNode node) e = refl
-    slots-refused (Abort task) e = refl
-    slots-refused (AbortTask task) e = refl
-    slots-refused (Wake task) e = refl
-    slots-refused (Join task) e = refl
-    slots-refused (GiveUp task) e = refl
-    slots-refused (SleepPoll due) e = refl
-    slots-refused (Spawn node) e = refl
-    slots-refused Slot e = refl
-    slots-refused (SlotSend slot) e = refl
-    slots-refused (SlotClose slot) e = refl
-    slots-refused (SlotPoll slot) e = refl
-    slots-refused (SlotGiveUp slot) e = refl
-    slots-refused (AbortWait slot) e = refl
-    slots-refused Signaler e = refl
-    slots-refused (CloneSignal signal) e = refl
-    slots-refused (Signal signaler value) e = refl
-    slots-refused (SignalPoll signal) e = refl
-    slots-refused (SignalClose signal) e = refl
-    slots-refused (SignalerClose signaler) e = refl
-    slots-refused (CompletionPoll completion) e = refl
-    slots-refused (CompletionClose completion) e = refl
-    slots-refused (Stop value) e = refl
-    slots-refused Stopped e = refl
-    slots-refused NextU32 e = refl
-    slots-refused NextU64 e = refl
-    slots-refused (FillBytes len) e = refl
-    slots-refused Auditor e = refl
+    slots-refused (Slots call) e = refl
+    slots-refused _ e = refl
 
     pub slotted-refused : (call : Call) (e : Error) → IsRefused by old new call e → AreSlotted sent new.told.state.slots
     slotted-refused call e (inl lack) = slotted-lacking lack.1
@@ -233,11 +182,12 @@ module _ {V : Type 0} (sent after : Roomed (ℕ × V)) (by : Option ℕ) (old ne
   slots = old.told.state.slots
 
   -- a slot more
-  pub made-slotted : Noted by old new Slot (SlotAt k) → after.items ≡ sent.items → after.first ≡ sent.first → after.next ≡ sent.next + 1 → find slots.count slots.results ≡ None → AreSlotted after new.told.state.slots
+  pub made-slotted : Noted by old new (Slots Slot) (SlotAt k) → after.items ≡ sent.items → after.first ≡ sent.first → after.next ≡ sent.next + 1 → find slots.count slots.results ≡ None → AreSlotted after new.told.state.slots
   unfolding AreSent
   made-slotted n items first next none =
       let told : new.told.state.slots ≡ with_slot k slots = ap (λ (s : Stood). s.slots) n.stood in
-      let is : k ≡ slots.count = n.answers in
+      let told_at : SlotAt k ≡ SlotAt slots.count = n.answers in
+      let is : k ≡ slots.count = cc in
       let gone : find k slots.results ≡ None = rw is none in
       let end = find-end k new_result slots.results gone in
       rw told
@@ -251,7 +201,7 @@ module _ {V : Type 0} (sent after : Roomed (ℕ × V)) (by : Option ℕ) (old ne
       some-same e = cc
 
   -- its sender closed it
-  pub closed-slot : Noted by old new (SlotClose k) Done → AreSlotted sent new.told.state.slots
+  pub closed-slot : Noted by old new (Slots (SlotClose k)) Done → AreSlotted sent new.told.state.slots
   unfolding AreSent
   closed-slot n =
       let told : new.told.state.slots ≡ with_sent IsClosed k slots = ap (λ (s : Stood). s.slots) n.stood in
@@ -261,7 +211,7 @@ module _ {V : Type 0} (sent after : Roomed (ℕ × V)) (by : Option ℕ) (old ne
       (λ r found open_. absurd (settled-shut IsClosed refl r open_)))
 
   -- a result was sent where it is waited for
-  pub sent-slotted : Noted by old new (SlotSend k) Done → (v : V) → after.items ≡ with_task k v sent.items → after.first ≡ sent.first → after.next ≡ sent.next → is_open (find k slots.results) ≡ true → AreSlotted after new.told.state.slots
+  pub sent-slotted : Noted by old new (Slots (SlotSend k)) Done → (v : V) → after.items ≡ with_task k v sent.items → after.first ≡ sent.first → after.next ≡ sent.next → is_open (find k slots.results) ≡ true → AreSlotted after new.told.state.slots
   unfolding AreSent AreWaited
   sent-slotted n v items first next open_ =
       let told : new.told.state.slots ≡ with_sent There k slots = ap (λ (s : Stood). s.slots) n.stood in
@@ -272,7 +222,7 @@ module _ {V : Type 0} (sent after : Roomed (ℕ × V)) (by : Option ℕ) (old ne
       (λ r found is. absurd (settled-shut There refl r is)))
 
   -- or where it isn't
-  pub dropped-slotted : Noted by old new (SlotSend k) Done → is_open (find k slots.results) ≡ false → AreSlotted sent new.told.state.slots
+  pub dropped-slotted : Noted by old new (Slots (SlotSend k)) Done → is_open (find k slots.results) ≡ false → AreSlotted sent new.told.state.slots
   unfolding AreSent
   dropped-slotted n shut =
       let told : new.told.state.slots ≡ with_sent There k slots = ap (λ (s : Stood). s.slots) n.stood in
@@ -282,7 +232,7 @@ module _ {V : Type 0} (sent after : Roomed (ℕ × V)) (by : Option ℕ) (old ne
       (λ r found is. absurd (settled-shut There refl r is)))
 
   -- its receiver polled, and waits
-  pub polled-slotted : Noted by old new (SlotPoll k) Pending → find k sent.items ≡ None → AreSlotted sent new.told.state.slots
+  pub polled-slotted : Noted by old new (Slots (SlotPoll k)) Pending → find k sent.items ≡ None → AreSlotted sent new.told.state.slots
   unfolding AreSent
   polled-slotted n none =
       let told : new.told.state.slots ≡ with_polled (Open by) k slots = ap (λ (s : Stood). s.slots) n.stood in
@@ -296,7 +246,7 @@ module _ {V : Type 0} (sent after : Roomed (ℕ × V)) (by : Option ℕ) (old ne
     none-after = none-held (find k after.items) (rw items gone)
 
     -- or takes what was sent
-    pub taken-slotted : Noted by old new (SlotPoll k) Ready → AreSlotted after new.told.state.slots
+    pub taken-slotted : Noted by old new (Slots (SlotPoll k)) Ready → AreSlotted after new.told.state.slots
     taken-slotted n =
         let told : new.told.state.slots ≡ with_polled IsClosed k slots = ap (λ (s : Stood). s.slots) n.stood in
         rw told
@@ -306,7 +256,7 @@ module _ {V : Type 0} (sent after : Roomed (ℕ × V)) (by : Option ℕ) (old ne
         (λ r found is. absurd (cc)))
 
     -- or gives it up
-    pub unslotted : Noted by old new (SlotGiveUp k) Done → find k new.told.state.slots.results ≡ None → AreSlotted after new.told.state.slots
+    pub unslotted : Noted by old new (Slots (SlotGiveUp k)) Done → find k new.told.state.slots.results ≡ None → AreSlotted after new.told.state.slots
     unslotted n none =
         let told : new.told.state.slots ≡ without_slot k slots = ap (λ (s : Stood). s.slots) n.stood in
         let left : find k (without k slots.results) ≡ None = rw told at none in
@@ -318,7 +268,7 @@ module _ {V : Type 0} (sent after : Roomed (ℕ × V)) (by : Option ℕ) (old ne
         (λ r found is. let bad : None ≡ Some r = sym left ∙ found in absurd (cc)))
 
     -- or the wait is aborted
-    pub aborted-slotted : Noted by old new (AbortWait k) Done → AreSlotted after new.told.state.slots
+    pub aborted-slotted : Noted by old new (Slots (AbortWait k)) Done → AreSlotted after new.told.state.slots
     aborted-slotted n =
         let told : new.told.state.slots ≡ with_wait_aborted k slots = ap (λ (s : Stood). s.slots) n.stood in
         rw told
@@ -364,22 +314,22 @@ open-unsent sent slots i k open_ = none-of (find k sent.items) (i.held k ∙ ope
         by IsClosed open_ = cc
 
 -- a slot that is closed, or was before
-pub slot-closed : {V : Type 0} (sent : Roomed (ℕ × V)) (by : Option ℕ) (old new : Seen) → AreSlotted sent old.told.state.slots → (k : ℕ) → Spent by old new (SlotClose k) → AreSlotted sent new.told.state.slots
-slot-closed sent by old new i k spent = with (has_place (stood_in old.told.state) (SlotClose k)) refl
+pub slot-closed : {V : Type 0} (sent : Roomed (ℕ × V)) (by : Option ℕ) (old new : Seen) → AreSlotted sent old.told.state.slots → (k : ℕ) → Spent by old new (Slots (SlotClose k)) → AreSlotted sent new.told.state.slots
+slot-closed sent by old new i k spent = with (has_place (stood_in old.told.state) (Slots (SlotClose k))) refl
   where
-    with : (b : Bool) → has_place (stood_in old.told.state) (SlotClose k) ≡ b → AreSlotted sent new.told.state.slots
+    with : (b : Bool) → has_place (stood_in old.told.state) (Slots (SlotClose k)) ≡ b → AreSlotted sent new.told.state.slots
     with true e = closed-slot sent sent by old new i k (spent.there e)
     with false e = rw (spent.gone e) i
 
 -- a result that is sent where it isn't taken
-pub slot-dropped : {V : Type 0} (sent : Roomed (ℕ × V)) (by : Option ℕ) (old new : Seen) → AreSlotted sent old.told.state.slots → (k : ℕ) → Spent by old new (SlotSend k) → (is_some (find k old.told.state.slots.senders) && is_open (find k old.told.state.slots.results)) ≡ false → AreSlotted sent new.told.state.slots
-slot-dropped sent by old new i k spent takes = with (has_place (stood_in old.told.state) (SlotSend k)) refl
+pub slot-dropped : {V : Type 0} (sent : Roomed (ℕ × V)) (by : Option ℕ) (old new : Seen) → AreSlotted sent old.told.state.slots → (k : ℕ) → Spent by old new (Slots (SlotSend k)) → (is_some (find k old.told.state.slots.senders) && is_open (find k old.told.state.slots.results)) ≡ false → AreSlotted sent new.told.state.slots
+slot-dropped sent by old new i k spent takes = with (has_place (stood_in old.told.state) (Slots (SlotSend k))) refl
   where
     shut : (a b : Bool) → a ≡ true → (a && b) ≡ false → b ≡ false
     shut true b a t = t
     shut false b a t = cc
 
-    with : (b : Bool) → has_place (stood_in old.told.state) (SlotSend k) ≡ b → AreSlotted sent new.told.state.slots
+    with : (b : Bool) → has_place (stood_in old.told.state) (Slots (SlotSend k)) ≡ b → AreSlotted sent new.told.state.slots
     with true e = dropped-slotted sent sent by old new i k (spent.there e) (shut (is_some (find k old.told.state.slots.senders)) (is_open (find k old.told.state.slots.results)) e takes)
     with false e = rw (spent.gone e) i
 

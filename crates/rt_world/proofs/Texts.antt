@@ -1,22 +1,7 @@
 -- A panic that is kept has its text, and so has the one that a run ends by.
-use Rattle.std.proofs.Common.{◌≡◌, inl, inr, ◌∙◌, ap, ℕ, List, [], ◌∷◌, refl, Bool, true, false, not, ◌&&◌, ◌||◌, Option, Some, None, is_some, if◌then◌else◌}
-use Rattle.rt_audit.specs.declared.answer.AnswerKind.{AnswerKind}
-use Rattle.rt_audit.specs.declared.answer.AnswerKind.TheVariants.{Pending as IsPending, Ready as IsReady, Panicked as IsPanicked, Stopped as IsStopped, NoMemory as LacksMemory, Ended as IsEnded}
-use Rattle.rt_audit.specs.declared.finish.FinishCause.{FinishCause}
-use Rattle.rt_audit.specs.declared.finish.FinishCause.TheVariants.{Completed, TaskPanicked, NoMemory as OutOfMemory}
-use Rattle.rt_audit.specs.declared.entry.Entry.{Entry}
-use Rattle.rt_audit.specs.declared.entry.Entry.TheVariants.{Start, Call, Event, Wake, Draw, Root, Round, Visit, Answer as AnswerEntry, NodeEnd, Advance, Skip, Fire, Cleanup, Crash, Finish}
-use Rattle.rt_super.specs.Alarms.{Alarm}
-use Rattle.rt_model.specs.declared.begin.Begin.{Begin}
-use Rattle.rt_model.specs.declared.result.Outcome.{Outcome}
-use Rattle.rt_model.specs.declared.result.Outcome.TheVariants.{Open, There, Exited, Closed}
-use Rattle.rt_model.specs.Causes.{reached, cause_at, where_true, turning_cause}
-use Rattle.rt_model.specs.Lists.{is_some_number}
-use Rattle.rt_model.specs.State.{State, Phase, Blank, Making, Between, Visiting, Entered, Polling, Halted, Ending, Leaving, Turning, Over, Cleaning, Closing, Crashed, Finished, begun}
-use Rattle.rt_model.specs.Effects.{after, after_all, left_of, cause_of, is_panic, ends_in_panic, entered, entered_by, left_pending, finished, leaves, ended, node_ended, cleans, is_settled}
-use Rattle.rt_model.specs.Rules.{May, MayAnswer, MayCrash, MayFinish, IsLawful}
-use Rattle.rt_model.specs.Turns.{Held}
-use Rattle.rt_model.specs.Tied.{Steps, Value, nothing, no_number, given, Moves, MovesAnswer, MovesCleanup, MovesCrash, EndsState, IsTied}
+use Rattle.rt_world.proofs.Prelude.{◌≡◌, inl, inr, ◌∙◌, ap, ℕ, List, [], ◌∷◌, refl, Bool, true, false, not, ◌&&◌, ◌||◌, Option, Some, None, is_some, if◌then◌else◌, AnswerKind, IsPending, IsReady, IsPanicked, IsStopped, LacksMemory, IsEnded, FinishCause, Completed, TaskPanicked, Entry, Start, Event, Draw, Root, Round, Visit, AnswerEntry, NodeEnd, Advance, Skip, Fire, Cleanup, Crash, Finish, Alarm, Begin, Outcome, Open, There, Exited, Closed, reached, cause_at, where_true, turning_cause, is_some_number, State, Phase, Blank, Making, Between, Visiting, Entered, Polling, Halted, Ending, Leaving, Turning, Over, Cleaning, Closing, Crashed, Finished, begun, after, after_all, left_of, cause_of, is_panic, ends_in_panic, entered, entered_by, left_pending, finished, leaves, ended, node_ended, cleans, is_settled, May, MayAnswer, MayCrash, MayFinish, IsLawful, Held, Steps, Value, nothing, no_number, given, Moves, MovesAnswer, MovesCleanup, MovesCrash, EndsState, IsTied}
+use Rattle.rt_audit.specs.declared.finish.FinishCause.TheVariants.{NoMemory as OutOfMemory}
+use Rattle.rt_audit.specs.declared.entry.Entry.TheVariants.{Call, Wake}
 
 -- a text is there where a panic is kept, or about to be, or the run ends by one
 pub record HasText (panicked catches : Bool) (phase : Phase) (cause : Option FinishCause) (text : Bool) : Type 0 where

@@ -1,32 +1,11 @@
 -- Steps are walked call by call, and poller by poller.
-use Rattle.std.proofs.Common.{◌≡◌, ◌⊎◌, inl, inr, ℕ, Bool, List, [], ◌∷◌, ◌++◌, refl, sym, ap, ◌∙◌, Option, Some, None, Result, Ok, Err, true, false, append_assoc, arith, is_some, OnOk, OnErr, IfOk, IfErr}
-use Rattle.std.proofs.lemmas.List.{append-nil}
-use Rattle.rt_base.specs.declared.error.Error.{Error}
-use Rattle.rt_base.specs.declared.error.Error.TheVariants.{NoMemory as OutOf}
-use Rattle.rt_base.specs.declared.no_memory.NoMemory.{NoMemory as OutOfMemory}
-use Rattle.rt_base.specs.declared.execution.Execution.{Execution}
-use Rattle.rt_audit.specs.declared.call.Call.TheVariants.{Child, AbortTask, Wake, Join, Slot, SlotPoll}
-use Rattle.rt_audit.specs.declared.reply.CallReply.{CallReply}
-use Rattle.rt_audit.specs.declared.reply.CallReply.TheVariants.{Done, NodeAt, SlotAt, Pending, Ready, Refused}
-use Rattle.rt_super.specs.Alarms.{AlarmList}
+use Rattle.rt_world.proofs.Prelude.{◌≡◌, ◌⊎◌, inl, inr, ℕ, Bool, List, [], ◌∷◌, ◌++◌, refl, sym, ap, ◌∙◌, Option, Some, None, Result, Ok, Err, true, false, append_assoc, arith, is_some, OnOk, OnErr, IfOk, IfErr, append-nil, Error, OutOf, OutOfMemory, Execution, Child, AbortTask, Wake, Join, Slots, Slot, SlotPoll, CallReply, Done, NodeAt, SlotAt, Pending, Ready, Refused, AlarmList, Phase, Making, Polling, Ending, Closing, Stood, Turn, stood_in, ends_next, CallsAt, MayCall, alarm_of, Frees, IsAnswerOf, Ask, Heard, Plainly, Sleeping, Spawning, Plain, Handed, Held, Change, IsCounted, counted, Asks, IsOwn, FreesOne, call_of, heard_of, moved, has_place, find, heard_result, polled, Step, Last, Does, Spends, Counts, Gives, Walks, Fronts, Lacks, Stops, Breaks, then, followed_by, stood_before, IsSpending, walks-then, fronts-then, stops-then, stops-first, frees-counted, frees-append, frees-moved, frees-spent, turn_in, marked, sleep_reply, slept_number, spawn_reply, Stream, World, Drew, Stays, Grows, Kept, Made, IsUnreceived, IsUnsent, SpentBy, Joined, Received, Lasts, Broke, EndsWith, Turned, Walked, Polled, answered_by, Rooted, root_by, Goes, Called, tells, wake_told, sleep_told, slot_told, child_told, spawn_told, join_told, MaySpend, Closes, Counted, Leads}
 use Rattle.rt_model.specs.declared.answer.Answer.{Answer}
 use Rattle.rt_model.specs.declared.answer.Answer.TheVariants.{NoMemory}
-use Rattle.rt_model.specs.State.{Phase, Making, Polling, Ending, Closing, Stood, Turn, stood_in}
-use Rattle.rt_model.specs.Causes.{ends_next}
-use Rattle.rt_model.specs.Rules.{CallsAt, MayCall}
-use Rattle.rt_model.specs.Alarms.{alarm_of}
-use Rattle.rt_model.specs.Turns.{Frees, IsAnswerOf, Ask, Heard, Plainly, Sleeping, Spawning, Plain, Handed, Held, Asks, IsOwn, FreesOne, call_of, heard_of, moved, has_place}
-use Rattle.rt_model.specs.Lists.{find}
-use Rattle.rt_world.specs.Receiving.{heard_result, polled}
-use Rattle.rt_model.specs.Walk.{Step, Last, Does, Spends, Gives, Walks, Fronts, Lacks, Stops, Breaks, then, followed_by, stood_before}
-use Rattle.rt_model.proofs.Walks.{IsSpending, walks-then, fronts-then, stops-then, stops-first, frees-append, frees-moved, frees-spent}
-use Rattle.rt_machine.specs.Calls.{turn_in, marked, sleep_reply, slept_number, spawn_reply}
-use Rattle.rand_core.specs.Stream.{Stream}
-use Rattle.rt_world.specs.World.{World, Drew}
 use Rattle.rt_world.proofs.Drawn.{drew-same, drew-drew}
 use Rattle.rt_world.proofs.Lasting.{lasts-of, grows-of, stays-of, drawn-of}
-use Rattle.rt_world.specs.Calls.{Stays, Grows, Kept, Made, IsRefused, IsUnreceived, IsUnsent, SpentBy, Joined, Received, lacking, Lasts}
-use Rattle.rt_world.specs.Walked.{Broke, EndsWith, Turned, Walked, Spent, Polled, answered_by, Rooted, root_by, Goes, Called, tells, wake_told, sleep_told, slot_told, child_told, spawn_told, join_told, Spends as MaySpend, Closes, Leads}
+use Rattle.rt_world.specs.Calls.{IsRefused, lacking}
+use Rattle.rt_world.specs.Walked.{Spent}
 
 stood-more : (ts us : List Turn) (n0 n1 n2 : Stood) → stood_before us n2 ≡ n1 → stood_before ts n1 ≡ n0 → stood_before (ts ++ us) n2 ≡ n0
 stood-more [] us n0 n1 n2 h k = h ∙ k
@@ -111,7 +90,7 @@ module _ {A L O R G : Type 0} (old mid new : World A O G) (given : Option (R × 
     more = t ∷ two.more;
     turns = two.turns ∙ ap (λ ts. ts ++ two.more) is ∙ append_assoc old.told.state.turns (t ∷ []) two.more;
     stood = stood;
-    frees = (mid.held, frees, two.frees);
+    frees = (old.held.counts, mid.held, frees, two.frees);
     marked = λ made o. two.marked made (lacked ∙ o);
     ends = λ n. walk two.more (stood_in new.told.state) new.held given (two.ends n);
     broke = λ made o n.
@@ -136,9 +115,9 @@ module _ {A L O R G : Type 0} (old mid new : World A O G) (given : Option (R × 
     does-stops on front stood end w = (asks, rw (← is) w)
 
   -- a call, and then what follows from what was heard of it
-  turned-made : (ask : Ask A O) (reply : CallReply) (heard : Heard O) (on : Heard O → Step A L O R) → Made old mid ask reply → Asks old.held ask (turn_in old.told.state (call_of ask) reply) → heard ≡ heard_of old.held (turn_in old.told.state (call_of ask) reply) → Turned (on heard) mid new given → Turned (Does ask on) old new given
+  turned-made : (ask : Ask A O) (reply : CallReply) (heard : Heard O) (on : Heard O → Step A L O R) → Made old mid ask reply → Asks old.held ask (turn_in old.told.state old.out (call_of ask) reply) → heard ≡ heard_of old.held (turn_in old.told.state old.out (call_of ask) reply) → Turned (on heard) mid new given → Turned (Does ask on) old new given
   turned-made ask reply heard on made asks is two =
-      let t = turn_in old.told.state (call_of ask) reply in
+      let t = turn_in old.told.state old.out (call_of ask) reply in
       turned-before t (Does ask on) (on heard) made.turns (rw made.held (frees-moved old.held ask t asks)) made.lacked refl
       (λ us stood end given w. does-ends t ask asks made.held on us stood end given (rw (← is) w))
       (λ front stood end w. does-stops t ask asks made.held on front stood end (rw (← is) w))
@@ -150,13 +129,13 @@ module _ {A L O R G : Type 0} (old mid new : World A O G) (given : Option (R × 
 
   -- a call that spends a token
   module _ (ask : Ask A O) (spends : IsSpending ask) (made : Made old mid ask Done) (there : has_place (stood_in old.told.state) (call_of ask) ≡ true) where
-    spent-ends : (next : Step A L O R) (us : List Turn) (stood : Stood) (end : Held A O) (given : Option (R × L)) → EndsWith next mid.held us stood given end → EndsWith (Spends ask next) old.held (turn_in old.told.state (call_of ask) Done ∷ us) stood given end
+    spent-ends : (next : Step A L O R) (us : List Turn) (stood : Stood) (end : Held A O) (given : Option (R × L)) → EndsWith next mid.held us stood given end → EndsWith (Spends ask next) old.held (turn_in old.told.state old.out (call_of ask) Done ∷ us) stood given end
     spent-ends next us stood end None w = (λ place. (refl, refl, rw (← made.held) w), λ none. absurd (has-none (has_place (stood_in old.told.state) (call_of ask)) there none))
     spent-ends next us stood end (Some g) w = (λ place. (refl, refl, rw (← made.held) w), λ none. absurd (has-none (has_place (stood_in old.told.state) (call_of ask)) there none))
 
     turned-spent : (next : Step A L O R) → Turned next mid new given → Turned (Spends ask next) old new given
     turned-spent next two =
-        let t = turn_in old.told.state (call_of ask) Done in
+        let t = turn_in old.told.state old.out (call_of ask) Done in
         turned-before t (Spends ask next) next made.turns (rw made.held (frees-spent (stood_in old.told.state) old.held ask spends)) made.lacked refl
         (λ us stood end given w. spent-ends next us stood end given w)
         (λ front stood end w. (λ place. (refl, refl, rw (← made.held) w), λ none. absurd (has-none (has_place (stood_in old.told.state) (call_of ask)) there none)))
@@ -201,13 +180,52 @@ module _ {A L O R G : Type 0} (old new : World A O G) (given : Option (R × L)) 
         };
   }
 
+-- a metric that is changed, and then what comes next
+walks-counts : {A L O R : Type 0} (ts : List Turn) (stood : Stood) (q : R) (b : L) (held end : Held A O) (change : Change) (next : Step A L O R) → Walks next (counted change held) ts stood q b end → Walks (Counts change next) held ts stood q b end
+walks-counts [] stood q b held end change next w = w
+walks-counts (t ∷ ts) stood q b held end change next w = w
+
+fronts-counts : {A L O R : Type 0} (ts : List Turn) (held end : Held A O) (change : Change) (next : Step A L O R) → Fronts next (counted change held) ts end → Fronts (Counts change next) held ts end
+fronts-counts [] held end change next w = (w.0, w.1)
+fronts-counts (t ∷ ts) held end change next w = w
+
+stops-counts : {A L O R : Type 0} (ts : List Turn) (stood : Stood) (held end : Held A O) (change : Change) (next : Step A L O R) → Stops next (counted change held) ts stood end → Stops (Counts change next) held ts stood end
+stops-counts [] stood held end change next w = (w.0, (w.1.0, w.1.1))
+stops-counts (t ∷ ts) stood held end change next w = w
+
+module _ {A L O R G : Type 0} (old new : World A O G) (change : Change) (next : Step A L O R) where
+  counts-ends : (us : List Turn) (stood : Stood) (given : Option (R × L)) → EndsWith next (counted change old.held) us stood given new.held → EndsWith (Counts change next) old.held us stood given new.held
+  counts-ends us stood None w = fronts-counts us old.held new.held change next w
+  counts-ends us stood (Some g) w = walks-counts us stood g.0 g.1 old.held new.held change next w
+
+  turned-counts : (given : Option (R × L)) → Turned next (record old { held = counted change old.held }) new given → Turned (Counts change next) old new given
+  turned-counts given two = record {
+    more = two.more;
+    turns = two.turns;
+    stood = two.stood;
+    frees = frees-counted two.more old.held new.held (counted change old.held).counts two.frees;
+    marked = two.marked;
+    ends = λ n. counts-ends two.more (stood_in new.told.state) given (two.ends n);
+    broke = λ made o n.
+        let k = two.broke made o n in
+        record {
+          front = k.front;
+          rest = k.rest;
+          mid = k.mid;
+          are = k.are;
+          before = k.before;
+          frees = k.frees;
+          walks = stops-counts k.front (stood_before k.rest (stood_in new.told.state)) old.held k.mid change next k.walks;
+        };
+  }
+
 -- no turn was made
 turned-none : {A L O R G : Type 0} (w : World A O G) (given : Option (R × L)) (step : Step A L O R) → EndsWith step w.held [] (stood_in w.told.state) given w.held → Turned step w w given
 turned-none w given step ends = record {
   more = [];
   turns = sym (append-nil w.told.state.turns);
   stood = refl;
-  frees = refl;
+  frees = (w.held.counts, refl);
   marked = λ made o. o;
   ends = λ n. ends;
   broke = λ made o n. cc;
@@ -222,7 +240,7 @@ turned-lacking w given step lacks = by w.lacked refl
       more = [];
       turns = sym (append-nil w.told.state.turns);
       stood = refl;
-      frees = refl;
+      frees = (w.held.counts, refl);
       marked = λ made o. cc;
       ends = λ n. let m = rw e at n in absurd (cc);
       broke = λ made o n. record {
@@ -231,15 +249,15 @@ turned-lacking w given step lacks = by w.lacked refl
         mid = w.held;
         are = refl;
         before = let m = rw e at n in let s : made ≡ w.told.state.turns = cc in s ∙ sym (append-nil w.told.state.turns);
-        walks = (lacks, refl);
-        frees = refl;
+        walks = (lacks, (w.held.counts, refl));
+        frees = (w.held.counts, refl);
       };
     }
     by (Some made) e = record {
       more = [];
       turns = sym (append-nil w.told.state.turns);
       stood = refl;
-      frees = refl;
+      frees = (w.held.counts, refl);
       marked = λ before o. rw e (rw e at o);
       ends = λ n. let m = rw e at n in absurd (cc);
       broke = λ made o n. absurd (cc);
@@ -268,7 +286,7 @@ turned-behind {A = A} {L = L} {O = O} {R = R} {G = G} old mid new given later st
             mid = old.held;
             are = refl;
             before = let s : made ≡ old.told.state.turns = cc in s ∙ sym (append-nil old.told.state.turns);
-            walks = (rw (two.stood, told) lacks, refl);
+            walks = (rw (two.stood, told) lacks, (old.held.counts, refl));
             frees = rw (← held) two.frees;
           };
         }
@@ -312,19 +330,19 @@ module _ {A L O R G : Type 0} (old mid new : World A O G) (q : R) (b : L) where
   walked-wake task reply on made two = (turned-made old mid new (Some (q, b)) (Plainly (Wake task)) reply (Plain reply) on made (refl, tt) refl two)
 
   -- any call
-  pub walked-made : (ask : Ask A O) (reply : CallReply) (heard : Heard O) (on : Heard O → Step A L O R) → Made old mid ask reply → Asks old.held ask (turn_in old.told.state (call_of ask) reply) → heard ≡ heard_of old.held (turn_in old.told.state (call_of ask) reply) → Walked (on heard) mid new q b → Walked (Does ask on) old new q b
+  pub walked-made : (ask : Ask A O) (reply : CallReply) (heard : Heard O) (on : Heard O → Step A L O R) → Made old mid ask reply → Asks old.held ask (turn_in old.told.state old.out (call_of ask) reply) → heard ≡ heard_of old.held (turn_in old.told.state old.out (call_of ask) reply) → Walked (on heard) mid new q b → Walked (Does ask on) old new q b
   unfolding Walked
   walked-made ask reply heard on made asks is two = turned-made old mid new (Some (q, b)) ask reply heard on made asks is two
 
   -- a result that is polled
-  pub walked-join : (task : ℕ) (reply : CallReply) (heard : Heard O) (on : Heard O → Step A L O R) → Made old mid (Plainly (Join task)) reply → heard ≡ heard_of old.held (turn_in old.told.state (Join task) reply) → Walked (on heard) mid new q b → Walked (Does (Plainly (Join task)) on) old new q b
+  pub walked-join : (task : ℕ) (reply : CallReply) (heard : Heard O) (on : Heard O → Step A L O R) → Made old mid (Plainly (Join task)) reply → heard ≡ heard_of old.held (turn_in old.told.state old.out (Join task) reply) → Walked (on heard) mid new q b → Walked (Does (Plainly (Join task)) on) old new q b
   unfolding Walked
   walked-join task reply heard on made is two = (turned-made old mid new (Some (q, b)) (Plainly (Join task)) reply heard on made (refl, tt) is two)
 
   -- what comes by a slot, polled
-  pub walked-receive : (slot : ℕ) (reply : CallReply) (heard : Heard O) (on : Heard O → Step A L O R) → Made old mid (Plainly (SlotPoll slot)) reply → IsAnswerOf (find slot old.held.sent) reply → heard ≡ heard_of old.held (turn_in old.told.state (SlotPoll slot) reply) → Walked (on heard) mid new q b → Walked (Does (Plainly (SlotPoll slot)) on) old new q b
+  pub walked-receive : (slot : ℕ) (reply : CallReply) (heard : Heard O) (on : Heard O → Step A L O R) → Made old mid (Plainly (Slots (SlotPoll slot))) reply → IsAnswerOf (find slot old.held.sent) reply → heard ≡ heard_of old.held (turn_in old.told.state old.out (Slots (SlotPoll slot)) reply) → Walked (on heard) mid new q b → Walked (Does (Plainly (Slots (SlotPoll slot))) on) old new q b
   unfolding Walked
-  walked-receive slot reply heard on made fits is two = (turned-made old mid new (Some (q, b)) (Plainly (SlotPoll slot)) reply heard on made (refl, fits) is two)
+  walked-receive slot reply heard on made fits is two = (turned-made old mid new (Some (q, b)) (Plainly (Slots (SlotPoll slot))) reply heard on made (refl, fits) is two)
 
   -- a sleep that is polled
   pub walked-sleep : (due : ℕ) (alarm told : Option ℕ) (on : Heard O → Step A L O R) → told ≡ slept_number old.told.state.clock.time old.told.state.alarms due alarm → Made old mid (Sleeping due alarm) (sleep_reply told) → Walked (on (Plain (sleep_reply told))) mid new q b → Walked (Does (Sleeping due alarm) on) old new q b
@@ -349,7 +367,7 @@ unfolding Walked
 walked-lacking old new step q b e l = rw e ((turned-lacking old (Some (q, b)) step l))
 
 -- a poll of a slot, whatever came by it
-pub walked-received : {A L O G : Type 0} (old new : World A O G) (state : L) (slot : ℕ) (result : Result (Option O) Error) → IfOk result (λ value. Received old new slot value) → IfErr result (λ e. IsUnreceived old new slot e) → Walked (Does (Plainly (SlotPoll slot)) (heard_result state)) old new (polled result) state
+pub walked-received : {A L O G : Type 0} (old new : World A O G) (state : L) (slot : ℕ) (result : Result (Option O) Error) → IfOk result (λ value. Received old new slot value) → IfErr result (λ e. IsUnreceived old new slot e) → Walked (Does (Plainly (Slots (SlotPoll slot))) (heard_result state)) old new (polled result) state
 walked-received old new state slot (Ok None) made refused = walked-receive old new new _ _ slot Pending (Plain Pending) _ made.1 (rw made.0.held tt) refl (walked-gives new _ _)
 walked-received old new state slot (Ok (Some value)) made refused = walked-receive old new new _ _ slot Ready (Handed value) _ made.1 (rw made.0 refl) (rw made.0 refl) (walked-gives new _ _)
 walked-received old new state slot (Err error) made (inl lack) = walked-lacking old new _ _ _ lack.1 tt
@@ -399,7 +417,7 @@ module _ {A O G : Type 0} (old mid new : World A O G) (answer : Answer O) (left 
   polled-sleep due alarm told on is made two = (turned-sleep old mid new (answered_by answer left) due alarm told on is made two)
 
 answered-ends : {A O : Type 0} (held : Held A O) (stood : Stood) (answer : Answer O) (left : A) → EndsWith (Gives answer left) held [] stood (answered_by answer left) held
-answered-ends held stood NoMemory left = refl
+answered-ends held stood NoMemory left = (held.counts, refl)
 answered-ends held stood answer left = (refl, refl, refl)
 
 module _ {A O G : Type 0} (w : World A O G) (left : A) where
@@ -410,7 +428,7 @@ module _ {A O G : Type 0} (w : World A O G) (left : A) where
   -- it breaks off
   pub polled-lacks : (step : Step A A O (Answer O)) → Polled step w w NoMemory left
   unfolding Polled
-  polled-lacks step = (turned-none w None step refl)
+  polled-lacks step = (turned-none w None step (w.held.counts, refl))
 
 pub polled-lacking : {A O G : Type 0} (old new : World A O G) (step : Step A A O (Answer O)) (answer : Answer O) (left : A) → new ≡ lacking old → Lacks (stood_in old.told.state) step → Polled step old new answer left
 unfolding Polled
@@ -440,7 +458,7 @@ module _ {A O G : Type 0} (w : World A O G) where
 
   pub rooted-lacks : (step : Step A A O (Unit {0})) (lack : OutOfMemory) → Rooted step w w (Err lack)
   unfolding Rooted
-  rooted-lacks step lack = (turned-none w None step refl)
+  rooted-lacks step lack = (turned-none w None step (w.held.counts, refl))
 
 pub rooted-lacking : {A O G : Type 0} (old new : World A O G) (step : Step A A O (Unit {0})) (result : Result A OutOfMemory) → new ≡ lacking old → Lacks (stood_in old.told.state) step → Rooted step old new result
 unfolding Rooted
@@ -457,7 +475,7 @@ module _ {A O G : Type 0} (old new : World A O G) where
   }
 
   -- it was made
-  pub called-made : (ask : Ask A O) (reply : CallReply) (heard : Heard O) → Made old new ask reply → Asks old.held ask (turn_in old.told.state (call_of ask) reply) → heard ≡ heard_of old.held (turn_in old.told.state (call_of ask) reply) → Called ask old new heard
+  pub called-made : (ask : Ask A O) (reply : CallReply) (heard : Heard O) → Made old new ask reply → Asks old.held ask (turn_in old.told.state old.out (call_of ask) reply) → heard ≡ heard_of old.held (turn_in old.told.state old.out (call_of ask) reply) → Called ask old new heard
   called-made ask reply heard made asks is = called-as ask heard (λ L R end given on two. turned-made old new end given ask reply heard on made asks is two)
 
   -- it lacked memory
@@ -465,7 +483,7 @@ module _ {A O G : Type 0} (old new : World A O G) where
   called-lacking ask heard is = called-as ask heard (λ L R end given on two. turned-behind old new end given given (Does ask on) (on heard) is tt two)
 
   -- it was refused
-  pub called-refused : (ask : Ask A O) (error : Error) → ((reply : CallReply) → Asks old.held ask (turn_in old.told.state (call_of ask) (Refused error))) → Plain (Refused error) ≡ heard_of old.held (turn_in old.told.state (call_of ask) (Refused error)) → IsRefused old new ask error → Called ask old new (Plain (Refused error))
+  pub called-refused : (ask : Ask A O) (error : Error) → ((reply : CallReply) → Asks old.held ask (turn_in old.told.state old.out (call_of ask) (Refused error))) → Plain (Refused error) ≡ heard_of old.held (turn_in old.told.state old.out (call_of ask) (Refused error)) → IsRefused old new ask error → Called ask old new (Plain (Refused error))
   called-refused ask error asks is (inl lack) = called-lacking ask (Plain (Refused error)) lack.1
   called-refused ask error asks is (inr made) = called-made ask (Refused error) (Plain (Refused error)) made (asks (Refused error)) is
 
@@ -495,15 +513,15 @@ module _ {A O G : Type 0} (old new : World A O G) where
   join-called task (Ok (Some value)) made refused = called-made (Plainly (Join task)) Ready (Handed value) made.1 (refl, tt) (rw made.0 refl)
   join-called task (Err error) made refused = called-refused (Plainly (Join task)) error (λ reply. (refl, tt)) refl refused
 
-  pub slot-called : (result : Result ℕ OutOfMemory) → IfOk result (λ slot. Made old new (Plainly Slot) (SlotAt slot)) → OnErr result (new ≡ lacking old) → Called (Plainly Slot) old new (slot_told result)
-  slot-called (Ok slot) made lacked = called-made (Plainly Slot) (SlotAt slot) (Plain (SlotAt slot)) made (refl, tt) refl
-  slot-called (Err lack) made lacked = called-lacking (Plainly Slot) (Plain (Refused OutOf)) lacked
+  pub slot-called : (result : Result ℕ OutOfMemory) → IfOk result (λ slot. Made old new (Plainly (Slots Slot)) (SlotAt slot)) → OnErr result (new ≡ lacking old) → Called (Plainly (Slots Slot)) old new (slot_told result)
+  slot-called (Ok slot) made lacked = called-made (Plainly (Slots Slot)) (SlotAt slot) (Plain (SlotAt slot)) made (refl, tt) refl
+  slot-called (Err lack) made lacked = called-lacking (Plainly (Slots Slot)) (Plain (Refused OutOf)) lacked
 
-  pub receive-called : (slot : ℕ) (result : Result (Option O) Error) → IfOk result (λ value. Received old new slot value) → IfErr result (λ e. IsUnreceived old new slot e) → Called (Plainly (SlotPoll slot)) old new (join_told result)
-  receive-called slot (Ok None) made refused = called-made (Plainly (SlotPoll slot)) Pending (Plain Pending) made.1 (refl, rw made.0.held tt) refl
-  receive-called slot (Ok (Some value)) made refused = called-made (Plainly (SlotPoll slot)) Ready (Handed value) made.1 (refl, rw made.0 refl) (rw made.0 refl)
-  receive-called slot (Err error) made (inl lack) = called-lacking (Plainly (SlotPoll slot)) (Plain (Refused error)) lack.1
-  receive-called slot (Err error) made (inr shown) = called-made (Plainly (SlotPoll slot)) (Refused error) (Plain (Refused error)) shown.1 (refl, fits-refused old slot error shown.0) refl
+  pub receive-called : (slot : ℕ) (result : Result (Option O) Error) → IfOk result (λ value. Received old new slot value) → IfErr result (λ e. IsUnreceived old new slot e) → Called (Plainly (Slots (SlotPoll slot))) old new (join_told result)
+  receive-called slot (Ok None) made refused = called-made (Plainly (Slots (SlotPoll slot))) Pending (Plain Pending) made.1 (refl, rw made.0.held tt) refl
+  receive-called slot (Ok (Some value)) made refused = called-made (Plainly (Slots (SlotPoll slot))) Ready (Handed value) made.1 (refl, rw made.0 refl) (rw made.0 refl)
+  receive-called slot (Err error) made (inl lack) = called-lacking (Plainly (Slots (SlotPoll slot))) (Plain (Refused error)) lack.1
+  receive-called slot (Err error) made (inr shown) = called-made (Plainly (Slots (SlotPoll slot))) (Refused error) (Plain (Refused error)) shown.1 (refl, fits-refused old slot error shown.0) refl
 
 pub ruleset call_laws = (wake-called, abort-called, child-called, spawn-called, sleep-called, join-called, slot-called, receive-called)
 
@@ -670,10 +688,26 @@ module _ {A O G : Type 0} (old new : World A O G) (ask : Ask A O) where
     makes = λ next end root two. rooted-spend old new end root ask next plain one two;
   }
 
+module _ {A O G : Type 0} (old new : World A O G) (change : Change) (is : new ≡ record old { held = counted change old.held }) where
+  counted-spent : (next : Last A O) (end : World A O G) → Spent next new end → Spent (Counts change next) old end
+  unfolding Spent Walked
+  counted-spent next end two = turned-counts old end change next (Some (tt, tt)) (rw is at two)
+
+  counted-polled : (next : Step A A O (Answer O)) (end : World A O G) (given : Answer O) (state : A) → Polled next new end given state → Polled (Counts change next) old end given state
+  unfolding Polled
+  counted-polled next end given state two = turned-counts old end change next (answered_by given state) (rw is at two)
+
+  counted-rooted : (next : Step A A O (Unit {0})) (end : World A O G) (root : Result A OutOfMemory) → Rooted next new end root → Rooted (Counts change next) old end root
+  unfolding Rooted
+  counted-rooted next end root two = turned-counts old end change next (root_by root) (rw is at two)
+
+  pub counts-on : Counted change old new
+  counts-on = record { is = is; ends = counted-spent; onward = counted-polled; makes = counted-rooted }
+
 -- and what is read of it
 module _ {A O G V : Type 0} (old new : World A O G) (read : Heard O → V) (value : V) where
   -- it was made
-  pub tells-made : (ask : Ask A O) (reply : CallReply) (heard : Heard O) → Made old new ask reply → Asks old.held ask (turn_in old.told.state (call_of ask) reply) → heard ≡ heard_of old.held (turn_in old.told.state (call_of ask) reply) → read heard ≡ value → Goes (tells ask read) old new value tt
+  pub tells-made : (ask : Ask A O) (reply : CallReply) (heard : Heard O) → Made old new ask reply → Asks old.held ask (turn_in old.told.state old.out (call_of ask) reply) → heard ≡ heard_of old.held (turn_in old.told.state old.out (call_of ask) reply) → read heard ≡ value → Goes (tells ask read) old new value tt
   unfolding tells Walked
   tells-made ask reply heard made asks is e =
       goes-on old new (tells ask read) value tt (turned-made old new new (Some (value, tt)) ask reply heard (λ heard. Gives (read heard) tt) made asks is (turned-none new (Some (value, tt)) (Gives (read heard) tt) (e, refl, refl)))
@@ -684,7 +718,7 @@ module _ {A O G V : Type 0} (old new : World A O G) (read : Heard O → V) (valu
   tells-lacking ask is = goes-on old new (tells ask read) value tt (walked-lacking old new (tells ask read) value tt is tt)
 
   -- it was refused
-  pub tells-refused : (ask : Ask A O) (error : Error) → Asks old.held ask (turn_in old.told.state (call_of ask) (Refused error)) → Plain (Refused error) ≡ heard_of old.held (turn_in old.told.state (call_of ask) (Refused error)) → IsRefused old new ask error → read (Plain (Refused error)) ≡ value → Goes (tells ask read) old new value tt
+  pub tells-refused : (ask : Ask A O) (error : Error) → Asks old.held ask (turn_in old.told.state old.out (call_of ask) (Refused error)) → Plain (Refused error) ≡ heard_of old.held (turn_in old.told.state old.out (call_of ask) (Refused error)) → IsRefused old new ask error → read (Plain (Refused error)) ≡ value → Goes (tells ask read) old new value tt
   tells-refused ask error asks is (inl lack) e = tells-lacking ask lack.1
   tells-refused ask error asks is (inr made) e = tells-made ask (Refused error) (Plain (Refused error)) made asks is e
 

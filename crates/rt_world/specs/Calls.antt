@@ -4,7 +4,8 @@ use Rattle.rand_core.specs.Stream.{Stream}
 use Rattle.rt_base.specs.declared.error.Error.{Error}
 use Rattle.rt_base.specs.declared.error.Error.TheVariants.{NoMemory}
 use Rattle.rt_base.specs.declared.execution.Execution.{Execution}
-use Rattle.rt_audit.specs.declared.call.Call.TheVariants.{Join, SlotPoll}
+use Rattle.rt_audit.specs.declared.call.Call.TheVariants.{Join, Slots}
+use Rattle.rt_audit.specs.declared.slot_call.SlotCall.TheVariants.{Poll as SlotPoll}
 use Rattle.rt_audit.specs.declared.reply.CallReply.{CallReply}
 use Rattle.rt_audit.specs.declared.reply.CallReply.TheVariants.{Done, TaskAt, Closed, Pending, Ready, Refused}
 use Rattle.rt_model.specs.Lists.{find, has_number}
@@ -49,7 +50,7 @@ pub record IsPolling {A O G : Type 0} (w : World A O G) (task : ℕ) : Type 0 wh
 -- what was asked was called, with this reply, which it may have
 pub record Made {A O G : Type 0} (old new : World A O G) (ask : Ask A O) (reply : CallReply) : Type 0 where
   pub answers : Answers old.told.state (call_of ask) reply
-  pub turns : new.told.state.turns ≡ old.told.state.turns ++ turn_in old.told.state (call_of ask) reply ∷ []
+  pub turns : new.told.state.turns ≡ old.told.state.turns ++ turn_in old.told.state old.out (call_of ask) reply ∷ []
   pub held : new.held ≡ moved_by (stood_in old.told.state) old.held ask (call_of ask) reply
   pub lacked : new.lacked ≡ old.lacked
   pub stood : stood_in new.told.state ≡ stood_called (stood_in old.told.state) old.out (call_of ask) reply
@@ -80,14 +81,14 @@ pub record IsUnsent {A O G : Type 0} (w : World A O G) (slot : ℕ) : Type 0 whe
 
 -- a slot was polled: nothing is there yet, or this value was handed out
 abbrev pub Received : {A O G : Type 0} → World A O G → World A O G → ℕ → Option O → Type 0
-Received old new slot None = IsUnsent old slot × Made old new (Plainly (SlotPoll slot)) Pending
-Received old new slot (Some value) = (find slot old.held.sent ≡ Some (Ok value)) × Made old new (Plainly (SlotPoll slot)) Ready
+Received old new slot None = IsUnsent old slot × Made old new (Plainly (Slots (SlotPoll slot))) Pending
+Received old new slot (Some value) = (find slot old.held.sent ≡ Some (Ok value)) × Made old new (Plainly (Slots (SlotPoll slot))) Ready
 
 -- the poll of a slot was refused: it ran out of memory, or with this error, which is the one that was sent, if one was
 abbrev pub IsUnreceived : {A O G : Type 0} → World A O G → World A O G → ℕ → Error → Type 0
 IsUnreceived old new slot error =
     ((error ≡ NoMemory) × (new ≡ lacking old))
-    ⊎ ((IsUnsent old slot ⊎ (find slot old.held.sent ≡ Some (Err error))) × Made old new (Plainly (SlotPoll slot)) (Refused error))
+    ⊎ ((IsUnsent old slot ⊎ (find slot old.held.sent ≡ Some (Err error))) × Made old new (Plainly (Slots (SlotPoll slot))) (Refused error))
 
 -- what is made of this for a node's number
 abbrev pub IsMadeBy : {A C : Type 0} → (C × ℕ → A → Type 0) → C → (ℕ → A) → Type 0

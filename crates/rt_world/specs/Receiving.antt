@@ -4,7 +4,8 @@ use Rattle.rt_base.specs.declared.error.Error.{Error}
 use Rattle.rt_base.specs.declared.error.Error.TheVariants.{NoMemory}
 use Rattle.rt_base.specs.declared.poll.Poll.{Poll}
 use Rattle.rt_base.specs.declared.poll.Poll.TheVariants.{Ready, Pending}
-use Rattle.rt_audit.specs.declared.call.Call.TheVariants.{SlotPoll, SlotGiveUp}
+use Rattle.rt_audit.specs.declared.call.Call.TheVariants.{Slots}
+use Rattle.rt_audit.specs.declared.slot_call.SlotCall.TheVariants.{Poll as SlotPoll, GiveUp as SlotGiveUp}
 use Rattle.rt_audit.specs.declared.reply.CallReply.{CallReply}
 use Rattle.rt_audit.specs.declared.reply.CallReply.TheVariants.{Pending as StillPending, Refused}
 use Rattle.rt_model.specs.Turns.{Plainly, Heard, Plain, Handed}
@@ -28,8 +29,8 @@ heard_result state (Handed value) = Gives (Ready (Ok value)) state
 
 -- a receiver polls its slot
 unfoldable pub receiver_polls : {A O : Type 0} → ℕ → Step A ℕ O (Poll (Result O Error))
-receiver_polls slot = Does (Plainly (SlotPoll slot)) (heard_result slot)
+receiver_polls slot = Does (Plainly (Slots (SlotPoll slot))) (heard_result slot)
 
 -- giving it up gives up what was to come
 unfoldable pub receiver_spends : {A O : Type 0} → ℕ → Last A O
-receiver_spends slot = Spends (Plainly (SlotGiveUp slot)) (Gives tt tt)
+receiver_spends slot = Spends (Plainly (Slots (SlotGiveUp slot))) (Gives tt tt)

@@ -9,8 +9,8 @@ use Rattle.rt_audit.specs.declared.reply.CallReply.TheVariants.{Done, NodeAt, Sl
 use Rattle.rt_model.specs.declared.answer.Answer.{Answer}
 use Rattle.rt_model.specs.declared.answer.Answer.TheVariants.{NoMemory}
 use Rattle.rt_model.specs.State.{Turn, Stood, stood_in}
-use Rattle.rt_model.specs.Turns.{Ask, Heard, Plain, Handed, Held, Frees}
-use Rattle.rt_model.specs.Walk.{Step, Last, Does, Gives, Spends as IsSpent, Walks, Fronts, Stops, then, followed_by, stood_before}
+use Rattle.rt_model.specs.Turns.{Ask, Heard, Plain, Handed, Held, Change, counted, Frees}
+use Rattle.rt_model.specs.Walk.{Step, Last, Does, Gives, Spends as IsSpent, Counts, Walks, Fronts, Stops, then, followed_by, stood_before}
 use Rattle.rt_super.specs.declared.stopper.Stopped.{Stopped}
 use Rattle.rt_model.specs.Signals.{met_reply, shown_reply, stopped_reply}
 use Rattle.rt_machine.specs.Calls.{sleep_reply, spawn_reply}
@@ -178,6 +178,13 @@ pub record Closes {A O G : Type 0} (ask : Ask A O) (old new : World A O G) : Typ
   pub ends : (next : Last A O) (end : World A O G) → Spent next new end → Spent (IsSpent ask next) old end
   pub onward : (next : Step A A O (Answer O)) (end : World A O G) (given : Answer O) (state : A) → Polled next new end given state → Polled (IsSpent ask next) old end given state
   pub makes : (next : Step A A O (Unit {0})) (end : World A O G) (root : Result A OutOfMemory) → Rooted next new end root → Rooted (IsSpent ask next) old end root
+
+-- a metric was changed, and nothing else: whoever goes on from here has changed it and walked the rest
+pub record Counted {A O G : Type 0} (change : Change) (old new : World A O G) : Type 0 where
+  pub is : new ≡ record old { held = counted change old.held }
+  pub ends : (next : Last A O) (end : World A O G) → Spent next new end → Spent (Counts change next) old end
+  pub onward : (next : Step A A O (Answer O)) (end : World A O G) (given : Answer O) (state : A) → Polled next new end given state → Polled (Counts change next) old end given state
+  pub makes : (next : Step A A O (Unit {0})) (end : World A O G) (root : Result A OutOfMemory) → Rooted next new end root → Rooted (Counts change next) old end root
 
 -- the steps of a poll were walked up to where they go on as others do: whoever walks those from here has walked these
 pub record Leads {A O G : Type 0} (step other : Step A A O (Answer O)) (old new : World A O G) : Type 0 where

@@ -1,7 +1,8 @@
 //! The two ends of a slot.
 
 ghost use Rattle.std.specs.Prelude.{ℕ, ◌≡◌, IfOk, IfErr};
-ghost use Rattle.rt_audit.specs.declared.call.Call.TheVariants.{AbortWait, Slot, SlotClose};
+ghost use Rattle.rt_audit.specs.declared.call.Call.TheVariants.{Slots};
+ghost use Rattle.rt_audit.specs.declared.slot_call.SlotCall.TheVariants.{AbortWait, Make as Slot, Close as SlotClose};
 ghost use Rattle.rt_audit.specs.declared.reply.CallReply.TheVariants.{SlotAt};
 ghost use Rattle.rt_model.specs.Rules.{MayCall};
 ghost use Rattle.rt_model.specs.Turns.{Plainly, Sending};
@@ -58,9 +59,9 @@ impl<T, O, G: Rng> World<T, O, G> {
         requires { MayCall self.old.told.state self.old.out }
         ensures kept { Kept G.stream self.old self.new }
         ensures pair { IfOk result (λ ends. ends.1 ≡ ends.0) }
-        ensures ok { IfOk result (λ ends. Made self.old self.new (Plainly Slot) (SlotAt ends.0)) }
+        ensures ok { IfOk result (λ ends. Made self.old self.new (Plainly (Slots Slot)) (SlotAt ends.0)) }
         ensures err { IfErr result (λ e. (e ≡ Error.NoMemory) × (self.new ≡ lacking self.old)) }
-        ensures called { Called (Plainly Slot) self.old self.new (ends_told result) }
+        ensures called { Called (Plainly (Slots Slot)) self.old self.new (ends_told result) }
     {
         match self.slot() {
             Ok(slot) => Ok((ResultSender { slot }, ResultReceiver { slot })),
@@ -87,7 +88,7 @@ impl ResultSender {
         requires { MayCall world.old.told.state world.old.out }
         ensures kept { Kept G.stream world.old world.new }
         ensures lacked { world.new.lacked ≡ world.old.lacked }
-        ensures steps { Closes (Plainly (SlotClose self)) world.old world.new }
+        ensures steps { Closes (Plainly (Slots (SlotClose self))) world.old world.new }
     {
         world.slot_close(self.into_slot())
     }
@@ -109,7 +110,7 @@ impl ResultReceiver {
         ensures receiver { self.new ≡ self.old }
         ensures kept { Kept G.stream world.old world.new }
         ensures lacked { world.new.lacked ≡ world.old.lacked }
-        ensures steps { Closes (Plainly (AbortWait self.old)) world.old world.new }
+        ensures steps { Closes (Plainly (Slots (AbortWait self.old))) world.old world.new }
     {
         world.abort_wait(self.slot)
     }

@@ -1,7 +1,8 @@
 //! The calls on slots, by which results are sent by hand.
 
 ghost use Rattle.std.specs.Prelude.{ℕ, ◌≡◌, ◌<◌, IfOk, IfErr, OnErr, OnOk, None, true, false};
-ghost use Rattle.rt_audit.specs.declared.call.Call.TheVariants.{Slot, SlotClose, SlotPoll, SlotGiveUp, AbortWait};
+ghost use Rattle.rt_audit.specs.declared.call.Call.TheVariants.{Slots};
+ghost use Rattle.rt_audit.specs.declared.slot_call.SlotCall.TheVariants.{Make as Slot, Close as SlotClose, Poll as SlotPoll, GiveUp as SlotGiveUp, AbortWait};
 ghost use Rattle.rt_audit.specs.declared.reply.CallReply.TheVariants.{SlotAt};
 ghost use Rattle.rt_model.specs.Rules.{MayCall};
 ghost use Rattle.rt_model.specs.Turns.{Plainly, Sending};
@@ -19,9 +20,9 @@ impl<T, O, G: Rng> World<T, O, G> {
     pub fn slot(&mut self) -> Result<u64, NoMemory>
         requires { MayCall self.old.told.state self.old.out }
         ensures kept { Kept G.stream self.old self.new }
-        ensures ok { IfOk result (λ slot. Made self.old self.new (Plainly Slot) (SlotAt slot)) }
+        ensures ok { IfOk result (λ slot. Made self.old self.new (Plainly (Slots Slot)) (SlotAt slot)) }
         ensures err { OnErr result (self.new ≡ lacking self.old) }
-        ensures called { Called (Plainly Slot) self.old self.new (slot_told result) }
+        ensures called { Called (Plainly (Slots Slot)) self.old self.new (slot_told result) }
     {
         if self.sent.reserve(1).is_err() {
             self.machine.lack();
@@ -38,7 +39,7 @@ impl<T, O, G: Rng> World<T, O, G> {
     pub fn slot_close(&mut self, slot: u64)
         requires { MayCall self.old.told.state self.old.out }
         ensures kept { Kept G.stream self.old self.new }
-        ensures spent { SpentBy self.old self.new (Plainly (SlotClose slot)) }
+        ensures spent { SpentBy self.old self.new (Plainly (Slots (SlotClose slot))) }
         ensures lacked { self.new.lacked ≡ self.old.lacked }
     {
         self.machine.slot_close(self.out, slot)
@@ -75,7 +76,7 @@ impl<T, O: Drop, G: Rng> World<T, O, G> {
         ensures kept { Kept G.stream self.old self.new }
         ensures ok { IfOk result (λ value. Received self.old self.new slot value) }
         ensures err { IfErr result (λ e. IsUnreceived self.old self.new slot e) }
-        ensures called { Called (Plainly (SlotPoll slot)) self.old self.new (join_told result) }
+        ensures called { Called (Plainly (Slots (SlotPoll slot))) self.old self.new (join_told result) }
     {
         match self.sent.get(slot) {
             None => {
@@ -100,7 +101,7 @@ impl<T, O: Drop, G: Rng> World<T, O, G> {
     pub fn slot_give_up(&mut self, slot: u64)
         requires { MayCall self.old.told.state self.old.out }
         ensures kept { Kept G.stream self.old self.new }
-        ensures spent { SpentBy self.old self.new (Plainly (SlotGiveUp slot)) }
+        ensures spent { SpentBy self.old self.new (Plainly (Slots (SlotGiveUp slot))) }
         ensures lacked { self.new.lacked ≡ self.old.lacked }
     {
         if !self.machine.has_slot(slot) {
@@ -115,7 +116,7 @@ impl<T, O: Drop, G: Rng> World<T, O, G> {
     pub fn abort_wait(&mut self, slot: u64)
         requires { MayCall self.old.told.state self.old.out }
         ensures kept { Kept G.stream self.old self.new }
-        ensures spent { SpentBy self.old self.new (Plainly (AbortWait slot)) }
+        ensures spent { SpentBy self.old self.new (Plainly (Slots (AbortWait slot))) }
         ensures lacked { self.new.lacked ≡ self.old.lacked }
     {
         if !self.machine.may_abort_wait(slot) {

@@ -51,12 +51,13 @@ pub struct World<T, O, G> {
 }
 
 impl<T, O, G> Model for World<T, O, G> {
+    ghost use Rattle.std.specs.Prelude.{[]};
     ghost use Rattle.rt_world.specs.World.{World};
     ghost use Rattle.rt_world.specs.Seats.{AreSeated, AreSlotted};
 
     ghost Value = { World T O G };
 
-    ghost view = { λ w. record { told = w.machine.told; lacked = w.machine.lacked; held = record { tasks = w.tasks.items; results = w.outputs.items; sent = w.sent.items; executions = w.executions.items }; panic = w.panic; out = w.out; rng = w.rng } };
+    ghost view = { λ w. record { told = w.machine.told; lacked = w.machine.lacked; held = record { tasks = w.tasks.items; results = w.outputs.items; sent = w.sent.items; executions = w.executions.items; counts = [] }; panic = w.panic; out = w.out; rng = w.rng } };
 
     ghost invariant = { λ w. AreSeated w.tasks w.outputs w.out w.machine.told.state × AreSlotted w.sent w.machine.told.state.slots };
 }
@@ -81,7 +82,7 @@ impl<T, O, G> World<T, O, G> {
         rng: G,
     ) -> Result<World<T, O, G>, (Journal, G)>
         requires { begin.start ≤ MAX_TIME }
-        ensures ok { IfOk result (λ w. w ≡ record { told = pushed (fresh begin journal.entries) (Entry.Start begin.first begin.start begin.deadline begin.cycle); lacked = None; held = record { tasks = []; results = []; sent = []; executions = [] }; panic = None; out = None; rng = rng }) }
+        ensures ok { IfOk result (λ w. w ≡ record { told = pushed (fresh begin journal.entries) (Entry.Start begin.first begin.start begin.deadline begin.cycle); lacked = None; held = record { tasks = []; results = []; sent = []; executions = []; counts = [] }; panic = None; out = None; rng = rng }) }
         ensures err { IfErr result (λ back. (back.0.entries ≡ journal.entries) × (back.1 ≡ rng)) }
         ensures agrees { IfOk result (λ w. (p : Steps T O) → Agrees p true w None) }
     {

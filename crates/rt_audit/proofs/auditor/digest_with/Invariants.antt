@@ -1,6 +1,6 @@
 use Rattle.std.proofs.Common.{◌≡◌, ℕ, List, ◌++◌, take}
-use Rattle.rt_audit.specs.Crc32c.{register_of}
-use Rattle.rt_audit.specs.Framing.{framed}
+use Rattle.rt_hasher.specs.Crc32c.{register_of}
+use Rattle.rt_hasher.specs.Framing.{framed}
 use Rattle.rt_audit.proofs.auditor.digest_with.Given as goal
 
 abbrev pub invariant-loop-field : goal.invariant-loop-field

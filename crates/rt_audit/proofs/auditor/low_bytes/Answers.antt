@@ -1,6 +1,6 @@
 use Rattle.std.proofs.Common.{◌≡◌, ◌+◌, length, take, drop, arith, rules}
 use Rattle.std.specs.Int.{w64, from_le_bytes}
-use Rattle.rt_audit.proofs.Fronted.{number_is}
+use Rattle.rt_hasher.proofs.Fronted.{number_is}
 use Rattle.rt_audit.proofs.auditor.low_bytes.Goals as goal
 
 pub returns-then-from_le_bytes-eq0 : goal.returns-then-from_le_bytes-eq0

@@ -1,8 +1,4 @@
-use Rattle.std.proofs.Common.{◌≡◌, ◌≤◌, ◌∷◌, [], false, refl, sym, ap, ◌∙◌, arith, length, length-append}
-use Rattle.std.proofs.lemmas.List.{take_all, drop_all}
-use Rattle.rt_model.specs.State.{Clock}
-use Rattle.rt_world.proofs.Walked.{kept-same, kept-kept, goes-on}
-use Rattle.rt_core.specs.Joins.{lacks}
+use Rattle.rt_core.proofs.Prelude.{◌≡◌, ◌≤◌, ◌∷◌, [], false, refl, sym, ap, ◌∙◌, arith, length, length-append, take_all, drop_all, Clock, kept-same, kept-kept, goes-on, lacks}
 use Rattle.rt_core.proofs.Choosing.{still-long, still-polling}
 use Rattle.rt_core.proofs.Grouping.{drains-none, round-pending, round-next, round-lacks, long-drained}
 use Rattle.rt_core.proofs.join_all.drain.Goals.{in-Pending, in-Ready+else-ends}

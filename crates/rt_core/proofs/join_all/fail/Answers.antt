@@ -1,8 +1,4 @@
-use Rattle.std.proofs.Common.{◌≡◌, ap, sym, ◌∙◌, length, map}
-use Rattle.std.proofs.lemmas.List.{length-map}
-use Rattle.rt_model.specs.State.{Clock}
-use Rattle.rt_world.proofs.Walked.{kept-kept}
-use Rattle.rt_core.specs.Handles.{aborted}
+use Rattle.rt_core.proofs.Prelude.{◌≡◌, ap, sym, ◌∙◌, length, map, length-map, Clock, kept-kept, aborted}
 use Rattle.rt_core.proofs.Choosing.{written-back}
 use Rattle.rt_core.proofs.Grouping.{fails-goes}
 use Rattle.rt_core.proofs.join_all.fail.Goals as goal

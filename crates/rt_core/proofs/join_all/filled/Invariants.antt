@@ -1,6 +1,4 @@
-use Rattle.std.proofs.Common.{◌≡◌, ◌+◌, ◌++◌, map, vec_len}
-use Rattle.std.specs.VecDeque.{deque_len, deque_capacity}
-use Rattle.std.specs.Vec.Iter.{into_iter_items, into_iter_len}
+use Rattle.rt_core.proofs.Prelude.{◌≡◌, ◌+◌, ◌++◌, map, vec_len, deque_len, deque_capacity, into_iter_items, into_iter_len}
 use Rattle.rt_core.proofs.join_all.filled.Given as goal
 
 abbrev pub invariant-loop-guard : goal.invariant-loop-guard

@@ -1,8 +1,4 @@
-use Rattle.std.proofs.Common.{◌≡◌, ◌∷◌, [], None, Ok, Err, sym, ap, ◌∙◌}
-use Rattle.std.proofs.lemmas.List.{nil_from_length}
-use Rattle.rt_model.specs.State.{Clock}
-use Rattle.rt_world.proofs.Walked.{kept-kept, goes-on}
-use Rattle.rt_core.specs.Joins.{turned}
+use Rattle.rt_core.proofs.Prelude.{◌≡◌, ◌∷◌, [], None, Ok, Err, sym, ap, ◌∙◌, nil_from_length, Clock, kept-kept, goes-on, turned}
 use Rattle.rt_core.proofs.Choosing.{still-polling}
 use Rattle.rt_core.proofs.Grouping.{joins-none, joins-pending, joins-more, joins-fails, long-joined, lack-failed}
 use Rattle.rt_core.proofs.join_all.join.Goals as goal

@@ -1,10 +1,4 @@
-use Rattle.std.proofs.Common.{◌≡◌, List, Result, None, length}
-use Rattle.rt_base.specs.declared.error.Error.{Error}
-use Rattle.rt_base.specs.declared.poll.Poll.{Poll}
-use Rattle.rt_world.specs.World.{World}
-use Rattle.rt_world.specs.Calls.{IsPolling, Kept}
-use Rattle.rt_world.specs.Walked.{Walked}
-use Rattle.rt_core.specs.Joins.{Joins, joins}
+use Rattle.rt_core.proofs.Prelude.{◌≡◌, List, Result, None, length, Error, Poll, World, IsPolling, Kept, Walked, Joins, joins}
 use Rattle.rt_core.proofs.join_all.join.Given as goal
 
 abbrev pub invariant-loop-handle : goal.invariant-loop-handle

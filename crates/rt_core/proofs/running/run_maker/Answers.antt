@@ -1,6 +1,4 @@
-use Rattle.std.proofs.Common.{◌∙◌, inl, None, false, refl, sym}
-use Rattle.rt_model.specs.Tied.{with_first, Steps}
-use Rattle.rt_world.proofs.Walked.{rooted-broken, rooted-short, rooted-fresh, long}
+use Rattle.rt_core.proofs.Prelude.{◌∙◌, inl, None, false, refl, sym, with_first, Steps, rooted-broken, rooted-short, rooted-fresh, long}
 use Rattle.rt_core.proofs.Outcomes.{ended-cut, leaves-unmade, unmade, none-made, made}
 use Rattle.rt_core.proofs.running.run_maker.Goals as goal
 

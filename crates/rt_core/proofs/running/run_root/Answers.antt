@@ -1,4 +1,4 @@
-use Rattle.rt_model.specs.Tied.{with_first, Steps}
+use Rattle.rt_core.proofs.Prelude.{with_first, Steps}
 use Rattle.rt_core.proofs.Outcomes.{ended-lacking}
 use Rattle.rt_core.proofs.running.run_root.Goals as goal
 

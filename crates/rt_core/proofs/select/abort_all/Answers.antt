@@ -1,7 +1,4 @@
-use Rattle.std.proofs.Common.{◌≡◌, ◌<◌, ◌≤◌, refl, sym, ap, ◌∙◌, arith, length, get_or}
-use Rattle.std.proofs.lemmas.List.{drop_all}
-use Rattle.rt_world.proofs.Walked.{kept-same, kept-kept, calling-kept}
-use Rattle.rt_core.specs.Handles.{aborted}
+use Rattle.rt_core.proofs.Prelude.{◌≡◌, ◌<◌, ◌≤◌, refl, sym, ap, ◌∙◌, arith, length, get_or, drop_all, kept-same, kept-kept, calling-kept, aborted}
 use Rattle.rt_core.proofs.Choosing.{changed, changed-none, changed-all, changed-length, changed-next, changed-rest, each-more, each-done}
 use Rattle.rt_core.proofs.select.abort_all.Goals as goal
 

@@ -1,10 +1,4 @@
-use Rattle.std.proofs.Common.{◌≡◌, ◌-◌, length, drop}
-use Rattle.rt_model.specs.Rules.{MayCall}
-use Rattle.rt_world.specs.World.{World}
-use Rattle.rt_world.specs.Calls.{Kept}
-use Rattle.rt_world.specs.Walked.{Spent}
-use Rattle.rt_core.specs.Handles.{aborted, handle_aborts}
-use Rattle.rt_core.specs.Select.{each}
+use Rattle.rt_core.proofs.Prelude.{◌≡◌, ◌-◌, length, drop, MayCall, World, Kept, Spent, aborted, handle_aborts, each}
 use Rattle.rt_core.proofs.Choosing.{changed}
 use Rattle.rt_core.proofs.select.abort_all.Given as goal
 

@@ -1,7 +1,4 @@
-use Rattle.std.proofs.Common.{◌≡◌, ◌∙◌, arith, length}
-use Rattle.std.proofs.lemmas.List.{nil_from_length}
-use Rattle.std.specs.Vec.Iter.{into_iter_items}
-use Rattle.rt_world.proofs.Walked.{kept-kept, calling-kept}
+use Rattle.rt_core.proofs.Prelude.{◌≡◌, ◌∙◌, arith, length, nil_from_length, into_iter_items, kept-kept, calling-kept}
 use Rattle.rt_core.proofs.Choosing.{each-more, each-done}
 use Rattle.rt_core.proofs.select.give_all_up.Goals as goal
 

@@ -1,11 +1,4 @@
-use Rattle.std.proofs.Common.{◌≡◌}
-use Rattle.std.specs.Vec.Iter.{into_iter_items, into_iter_len}
-use Rattle.rt_model.specs.Rules.{MayCall}
-use Rattle.rt_world.specs.World.{World}
-use Rattle.rt_world.specs.Calls.{Kept}
-use Rattle.rt_world.specs.Walked.{Spent}
-use Rattle.rt_core.specs.Handles.{handle_spends}
-use Rattle.rt_core.specs.Select.{each}
+use Rattle.rt_core.proofs.Prelude.{◌≡◌, into_iter_items, into_iter_len, MayCall, World, Kept, Spent, handle_spends, each}
 use Rattle.rt_core.proofs.select.give_all_up.Given as goal
 
 abbrev pub invariant-loop-handle : goal.invariant-loop-handle

@@ -1,6 +1,4 @@
-use Rattle.std.proofs.Common.{◌≡◌, ap, sym, ◌∙◌, length, map}
-use Rattle.std.proofs.lemmas.List.{length-map}
-use Rattle.rt_core.specs.Handles.{aborted}
+use Rattle.rt_core.proofs.Prelude.{◌≡◌, ap, sym, ◌∙◌, length, map, length-map, aborted}
 use Rattle.rt_core.proofs.Choosing.{goes-all, written-back}
 use Rattle.rt_core.proofs.select.let_go.Goals as goal
 

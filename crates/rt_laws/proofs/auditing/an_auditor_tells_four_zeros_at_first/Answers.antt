@@ -1,4 +1,4 @@
-use Rattle.std.proofs.Common.{refl}
+use Rattle.rt_laws.proofs.Prelude.{refl}
 use Rattle.rt_laws.proofs.Audited.{visit_told}
 use Rattle.rt_laws.proofs.auditing.an_auditor_tells_four_zeros_at_first.Goals as goal
 

@@ -1,4 +1,4 @@
-use Rattle.std.proofs.Common.{refl}
+use Rattle.rt_laws.proofs.Prelude.{refl}
 use Rattle.rt_laws.proofs.Doubled.{its_place, its_turned_place, its_draw}
 use Rattle.rt_laws.proofs.twice.a_round_is_drawn.Goals as goal
 

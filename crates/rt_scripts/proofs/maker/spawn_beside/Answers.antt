@@ -1,11 +1,4 @@
-use Rattle.std.proofs.Common.{Ok, Err}
-use Rattle.rt_base.specs.declared.error.Error.TheVariants.{NoMemory as LacksMemory}
-use Rattle.rt_audit.specs.declared.call.Call.TheVariants.{Child}
-use Rattle.rt_model.specs.Turns.{Plainly}
-use Rattle.rt_core.specs.Contexts.{childs, child_heard}
-use Rattle.rt_world.proofs.Walked.{kept-kept, tells-lacking, rooted-lacks}
-use Rattle.rt_scripts.specs.Making.{beside, passed_over, placed_beside}
-use Rattle.rt_scenario.specs.Texts.{text_at}
+use Rattle.rt_scripts.proofs.Prelude.{Ok, Err, LacksMemory, Child, Plainly, childs, child_heard, kept-kept, tells-lacking, rooted-lacks, beside, passed_over, placed_beside, text_at}
 use Rattle.rt_scripts.proofs.Makings.{prepares-after}
 use Rattle.rt_scripts.proofs.maker.spawn_beside.Goals as goal
 

@@ -1,6 +1,4 @@
-use Rattle.std.proofs.Common.{rules, Ok}
-use Rattle.rt_scripts.specs.Making.{passed_over, placed_beside, spawned_beside}
-use Rattle.rt_scripts.specs.Script.{started}
+use Rattle.rt_scripts.proofs.Prelude.{rules, Ok, passed_over, placed_beside, spawned_beside, started}
 use Rattle.rt_scripts.proofs.Makings.{prepares-after}
 use Rattle.rt_scripts.proofs.maker.start_beside.Goals as goal
 

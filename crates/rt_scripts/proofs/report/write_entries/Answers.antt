@@ -1,7 +1,4 @@
-use Rattle.std.proofs.Common.{rules, ap, arith, suc, slice_index_or, ◌∙◌, ◌≡◌, ◌++◌, ◌+◌, ◌∷◌, codes, drop, string_bytes, refl}
-use Rattle.std.proofs.Math.Seq.{drop-cons}
-use Rattle.rt_audit.specs.Lines.{line_of}
-use Rattle.rt_scripts.specs.Report.{entries_text}
+use Rattle.rt_scripts.proofs.Prelude.{rules, ap, arith, suc, slice_index_or, ◌∙◌, ◌≡◌, ◌++◌, ◌+◌, ◌∷◌, codes, drop, string_bytes, refl, drop-cons, line_of, entries_text}
 use Rattle.rt_scripts.proofs.Written.{written_more, next_line, part_behind, part_longer, on_err}
 use Rattle.rt_scripts.proofs.report.write_entries.Goals as goal
 

@@ -1,5 +1,4 @@
-use Rattle.std.proofs.Common.{◌≡◌, ◌≤◌, ◌++◌, ℕ, List, drop, string_bytes}
-use Rattle.rt_scripts.specs.Report.{entries_text, IsWritten}
+use Rattle.rt_scripts.proofs.Prelude.{◌≡◌, ◌≤◌, ◌++◌, ℕ, List, drop, string_bytes, entries_text, IsWritten}
 use Rattle.rt_scripts.proofs.report.write_entries.Given as goal
 
 abbrev pub invariant-loop-entry : goal.invariant-loop-entry

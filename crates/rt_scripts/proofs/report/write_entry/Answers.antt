@@ -1,5 +1,4 @@
-use Rattle.std.proofs.Common.{◌≡◌, ◌++◌, [], codes, ap, ◌∙◌, append_assoc, string_bytes}
-use Rattle.rt_audit.specs.Lines.{line_of}
+use Rattle.rt_scripts.proofs.Prelude.{◌≡◌, ◌++◌, [], codes, ap, ◌∙◌, append_assoc, string_bytes, line_of}
 use Rattle.rt_scripts.proofs.Written.{appends_nothing, part_of, on_err}
 use Rattle.rt_scripts.proofs.report.write_entry.Goals as goal
 

@@ -1,5 +1,4 @@
-use Rattle.std.proofs.Common.{rules, ◌≡◌, ◌++◌, ap, ◌∙◌, append_assoc, string_bytes}
-use Rattle.rt_scripts.specs.Report.{report_text, entries_text, result_text, numbers_text}
+use Rattle.rt_scripts.proofs.Prelude.{rules, ◌≡◌, ◌++◌, ap, ◌∙◌, append_assoc, string_bytes, report_text, entries_text, result_text, numbers_text}
 use Rattle.rt_scripts.proofs.Written.{written_whole, part_of, part_longer, part_behind, on_err, report_parts}
 use Rattle.rt_scripts.proofs.report.write_report.Goals as goal
 

@@ -1,8 +1,4 @@
-use Rattle.std.proofs.Common.{◌≡◌, ◌++◌, [], length, refl, sym, ap, ◌∙◌, append_assoc, arith}
-use Rattle.std.specs.Prelude.{slice_range}
-use Rattle.std.proofs.lemmas.List.Elements.{All-rest}
-use Rattle.rt_base.proofs.Outsides.{appends_more}
-use Rattle.rt_scripts.specs.Report.{StandsIn, report_text, reports_text}
+use Rattle.rt_scripts.proofs.Prelude.{◌≡◌, ◌++◌, [], length, refl, sym, ap, ◌∙◌, append_assoc, arith, slice_range, All-rest, appends_more, StandsIn, report_text, reports_text}
 use Rattle.rt_scripts.proofs.Written.{on_err, part_behind, part_longer, written_out}
 use Rattle.rt_scripts.proofs.report.write_reports.Goals as goal
 

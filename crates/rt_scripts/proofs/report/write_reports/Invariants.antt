@@ -1,6 +1,4 @@
-use Rattle.std.proofs.Common.{◌≡◌, ◌≤◌, ◌++◌, ℕ, List, All, length}
-use Rattle.rt_base.specs.Outside.{Appends}
-use Rattle.rt_scripts.specs.Report.{StandsIn, reports_text}
+use Rattle.rt_scripts.proofs.Prelude.{◌≡◌, ◌≤◌, ◌++◌, ℕ, List, All, length, Appends, StandsIn, reports_text}
 use Rattle.rt_scripts.proofs.report.write_reports.Given as goal
 
 abbrev pub invariant-loop-run : goal.invariant-loop-run

@@ -1,4 +1,4 @@
-use Rattle.rt_world.proofs.Walked.{spends-on, spent-nothing}
+use Rattle.rt_scripts.proofs.Prelude.{spends-on, spent-nothing}
 use Rattle.rt_scripts.proofs.script.give_stop_up.Goals as goal
 
 pub returns-in_default-clause-steps : goal.returns-in_default-clause-steps

@@ -1,6 +1,4 @@
-use Rattle.std.proofs.Common.{◌≡◌, ◌∙◌, sym, ap, length, refl, arith}
-use Rattle.rt_model.specs.Lists.{find, without}
-use Rattle.rt_world.proofs.Walked.{kept-kept}
+use Rattle.rt_scripts.proofs.Prelude.{◌≡◌, ◌∙◌, sym, ap, length, refl, arith, find, without, kept-kept}
 use Rattle.rt_scripts.proofs.Scripts.{next_held, next_first, next_none, releases-more, releases-none}
 use Rattle.rt_scripts.proofs.script.release_all.Goals as goal
 

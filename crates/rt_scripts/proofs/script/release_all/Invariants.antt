@@ -1,4 +1,4 @@
-use Rattle.std.proofs.Common.{◌≡◌, length}
+use Rattle.rt_scripts.proofs.Prelude.{◌≡◌, length}
 use Rattle.rt_world.specs.Calls.{Kept}
 use Rattle.rt_scripts.proofs.Scripts.{Releases}
 use Rattle.rt_scripts.proofs.script.release_all.Given as goal

@@ -1,6 +1,4 @@
-use Rattle.std.proofs.Common.{◌≡◌, sym, ◌∙◌, None}
-use Rattle.rt_model.specs.Lists.{find}
-use Rattle.rt_world.proofs.Walked.{spends-on, spent-nothing}
+use Rattle.rt_scripts.proofs.Prelude.{◌≡◌, sym, ◌∙◌, None, find, spends-on, spent-nothing}
 use Rattle.rt_scripts.proofs.script.stop_waiting.Goals as goal
 
 pub returns-in-Nothing-clause-steps : goal.returns-in-Nothing-clause-steps

@@ -1,5 +1,4 @@
-use Rattle.std.proofs.Common.{◌≡◌, ◌⊎◌, length}
-use Rattle.rt_scripts.specs.Ran.{last_status}
+use Rattle.rt_scripts.proofs.Prelude.{◌≡◌, ◌⊎◌, length, last_status}
 use Rattle.rt_scripts.proofs.Runs.{last_or}
 use Rattle.rt_scripts.proofs.simulate.last_status.Given as goal
 

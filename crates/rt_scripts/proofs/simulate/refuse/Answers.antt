@@ -1,4 +1,4 @@
-use Rattle.std.proofs.Common.{rules, inl, inr, refl}
+use Rattle.rt_scripts.proofs.Prelude.{rules, inl, inr, refl}
 use Rattle.rt_scripts.proofs.Written.{part_of}
 use Rattle.rt_scripts.proofs.simulate.refuse.Goals as goal
 

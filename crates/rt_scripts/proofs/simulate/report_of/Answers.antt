@@ -1,5 +1,4 @@
-use Rattle.std.proofs.Common.{arith, ◌≡◌, ◌-◌, drop, sym}
-use Rattle.rt_audit.specs.Journal.{rounds_in}
+use Rattle.rt_scripts.proofs.Prelude.{arith, ◌≡◌, ◌-◌, drop, sym, rounds_in}
 use Rattle.rt_scripts.proofs.Runs.{reported-from, rounds_behind}
 use Rattle.rt_scripts.proofs.simulate.report_of.Goals as goal
 

@@ -1,5 +1,4 @@
-use Rattle.std.proofs.Common.{sym, subst}
-use Rattle.rt_scripts.specs.Asked.{Ends, Reads}
+use Rattle.rt_scripts.proofs.Prelude.{sym, subst, Ends, Reads}
 use Rattle.rt_scripts.proofs.simulate.run_bytes.Goals as goal
 
 pub returns-in-Ok-clause-ends : goal.returns-in-Ok-clause-ends

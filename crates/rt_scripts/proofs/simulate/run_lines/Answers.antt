@@ -1,7 +1,4 @@
-use Rattle.std.proofs.Common.{rules, subst}
-use Rattle.std.proofs.lemmas.List.{nil_from_length}
-use Rattle.std.proofs.lemmas.List.Elements.{All-rest}
-use Rattle.rt_scripts.specs.Ran.{HasScripts}
+use Rattle.rt_scripts.proofs.Prelude.{rules, subst, nil_from_length, All-rest, HasScripts}
 use Rattle.rt_scripts.proofs.Runs.{GoesFrom, goes-on, goes-whole, goes-failed, goes-halted, next-place}
 use Rattle.rt_scripts.proofs.simulate.run_lines.Goals as goal
 

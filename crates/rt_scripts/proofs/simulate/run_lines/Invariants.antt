@@ -1,6 +1,4 @@
-use Rattle.std.proofs.Common.{◌≡◌, ◌≤◌, ◌+◌, All, length, vec_len, vec_capacity}
-use Rattle.rt_audit.specs.Journal.{rounds_in}
-use Rattle.rt_scripts.specs.Ran.{HasScripts}
+use Rattle.rt_scripts.proofs.Prelude.{◌≡◌, ◌≤◌, ◌+◌, All, length, vec_len, vec_capacity, rounds_in, HasScripts}
 use Rattle.rt_scripts.proofs.Runs.{GoesFrom}
 use Rattle.rt_scripts.proofs.simulate.run_lines.Given as goal
 

@@ -1,6 +1,5 @@
-use Rattle.std.proofs.Common.{rules, true, ap}
+use Rattle.rt_scripts.proofs.Prelude.{rules, true, ap, starting}
 use Rattle.std.specs.Prelude.{not}
-use Rattle.rt_scripts.specs.Ran.{starting}
 use Rattle.rt_scripts.proofs.Runs.{chain-is, chain-within}
 use Rattle.rt_scripts.proofs.simulate.run_scenario.Goals as goal
 

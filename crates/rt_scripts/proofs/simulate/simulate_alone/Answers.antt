@@ -1,6 +1,4 @@
-use Rattle.std.proofs.Common.{rules, map, string_bytes, inl, inr, refl}
-use Rattle.rt_scenario.specs.Scenario.{scenario_of}
-use Rattle.rt_scripts.specs.Asked.{NoCommand, TooLong, Reads}
+use Rattle.rt_scripts.proofs.Prelude.{rules, map, string_bytes, inl, inr, refl, scenario_of, NoCommand, TooLong, Reads}
 use Rattle.rt_scripts.proofs.InOrder.{journal-rises}
 use Rattle.rt_scripts.proofs.Ends.{some_asked, no_command, too_long}
 use Rattle.rt_scripts.proofs.simulate.simulate_alone.Goals as goal

@@ -18,7 +18,7 @@ loop-change-preserved g c =
     (g.E.Env.noted c.loop-change.env) (g.E.Env.noted c.choose-choice.new.env) c.loop-change.content.items c.replay_one.new.content.items
     c.loop-change.choices.items c.push_reserved.new.self.items
     c.in-Some.ensures.cases.0 c.choose-choice.ensures.gives c.replay_one.ensures.bytes c.push_reserved.ensures.items c.loop-change.invariant.0 in
-    (step, All-rest (HasRoom (vec_capacity c.args.content.now)) c.in-Some.change.now c.in-Some.tail.now c.loop-change.rest.now c.in-Some.ensures.cases.0 c.loop-change.invariant.1, (search rules), (search rules), (search rules), (search rules))
+    (step, All-rest (HasRoom (vec_capacity c.args.content.now)) c.in-Some.change.now c.in-Some.tail.now c.loop-change.rest.now c.in-Some.ensures.cases.0 c.loop-change.invariant.1, (search rules), (search rules), (search rules), (search rules), (λ start h. c.choose-choice.ensures.lasts start (c.loop-change.invariant.6 start h)))
 
 pub returns-clause-gives : goal.returns-clause-gives
 returns-clause-gives g c =

@@ -18,6 +18,7 @@ invariant-loop-change g l =
     × (g.E.Env.spare l.fn.env + 2 * length l.rest ≤ g.E.Env.spare l.env + 2 * length l.fn.later)
     × (vec_len l.choices + length l.rest ≡ vec_len l.fn.choices + length l.fn.later)
     × (vec_capacity l.choices ≡ vec_capacity l.fn.choices)
+    × ((start : g.row.E.Denot) → g.E.Env.lasts start l.fn.env → g.E.Env.lasts start l.env)
 
 abbrev pub decreases-loop-change : goal.decreases-loop-change
 decreases-loop-change g l = length l.rest

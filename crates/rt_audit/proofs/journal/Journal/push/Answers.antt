@@ -1,5 +1,5 @@
 use Rattle.std.proofs.Common.{arith, ◌∙◌, ◌+◌, ◌∷◌, [], ap, ℕ, List}
-use Rattle.rt_audit.specs.Digest.{first_digest}
+use Rattle.rt_hasher.specs.Digest.{first_digest}
 use Rattle.rt_audit.specs.Journal.{time_after, rounds_in, digest_after}
 use Rattle.rt_audit.proofs.Times.{last_time-more, rounds-append, rounds-most, digest_from-more}
 use Rattle.rt_audit.proofs.journal.Journal.push.Goals as goal

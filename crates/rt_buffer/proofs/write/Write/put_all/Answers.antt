@@ -20,6 +20,7 @@ loop-chunk-preserved g c = (
       c.loop-chunk.invariant.4 r new behind
       (puts_first (calls g.S.Storage.refusals g.S.Storage.polls_sync g.S.Storage.gives_sync_up g.S.Storage.writes g.S.Storage.resizes g.S.Storage.syncs g.S.Storage.starts_sync g.S.Storage.closes) c.args.self.now.blob c.loop-chunk.left.at c.loop-chunk.left.chunks c.in-Some.chunk c.next.new.self (writer c.loop-chunk.store c.loop-chunk.self.held) (writer c.put.new.store c.put.new.self.held) c.put.result (g.E.Env.noted c.loop-chunk.env) (g.E.Env.noted c.put.new.env)
       (search rules) c.next.ensures.rest (search rules) (rw (c.loop-chunk.invariant.0, c.loop-chunk.invariant.2) at c.put.ensures.puts) r new behind k),
+  λ start h. c.put.ensures.lasts start (c.loop-chunk.invariant.5 start h),
 )
 
 pub returns-clause-puts : goal.returns-clause-puts

@@ -15,6 +15,7 @@ invariant-loop-chunk g l =
     × ((r : Progress) (new : Writer g.row.S.Denot) (behind : Option (List Noted))
     → Notes (g.E.Env.noted l.env) (λ z. PutsAll (calls g.S.Storage.refusals g.S.Storage.polls_sync g.S.Storage.gives_sync_up g.S.Storage.writes g.S.Storage.resizes g.S.Storage.syncs g.S.Storage.starts_sync g.S.Storage.closes) l.fn.self.blob l.left (writer l.store l.self.held) r new z) behind
     → Notes (g.E.Env.noted l.fn.env) (λ x. PutsAll (calls g.S.Storage.refusals g.S.Storage.polls_sync g.S.Storage.gives_sync_up g.S.Storage.writes g.S.Storage.resizes g.S.Storage.syncs g.S.Storage.starts_sync g.S.Storage.closes) l.fn.self.blob l.fn.left (writer l.fn.store l.fn.self.held) r new x) behind)
+    × ((start : g.row.E.Denot) → g.E.Env.lasts start l.fn.env → g.E.Env.lasts start l.env)
 
 abbrev pub decreases-loop-chunk : goal.decreases-loop-chunk
 decreases-loop-chunk g l = length l.left.chunks

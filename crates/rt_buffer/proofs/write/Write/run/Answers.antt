@@ -6,6 +6,7 @@ use Rattle.rt_buffer.proofs.write.Write.run.Goals as goal
 
 pub returns-in-Ok-Ready : goal.returns-in-Ok-Ready
 returns-in-Ok-Ready g c = record {
+  lasts = λ start l. c.finish-progress.ensures.lasts start (c.wait.ensures.lasts start l);
   runs = runs_on (calls g.S.Storage.refusals g.S.Storage.polls_sync g.S.Storage.gives_sync_up g.S.Storage.writes g.S.Storage.resizes g.S.Storage.syncs g.S.Storage.starts_sync g.S.Storage.closes) c.args.self.blob c.args.rest c.args.task (writer c.args.store.now c.args.self.held) (writer c.wait.new.store c.wait.new.self.held) (writer c.finish-progress.new.store c.finish-progress.new.self.held)
       c.wait.result c.finish-progress.result c.end.new.store _ (g.E.Env.noted c.args.env.now) (g.E.Env.noted c.wait.new.env) (g.E.Env.noted c.finish-progress.new.env)
       (search rules) c.wait.ensures.waits (rw c.wait.ensures.blob at c.finish-progress.ensures.finishes) (rw (c.finish-progress.ensures.blob, c.wait.ensures.blob) at c.end.ensures);
@@ -14,6 +15,7 @@ returns-in-Ok-Ready g c = record {
 
 pub returns-in-Ok-Pending : goal.returns-in-Ok-Pending
 returns-in-Ok-Pending g c = record {
+  lasts = c.wait.ensures.lasts;
   runs = runs_waits (calls g.S.Storage.refusals g.S.Storage.polls_sync g.S.Storage.gives_sync_up g.S.Storage.writes g.S.Storage.resizes g.S.Storage.syncs g.S.Storage.starts_sync g.S.Storage.closes) c.args.self.blob c.args.rest c.args.task (writer c.args.store.now c.args.self.held) (writer c.wait.new.store c.wait.new.self.held)
       c.wait.result c.end-in-Ok-Pending.new.store _ (g.E.Env.noted c.args.env.now) (g.E.Env.noted c.wait.new.env) (search rules) c.wait.ensures.waits (rw c.wait.ensures.blob at c.end-in-Ok-Pending.ensures);
   spent = omega (arith, c.wait.ensures.spent);
@@ -21,6 +23,7 @@ returns-in-Ok-Pending g c = record {
 
 pub returns-in-Err : goal.returns-in-Err
 returns-in-Err g c = record {
+  lasts = c.wait.ensures.lasts;
   runs = runs_fails (calls g.S.Storage.refusals g.S.Storage.polls_sync g.S.Storage.gives_sync_up g.S.Storage.writes g.S.Storage.resizes g.S.Storage.syncs g.S.Storage.starts_sync g.S.Storage.closes) c.args.self.blob c.args.rest c.args.task (writer c.args.store.now c.args.self.held) (writer c.wait.new.store c.wait.new.self.held)
       c.wait.result c.in-Err.error c.end-in-Err.new.store _ (g.E.Env.noted c.args.env.now) (g.E.Env.noted c.wait.new.env) (search rules) c.wait.ensures.waits (rw c.wait.ensures.blob at c.end-in-Err.ensures);
   spent = omega (arith, c.wait.ensures.spent);

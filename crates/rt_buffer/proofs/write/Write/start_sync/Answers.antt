@@ -10,6 +10,7 @@ pub returns-then-is_empty : goal.returns-then-is_empty
 returns-then-is_empty g c =
     let starts = starts_at_once (calls g.S.Storage.refusals g.S.Storage.polls_sync g.S.Storage.gives_sync_up g.S.Storage.writes g.S.Storage.resizes g.S.Storage.syncs g.S.Storage.starts_sync g.S.Storage.closes) c.args.self.blob c.args.task (writer c.args.store.now c.args.self.held) (writer c.begin-progress.new.store c.begin-progress.new.self.held) c.begin-progress.result c.end.new.store _ _ (g.E.Env.noted c.args.env.now) (g.E.Env.noted c.begin-progress.new.env)
     (none_has _ (c.if-is_empty.ensures.0 refl)) c.begin-progress.ensures.begins (rw c.begin-progress.ensures.blob at c.end.ensures) c.handed.ensures in record {
+      lasts = c.begin-progress.ensures.lasts;
       starts = starts;
       handle = starts_handle (calls g.S.Storage.refusals g.S.Storage.polls_sync g.S.Storage.gives_sync_up g.S.Storage.writes g.S.Storage.resizes g.S.Storage.syncs g.S.Storage.starts_sync g.S.Storage.closes) c.args.self.blob c.args.task (writer c.args.store.now c.args.self.held) c.end.new.store _ _ c.handed.result starts.0 starts.2;
       durable = λ bytes left promised keeps lies knows.
@@ -25,6 +26,7 @@ pub returns : goal.returns
 returns g c =
     let starts = starts_behind (calls g.S.Storage.refusals g.S.Storage.polls_sync g.S.Storage.gives_sync_up g.S.Storage.writes g.S.Storage.resizes g.S.Storage.syncs g.S.Storage.starts_sync g.S.Storage.closes) c.args.self.blob c.args.task (writer c.args.store.now c.args.self.held) c.run.new.store _ _ (g.E.Env.noted c.args.env.now) (g.E.Env.noted c.run.new.env)
     (some_has _ (λ none. c.if-is_empty.ensures.1 none)) c.run.ensures.runs c.handed-2.ensures in record {
+      lasts = c.run.ensures.lasts;
       starts = starts;
       handle = starts_handle (calls g.S.Storage.refusals g.S.Storage.polls_sync g.S.Storage.gives_sync_up g.S.Storage.writes g.S.Storage.resizes g.S.Storage.syncs g.S.Storage.starts_sync g.S.Storage.closes) c.args.self.blob c.args.task (writer c.args.store.now c.args.self.held) c.run.new.store _ _ c.handed-2.result starts.0 starts.2;
       durable = λ bytes left promised keeps lies knows.

@@ -1,4 +1,4 @@
-use Rattle.rt_world.proofs.Walked.{spends-on}
+use Rattle.rt_core.proofs.Prelude.{spends-on}
 use Rattle.rt_core.proofs.abort_on_drop.AbortOnDropOf.give_up.Goals as goal
 
 pub returns-clause-steps : goal.returns-clause-steps

@@ -1,6 +1,4 @@
-use Rattle.std.proofs.Common.{sym, ◌∙◌}
-use Rattle.rt_core.specs.Completions.{completion_spends}
-use Rattle.rt_world.proofs.Walked.{spent-nothing, spends-on}
+use Rattle.rt_core.proofs.Prelude.{sym, ◌∙◌, completion_spends, spent-nothing, spends-on}
 use Rattle.rt_core.proofs.completion.CompletionOutputPollerOutput.give_up.Goals as goal
 
 pub returns-in-Held-clause-steps : goal.returns-in-Held-clause-steps

@@ -1,4 +1,4 @@
-use Rattle.std.proofs.Common.{refl}
+use Rattle.rt_core.proofs.Prelude.{refl}
 use Rattle.rt_core.proofs.Completing.{aborted-goes, answered-goes, held-goes, polled-goes}
 use Rattle.rt_core.proofs.completion.CompletionOutputPollerOutput.poll.Goals as goal
 

@@ -1,6 +1,4 @@
-use Rattle.std.proofs.Common.{refl}
-use Rattle.rt_core.specs.Drawing.{asks_auditor}
-use Rattle.rt_world.proofs.Drawing.{auditor-tells}
+use Rattle.rt_core.proofs.Prelude.{refl, asks_auditor, auditor-tells}
 use Rattle.rt_core.proofs.context.Context.auditor.Goals as goal
 
 pub returns-in-Ok-clause-steps : goal.returns-in-Ok-clause-steps

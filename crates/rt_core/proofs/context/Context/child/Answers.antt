@@ -1,6 +1,4 @@
-use Rattle.std.proofs.Common.{refl, Ok, Err}
-use Rattle.rt_core.specs.Contexts.{childs, child_heard}
-use Rattle.rt_world.proofs.Walked.{child-tells, tells-lacking}
+use Rattle.rt_core.proofs.Prelude.{refl, Ok, Err, childs, child_heard, child-tells, tells-lacking}
 use Rattle.rt_core.proofs.context.Context.child.Goals as goal
 
 pub returns-in_default-clause-steps : goal.returns-in_default-clause-steps

@@ -1,6 +1,4 @@
-use Rattle.std.proofs.Common.{refl}
-use Rattle.rt_core.specs.Drawing.{asks_bytes}
-use Rattle.rt_world.proofs.Drawing.{filled-tells}
+use Rattle.rt_core.proofs.Prelude.{refl, asks_bytes, filled-tells}
 use Rattle.rt_core.proofs.context.Context.fill_bytes.Goals as goal
 
 pub returns-in-Ok-clause-steps : goal.returns-in-Ok-clause-steps

@@ -1,6 +1,4 @@
-use Rattle.std.proofs.Common.{refl}
-use Rattle.rt_core.specs.Drawing.{asks_u32}
-use Rattle.rt_world.proofs.Drawing.{short-tells}
+use Rattle.rt_core.proofs.Prelude.{refl, asks_u32, short-tells}
 use Rattle.rt_core.proofs.context.Context.next_u32.Goals as goal
 
 pub returns-in-Ok-clause-steps : goal.returns-in-Ok-clause-steps

@@ -1,7 +1,5 @@
-use Rattle.std.proofs.Common.{refl, rules, Ok, Err, Some, None}
-use Rattle.rt_audit.specs.declared.reply.CallReply.TheVariants.{TaskAt, Closed}
-use Rattle.rt_core.specs.Contexts.{spawns, handle_heard, context_on}
-use Rattle.rt_world.proofs.Walked.{spawn-tells}
+use Rattle.rt_core.proofs.Prelude.{refl, rules, Ok, Err, Some, None, TaskAt, spawns, handle_heard, context_on, spawn-tells}
+use Rattle.rt_audit.specs.declared.reply.CallReply.TheVariants.{Closed}
 use Rattle.rt_core.proofs.context.Context.spawn.Goals as goal
 
 pub returns-in-Ok-Some-clause-ok : goal.returns-in-Ok-Some-clause-ok

@@ -1,7 +1,4 @@
-use Rattle.std.proofs.Common.{refl, rules, SFits, w32}
-use Rattle.std.proofs.lemmas.Int.{to_z-of_z}
-use Rattle.rt_core.specs.Signals.{asks_stopped}
-use Rattle.rt_world.proofs.Signaled.{stopped-tells}
+use Rattle.rt_core.proofs.Prelude.{refl, rules, SFits, w32, to_z-of_z, asks_stopped, stopped-tells}
 use Rattle.rt_core.proofs.context.Context.stopped.Goals as goal
 
 pub returns-in-Ok-Waiting-clause-steps : goal.returns-in-Ok-Waiting-clause-steps

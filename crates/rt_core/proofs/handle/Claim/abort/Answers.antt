@@ -1,4 +1,4 @@
-use Rattle.rt_world.proofs.Walked.{spent-spend, spent-nothing, spends-on}
+use Rattle.rt_core.proofs.Prelude.{spent-spend, spent-nothing, spends-on}
 use Rattle.rt_core.proofs.handle.Claim.abort.Goals as goal
 
 pub returns-then-self-clause-steps : goal.returns-then-self-clause-steps

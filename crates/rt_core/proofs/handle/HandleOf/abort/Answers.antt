@@ -1,5 +1,4 @@
-use Rattle.rt_core.specs.Handles.{handle_aborts}
-use Rattle.rt_world.proofs.Walked.{kept-same, spent-nothing, spends-on}
+use Rattle.rt_core.proofs.Prelude.{handle_aborts, kept-same, spent-nothing, spends-on}
 use Rattle.rt_core.proofs.handle.HandleOf.abort.Goals as goal
 
 pub returns-in-Task-clause-steps : goal.returns-in-Task-clause-steps

@@ -1,6 +1,4 @@
-use Rattle.std.proofs.Common.{sym, ◌∙◌}
-use Rattle.rt_core.specs.Handles.{handle_spends}
-use Rattle.rt_world.proofs.Walked.{spent-spend, spent-nothing, spends-on}
+use Rattle.rt_core.proofs.Prelude.{sym, ◌∙◌, handle_spends, spent-spend, spent-nothing, spends-on}
 use Rattle.rt_core.proofs.handle.HandleOfOutputPollerOutput.give_up.Goals as goal
 
 pub returns-in-Task-clause-steps : goal.returns-in-Task-clause-steps

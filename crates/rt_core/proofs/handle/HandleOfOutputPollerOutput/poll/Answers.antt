@@ -1,6 +1,5 @@
-use Rattle.rt_core.specs.Handles.{handle_polls}
-use Rattle.rt_core.specs.declared.handle.Kind.TheVariants.{Received, Completion}
-use Rattle.rt_world.proofs.Walked.{goes-on}
+use Rattle.rt_core.proofs.Prelude.{handle_polls, Received, goes-on}
+use Rattle.rt_core.specs.declared.handle.Kind.TheVariants.{Completion}
 use Rattle.rt_core.proofs.Joining.{walked-joined}
 use Rattle.rt_core.proofs.Completing.{wrapped-goes}
 use Rattle.rt_core.proofs.handle.HandleOfOutputPollerOutput.poll.Goals as goal

@@ -1,5 +1,4 @@
-use Rattle.rt_core.specs.Handles.{no_spends}
-use Rattle.rt_world.proofs.Walked.{spends-on, spent-nothing}
+use Rattle.rt_core.proofs.Prelude.{no_spends, spends-on, spent-nothing}
 use Rattle.rt_core.proofs.handle.NoPollerPoller.give_up.Goals as goal
 
 pub returns-clause-steps : goal.returns-clause-steps

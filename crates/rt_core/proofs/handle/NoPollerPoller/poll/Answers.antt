@@ -1,5 +1,4 @@
-use Rattle.rt_core.specs.Handles.{no_polls}
-use Rattle.rt_world.proofs.Walked.{walked-gives, goes-on}
+use Rattle.rt_core.proofs.Prelude.{no_polls, walked-gives, goes-on}
 use Rattle.rt_core.proofs.handle.NoPollerPoller.poll.Goals as goal
 
 pub returns-clause-steps : goal.returns-clause-steps

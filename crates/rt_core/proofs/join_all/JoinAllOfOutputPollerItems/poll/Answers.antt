@@ -1,4 +1,4 @@
-use Rattle.std.proofs.Common.{sym, ◌∙◌}
+use Rattle.rt_core.proofs.Prelude.{sym, ◌∙◌}
 use Rattle.rt_core.proofs.Grouping.{fine-goes, failed-goes}
 use Rattle.rt_core.proofs.join_all.JoinAllOfOutputPollerItems.poll.Goals as goal
 

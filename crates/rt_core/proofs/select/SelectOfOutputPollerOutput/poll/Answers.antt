@@ -1,7 +1,4 @@
-use Rattle.std.proofs.Common.{◌≡◌, ◌<◌, ◌≤◌, refl, ap, arith, length, []}
-use Rattle.std.proofs.lemmas.List.{nil_from_length}
-use Rattle.rt_model.specs.State.{Clock}
-use Rattle.rt_world.proofs.Walked.{kept-kept}
+use Rattle.rt_core.proofs.Prelude.{◌≡◌, ◌<◌, ◌≤◌, refl, ap, arith, length, [], nil_from_length, Clock, kept-kept}
 use Rattle.rt_core.proofs.Choosing.{select-none, select-more, select-ready, undecided-some, still-long, still-polling}
 use Rattle.rt_core.proofs.select.SelectOfOutputPollerOutput.poll.Goals as goal
 

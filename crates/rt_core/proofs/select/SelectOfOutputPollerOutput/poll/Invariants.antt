@@ -1,11 +1,4 @@
-use Rattle.std.proofs.Common.{◌≡◌, ◌-◌, List, Result, None, vec_len, take, drop}
-use Rattle.rt_base.specs.declared.error.Error.{Error}
-use Rattle.rt_base.specs.declared.poll.Poll.{Poll}
-use Rattle.rt_world.specs.World.{World}
-use Rattle.rt_world.specs.Calls.{IsPolling, Kept}
-use Rattle.rt_world.specs.Walked.{Walked}
-use Rattle.rt_core.specs.Select.{polls_rest, select_polls}
-use Rattle.rt_core.specs.declared.handle.Kind.{Kind}
+use Rattle.rt_core.proofs.Prelude.{◌≡◌, ◌-◌, List, Result, None, vec_len, take, drop, Error, Poll, World, IsPolling, Kept, Walked, polls_rest, select_polls, Kind}
 use Rattle.rt_core.proofs.select.SelectOfOutputPollerOutput.poll.Given as goal
 
 abbrev pub invariant-loop-place : goal.invariant-loop-place

@@ -1,5 +1,5 @@
+use Rattle.rt_core.proofs.Prelude.{spends-on, spent-nothing, spent-spend}
 use Rattle.rt_core.specs.Signals.{completion_spends}
-use Rattle.rt_world.proofs.Walked.{spends-on, spent-nothing, spent-spend}
 use Rattle.rt_core.proofs.signals.CompletionWaitPollerUnit.give_up.Goals as goal
 
 pub returns-clause-steps : goal.returns-clause-steps

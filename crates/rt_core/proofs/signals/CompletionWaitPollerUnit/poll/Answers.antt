@@ -1,5 +1,5 @@
+use Rattle.rt_core.proofs.Prelude.{goes-on}
 use Rattle.rt_core.specs.Signals.{completion_polls}
-use Rattle.rt_world.proofs.Walked.{goes-on}
 use Rattle.rt_core.proofs.Signaled.{walked-met}
 use Rattle.rt_core.proofs.signals.CompletionWaitPollerUnit.poll.Goals as goal
 

@@ -1,7 +1,4 @@
-use Rattle.std.proofs.Common.{refl}
-use Rattle.rt_core.specs.Signals.{clones}
-use Rattle.rt_world.proofs.Signaled.{clone-tells}
-use Rattle.rt_world.proofs.Walked.{goes-on, walked-gives}
+use Rattle.rt_core.proofs.Prelude.{refl, clones, clone-tells, goes-on, walked-gives}
 use Rattle.rt_core.proofs.signals.Signal.clone_signal.Goals as goal
 
 pub returns-in-Ok-clause-steps : goal.returns-in-Ok-clause-steps

@@ -1,5 +1,4 @@
-use Rattle.rt_core.specs.Signals.{signal_spends}
-use Rattle.rt_world.proofs.Walked.{spends-on, spent-nothing, spent-spend}
+use Rattle.rt_core.proofs.Prelude.{signal_spends, spends-on, spent-nothing, spent-spend}
 use Rattle.rt_core.proofs.signals.SignalPollerI32.give_up.Goals as goal
 
 pub returns-in-Open-clause-steps : goal.returns-in-Open-clause-steps

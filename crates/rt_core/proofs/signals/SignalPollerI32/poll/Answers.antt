@@ -1,7 +1,4 @@
-use Rattle.std.proofs.Common.{rules, SFits, w32}
-use Rattle.std.proofs.lemmas.Int.{to_z-of_z}
-use Rattle.rt_core.specs.Signals.{signal_polls}
-use Rattle.rt_world.proofs.Walked.{goes-on, walked-gives}
+use Rattle.rt_core.proofs.Prelude.{rules, SFits, w32, to_z-of_z, signal_polls, goes-on, walked-gives}
 use Rattle.rt_core.proofs.Signaled.{walked-shown}
 use Rattle.rt_core.proofs.signals.SignalPollerI32.poll.Goals as goal
 

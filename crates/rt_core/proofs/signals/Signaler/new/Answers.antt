@@ -1,6 +1,4 @@
-use Rattle.std.proofs.Common.{refl}
-use Rattle.rt_core.specs.Signals.{makes_group}
-use Rattle.rt_world.proofs.Signaled.{signaler-tells}
+use Rattle.rt_core.proofs.Prelude.{refl, makes_group, signaler-tells}
 use Rattle.rt_core.proofs.signals.Signaler.new.Goals as goal
 
 pub returns-in-Ok-clause-steps : goal.returns-in-Ok-clause-steps

@@ -1,5 +1,4 @@
-use Rattle.rt_core.specs.Pollers.{sleep_spends}
-use Rattle.rt_world.proofs.Walked.{spends-on, spent-nothing}
+use Rattle.rt_core.proofs.Prelude.{sleep_spends, spends-on, spent-nothing}
 use Rattle.rt_core.proofs.sleep.SleepPollerUnit.give_up.Goals as goal
 
 pub returns-clause-steps : goal.returns-clause-steps

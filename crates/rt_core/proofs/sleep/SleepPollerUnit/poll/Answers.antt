@@ -1,5 +1,4 @@
-use Rattle.rt_core.specs.Pollers.{sleep_polls}
-use Rattle.rt_world.proofs.Walked.{walked-sleep, walked-gives, walked-lacking, goes-on}
+use Rattle.rt_core.proofs.Prelude.{sleep_polls, walked-sleep, walked-gives, walked-lacking, goes-on}
 use Rattle.rt_core.proofs.sleep.SleepPollerUnit.poll.Goals as goal
 
 pub returns-in-Ok-None-clause-steps : goal.returns-in-Ok-None-clause-steps

@@ -1,5 +1,4 @@
-use Rattle.std.proofs.Common.{rules, SFits, w32}
-use Rattle.std.proofs.lemmas.Int.{to_z-of_z}
+use Rattle.rt_core.proofs.Prelude.{rules, SFits, w32, to_z-of_z}
 use Rattle.rt_core.proofs.Stops.{late-goes, begun-goes, lacked-goes}
 use Rattle.rt_core.proofs.stop.Stop.begin.Goals as goal
 

@@ -1,5 +1,4 @@
-use Rattle.rt_core.specs.Stopping.{still}
-use Rattle.rt_core.specs.declared.stop.Stopping.TheVariants.{Waits, Limited}
+use Rattle.rt_core.proofs.Prelude.{still, Waits, Limited}
 use Rattle.rt_core.proofs.Completing.{wrapped-goes}
 use Rattle.rt_core.proofs.stop.Stop.wait.Goals as goal
 

@@ -1,7 +1,4 @@
-use Rattle.rt_model.specs.Walk.{Gives}
-use Rattle.rt_world.proofs.Walked.{spent-nothing, spends-on}
-use Rattle.rt_core.specs.Pollers.{closes}
-use Rattle.rt_core.specs.Stopping.{stop_spends}
+use Rattle.rt_core.proofs.Prelude.{Gives, spent-nothing, spends-on, closes, stop_spends}
 use Rattle.rt_core.proofs.stop.StopPollerUnit.give_up.Goals as goal
 
 pub returns-clause-steps : goal.returns-clause-steps

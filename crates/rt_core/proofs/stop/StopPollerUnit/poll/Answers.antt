@@ -1,5 +1,4 @@
-use Rattle.std.proofs.Common.{ap}
-use Rattle.rt_model.specs.State.{Clock}
+use Rattle.rt_core.proofs.Prelude.{ap, Clock}
 use Rattle.rt_core.proofs.Stops.{first-goes, refused-goes, still-goes}
 use Rattle.rt_core.proofs.stop.StopPollerUnit.poll.Goals as goal
 

@@ -1,5 +1,4 @@
-use Rattle.rt_world.proofs.Walked.{spent-nothing, spends-on}
-use Rattle.rt_core.specs.Stopping.{stage_spends}
+use Rattle.rt_core.proofs.Prelude.{spent-nothing, spends-on, stage_spends}
 use Rattle.rt_core.proofs.stop.Stopping.give_up.Goals as goal
 
 pub returns-in-Begins-clause-steps : goal.returns-in-Begins-clause-steps

@@ -1,4 +1,4 @@
-use Rattle.rt_core.specs.Timeouts.{timeout_spends}
+use Rattle.rt_core.proofs.Prelude.{timeout_spends}
 use Rattle.rt_core.proofs.timeout.TimeoutPoller.give_up.Goals as goal
 
 pub returns-clause-steps : goal.returns-clause-steps

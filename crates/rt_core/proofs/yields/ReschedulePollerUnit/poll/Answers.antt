@@ -1,5 +1,4 @@
-use Rattle.rt_core.specs.Pollers.{reschedule_polls}
-use Rattle.rt_world.proofs.Walked.{walked-wake, walked-gives, goes-on}
+use Rattle.rt_core.proofs.Prelude.{reschedule_polls, walked-wake, walked-gives, goes-on}
 use Rattle.rt_core.proofs.Requeue.{walked-refused}
 use Rattle.rt_core.proofs.yields.ReschedulePollerUnit.poll.Goals as goal
 

@@ -8,7 +8,8 @@ use Rattle.rt_model.specs.Effects.{flagged_by, left_of, unflagged}
 use Rattle.rt_machine.specs.Ends.{ended_results, ended_waiting, open_in}
 use Rattle.rt_machine.specs.Places.{mark_places, result_places}
 use Rattle.rt_machine.specs.Told.{Told}
-use Rattle.rt_machine.proofs.Totals.{waits-places, without-one, has-flagged}
+use Rattle.rt_parts.proofs.Totals.{waits-places}
+use Rattle.rt_machine.proofs.Totals.{without-one, has-flagged}
 use Rattle.rt_machine.proofs.Nodes.{length-end, live-end}
 use Rattle.rt_machine.proofs.Calm.{calmly-one, calmly-calmly}
 use Rattle.rt_machine.proofs.Over.{not-both}

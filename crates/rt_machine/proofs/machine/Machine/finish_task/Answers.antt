@@ -8,7 +8,8 @@ use Rattle.rt_machine.specs.Ends.{ended_results, ended_waiting, panic_wakes, ope
 use Rattle.rt_machine.specs.Places.{result_places}
 use Rattle.rt_machine.specs.Told.{Told}
 use Rattle.rt_machine.proofs.Counts.{length-without, below-without}
-use Rattle.rt_machine.proofs.Totals.{waits-places, ended-fewer}
+use Rattle.rt_parts.proofs.Totals.{waits-places}
+use Rattle.rt_machine.proofs.Totals.{ended-fewer}
 use Rattle.rt_machine.proofs.Nodes.{released-fewer, length-released}
 use Rattle.rt_machine.proofs.Calm.{calmly-calmly}
 use Rattle.rt_machine.proofs.Ended.{visit-ended, leaves-places}

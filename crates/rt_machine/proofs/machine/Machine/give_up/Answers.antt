@@ -3,7 +3,7 @@ use Rattle.rt_model.specs.Lists.{find}
 use Rattle.rt_model.specs.State.{stood_in}
 use Rattle.rt_model.specs.Effects.{after, is_closing}
 use Rattle.rt_machine.specs.Places.{result_places}
-use Rattle.rt_machine.proofs.Totals.{without-places}
+use Rattle.rt_parts.proofs.Totals.{without-places}
 use Rattle.rt_machine.proofs.Owed.{due-give-up}
 use Rattle.rt_machine.proofs.machine.Machine.give_up.Goals as goal
 
@@ -41,7 +41,7 @@ invariant_of-self c =
       stop_is = i.stop_is;
       nobody_met = i.nobody_met;
       none_announced = refl;
-      none_drawn = i.none_drawn;
+      none_drawn = refl;
       none_owed = due-give-up (is_closing s.phase) s.marks (stood_in s) c.args.task;
       all_ended = i.all_ended;
       label_next = i.label_next;

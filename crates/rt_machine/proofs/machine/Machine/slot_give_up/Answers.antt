@@ -1,56 +1,5 @@
-use Rattle.std.proofs.Common.{◌≡◌, ◌∙◌, refl, sym, arith, Some}
-use Rattle.rt_model.specs.Lists.{find}
-use Rattle.rt_model.specs.State.{stood_in}
-use Rattle.rt_model.specs.Effects.{after, is_closing}
-use Rattle.rt_machine.specs.Places.{result_places}
-use Rattle.rt_machine.proofs.Totals.{without-places}
-use Rattle.rt_machine.proofs.Owed.{due-let-go}
+use Rattle.rt_machine.proofs.Gone.{spent-gone}
 use Rattle.rt_machine.proofs.machine.Machine.slot_give_up.Goals as goal
 
-pub overflow_sub-self : goal.overflow_sub-self
-overflow_sub-self c =
-    let s = c.self.inside.journal.told.state in
-    let i = c.self.invariant in
-    let there : find c.args.slot c.self.inside.slots.items ≡ Some c.in-Some.found = sym c.get.ensures ∙ c.in-Some.is in
-    let fewer = without-places result_places c.args.slot s.slots.results c.in-Some.found (rw i.slots_are there) in
-    omega (arith, fewer, i.promised_is, c.places_of.ensures)
-
-pub invariant_of-self : goal.invariant_of-self
-unfolding after
-invariant_of-self c =
-    let s = c.self.inside.journal.told.state in
-    let i = c.self.invariant in
-    let there : find c.args.slot c.self.inside.slots.items ≡ Some c.in-Some.found = sym c.get.ensures ∙ c.in-Some.is in
-    let fewer = without-places result_places c.args.slot s.slots.results c.in-Some.found (rw i.slots_are there) in
-    rw c.note.ensures.told
-    record {
-      clock_is = i.clock_is;
-      numbers_are = i.numbers_are;
-      root_is = i.root_is;
-      left_is = i.left_is;
-      panicked_is = i.panicked_is;
-      nodes_are = i.nodes_are;
-      labels_are = i.labels_are;
-      closing_is = i.closing_is;
-      ready_is = i.ready_is;
-      alarms_are = i.alarms_are;
-      marks_are = i.marks_are;
-      results_are = i.results_are;
-      slots_are = rw (c.remove.ensures.items, c.remove.ensures.next, i.slots_are) refl;
-      signals_are = i.signals_are;
-      stop_is = i.stop_is;
-      nobody_met = i.nobody_met;
-      none_announced = refl;
-      none_drawn = i.none_drawn;
-      none_owed = due-let-go (is_closing s.phase) s.marks (stood_in s) c.args.slot;
-      all_ended = i.all_ended;
-      label_next = i.label_next;
-      mark_next = i.mark_next;
-      result_next = i.result_next;
-      sender_next = i.sender_next ∙ sym c.remove.ensures.next;
-      promised_is = omega (arith, fewer, i.promised_is, c.places_of.ensures);
-      room = omega (arith, i.room, fewer, i.promised_is, c.places_of.ensures, c.note.ensures.spare);
-      ready_room = omega (arith, i.ready_room);
-      fit = i.fit;
-      within = i.within;
-    }
+pub returns-clause-gone : goal.returns-clause-gone
+returns-clause-gone c = spent-gone c.args.by _ _ c.args.slot (rw (← c.self.view_is, c.self.invariant.slots_are) c.facts.ensures.rising) c.spend.ensures

@@ -10,7 +10,7 @@ use Rattle.rt_model.specs.Marks.{new_mark}
 use Rattle.rt_model.specs.Results.{new_result}
 use Rattle.rt_machine.specs.Places.{mark_places, result_places}
 use Rattle.rt_machine.proofs.Counts.{length-with, below-with}
-use Rattle.rt_machine.proofs.Totals.{more-places}
+use Rattle.rt_parts.proofs.Totals.{more-places}
 use Rattle.rt_machine.proofs.Nodes.{live-child, live-task, length-child, length-task}
 use Rattle.rt_machine.proofs.Fine.{places-most}
 use Rattle.rt_machine.proofs.Owed.{due-spawn}
@@ -58,7 +58,7 @@ invariant_of-self-2 c =
       stop_is = i.stop_is;
       nobody_met = i.nobody_met;
       none_announced = refl;
-      none_drawn = i.none_drawn;
+      none_drawn = refl;
       none_owed = due-spawn (is_closing s.phase) s.marks (stood_in s) node _;
       all_ended = λ closing. absurd (not-both (is_ended s.nodes node) (over-node s.nodes node (i.all_ended closing) (free-live s.nodes node free)) unended);
       label_next = rw (c.repeat.ensures.count, c.reserve_task.ensures.count, i.label_next, made, length-task (with_child tree number node) node task, length-child tree number node) refl;

@@ -35,7 +35,7 @@ invariant_of-self-2 c =
     let met = woken_by_stop groups.told groups.stop value in
     let due = due_called (is_closing s.phase) s.marks (stood_in s) (Stop value) (CompletionAt number) in
     let told = placed.told in
-    let state : c.note-2.new.self.told.state ≡ record s { signals = stop_after s.signals s.stop value; stop = with_stop s.stop value; announced = []; owed = due; turns = s.turns ++ turn_in s (Stop value) (CompletionAt number) ∷ [] } =
+    let state : c.note-2.new.self.told.state ≡ record s { draws = []; signals = stop_after s.signals s.stop value; stop = with_stop s.stop value; announced = []; owed = due; turns = s.turns ++ turn_in s c.args.by (Stop value) (CompletionAt number) ∷ [] } =
     ap (λ (t : Told). t.state) c.note-2.ensures.told ∙ rw (c.note.ensures.told, told, c.in-Ok-stop_event.ensures, same, c.of.ensures) (after-stop s c.args.by value number _ _ may) in
     let begin : c.note-2.new.self.told.begin ≡ c.self.inside.journal.told.begin = rw (c.note-2.ensures.told, c.note.ensures.told, told) refl in
     let woken : c.stop.new.self.woken ≡ met = ap (λ (g : Grouped). g.woken) given in
@@ -73,7 +73,7 @@ invariant_of-self-2 c =
       stop_is = rw (given, i.stop_is) refl;
       nobody_met = refl;
       none_announced = refl;
-      none_drawn = i.none_drawn;
+      none_drawn = refl;
       none_owed = refl;
       all_ended = i.all_ended;
       label_next = i.label_next;
@@ -96,6 +96,6 @@ returns-clause-ok c =
     let number = c.in-Ok-stop.completion in
     let told = c.in-Ok.ensures.told in
     let due = due_called (is_closing s.phase) s.marks (stood_in s) (Stop value) (CompletionAt number) in
-    let state : c.note-2.new.self.told.state ≡ record s { signals = stop_after s.signals s.stop value; stop = with_stop s.stop value; announced = []; owed = due; turns = s.turns ++ turn_in s (Stop value) (CompletionAt number) ∷ [] } =
+    let state : c.note-2.new.self.told.state ≡ record s { draws = []; signals = stop_after s.signals s.stop value; stop = with_stop s.stop value; announced = []; owed = due; turns = s.turns ++ turn_in s c.args.by (Stop value) (CompletionAt number) ∷ [] } =
     ap (λ (t : Told). t.state) c.note-2.ensures.told ∙ rw (c.note.ensures.told, told, c.in-Ok-stop_event.ensures, same, c.of.ensures) (after-stop s c.args.by value number _ _ may) in
     rw (c.wake_met.ensures.state, state) (search rules)

@@ -1,10 +1,5 @@
-use Rattle.std.proofs.Common.{◌≡◌, ◌<◌, ◌∷◌, ◌∙◌, length, subst, ap, rules, Err, List}
+use Rattle.rt_scripts.proofs.Prelude.{◌≡◌, ◌<◌, ◌∷◌, ◌∙◌, length, subst, ap, rules, Err, List, All-tail, Gives, kept-kept, root_context, Maker, begun, besides, making}
 use Rattle.std.specs.List.{All}
-use Rattle.std.proofs.lemmas.List.Elements.{All-tail}
-use Rattle.rt_model.specs.Walk.{Gives}
-use Rattle.rt_world.proofs.Walked.{kept-kept}
-use Rattle.rt_core.specs.Contexts.{root_context}
-use Rattle.rt_scripts.specs.Making.{Maker, begun, besides, making}
 use Rattle.rt_scripts.proofs.Makings.{leads-beside, lacks-beside, leads-root}
 use Rattle.rt_scripts.proofs.maker.RootScriptRootMakerScript.make.Goals as goal
 

@@ -1,9 +1,6 @@
-use Rattle.std.proofs.Common.{◌≡◌, ◌<◌, length}
+use Rattle.rt_scripts.proofs.Prelude.{◌≡◌, ◌<◌, length, Gives, root_context, begun, besides, making}
 use Rattle.std.specs.List.{All}
-use Rattle.rt_model.specs.Walk.{Gives}
 use Rattle.rt_world.specs.Calls.{Kept}
-use Rattle.rt_core.specs.Contexts.{root_context}
-use Rattle.rt_scripts.specs.Making.{begun, besides, making}
 use Rattle.rt_scripts.proofs.Makings.{Leads}
 use Rattle.rt_scripts.proofs.maker.RootScriptRootMakerScript.make.Given as goal
 

@@ -1,4 +1,4 @@
-use Rattle.std.proofs.Common.{◌-◌}
+use Rattle.rt_scripts.proofs.Prelude.{◌-◌}
 use Rattle.rt_scripts.proofs.script.Script.+abort_chosen.Given as goal
 
 abbrev pub decreases-abort_chosen : goal.decreases-abort_chosen

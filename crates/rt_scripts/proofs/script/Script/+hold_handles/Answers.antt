@@ -1,6 +1,4 @@
-use Rattle.std.proofs.Common.{rules, ◌∙◌, ◌+◌, ◌<◌, ◌≤◌, ◌∷◌, true, sym, ap, subst}
-use Rattle.rt_scripts.specs.Program.{choices_in}
-use Rattle.rt_scripts.specs.Script.{Script, Tries}
+use Rattle.rt_scripts.proofs.Prelude.{rules, ◌∙◌, ◌+◌, ◌<◌, ◌≤◌, ◌∷◌, true, sym, ap, subst, choices_in, Script, Tries}
 use Rattle.rt_scripts.proofs.Choices.{choices-more, choices-none, tried-free, tries-missing, tries-more, tries-none}
 use Rattle.rt_scripts.proofs.script.Script.+hold_handles.Goals as goal
 

@@ -1,8 +1,4 @@
-use Rattle.std.proofs.Common.{rules, ◌≡◌, ◌∙◌, ◌+◌, ◌<◌, ◌≤◌, ◌∷◌, sym, ap, subst}
-use Rattle.rt_scenario.specs.declared.scenario.ScriptText.{ScriptText}
-use Rattle.rt_world.specs.Walked.{Goes}
-use Rattle.rt_scripts.specs.Program.{choices_in}
-use Rattle.rt_scripts.specs.Script.{Script, polls_chosen}
+use Rattle.rt_scripts.proofs.Prelude.{rules, ◌≡◌, ◌∙◌, ◌+◌, ◌<◌, ◌≤◌, ◌∷◌, sym, ap, subst, ScriptText, Goes, choices_in, Script, polls_chosen}
 use Rattle.rt_scripts.proofs.Choices.{choices-more, choices-none, polls-nobody, polls-pending, polls-ready}
 use Rattle.rt_scripts.proofs.script.Script.+poll_chosen.Goals as goal
 

@@ -1,4 +1,4 @@
-use Rattle.std.proofs.Common.{◌-◌}
+use Rattle.rt_scripts.proofs.Prelude.{◌-◌}
 use Rattle.rt_scripts.proofs.script.Script.+poll_chosen.Given as goal
 
 abbrev pub decreases-poll_chosen : goal.decreases-poll_chosen

@@ -1,8 +1,5 @@
-use Rattle.std.proofs.Common.{rules, ◌∙◌, ◌+◌, ◌<◌, ◌≤◌, ◌∷◌, refl, sym, ap, subst}
-use Rattle.rt_scripts.specs.Program.{choices_in}
-use Rattle.rt_scripts.specs.Script.{Script, freed_of, releases_chosen}
+use Rattle.rt_scripts.proofs.Prelude.{rules, ◌∙◌, ◌+◌, ◌<◌, ◌≤◌, ◌∷◌, refl, sym, ap, subst, choices_in, Script, freed_of, releases_chosen, Spends}
 use Rattle.rt_scripts.proofs.Choices.{choices-more, choices-none, releases-nobody, releases-one}
-use Rattle.rt_world.specs.Walked.{Spends}
 use Rattle.rt_scripts.proofs.script.Script.+release_chosen.Goals as goal
 
 pub returns-then-first-past-clause-state : goal.returns-then-first-past-clause-state

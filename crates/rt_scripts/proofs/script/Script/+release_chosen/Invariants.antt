@@ -1,4 +1,4 @@
-use Rattle.std.proofs.Common.{◌-◌}
+use Rattle.rt_scripts.proofs.Prelude.{◌-◌}
 use Rattle.rt_scripts.proofs.script.Script.+release_chosen.Given as goal
 
 abbrev pub decreases-release_chosen : goal.decreases-release_chosen

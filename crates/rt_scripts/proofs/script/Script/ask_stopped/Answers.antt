@@ -1,12 +1,4 @@
-use Rattle.std.proofs.Common.{◌≡◌, ◌∙◌, ◌≢◌, ap, subst, pos, IfNone, IfSome}
-use Rattle.rt_base.specs.declared.error.Error.TheVariants.{NoMemory as LacksMemory}
-use Rattle.rt_model.specs.declared.answer.Answer.TheVariants.{NoMemory}
-use Rattle.rt_model.specs.Walk.{then}
-use Rattle.rt_core.specs.Signals.{asks_stopped}
-use Rattle.rt_world.specs.Walked.{tells}
-use Rattle.rt_world.proofs.Walked.{polled-lacking}
-use Rattle.rt_scripts.specs.Script.{Script, asks, loosed, passed, put_back, refused, roomed, signaled, value_of}
-use Rattle.rt_scripts.specs.declared.held.Held.TheVariants.{Signal}
+use Rattle.rt_scripts.proofs.Prelude.{◌≡◌, ◌∙◌, ◌≢◌, ap, subst, pos, IfNone, IfSome, LacksMemory, NoMemory, then, asks_stopped, tells, polled-lacking, Script, asks, loosed, passed, put_back, refused, roomed, signaled, value_of, Signal}
 use Rattle.rt_scripts.proofs.Scripts.{advanced-after, refused-advanced}
 use Rattle.rt_scripts.proofs.script.Script.ask_stopped.Goals as goal
 

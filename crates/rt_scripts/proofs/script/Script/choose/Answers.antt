@@ -1,4 +1,4 @@
-use Rattle.rt_scripts.specs.Script.{chosen, goes_choosing, refused}
+use Rattle.rt_scripts.proofs.Prelude.{chosen, goes_choosing, refused}
 use Rattle.rt_scripts.proofs.Scripts.{advanced-after, refused-advanced}
 use Rattle.rt_scripts.proofs.script.Script.choose.Goals as goal
 

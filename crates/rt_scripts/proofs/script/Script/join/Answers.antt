@@ -1,11 +1,4 @@
-use Rattle.std.proofs.Common.{◌≡◌, sym, ◌≢◌, refl, rules, Some, IfNone, IfSome}
-use Rattle.std.proofs.lemmas.Int.{to_z-of_z}
-use mir.Syntax.{w64}
-use mir.Val.{SFits}
-use Rattle.rt_base.specs.declared.error.Error.TheVariants.{NoMemory as LacksMemory}
-use Rattle.rt_model.specs.declared.answer.Answer.TheVariants.{NoMemory, Pending}
-use Rattle.rt_world.proofs.Walked.{polled-gives}
-use Rattle.rt_scripts.specs.Script.{handle_at, joins, joins_held, loosed, passed, refused, value_of}
+use Rattle.rt_scripts.proofs.Prelude.{◌≡◌, sym, ◌≢◌, refl, rules, Some, IfNone, IfSome, to_z-of_z, w64, SFits, LacksMemory, NoMemory, Pending, polled-gives, handle_at, joins, joins_held, loosed, passed, refused, value_of}
 use Rattle.rt_scripts.proofs.Scripts.{advanced-after, refused-advanced}
 use Rattle.rt_scripts.proofs.script.Script.join.Goals as goal
 

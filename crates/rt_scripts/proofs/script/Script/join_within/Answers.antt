@@ -1,10 +1,4 @@
-use Rattle.std.proofs.Common.{◌≡◌, sym, ◌∙◌, ◌≢◌, ap, subst, Some, Err, IfNone, IfSome}
-use Rattle.rt_base.specs.declared.error.Error.TheVariants.{NoMemory as LacksMemory}
-use Rattle.rt_model.specs.declared.answer.Answer.TheVariants.{NoMemory}
-use Rattle.rt_model.specs.Walk.{followed_by}
-use Rattle.rt_core.specs.Handles.{task_spends}
-use Rattle.rt_scripts.specs.Script.{Script, handle_at, joins_within, limit_in, loosed, passed, refused, value_of, waiting}
-use Rattle.rt_scripts.specs.declared.script.Waits.TheVariants.{Nothing}
+use Rattle.rt_scripts.proofs.Prelude.{◌≡◌, sym, ◌∙◌, ◌≢◌, ap, subst, Some, Err, IfNone, IfSome, LacksMemory, NoMemory, followed_by, task_spends, Script, handle_at, joins_within, limit_in, loosed, passed, refused, value_of, waiting, Nothing}
 use Rattle.rt_scripts.proofs.Scripts.{advanced-after, refused-advanced}
 use Rattle.rt_scripts.proofs.script.Script.join_within.Goals as goal
 

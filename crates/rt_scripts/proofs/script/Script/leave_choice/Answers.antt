@@ -1,7 +1,4 @@
-use Rattle.std.proofs.Common.{subst}
-use Rattle.rt_world.specs.Walked.{Spends}
-use Rattle.rt_scripts.specs.Program.{choices_in}
-use Rattle.rt_scripts.specs.Script.{Script, aborted_in, aborts_chosen, releases_chosen}
+use Rattle.rt_scripts.proofs.Prelude.{subst, Spends, choices_in, Script, aborted_in, aborts_chosen, releases_chosen}
 use Rattle.rt_scripts.proofs.Choices.{spends-both}
 use Rattle.rt_scripts.proofs.script.Script.leave_choice.Goals as goal
 

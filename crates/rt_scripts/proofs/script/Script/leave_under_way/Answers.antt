@@ -1,6 +1,4 @@
-use Rattle.std.proofs.Common.{refl}
-use Rattle.rt_model.specs.Walk.{Gives}
-use Rattle.rt_scripts.specs.Script.{aborted_in, aborts_chosen, freed_of, releases_chosen}
+use Rattle.rt_scripts.proofs.Prelude.{refl, Gives, aborted_in, aborts_chosen, freed_of, releases_chosen}
 use Rattle.rt_scripts.proofs.Choices.{spends-both, spends-none}
 use Rattle.rt_scripts.proofs.script.Script.leave_under_way.Goals as goal
 

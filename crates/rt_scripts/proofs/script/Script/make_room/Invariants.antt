@@ -1,4 +1,4 @@
-use Rattle.std.proofs.Common.{◌≡◌, ◌≤◌, ◌-◌, ◌+◌, max}
+use Rattle.rt_scripts.proofs.Prelude.{◌≡◌, ◌≤◌, ◌-◌, ◌+◌, max}
 use Rattle.rt_scripts.proofs.script.Script.make_room.Given as goal
 
 abbrev pub invariant-loop-self : goal.invariant-loop-self

@@ -1,8 +1,4 @@
-use Rattle.std.proofs.Common.{◌≡◌, ap, subst}
-use Rattle.rt_scenario.specs.declared.scenario.ScriptText.{ScriptText}
-use Rattle.rt_world.specs.Walked.{Spends}
-use Rattle.rt_scripts.specs.Program.{choices_in}
-use Rattle.rt_scripts.specs.Script.{Script, leaves_choice, unchosen}
+use Rattle.rt_scripts.proofs.Prelude.{◌≡◌, ap, subst, ScriptText, Spends, choices_in, Script, leaves_choice, unchosen}
 use Rattle.rt_scripts.proofs.Choices.{choice-pending, choice-ready}
 use Rattle.rt_scripts.proofs.script.Script.poll_choice.Goals as goal
 

@@ -1,10 +1,4 @@
-use Rattle.std.proofs.Common.{◌∙◌, refl, subst, sym}
-use Rattle.rt_base.specs.declared.poll.Poll.TheVariants.{Pending as IsPending}
-use Rattle.rt_model.specs.declared.answer.Answer.TheVariants.{Pending}
-use Rattle.rt_world.specs.Walked.{Polled}
-use Rattle.rt_world.proofs.Walked.{polled-gives}
-use Rattle.rt_scripts.specs.Script.{Script, limited, waiting}
-use Rattle.rt_scripts.specs.declared.script.Waits.TheVariants.{Limits}
+use Rattle.rt_scripts.proofs.Prelude.{◌∙◌, refl, subst, sym, IsPending, Pending, Polled, polled-gives, Script, limited, waiting, Limits}
 use Rattle.rt_scripts.proofs.script.Script.poll_limit.Goals as goal
 
 pub returns-in-Pending-clause-steps : goal.returns-in-Pending-clause-steps

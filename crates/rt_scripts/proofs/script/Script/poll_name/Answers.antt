@@ -1,6 +1,4 @@
-use Rattle.std.proofs.Common.{◌≡◌, ◌∙◌, ap}
-use Rattle.rt_scripts.specs.Script.{Script, bound, put_back}
-use Rattle.rt_scripts.specs.declared.held.Held.TheVariants.{Handle}
+use Rattle.rt_scripts.proofs.Prelude.{◌≡◌, ◌∙◌, ap, Script, bound, put_back, Handle}
 use Rattle.rt_scripts.proofs.Choices.{polls-held, polls-missing}
 use Rattle.rt_scripts.proofs.script.Script.poll_name.Goals as goal
 

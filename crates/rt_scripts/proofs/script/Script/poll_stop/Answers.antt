@@ -1,7 +1,4 @@
-use Rattle.std.proofs.Common.{◌≡◌, ◌≢◌, IfNone, IfSome}
-use Rattle.rt_base.specs.declared.error.Error.TheVariants.{NoMemory as LacksMemory}
-use Rattle.rt_model.specs.declared.answer.Answer.TheVariants.{NoMemory}
-use Rattle.rt_scripts.specs.Script.{passed, refused, stop_goes, value_of}
+use Rattle.rt_scripts.proofs.Prelude.{◌≡◌, ◌≢◌, IfNone, IfSome, LacksMemory, NoMemory, passed, refused, stop_goes, value_of}
 use Rattle.rt_scripts.proofs.Scripts.{advanced-after, refused-advanced}
 use Rattle.rt_scripts.proofs.script.Script.poll_stop.Goals as goal
 

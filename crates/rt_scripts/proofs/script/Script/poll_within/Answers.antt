@@ -1,8 +1,4 @@
-use Rattle.std.proofs.Common.{◌≡◌, ◌≢◌, IfNone, IfSome}
-use Rattle.rt_base.specs.declared.error.Error.TheVariants.{NoMemory as LacksMemory}
-use Rattle.rt_base.specs.declared.poll.Poll.TheVariants.{Pending as IsPending}
-use Rattle.rt_model.specs.declared.answer.Answer.TheVariants.{NoMemory}
-use Rattle.rt_scripts.specs.Script.{limited, limits, passed, refused, value_of}
+use Rattle.rt_scripts.proofs.Prelude.{◌≡◌, ◌≢◌, IfNone, IfSome, LacksMemory, IsPending, NoMemory, limited, limits, passed, refused, value_of}
 use Rattle.rt_scripts.proofs.Scripts.{advanced-after, refused-advanced}
 use Rattle.rt_scripts.proofs.script.Script.poll_within.Goals as goal
 

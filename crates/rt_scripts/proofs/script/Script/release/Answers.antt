@@ -1,6 +1,4 @@
-use Rattle.std.proofs.Common.{◌≡◌, sym, ◌∙◌, None, Some}
-use Rattle.rt_model.specs.Lists.{find}
-use Rattle.rt_world.proofs.Walked.{spends-on, spent-nothing}
+use Rattle.rt_scripts.proofs.Prelude.{◌≡◌, sym, ◌∙◌, None, Some, find, spends-on, spent-nothing}
 use Rattle.rt_scripts.proofs.script.Script.release.Goals as goal
 
 pub returns-in_default-clause-steps : goal.returns-in_default-clause-steps

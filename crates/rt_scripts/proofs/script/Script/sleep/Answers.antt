@@ -1,5 +1,4 @@
-use Rattle.std.proofs.Common.{◌≡◌, sym, ◌∙◌, Ok}
-use Rattle.rt_scripts.specs.Script.{sleeps, sleep_in}
+use Rattle.rt_scripts.proofs.Prelude.{◌≡◌, sym, ◌∙◌, Ok, sleeps, sleep_in}
 use Rattle.rt_scripts.proofs.script.Script.sleep.Goals as goal
 
 pub returns-in-Over-clause-steps : goal.returns-in-Over-clause-steps

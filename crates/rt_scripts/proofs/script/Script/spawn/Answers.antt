@@ -1,12 +1,4 @@
-use Rattle.std.proofs.Common.{◌≡◌, ◌≢◌, ◌∙◌, ap, subst, IfNone, IfSome, Ok}
-use Rattle.rt_base.specs.declared.error.Error.TheVariants.{NoMemory as OutOf}
-use Rattle.rt_model.specs.declared.answer.Answer.TheVariants.{NoMemory}
-use Rattle.rt_model.specs.Walk.{then}
-use Rattle.rt_core.specs.Contexts.{childs}
-use Rattle.rt_world.specs.Walked.{Advanced, tells}
-use Rattle.rt_world.proofs.Walked.{polled-lacking}
-use Rattle.rt_scripts.specs.Program.{name_at}
-use Rattle.rt_scripts.specs.Script.{Script, loosed, passed, placed, refused, roomed, spawns, value_of}
+use Rattle.rt_scripts.proofs.Prelude.{◌≡◌, ◌≢◌, ◌∙◌, ap, subst, IfNone, IfSome, Ok, OutOf, NoMemory, then, childs, Advanced, tells, polled-lacking, name_at, Script, loosed, passed, placed, refused, roomed, spawns, value_of}
 use Rattle.rt_scripts.proofs.Scripts.{advanced-after, refused-advanced}
 use Rattle.rt_scripts.proofs.script.Script.spawn.Goals as goal
 

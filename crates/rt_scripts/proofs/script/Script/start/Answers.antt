@@ -1,8 +1,4 @@
-use Rattle.std.proofs.Common.{rules, ◌≡◌, ◌∙◌, ap, sym, pos, ℕ, List, Ok}
-use Rattle.rt_model.specs.Turns.{with_task}
-use Rattle.rt_scripts.specs.Script.{Script, bound, passed, placed, refused, spawned, started}
-use Rattle.rt_scripts.specs.declared.held.Held.{Held}
-use Rattle.rt_scripts.specs.declared.held.Held.TheVariants.{Handle}
+use Rattle.rt_scripts.proofs.Prelude.{rules, ◌≡◌, ◌∙◌, ap, sym, pos, ℕ, List, Ok, with_task, Script, bound, passed, placed, refused, spawned, started, Held, Handle}
 use Rattle.rt_scripts.proofs.Scripts.{advanced-after, refused-advanced, without-none}
 use Rattle.rt_scripts.proofs.script.Script.start.Goals as goal
 

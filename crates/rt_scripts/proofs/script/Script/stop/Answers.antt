@@ -1,15 +1,4 @@
-use Rattle.std.proofs.Common.{◌≡◌, sym, ◌∙◌, ◌≢◌, ap, subst, rules, None, IfNone, IfSome}
-use Rattle.std.proofs.lemmas.Int.{to_z-of_z}
-use mir.Syntax.{w32}
-use mir.Val.{SFits}
-use Rattle.rt_base.specs.declared.error.Error.TheVariants.{NoMemory as LacksMemory}
-use Rattle.rt_model.specs.declared.answer.Answer.TheVariants.{NoMemory}
-use Rattle.rt_model.specs.State.{Clock}
-use Rattle.rt_model.specs.Walk.{then}
-use Rattle.rt_core.specs.Contexts.{childs}
-use Rattle.rt_world.specs.Walked.{Advanced, tells}
-use Rattle.rt_world.proofs.Walked.{polled-lacking}
-use Rattle.rt_scripts.specs.Script.{Script, begun_stop, passed, refused, stop_goes, stops, stops_by, value_of}
+use Rattle.rt_scripts.proofs.Prelude.{◌≡◌, sym, ◌∙◌, ◌≢◌, ap, subst, rules, None, IfNone, IfSome, to_z-of_z, w32, SFits, LacksMemory, NoMemory, Clock, then, childs, Advanced, tells, polled-lacking, Script, begun_stop, passed, refused, stop_goes, stops, stops_by, value_of}
 use Rattle.rt_scripts.proofs.Scripts.{advanced-after, refused-advanced}
 use Rattle.rt_scripts.proofs.script.Script.stop.Goals as goal
 

@@ -1,10 +1,4 @@
-use Rattle.std.proofs.Common.{rules, refl}
-use Rattle.std.proofs.lemmas.Int.{to_z-of_z}
-use mir.Syntax.{w32, w64}
-use mir.Val.{SFits}
-use Rattle.rt_model.specs.declared.answer.Answer.TheVariants.{Ready}
-use Rattle.rt_world.proofs.Walked.{polled-gives}
-use Rattle.rt_scripts.specs.Script.{goes_on}
+use Rattle.rt_scripts.proofs.Prelude.{rules, refl, to_z-of_z, w32, w64, SFits, Ready, polled-gives, goes_on}
 use Rattle.rt_scripts.proofs.script.Script.take_line.Goals as goal
 
 pub returns-in-Yield-clause-steps : goal.returns-in-Yield-clause-steps

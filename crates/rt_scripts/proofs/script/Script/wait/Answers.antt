@@ -1,8 +1,4 @@
-use Rattle.std.proofs.Common.{◌≡◌, sym, ◌∙◌, ◌≢◌, ap, subst, Some, IfNone, IfSome}
-use Rattle.rt_base.specs.declared.error.Error.TheVariants.{NoMemory as LacksMemory}
-use Rattle.rt_model.specs.declared.answer.Answer.TheVariants.{NoMemory}
-use Rattle.rt_scripts.specs.Script.{Script, awaits, awaits_held, bound, passed, put_back, refused, signal_at, value_of}
-use Rattle.rt_scripts.specs.declared.held.Held.TheVariants.{Signal}
+use Rattle.rt_scripts.proofs.Prelude.{◌≡◌, sym, ◌∙◌, ◌≢◌, ap, subst, Some, IfNone, IfSome, LacksMemory, NoMemory, Script, awaits, awaits_held, bound, passed, put_back, refused, signal_at, value_of, Signal}
 use Rattle.rt_scripts.proofs.Scripts.{advanced-after, refused-advanced}
 use Rattle.rt_scripts.proofs.script.Script.wait.Goals as goal
 

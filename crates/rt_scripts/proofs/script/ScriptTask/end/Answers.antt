@@ -1,9 +1,4 @@
-use Rattle.std.proofs.Common.{subst}
-use Rattle.rt_model.specs.Walk.{Gives, followed_by}
-use Rattle.rt_core.specs.Pollers.{closes}
-use Rattle.rt_world.specs.Walked.{Spent}
-use Rattle.rt_world.proofs.Walked.{kept-kept, spent-nothing}
-use Rattle.rt_scripts.specs.Script.{Script, choice_in, ended_behind, left_by, range_of, releases_all, stops_waiting, unchosen}
+use Rattle.rt_scripts.proofs.Prelude.{subst, Gives, followed_by, closes, Spent, kept-kept, spent-nothing, Script, choice_in, ended_behind, left_by, range_of, releases_all, stops_waiting, unchosen}
 use Rattle.rt_scripts.proofs.script.ScriptTask.end.Goals as goal
 
 pub returns-clause-kept : goal.returns-clause-kept

@@ -1,9 +1,4 @@
-use Rattle.std.proofs.Common.{◌≡◌, ◌∙◌, ◌+◌, Some, None, drop, ap, sym, arith, length}
-use Rattle.rt_model.specs.State.{Clock}
-use Rattle.rt_model.specs.declared.answer.Answer.TheVariants.{Pending}
-use Rattle.rt_world.proofs.Walked.{kept-kept}
-use Rattle.rt_scripts.specs.Program.{line_at}
-use Rattle.rt_scripts.specs.Script.{Script}
+use Rattle.rt_scripts.proofs.Prelude.{◌≡◌, ◌∙◌, ◌+◌, Some, None, drop, ap, sym, arith, length, Clock, Pending, kept-kept, line_at, Script}
 use Rattle.rt_scripts.proofs.Scripts.{leads-on, leads-gives, leads-end, line_next, line_there, line_none}
 use Rattle.rt_scripts.proofs.script.ScriptTask.poll.Goals as goal
 

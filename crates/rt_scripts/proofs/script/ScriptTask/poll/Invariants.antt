@@ -1,7 +1,5 @@
-use Rattle.std.proofs.Common.{◌≡◌, ◌-◌, length}
+use Rattle.rt_scripts.proofs.Prelude.{◌≡◌, ◌-◌, length, Leads, polled}
 use Rattle.rt_world.specs.Calls.{Kept}
-use Rattle.rt_world.specs.Walked.{Leads}
-use Rattle.rt_scripts.specs.Script.{polled}
 use Rattle.rt_scripts.proofs.script.ScriptTask.poll.Given as goal
 
 abbrev pub invariant-loop-line : goal.invariant-loop-line

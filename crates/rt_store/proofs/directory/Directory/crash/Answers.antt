@@ -24,6 +24,7 @@ loop-shelf-init g c =
       (omega arith),
       (omega arith),
       refl,
+      (λ start h. h),
     )
 
 pub loop-shelf-preserved : goal.loop-shelf-preserved
@@ -39,7 +40,7 @@ loop-shelf-preserved g c =
     let step = shelf_step c.args.faults.now Done (all_numbers shelves c.loop-shelf.shelf-iterator) (numbers_of (slice_get shelves c.in-Some.shelf.now)) (all_numbers shelves c.next.new.self)
     c.loop-shelf.files c.crash_shelf-fewer.new.files here.0 c.loop-shelf.choices.items c.crash_shelf-fewer.new.choices.items
     (g.E.Env.noted c.loop-shelf.env) (g.E.Env.noted c.crash_shelf-fewer.new.env) e here.1 here.3 here.2 c.loop-shelf.invariant.0 in
-    (step, (omega (arith, c.crash_shelf-fewer.ensures.later)), (omega (arith, c.crash_shelf-fewer.ensures.spent)), (omega (arith, c.crash_shelf-fewer.ensures.used)), (search rules))
+    (step, (omega (arith, c.crash_shelf-fewer.ensures.later)), (omega (arith, c.crash_shelf-fewer.ensures.spent)), (omega (arith, c.crash_shelf-fewer.ensures.used)), (search rules), (λ start h. c.crash_shelf-fewer.ensures.lasts start (c.loop-shelf.invariant.5 start h)))
 
 pub returns-clause-gives : goal.returns-clause-gives
 returns-clause-gives g c =

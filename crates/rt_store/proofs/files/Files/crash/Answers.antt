@@ -18,7 +18,7 @@ loop-place-preserved g c =
     let step = crash_step c.args.faults.now Done c.loop-place.place-iterator c.next.new.self c.in-Some.place.now c.loop-place.self c.crash_at-fewer.new.self
     here.0 c.loop-place.choices.items c.crash_at-fewer.new.choices.items (g.E.Env.noted c.loop-place.env) (g.E.Env.noted c.crash_at-fewer.new.env)
     c.in-Some.ensures.steps here.1 here.3 here.2 c.loop-place.invariant.0 in
-    (step, (omega (arith, c.crash_at-fewer.ensures.later)), (omega (arith, c.crash_at-fewer.ensures.spent)), (omega (arith, c.crash_at-fewer.ensures.used)), (search rules))
+    (step, (omega (arith, c.crash_at-fewer.ensures.later)), (omega (arith, c.crash_at-fewer.ensures.spent)), (omega (arith, c.crash_at-fewer.ensures.used)), (search rules), (λ start h. c.crash_at-fewer.ensures.lasts start (c.loop-place.invariant.5 start h)))
 
 pub returns-clause-gives : goal.returns-clause-gives
 returns-clause-gives g c =

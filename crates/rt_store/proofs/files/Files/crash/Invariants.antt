@@ -17,3 +17,4 @@ invariant-loop-place g l =
     × (g.E.Env.spare l.fn.env ≤ g.E.Env.spare l.env + 2 * l.fewer)
     × (vec_len l.choices ≡ vec_len l.fn.choices + l.fewer)
     × (vec_capacity l.choices ≡ vec_capacity l.fn.choices)
+    × ((start : g.row.E.Denot) → g.E.Env.lasts start l.fn.env → g.E.Env.lasts start l.env)

@@ -1,5 +1,5 @@
 use Rattle.std.proofs.Common.{◌≡◌, [], subst}
-use Rattle.rt_audit.specs.Digest.{fields_digest}
+use Rattle.rt_hasher.specs.Digest.{fields_digest}
 use Rattle.rt_store.specs.Audit.{audit_fields, partitions_fields}
 use Rattle.rt_store.specs.Kept.{Kept}
 use Rattle.rt_store.proofs.mem_store.MemStore.audit.Goals as goal

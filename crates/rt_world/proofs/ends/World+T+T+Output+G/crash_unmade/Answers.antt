@@ -1,5 +1,4 @@
-use Rattle.std.proofs.Common.{refl, sym, ◌∙◌}
-use Rattle.rt_model.specs.Tied.{with_first, Steps}
+use Rattle.rt_world.proofs.Prelude.{refl, sym, ◌∙◌, with_first, Steps}
 use Rattle.rt_world.proofs.Follows.{unmade-tied, unmade-broken}
 use Rattle.rt_world.proofs.Drawn.{seals-crashed}
 use Rattle.rt_world.proofs.Walked.{spent-fresh, spent-short, long}

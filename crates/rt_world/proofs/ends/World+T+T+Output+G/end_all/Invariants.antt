@@ -1,8 +1,4 @@
-use Rattle.std.proofs.Common.{Bool, Option, length}
-use Rattle.rt_model.specs.Tied.{First, with_first}
-use Rattle.rt_world.specs.Follows.{AgreesWith, still}
-use Rattle.rt_world.specs.World.{Writes}
-use Rattle.rt_world.specs.Ends.{Ends}
+use Rattle.rt_world.proofs.Prelude.{Bool, Option, length, First, with_first, AgreesWith, still, Writes, Ends}
 use Rattle.rt_world.proofs.ends.World+T+T+Output+G.end_all.Given as goal
 
 abbrev pub invariant-loop-one : goal.invariant-loop-one

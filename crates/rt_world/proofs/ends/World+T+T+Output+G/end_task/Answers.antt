@@ -1,6 +1,4 @@
-use Rattle.std.proofs.Common.{◌≡◌, sym, ◌∙◌, refl}
-use Rattle.rt_model.specs.Tied.{with_first, Steps}
-use Rattle.rt_machine.specs.Places.{number_of}
+use Rattle.rt_world.proofs.Prelude.{◌≡◌, sym, ◌∙◌, refl, with_first, Steps, number_of}
 use Rattle.rt_world.proofs.Blocks.{popped}
 use Rattle.rt_world.proofs.Follows.{ended-tied, ended-broken}
 use Rattle.rt_world.proofs.Drawn.{writes-ended}

@@ -1,4 +1,4 @@
-use Rattle.rt_world.specs.Receiving.{receiver_spends}
+use Rattle.rt_world.proofs.Prelude.{receiver_spends}
 use Rattle.rt_world.proofs.Walked.{spent-spend, spent-nothing, spends-on}
 use Rattle.rt_world.proofs.receiving.ResultReceiverPollerOutput.give_up.Goals as goal
 

@@ -1,4 +1,4 @@
-use Rattle.rt_world.specs.Receiving.{receiver_polls}
+use Rattle.rt_world.proofs.Prelude.{receiver_polls}
 use Rattle.rt_world.proofs.Walked.{walked-received, goes-on}
 use Rattle.rt_world.proofs.receiving.ResultReceiverPollerOutput.poll.Goals as goal
 

@@ -1,4 +1,4 @@
-use Rattle.std.proofs.Common.{refl}
+use Rattle.rt_world.proofs.Prelude.{refl}
 use Rattle.rt_world.proofs.Follows.{agrees-drained}
 use Rattle.rt_world.proofs.Drawn.{front-of}
 use Rattle.rt_world.proofs.Running.{on-ok, runs-drained, runs-passes}

@@ -1,8 +1,4 @@
-use Rattle.std.proofs.Common.{◌≡◌, ◌-◌, None}
-use Rattle.rt_base.specs.declared.time.TheConstants.{MAX_TIME}
-use Rattle.rt_model.specs.Tied.{First, with_first}
-use Rattle.rt_world.specs.Visits.{GoesOn}
-use Rattle.rt_world.specs.Rounds.{Runs, StandsBetween}
+use Rattle.rt_world.proofs.Prelude.{◌≡◌, ◌-◌, None, MAX_TIME, First, with_first, GoesOn, Runs, StandsBetween}
 use Rattle.rt_world.proofs.rounds.World+T+T+Output+G.run_rounds.Given as goal
 
 abbrev pub invariant-loop-order : goal.invariant-loop-order

@@ -1,5 +1,4 @@
-use Rattle.std.proofs.Common.{◌≡◌, [], length}
-use Rattle.rt_world.specs.Seats.{seats_from}
+use Rattle.rt_world.proofs.Prelude.{◌≡◌, [], length, seats_from}
 use Rattle.rt_world.proofs.tasks.Tasks.destroy_empty.Given as goal
 
 abbrev pub invariant-loop-place : goal.invariant-loop-place

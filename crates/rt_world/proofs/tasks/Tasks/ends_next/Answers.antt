@@ -1,6 +1,4 @@
-use Rattle.std.proofs.Common.{◌≡◌, ◌∙◌, sym, refl, Some, None, true, false, is_some, get_or, ◌+◌, eqb, arith}
-use Rattle.std.specs.Option.{option_eq}
-use Rattle.std.proofs.lemmas.Grind.{common_steps}
+use Rattle.rt_world.proofs.Prelude.{◌≡◌, ◌∙◌, sym, refl, Some, None, true, false, is_some, get_or, ◌+◌, eqb, arith, option_eq, common_steps}
 use Rattle.rt_world.proofs.Places.{ends-place, ends-last, ends-never}
 use Rattle.rt_world.proofs.tasks.Tasks.ends_next.Goals as goal
 use Rattle.rt_world.proofs.tasks.Tasks.ends_next.Goals.{then-loop-place-test+else-eq-2, then-is_none, else-is_none, else-loop-place-test}

@@ -1,5 +1,4 @@
-use Rattle.std.proofs.Common.{◌≤◌, ◌-◌, length}
-use Rattle.rt_world.specs.Seats.{ArePassed}
+use Rattle.rt_world.proofs.Prelude.{◌≤◌, ◌-◌, length, ArePassed}
 use Rattle.rt_world.proofs.tasks.Tasks.ends_next.Given as goal
 
 abbrev pub invariant-loop-place : goal.invariant-loop-place

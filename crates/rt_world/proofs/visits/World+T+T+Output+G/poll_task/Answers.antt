@@ -1,6 +1,4 @@
-use Rattle.std.proofs.Common.{◌≡◌, ◌∙◌, sym, refl, inl, inr, true, false, Some}
-use Rattle.rt_model.specs.Lists.{find, is_some_number}
-use Rattle.rt_model.specs.Tied.{with_first, Steps}
+use Rattle.rt_world.proofs.Prelude.{◌≡◌, ◌∙◌, sym, refl, inl, inr, true, false, Some, find, is_some_number, with_first, Steps}
 use Rattle.rt_world.proofs.Blocks.{set-top, top-of}
 use Rattle.rt_world.proofs.Follows.{visit-pending, visit-ready, visit-panicked, visit-cut}
 use Rattle.rt_world.proofs.Drawn.{passes-answered}

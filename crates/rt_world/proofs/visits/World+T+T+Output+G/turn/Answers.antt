@@ -1,4 +1,4 @@
-use Rattle.rt_model.specs.Tied.{with_first, Steps}
+use Rattle.rt_world.proofs.Prelude.{with_first, Steps}
 use Rattle.rt_world.proofs.Follows.{agrees-entered, agrees-stopped}
 use Rattle.rt_world.proofs.Running.{passes-entered, passes-passes, passes-stopped}
 use Rattle.rt_world.proofs.visits.World+T+T+Output+G.turn.Goals as goal

@@ -1,4 +1,4 @@
-use Rattle.std.proofs.Common.{◌∙◌, sym}
+use Rattle.rt_world.proofs.Prelude.{◌∙◌, sym}
 use Rattle.rt_world.proofs.Running.{passes-passes, left-visited, left-passed}
 use Rattle.rt_world.proofs.visits.World+T+T+Output+G.visit_all.Goals as goal
 use Rattle.rt_world.proofs.visits.World+T+T+Output+G.visit_all.Goals.{then-runs+in-Ok-None+in-Ok-visit-3+in-Some-1, then-runs+in-Ok-None+in-Ok-visit-3+in-None-1, then-runs+in-Ok-None+in-Err-1, else-runs}

@@ -1,9 +1,4 @@
-use Rattle.std.proofs.Common.{◌≡◌, drop, None}
-use Rattle.rt_model.specs.State.{Visiting}
-use Rattle.rt_model.specs.Causes.{from_running}
-use Rattle.rt_model.specs.Effects.{left_of}
-use Rattle.rt_model.specs.Tied.{First, with_first}
-use Rattle.rt_world.specs.Visits.{Passes, GoesOn}
+use Rattle.rt_world.proofs.Prelude.{◌≡◌, drop, None, Visiting, from_running, left_of, First, with_first, Passes, GoesOn}
 use Rattle.rt_world.proofs.visits.World+T+T+Output+G.visit_all.Given as goal
 
 abbrev pub invariant-loop-place : goal.invariant-loop-place

@@ -1,6 +1,4 @@
-use Rattle.std.proofs.Common.{◌∙◌, ap, sym, refl}
-use Rattle.rt_model.specs.Effects.{after}
-use Rattle.rt_machine.specs.Places.{Seen}
+use Rattle.rt_world.proofs.Prelude.{◌∙◌, ap, sym, refl, after, Seen}
 use Rattle.rt_world.proofs.Blocks.{top-task}
 use Rattle.rt_world.proofs.Ending.{kept-seated, dropped-seated}
 use Rattle.rt_world.proofs.world.World.answer_result.Goals as goal

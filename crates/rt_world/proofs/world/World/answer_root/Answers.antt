@@ -1,8 +1,6 @@
-use Rattle.std.proofs.Common.{◌∙◌, ap}
-use Rattle.rt_machine.specs.Places.{Seen}
+use Rattle.rt_world.proofs.Prelude.{◌∙◌, ap, Seen, after}
 use Rattle.rt_world.proofs.Blocks.{top-task}
 use Rattle.rt_world.proofs.Ending.{root-seated}
-use Rattle.rt_model.specs.Effects.{after}
 use Rattle.rt_world.proofs.world.World.answer_root.Goals as goal
 
 pub invariant_of-self : goal.invariant_of-self

@@ -1,4 +1,4 @@
-use Rattle.std.proofs.Common.{refl}
+use Rattle.rt_world.proofs.Prelude.{refl}
 use Rattle.rt_world.proofs.Drawing.{auditor-keeps}
 use Rattle.rt_world.proofs.world.World.auditor.Goals as goal
 

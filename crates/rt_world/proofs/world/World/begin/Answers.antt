@@ -1,7 +1,4 @@
-use Rattle.std.proofs.Common.{refl, arith, sym, ◌∙◌}
-use Rattle.rt_model.specs.State.{begun}
-use Rattle.rt_model.specs.Effects.{after}
-use Rattle.rt_world.specs.Seats.{AreThere}
+use Rattle.rt_world.proofs.Prelude.{refl, arith, sym, ◌∙◌, begun, after, AreThere}
 use Rattle.rt_world.proofs.Coming.{coming-making, open-none}
 use Rattle.rt_world.proofs.Follows.{follows-start}
 use Rattle.rt_world.proofs.Slotted.{slotted-none}

@@ -1,4 +1,4 @@
-use Rattle.std.proofs.Common.{refl}
+use Rattle.rt_world.proofs.Prelude.{refl}
 use Rattle.rt_world.proofs.Calling.{child-calls}
 use Rattle.rt_world.proofs.world.World.child.Goals as goal
 

@@ -1,4 +1,4 @@
-use Rattle.std.proofs.Common.{refl}
+use Rattle.rt_world.proofs.Prelude.{refl}
 use Rattle.rt_world.proofs.Ending.{stepped-seated}
 use Rattle.rt_world.proofs.Follows.{follows-quietly}
 use Rattle.rt_world.proofs.Drawn.{quietly-drawn}

@@ -1,5 +1,4 @@
-use Rattle.std.proofs.Common.{refl}
-use Rattle.rt_machine.proofs.Replays.{cleaned}
+use Rattle.rt_world.proofs.Prelude.{refl, cleaned}
 use Rattle.rt_world.proofs.Ending.{closed-seated}
 use Rattle.rt_world.proofs.Follows.{follows-closed, closed-unmade}
 use Rattle.rt_world.proofs.Drawn.{cleaned-drawn}

@@ -1,5 +1,4 @@
-use Rattle.std.proofs.Common.{refl}
-use Rattle.rt_model.specs.Effects.{after}
+use Rattle.rt_world.proofs.Prelude.{refl, after}
 use Rattle.rt_world.proofs.Ending.{visited-seated}
 use Rattle.rt_world.proofs.Fronts.{front-front, front-pushed, front-calmly}
 use Rattle.rt_world.proofs.Drawn.{calmly-drawn, drew-same, writes-of}

@@ -1,7 +1,5 @@
-use Rattle.std.proofs.Common.{◌∙◌, sym, refl}
+use Rattle.rt_world.proofs.Prelude.{◌∙◌, sym, refl, GiveUp, Done}
 use Rattle.rt_world.proofs.Calling.{given-up-seated}
-use Rattle.rt_audit.specs.declared.call.Call.TheVariants.{GiveUp}
-use Rattle.rt_audit.specs.declared.reply.CallReply.TheVariants.{Done}
 use Rattle.rt_world.proofs.Slotted.{slotted-noted}
 use Rattle.rt_world.proofs.world.World.give_up.Goals as goal
 

@@ -1,9 +1,4 @@
-use Rattle.std.proofs.Common.{◌∙◌, refl, sym}
-use Rattle.rt_audit.specs.declared.call.Call.TheVariants.{Join}
-use Rattle.rt_audit.specs.declared.reply.CallReply.TheVariants.{Pending, Ready}
-use Rattle.rt_model.specs.Lists.{find}
-use Rattle.rt_machine.specs.Calls.{Noted}
-use Rattle.rt_world.specs.Seats.{AreThere}
+use Rattle.rt_world.proofs.Prelude.{◌∙◌, refl, sym, Join, Pending, Ready, find, Noted, AreThere}
 use Rattle.rt_world.proofs.Coming.{none-some}
 use Rattle.rt_world.proofs.Calling.{pending-seated, ready-there, ready-seated, ending-runs, pending-calls, ready-calls}
 use Rattle.rt_world.proofs.Slotted.{slotted-noted}

@@ -1,7 +1,4 @@
-use Rattle.std.proofs.Common.{◌∙◌, refl, sym}
-use Rattle.rt_audit.specs.declared.call.Call.TheVariants.{SlotPoll}
-use Rattle.rt_audit.specs.declared.reply.CallReply.TheVariants.{Pending, Ready}
-use Rattle.rt_machine.specs.Calls.{Noted}
+use Rattle.rt_world.proofs.Prelude.{◌∙◌, refl, sym, Slots, SlotPoll, Pending, Ready, Noted}
 use Rattle.rt_world.proofs.Calling.{seated-quiet, receive-pending, receive-refused, receive-shown, receive-value}
 use Rattle.rt_world.proofs.Slotted.{held-none, held-there, polled-slotted, taken-slotted}
 use Rattle.rt_world.proofs.world.World.slot_poll.Goals as goal
@@ -19,8 +16,8 @@ returns-in-Err-clause-called g c =
 pub invariant_of-self-in-None : goal.invariant_of-self-in-None
 invariant_of-self-in-None g c =
     let w = c.self.inside in
-    let noted : Noted w.out w.machine c.slot_poll.new.self (SlotPoll c.args.slot) Pending = c.in_default.ensures.ok in
-    (seated-quiet w.tasks w.outputs w.out w.out w.machine c.slot_poll.new.self c.self.invariant.0 (SlotPoll c.args.slot) Pending noted refl refl refl, polled-slotted w.sent w.sent w.out w.machine c.slot_poll.new.self c.self.invariant.1 c.args.slot noted (sym c.get.ensures ∙ rw c.in-None.is refl))
+    let noted : Noted w.out w.machine c.slot_poll.new.self (Slots (SlotPoll c.args.slot)) Pending = c.in_default.ensures.ok in
+    (seated-quiet w.tasks w.outputs w.out w.out w.machine c.slot_poll.new.self c.self.invariant.0 (Slots (SlotPoll c.args.slot)) Pending noted refl refl refl, polled-slotted w.sent w.sent w.out w.machine c.slot_poll.new.self c.self.invariant.1 c.args.slot noted (sym c.get.ensures ∙ rw c.in-None.is refl))
 
 pub returns-in_default-clause-called : goal.returns-in_default-clause-called
 returns-in_default-clause-called g c =
@@ -40,9 +37,9 @@ take_sent-requires-clause-sent g c =
 pub invariant_of-self-in-Some-Ok : goal.invariant_of-self-in-Some-Ok
 invariant_of-self-in-Some-Ok g c =
     let w = c.self.inside in
-    let noted : Noted w.out w.machine c.take_sent.new.self (SlotPoll c.args.slot) Ready = c.in_ok-take_sent-in-Some-Ok.ensures.ok in
+    let noted : Noted w.out w.machine c.take_sent.new.self (Slots (SlotPoll c.args.slot)) Ready = c.in_ok-take_sent-in-Some-Ok.ensures.ok in
     let t = c.take.ensures in
-    (seated-quiet w.tasks w.outputs w.out w.out w.machine c.take_sent.new.self c.self.invariant.0 (SlotPoll c.args.slot) Ready noted refl refl refl, taken-slotted w.sent c.take.new.self w.out w.machine c.take_sent.new.self c.self.invariant.1 c.args.slot t.items t.first t.next t.gone noted)
+    (seated-quiet w.tasks w.outputs w.out w.out w.machine c.take_sent.new.self c.self.invariant.0 (Slots (SlotPoll c.args.slot)) Ready noted refl refl refl, taken-slotted w.sent c.take.new.self w.out w.machine c.take_sent.new.self c.self.invariant.1 c.args.slot t.items t.first t.next t.gone noted)
 
 pub returns-in-Some-Err-clause-called : goal.returns-in-Some-Err-clause-called
 returns-in-Some-Err-clause-called g c =

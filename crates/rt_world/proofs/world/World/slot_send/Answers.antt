@@ -1,9 +1,4 @@
-use Rattle.std.proofs.Common.{◌∙◌, refl, sym, is_some}
-use Rattle.rt_audit.specs.declared.call.Call.TheVariants.{SlotSend}
-use Rattle.rt_audit.specs.declared.reply.CallReply.TheVariants.{Done}
-use Rattle.rt_model.specs.Lists.{find}
-use Rattle.rt_model.specs.Slots.{is_open}
-use Rattle.rt_machine.specs.Calls.{Noted}
+use Rattle.rt_world.proofs.Prelude.{◌∙◌, refl, sym, is_some, Slots, SlotSend, Done, find, is_open, Noted}
 use Rattle.rt_world.proofs.Calling.{seated-quiet, spent-seated}
 use Rattle.rt_world.proofs.Slotted.{sent-slotted, slot-dropped, both-of, open-unsent}
 use Rattle.rt_world.proofs.world.World.slot_send.Goals as goal
@@ -19,10 +14,10 @@ invariant_of-self g c =
     let w = c.self.inside in
     let slots = w.machine.told.state.slots in
     let both = both-of (is_some (find c.args.slot slots.senders)) (is_open (find c.args.slot slots.results)) (sym c.takes-takes.ensures ∙ c.if-takes.true) in
-    let noted : Noted w.out w.machine c.slot_send.new.self (SlotSend c.args.slot) Done = c.slot_send.ensures.there both.0 in
-    (seated-quiet w.tasks w.outputs w.out w.out w.machine c.slot_send.new.self c.self.invariant.0 (SlotSend c.args.slot) Done noted refl refl refl, sent-slotted w.sent c.put.new.self w.out w.machine c.slot_send.new.self c.self.invariant.1 c.args.slot noted c.args.sent c.put.ensures.items c.put.ensures.first c.put.ensures.next both.1)
+    let noted : Noted w.out w.machine c.slot_send.new.self (Slots (SlotSend c.args.slot)) Done = c.slot_send.ensures.there both.0 in
+    (seated-quiet w.tasks w.outputs w.out w.out w.machine c.slot_send.new.self c.self.invariant.0 (Slots (SlotSend c.args.slot)) Done noted refl refl refl, sent-slotted w.sent c.put.new.self w.out w.machine c.slot_send.new.self c.self.invariant.1 c.args.slot noted c.args.sent c.put.ensures.items c.put.ensures.first c.put.ensures.next both.1)
 
 pub invariant_of-self-else-takes : goal.invariant_of-self-else-takes
 invariant_of-self-else-takes g c =
     let w = c.self.inside in
-    (spent-seated w.tasks w.outputs w.out w.out w.machine c.slot_send.new.self c.self.invariant.0 (SlotSend c.args.slot) refl refl refl c.slot_send.ensures, slot-dropped w.sent w.out w.machine c.slot_send.new.self c.self.invariant.1 c.args.slot c.slot_send.ensures (sym c.takes-takes.ensures ∙ c.if-takes.false))
+    (spent-seated w.tasks w.outputs w.out w.out w.machine c.slot_send.new.self c.self.invariant.0 (Slots (SlotSend c.args.slot)) refl refl refl c.slot_send.ensures, slot-dropped w.sent w.out w.machine c.slot_send.new.self c.self.invariant.1 c.args.slot c.slot_send.ensures (sym c.takes-takes.ensures ∙ c.if-takes.false))

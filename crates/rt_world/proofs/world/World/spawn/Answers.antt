@@ -1,10 +1,5 @@
-use Rattle.std.proofs.Common.{◌≡◌, ◌∙◌, refl, sym, Some, None, false, arith, inl}
-use Rattle.rt_base.specs.declared.error.Error.TheVariants.{NoMemory}
-use Rattle.rt_audit.specs.declared.call.Call.TheVariants.{Spawn}
-use Rattle.rt_audit.specs.declared.reply.CallReply.TheVariants.{TaskAt, Closed}
-use Rattle.rt_machine.specs.Calls.{Noted}
-use Rattle.rt_model.specs.Turns.{Spawning}
-use Rattle.rt_model.specs.Effects.{is_closing}
+use Rattle.rt_world.proofs.Prelude.{◌≡◌, ◌∙◌, refl, sym, Some, None, false, arith, inl, NoMemory, Spawn, TaskAt, Noted, Spawning, is_closing}
+use Rattle.rt_audit.specs.declared.reply.CallReply.TheVariants.{Closed}
 use Rattle.rt_world.proofs.Seats.{grows-more, not-closing, some-none}
 use Rattle.rt_world.proofs.Drawn.{drew-same}
 use Rattle.rt_world.proofs.Lasting.{lasts-of}

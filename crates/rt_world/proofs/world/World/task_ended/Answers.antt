@@ -1,6 +1,4 @@
-use Rattle.std.proofs.Common.{◌≡◌, ◌∙◌, ap}
-use Rattle.rt_machine.specs.Places.{Seen}
-use Rattle.rt_machine.proofs.Ended.{closing-ended}
+use Rattle.rt_world.proofs.Prelude.{◌≡◌, ◌∙◌, ap, Seen, closing-ended}
 use Rattle.rt_world.proofs.Seats.{rising-without, rising-gone}
 use Rattle.rt_world.proofs.Coming.{there-closed, coming-closing, open-ended}
 use Rattle.rt_world.proofs.world.World.task_ended.Goals as goal

@@ -1,0 +1,5 @@
+mod Linear
+mod Tabled
+mod Framed
+mod TaskTabled
+pub mod Fronted

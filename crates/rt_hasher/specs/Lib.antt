@@ -1,0 +1,4 @@
+pub mod Crc32c
+pub mod Framing
+pub mod Digest
+pub mod TaskEvent

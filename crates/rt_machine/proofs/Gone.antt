@@ -1,0 +1,28 @@
+-- A slot whose receiver was spent has nothing any more.
+use Rattle.std.proofs.Common.{◌≡◌, ◌≤◌, ℕ, List, [], ◌∷◌, refl, ap, true, false, Bool, arith, Option, Some, None, is_some, eqb}
+use Rattle.rt_audit.specs.declared.call.Call.TheVariants.{Slots}
+use Rattle.rt_audit.specs.declared.slot_call.SlotCall.TheVariants.{GiveUp}
+use Rattle.rt_super.specs.Rows.{AreRising}
+use Rattle.rt_model.specs.Lists.{find, without}
+use Rattle.rt_model.specs.Slots.{Slotted}
+use Rattle.rt_model.specs.State.{Stood}
+use Rattle.rt_machine.specs.Calls.{Spent}
+use Rattle.rt_machine.specs.Places.{Seen}
+
+gone-at : {V : Type 0} (k : ℕ) (xs : List (ℕ × V)) → AreRising xs → find k (without k xs) ≡ None
+gone-at k [] r = refl
+gone-at k (x ∷ xs) r = grind (arith, gone-at k xs r.1, r.0 k)
+
+none-of : {V : Type 0} (o : Option V) → is_some o ≡ false → o ≡ None
+none-of None h = refl
+none-of (Some v) h = cc
+
+pub spent-gone : (by : Option ℕ) (old new : Seen) (slot : ℕ) → AreRising old.told.state.slots.results → Spent by old new (Slots (GiveUp slot)) → find slot new.told.state.slots.results ≡ None
+spent-gone by old new slot rising spent = with (is_some (find slot old.told.state.slots.results)) refl
+  where
+    with : (b : Bool) → is_some (find slot old.told.state.slots.results) ≡ b → find slot new.told.state.slots.results ≡ None
+    with true e =
+        let n = spent.there e in
+        let results = ap (λ (s : Stood). s.slots.results) n.stood in
+        rw results (gone-at slot old.told.state.slots.results rising)
+    with false e = rw (spent.gone e) (none-of (find slot old.told.state.slots.results) e)

@@ -1,0 +1,8 @@
+use Rattle.std.proofs.Common.{rules, ◌≡◌}
+use Rattle.rt_model.specs.State.{stood_in}
+use Rattle.rt_walk.proofs.walker.Walker.has_announced.Goals as goal
+
+pub returns : goal.returns
+returns c =
+    let same : c.args.self.now.announced ≡ c.as_slice.result.now = search rules in
+    rw same (c.are_of.ensures (stood_in c.args.self.now))
