@@ -1,10 +1,15 @@
 pub mod Outcomes
 pub mod Requeue
+pub mod Joined
 pub mod Timeouts
+pub mod Pausing
+pub mod Pairing
 pub mod Joining
 pub mod Choosing
 pub mod Grouping
 pub mod Completing
 pub mod Signaled
 pub mod Stops
+pub mod Tasks
 pub mod Prelude
+pub mod Spawned

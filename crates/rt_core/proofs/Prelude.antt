@@ -6,6 +6,7 @@ pub use Rattle.std.proofs.lemmas.Int.{to_z-of_z}
 pub use Rattle.std.proofs.lemmas.List.{drop-append-le, drop-set-lt, drop_all, length-map, nil_from_length, set_split, take-append-drop, take-append-le, take_all, take_more_set}
 pub use Rattle.std.specs.Vec.Iter.{into_iter_items, into_iter_len}
 pub use Rattle.std.specs.VecDeque.{deque_capacity, deque_len}
+pub use Rattle.either.specs.declared.Either.TheVariants.{Left, Right}
 pub use Rattle.rand_core.specs.Stream.{Stream}
 pub use Rattle.rt_audit.specs.Journal.{digest_of}
 pub use Rattle.rt_audit.specs.declared.call.Call.TheVariants.{CompletionPoll, Join, SignalPoll, Stop as StopCall, Wake}
@@ -23,13 +24,17 @@ unfoldable pub use Rattle.rt_core.specs.Completions.{completion_polls, completio
 pub use Rattle.rt_core.specs.Contexts.{child_heard, context_on, handle_heard}
 unfoldable pub use Rattle.rt_core.specs.Contexts.{childs, spawns}
 unfoldable pub use Rattle.rt_core.specs.Drawing.{asks_auditor, asks_bytes, asks_u32, asks_u64}
+pub use Rattle.rt_core.specs.Eithers.{FirstOf, both, neither, unless_lack}
+unfoldable pub use Rattle.rt_core.specs.Eithers.{either_polls, either_spends, polls_second}
 pub use Rattle.rt_core.specs.Failures.{finish_of, text_of}
-pub use Rattle.rt_core.specs.Handles.{aborted}
+pub use Rattle.rt_core.specs.Handles.{aborted, guard_spends}
 unfoldable pub use Rattle.rt_core.specs.Handles.{handle_aborts, handle_polls, handle_spends, no_polls, no_spends}
 pub use Rattle.rt_core.specs.Joins.{Joins, answered, is_lack, lacks, told, turned, unless_lacking, waits}
 unfoldable pub use Rattle.rt_core.specs.Joins.{drains, fails, gives_up, join_all_polls, joins}
 pub use Rattle.rt_core.specs.Outcome.{Completes, Ended, Facts, FailedFor, IsValid, Leaves}
-pub use Rattle.rt_core.specs.Pollers.{closes, reschedule_heard}
+pub use Rattle.rt_core.specs.Pauses.{pause_for}
+unfoldable pub use Rattle.rt_core.specs.Pauses.{pause_polls, pause_spends}
+pub use Rattle.rt_core.specs.Pollers.{begun_sleep, closes, reschedule_heard}
 unfoldable pub use Rattle.rt_core.specs.Pollers.{reschedule_polls, reschedule_spends, sleep_polls, sleep_spends}
 pub use Rattle.rt_core.specs.Select.{select_polls, undecided}
 unfoldable pub use Rattle.rt_core.specs.Select.{each, lets_go, polls_rest}
@@ -44,8 +49,10 @@ unfoldable pub use Rattle.rt_core.specs.Timeouts.{timeout_polls, timeout_spends}
 pub use Rattle.rt_core.specs.declared.completion.Completion.{Completion}
 pub use Rattle.rt_core.specs.declared.completion.Source.TheVariants.{Polled}
 pub use Rattle.rt_core.specs.declared.completion.Stage.TheVariants.{Aborted, Answered, Open}
+pub use Rattle.rt_core.specs.declared.either_of.EitherOf.{EitherOf}
 pub use Rattle.rt_core.specs.declared.handle.Kind.{Kind}
 pub use Rattle.rt_core.specs.declared.handle.Kind.TheVariants.{Received}
+pub use Rattle.rt_core.specs.declared.pause.Pause.{Pause}
 pub use Rattle.rt_core.specs.declared.run_error.RunError.{RunError}
 pub use Rattle.rt_core.specs.declared.run_error.RunError.TheVariants.{NoMemory as IsNoMemory, Stalled as IsStalled, TaskPanicked as HasPanicked, TimeOverflow as IsTimeOverflow, Timeout as IsTimeout, TooManyTasks as AreTooManyTasks}
 pub use Rattle.rt_core.specs.declared.stop.Stop.{Stop}
@@ -70,6 +77,7 @@ pub use Rattle.rt_model.specs.Walk.{Breaks, Does, Fronts, Gives, Last, Step, Wal
 pub use Rattle.rt_model.specs.declared.begin.Begin.{Begin}
 pub use Rattle.rt_world.proofs.Drawing.{auditor-tells, filled-tells, long-tells, short-tells}
 pub use Rattle.rt_world.proofs.Drawn.{drew-behind, drew-drew, drew-of}
+pub use Rattle.rt_core.proofs.Joined.{goes-followed, goes-gives, goes-then, spends-then}
 pub use Rattle.rt_world.proofs.Lasting.{drawn-of}
 pub use Rattle.rt_world.proofs.Signaled.{clone-tells, signaler-tells, stopped-tells}
 pub use Rattle.rt_world.proofs.Texts.{ends-with-text}

@@ -8,7 +8,7 @@ use Rattle.rt_audit.specs.declared.call.Call.{Call}
 use Rattle.rt_audit.specs.declared.call.Call.TheVariants.{Abort, Join, GiveUp, Slots}
 use Rattle.rt_audit.specs.declared.slot_call.SlotCall.TheVariants.{AbortWait}
 use Rattle.rt_model.specs.Turns.{Plainly}
-use Rattle.rt_model.specs.Walk.{Step, Last, Does, Spends, Gives, then}
+use Rattle.rt_model.specs.Walk.{Step, Last, Does, Spends, Gives, then, followed_by}
 use Rattle.rt_world.specs.Receiving.{heard_result, receiver_polls, receiver_spends}
 use Rattle.rt_core.specs.Completions.{Polls, completion_polls, completion_spends}
 use Rattle.rt_core.specs.declared.completion.Source.TheVariants.{Held, Polled}
@@ -69,6 +69,10 @@ abbrev pub aborted : {O P : Type 0} → Kind O P → Kind O P
 aborted (Task claim) = Task (record claim { aborted = true })
 aborted (Received r) = Received (record r { aborted = true })
 aborted (Completion c) = Completion (record c { stage = Aborted })
+
+-- giving a guard over this handle up aborts its task, and then gives its result up
+abbrev pub guard_spends : {A O P : Type 0} → (P → Last A O) → Kind O P → Last A O
+guard_spends spends h = followed_by (handle_aborts h) (handle_spends spends (aborted h))
 
 -- nothing makes such a poller; it would be closed
 unfoldable pub no_polls : {A O V : Type 0} → NoPoller → Step A NoPoller O (Poll (Result V Error))

@@ -1,8 +1,10 @@
 pub mod Sleeper
 pub mod Pollers
+pub mod Pauses
 pub mod Timeouts
 pub mod Contexts
 pub mod Completions
+pub mod Eithers
 pub mod Handles
 pub mod Failures
 pub mod Starting
@@ -13,3 +15,4 @@ pub mod Joins
 pub mod Signals
 pub mod Drawing
 pub mod Stopping
+pub mod Tasks

@@ -1,5 +1,5 @@
 -- What the pollers of this crate do next.
-use Rattle.std.specs.Prelude.{ℕ, ◌+◌, Some, None, Bool, true, false, Result, Ok, Err, ltb, if◌then◌else◌}
+use Rattle.std.specs.Prelude.{ℕ, ◌+◌, Option, Some, None, Bool, true, false, Result, Ok, Err, ltb, if◌then◌else◌}
 use Rattle.rt_base.specs.declared.error.Error.{Error}
 use Rattle.rt_base.specs.declared.error.Error.TheVariants.{NoMemory, ClockOverflow}
 use Rattle.rt_base.specs.declared.poll.Poll.{Poll}
@@ -24,6 +24,11 @@ sleep_for time duration = if ltb MAX_TIME (time + duration) then Err ClockOverfl
 -- a sleep until this moment, where there is one
 unfoldable pub sleep_until : ℕ → Result Sleeper Error
 sleep_until deadline = if ltb MAX_TIME deadline then Err ClockOverflow else Ok (until deadline)
+
+-- this sleep, or where there is none yet one that begins now
+abbrev pub begun_sleep : ℕ → ℕ → Option Sleeper → Result Sleeper Error
+begun_sleep time duration None = sleep_for time duration
+begun_sleep time duration (Some sleep) = Ok sleep
 
 -- a sleep that heard this of its poll: it is over, or its alarm has this number
 abbrev pub slept : {A O : Type 0} → Sleeper → CallReply → Step A Sleeper O (Poll (Result (Unit {0}) Error))

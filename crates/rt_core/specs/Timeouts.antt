@@ -1,12 +1,12 @@
 -- What a poller with a limit in time does next.
-use Rattle.std.specs.Prelude.{ℕ, Option, Some, None, Result, Ok, Err}
+use Rattle.std.specs.Prelude.{ℕ, Option, Some, Result, Ok, Err}
 use Rattle.rt_base.specs.declared.error.Error.{Error}
 use Rattle.rt_base.specs.declared.error.Error.TheVariants.{Timeout as TimedOut}
 use Rattle.rt_base.specs.declared.poll.Poll.{Poll}
 use Rattle.rt_base.specs.declared.poll.Poll.TheVariants.{Ready, Pending}
 use Rattle.rt_model.specs.Walk.{Step, Last, Gives, then}
 use Rattle.rt_core.specs.Sleeper.{Sleeper}
-use Rattle.rt_core.specs.Pollers.{sleep_for, sleep_polls}
+use Rattle.rt_core.specs.Pollers.{begun_sleep, sleep_polls}
 use Rattle.rt_core.specs.declared.timeout.Timeout.{Timeout}
 
 -- what is polled under a limit
@@ -15,8 +15,7 @@ Polling A P O V = P → ℕ → ℕ → Step A P O (Poll (Result V Error))
 
 -- its sleep, which begins at the first poll
 abbrev pub limit_of : {P : Type 0} → Timeout P → ℕ → Option Sleeper → Result Sleeper Error
-limit_of t now None = sleep_for now t.duration
-limit_of t now (Some sleep) = Ok sleep
+limit_of t now sleep = begun_sleep now t.duration sleep
 
 -- its sleep answered so
 abbrev pub over : {V : Type 0} → Poll (Result (Unit {0}) Error) → Poll (Result V Error)

@@ -1,6 +1,6 @@
 //! Contexts: where a task is in the tree of its run.
 
-ghost use Rattle.std.specs.Prelude.{◌≡◌, ◌≤◌, ◌++◌, Bool, true, None, length, IfOk, IfErr, OnOk, Result};
+ghost use Rattle.std.specs.Prelude.{◌≡◌, ◌≤◌, ◌++◌, Bool, true, Option, None, length, IfOk, IfErr, OnOk, Result};
 ghost use Rattle.rand_core.specs.Stream.{next_u32, next_u64, fill_bytes};
 ghost use Rattle.rt_base.specs.Attributes.{with_attribute};
 ghost use Rattle.rt_base.specs.Label.{is_label};
@@ -15,7 +15,7 @@ ghost use Rattle.rt_model.specs.declared.answer.Answer.{Answer};
 ghost use Rattle.rt_machine.specs.Told.{own};
 ghost use Rattle.rt_world.specs.Calls.{IsRefused, Kept, Made, lacking};
 ghost use Rattle.rt_world.specs.Walked.{Closes, Goes, Polled, Rooted};
-ghost use Rattle.rt_core.specs.Contexts.{IsMakerOf, IsRefusedKey, IsSpawned, IsSpawnedBy, child_name, childs, context_on, root_context, spawn_told, spawning, spawns};
+ghost use Rattle.rt_core.specs.Contexts.{IsMakerOf, IsRefusedKey, IsSpawned, IsSpawnedBy, IsSpawnedWith, IsSpawnedWithBy, IsStarted, IsUnstarted, child_name, childs, context_on, root_context, spawn_told, spawn_with_told, spawning, spawns, spawns_with, starts};
 ghost use Rattle.rt_core.specs.Drawing.{asks_auditor, asks_bytes, asks_u32, asks_u64, filled_with};
 ghost use Rattle.rt_core.specs.Handles.{TaskHandle};
 ghost use Rattle.rt_core.specs.Pollers.{sleep_for, sleep_until};
@@ -23,6 +23,7 @@ ghost use Rattle.rt_core.specs.Signals.{asks_stopped, kind_reply};
 ghost use Rattle.rt_core.specs.declared.stop.Stopping.TheVariants.{Begins};
 
 use crate::handle::HandleOf;
+use crate::handover::Handover;
 use crate::signals::SignalKind;
 use crate::small_name::SmallName;
 use crate::stop::Stopping;
@@ -32,7 +33,7 @@ use rt_audit::Auditor;
 use rt_base::{
     Error, Execution, MAX_TIME, MetricError, Name, Nanos, NoMemory, Refused, validate_label,
 };
-use rt_world::{Stopped, World};
+use rt_world::{Spawned, Stopped, World};
 use std::alloc::Global;
 use std::marker::Model;
 
@@ -57,7 +58,7 @@ impl Model for Context {
 
 impl Context {
     /// A context on a node, with this name.
-    fn on(alloc: Global, node: u64, name: SmallName) -> Self
+    pub(crate) fn on(alloc: Global, node: u64, name: SmallName) -> Self
         ensures { result ≡ context_on node name }
     {
         Context {
@@ -169,7 +170,6 @@ impl Context {
     ///
     /// Errors, each of which hands the context back: `NoMemory` at any time, or else the first that holds:
     /// `UnknownToken`, `TooManyTasks` exactly where the next number is `u64::MAX`.
-    #[tactic(auto, using(rt_world::proofs::Walked::tell_laws), unfolding(crate::specs::Contexts::spawns))]
     pub fn spawn<T, O, G: Rng, F: FnOnce(Context) -> T + Drop>(
         self,
         world: &mut World<T, O, G>,
@@ -186,28 +186,104 @@ impl Context {
         ensures polls { (makes : Context → T) (more : Result (TaskHandle O) Error → Unit {0} → Step T T O (Answer O)) (end : World T O G) (answer : Answer O) (left : T) → IsMakerOf (F.post make) makes → Polled (more (spawn_told result) tt) world.new end answer left → Polled (then (spawns self makes) more) world.old end answer left }
         ensures roots { (makes : Context → T) (more : Result (TaskHandle O) Error → Unit {0} → Step T T O (Unit {0})) (end : World T O G) (root : Result T NoMemory) → IsMakerOf (F.post make) makes → Rooted (more (spawn_told result) tt) world.new end root → Rooted (then (spawns self makes) more) world.old end root }
     {
+        let made = |(), context|
+            requires { F.IsAlwaysCallable make }
+            ensures { F.post make context result }
+        { make(context) };
+        match self.spawn_with(world, (), made) {
+            Ok((handle, _)) => Ok(handle),
+            Err(
+                Refused {
+                    back: (back, ()),
+                    error,
+                },
+            ) => Err(Refused { back, error }),
+        }
+    }
+
+    /// Spawns a task as [`spawn`](Self::spawn) does, whose state is made of what is given along, too, and returns its
+    /// handle. What is given may hold tokens: they go along with the task. On a node that has ended nothing is made of
+    /// it, and it comes back beside the handle. A refusal hands it back with the context, and has the errors of `spawn`.
+    #[tactic(auto, using(rt_world::proofs::Walked::tell_laws), unfolding(crate::specs::Contexts::spawns_with))]
+    pub fn spawn_with<T, O, G: Rng, C, F: FnOnce(C, Context) -> T + Drop>(
+        self,
+        world: &mut World<T, O, G>,
+        given: C,
+        make: F,
+    ) -> Result<(HandleOf<O, NoPoller>, Option<C>), Refused<(Context, C)>>
+        requires calling { MayCall world.old.told.state world.old.out }
+        requires callable { F.IsAlwaysCallable make }
+        ensures kept { Kept G.stream world.old world.new }
+        ensures back { IfErr result (λ refused. refused.back ≡ (self, given)) }
+        ensures ok { (makes : Context → T) → IsMakerOf (F.post make given) makes → IfOk result (λ spawned. IsSpawnedWith self makes given world.old world.new spawned) }
+        ensures taken_in { IfOk result (λ spawned. IsSpawnedWithBy (F.post make given) self given world.old world.new spawned) }
+        ensures err { (makes : Context → T) → IfErr result (λ refused. IsRefused world.old world.new (spawning self makes) refused.error) }
+        ensures steps { (makes : Context → T) → IsMakerOf (F.post make given) makes → Goes (spawns_with self given makes) world.old world.new (spawn_with_told result) tt }
+        ensures polls { (makes : Context → T) (more : Result (TaskHandle O × Option C) Error → Unit {0} → Step T T O (Answer O)) (end : World T O G) (answer : Answer O) (left : T) → IsMakerOf (F.post make given) makes → Polled (more (spawn_with_told result) tt) world.new end answer left → Polled (then (spawns_with self given makes) more) world.old end answer left }
+        ensures roots { (makes : Context → T) (more : Result (TaskHandle O × Option C) Error → Unit {0} → Step T T O (Unit {0})) (end : World T O G) (root : Result T NoMemory) → IsMakerOf (F.post make given) makes → Rooted (more (spawn_with_told result) tt) world.new end root → Rooted (then (spawns_with self given makes) more) world.old end root }
+    {
         let Context {
             node,
             name,
             execution,
             alloc,
         } = self;
-        let made = |(name, number)|
-            requires { F.IsAlwaysCallable make }
-            ensures { F.post make (context_on number name) result }
-        { make(Context::on(alloc, number, name)) };
-        match world.spawn(node, execution, name, made) {
-            Ok(Some((task, number))) => Ok(HandleOf::of(task)),
-            Ok(None) => Ok(HandleOf::ready(Err(Error::Closed))),
-            Err((error, name)) => Err(Refused {
-                back: Context {
+        let handover = Handover {
+            alloc,
+            name,
+            given,
+            make,
+        };
+        match world.spawn(node, execution, handover) {
+            Ok(Spawned::Runs { task, node: _ }) => Ok((HandleOf::of(task), None)),
+            Ok(Spawned::Closed(handover)) => {
+                let given = handover.into_given();
+                Ok((HandleOf::ready(Err(Error::Closed)), Some(given)))
+            }
+            Err((error, handover)) => {
+                let (name, given) = handover.into_parts();
+                let back = Context {
                     node,
                     name,
                     execution,
                     alloc,
-                },
-                error,
-            }),
+                };
+                Err(Refused {
+                    back: (back, given),
+                    error,
+                })
+            }
+        }
+    }
+
+    /// Spawns a task on a fresh child with this label, as [`child`](Self::child) and [`spawn`](Self::spawn) do, and
+    /// returns its handle. Where the spawn is refused the child is closed. It takes memory.
+    ///
+    /// Errors: those of `child`, and then those of `spawn`.
+    #[tactic(auto, using(rt_world::proofs::Walked::close_laws))]
+    pub fn start<T, O, G: Rng, F: FnOnce(Context) -> T + Drop>(
+        &self,
+        world: &mut World<T, O, G>,
+        label: &str,
+        make: F,
+    ) -> Result<HandleOf<O, NoPoller>, Error>
+        requires calling { MayCall world.old.told.state world.old.out }
+        requires callable { F.IsAlwaysCallable make }
+        ensures kept { Kept G.stream world.old world.new }
+        ensures ok { IfOk result (λ handle. IsStarted (F.post make) self.now label.now world.old world.new handle) }
+        ensures err { IfErr result (λ error. IsUnstarted self.now label.now world.old world.new error) }
+        ensures steps { (makes : Context → T) → IsMakerOf (F.post make) makes → Goes (starts self.now label.now makes) world.old world.new result tt }
+        ensures polls { (makes : Context → T) (more : Result (TaskHandle O) Error → Unit {0} → Step T T O (Answer O)) (end : World T O G) (answer : Answer O) (left : T) → IsMakerOf (F.post make) makes → Polled (more result tt) world.new end answer left → Polled (then (starts self.now label.now makes) more) world.old end answer left }
+        ensures roots { (makes : Context → T) (more : Result (TaskHandle O) Error → Unit {0} → Step T T O (Unit {0})) (end : World T O G) (root : Result T NoMemory) → IsMakerOf (F.post make) makes → Rooted (more result tt) world.new end root → Rooted (then (starts self.now label.now makes) more) world.old end root }
+    {
+        let child = self.child(world, label)?;
+        match child.spawn(world, make) {
+            Ok(handle) => Ok(handle),
+            Err(refused) => {
+                let Refused { back, error } = refused;
+                back.close(world);
+                Err(error)
+            }
         }
     }
 

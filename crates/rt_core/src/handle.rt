@@ -6,7 +6,8 @@ ghost use Rattle.rt_audit.specs.declared.slot_call.SlotCall.TheVariants.{AbortWa
 ghost use Rattle.rt_model.specs.Rules.{MayCall};
 ghost use Rattle.rt_world.specs.Calls.{Kept};
 ghost use Rattle.rt_world.specs.Walked.{Spends};
-ghost use Rattle.rt_core.specs.Handles.{handle_aborts, aborted, aborts, unless_aborted, task_handle, received_handle, held_handle, polled_handle};
+ghost use Rattle.rt_core.specs.Handles.{handle_aborts, handle_spends, aborted, aborts, unless_aborted, task_handle, received_handle, held_handle, polled_handle};
+ghost use Rattle.rt_core.specs.Select.{each};
 
 use crate::AbortOnDropOf;
 use crate::completion::{Completion, Source, Stage};
@@ -146,6 +147,27 @@ impl<O, P> HandleOf<O, P> {
             Kind::Completion(completion) => completion,
         };
         completion.stage = Stage::Aborted;
+    }
+
+    /// Gives all these handles up, in their order. It takes no memory.
+    #[tactic(auto, using(rt_world::proofs::Walked::loop_laws))]
+    pub fn give_all_up<T: Outcome<Output = O>, G: Rng>(
+        handles: Vec<HandleOf<O, P>>,
+        world: &mut World<T, O, G>,
+    )
+    where
+        O: Drop,
+        P: Poller<T, O>,
+        requires { MayCall world.old.told.state world.old.out }
+        ensures kept { Kept G.stream world.old world.new }
+        ensures lacked { world.new.lacked ≡ world.old.lacked }
+        ensures steps { Spends (each (handle_spends P.spends) handles.items) world.old world.new }
+    {
+        let mut rest = handles.into_iter();
+        while let Some(handle) = rest.next() {
+            handle.give_up(world);
+        }
+        rest.destroy_empty();
     }
 
     /// What it holds.

@@ -11,7 +11,7 @@ ghost use Rattle.rt_core.specs.Joins.{joining, answered, is_lack, lacks, turned,
 
 use crate::AbortOnDropOf;
 use crate::handle::HandleOf;
-use crate::select::{abort_all, give_all_up, let_go};
+use crate::select::{abort_all, let_go};
 use rand_core::Rng;
 use rt_base::{Error, Items, NoMemory, Poll, Refused};
 use rt_world::{Cx, Outcome, Poller, World};
@@ -284,7 +284,7 @@ fn end<T: Outcome, P: Poller<T, T::Output>, V: Drop, F, G: Rng>(
 {
     let none = VecDeque::new(*group.handles.allocator());
     let handles = mem::replace(&mut group.handles, none);
-    give_all_up(world, handles.into_vec());
+    HandleOf::give_all_up(handles.into_vec(), world);
     group.close();
     Poll::Ready(Err(Error::NoMemory))
 }

@@ -4,7 +4,7 @@ ghost use Rattle.std.specs.Prelude.{◌≡◌, map};
 ghost use Rattle.rt_model.specs.Rules.{MayCall};
 ghost use Rattle.rt_world.specs.Calls.{Kept};
 ghost use Rattle.rt_world.specs.Walked.{Spends};
-ghost use Rattle.rt_core.specs.Handles.{aborted, handle_aborts, handle_spends};
+ghost use Rattle.rt_core.specs.Handles.{aborted, handle_aborts};
 ghost use Rattle.rt_core.specs.Select.{each, lets_go};
 
 use crate::NoPoller;
@@ -95,7 +95,7 @@ pub(crate) fn let_go<T: Outcome, P: Poller<T, T::Output>, G: Rng>(
 {
     let mut handles = handles;
     abort_all(world, handles.as_mut_slice());
-    give_all_up(world, handles);
+    HandleOf::give_all_up(handles, world);
 }
 
 /// Aborts all handles, in their order.
@@ -115,22 +115,4 @@ pub(crate) fn abort_all<T, O: Drop, P, G: Rng>(
         handles[place].abort(world);
         place += 1;
     }
-}
-
-/// Gives all handles up, in their order.
-#[tactic(auto, using(rt_world::proofs::Walked::loop_laws))]
-pub(crate) fn give_all_up<T: Outcome, P: Poller<T, T::Output>, G: Rng>(
-    world: &mut World<T, T::Output, G>,
-    handles: Vec<HandleOf<T::Output, P>>,
-)
-    requires { MayCall world.old.told.state world.old.out }
-    ensures kept { Kept G.stream world.old world.new }
-    ensures lacked { world.new.lacked ≡ world.old.lacked }
-    ensures steps { Spends (each (handle_spends P.spends) handles.items) world.old world.new }
-{
-    let mut rest = handles.into_iter();
-    while let Some(handle) = rest.next() {
-        handle.give_up(world);
-    }
-    rest.destroy_empty();
 }

@@ -29,7 +29,7 @@ impl Sleep {
     ghost use Rattle.std.specs.Prelude.{◌≡◌, ◌≤◌};
     ghost use Rattle.rt_base.specs.declared.time.TheConstants.{MAX_TIME};
     ghost use Rattle.std.specs.Prelude.{Result};
-    ghost use Rattle.rt_core.specs.Pollers.{sleep_for, until};
+    ghost use Rattle.rt_core.specs.Pollers.{begun_sleep, sleep_for, until};
 
     /// A sleep that has no alarm yet.
     pub(crate) fn until(deadline: Nanos) -> Sleep
@@ -53,6 +53,17 @@ impl Sleep {
             return Err(Error::ClockOverflow);
         }
         Ok(Sleep::until(now + duration))
+    }
+
+    /// This sleep, or where there is none yet one for so many nanoseconds from this time on.
+    pub(crate) fn begun(sleep: Option<Sleep>, now: Nanos, duration: Nanos) -> Result<Sleep, Error>
+        requires { now ≤ MAX_TIME }
+        ensures { result ≡ begun_sleep now duration sleep }
+    {
+        match sleep {
+            Some(sleep) => Ok(sleep),
+            None => Sleep::lasting(now, duration),
+        }
     }
 }
 

@@ -28,10 +28,7 @@ impl<P> Timeout<P> {
         ensures sleep { result ≡ limit_of self.old now self.old.sleep }
         ensures rest { self.new ≡ record self.old { sleep = None } }
     {
-        match mem::replace(&mut self.sleep, None) {
-            Some(sleep) => Ok(sleep),
-            None => Sleep::lasting(now, self.duration),
-        }
+        Sleep::begun(mem::replace(&mut self.sleep, None), now, self.duration)
     }
 }
 

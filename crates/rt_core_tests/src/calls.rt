@@ -12,8 +12,8 @@ use rand_core::SeedableRng;
 use rt_audit::{FinishCause, Journal};
 use rt_base::MetricError;
 use rt_core::{
-    Cell, Context, Error, Execution, HandleOf, Name, NoMemory, Poller, Refused, Rng, RootMaker,
-    Runner, Select, World, spawn_cell,
+    AbortOnDrop, AbortOnDropOf, Cell, Context, Error, Execution, Handle, HandleOf, Name, NoMemory,
+    Poller, Refused, Rng, RootMaker, Runner, Select, World, spawn_cell,
 };
 use rt_model::Begin;
 use rt_world::WorldOf;
@@ -229,6 +229,70 @@ fn gives_pollers_up<G: Rng>(alloc: Global, context: &Context, world: &mut Making
     }
 }
 
+/// Two handles that hold a number each.
+fn two_held(alloc: Global) -> Result<Vec<Handle<Probe>>, NoMemory> {
+    let mut handles = Vec::with_capacity(alloc, 2)?;
+    handles.push_reserved(HandleOf::ready(Ok(1)));
+    handles.push_reserved(HandleOf::ready(Ok(2)));
+    Ok(handles)
+}
+
+/// The same, guarded.
+fn two_guarded(alloc: Global) -> Result<Vec<AbortOnDrop<Probe>>, NoMemory> {
+    let mut guards = Vec::with_capacity(alloc, 2)?;
+    guards.push_reserved(HandleOf::ready(Ok(1)).abort_on_drop());
+    guards.push_reserved(HandleOf::ready(Ok(2)).abort_on_drop());
+    Ok(guards)
+}
+
+/// Gives two guards up together. Returns whether there was memory for them.
+#[tactic(auto, using(rt_world::proofs::Walked::close_laws))]
+fn gives_guards_up<G: Rng>(alloc: Global, world: &mut Making<G>) -> bool
+    requires { MayCall world.old.told.state world.old.out }
+    ensures { Kept G.stream world.old world.new }
+{
+    let Ok(guards) = two_guarded(alloc) else {
+        return false;
+    };
+    AbortOnDropOf::give_all_up(guards, world);
+    true
+}
+
+/// Gives two handles up together. Returns whether there was memory for them.
+#[tactic(auto, using(rt_world::proofs::Walked::close_laws))]
+fn gives_handles_up<G: Rng>(alloc: Global, world: &mut Making<G>) -> bool
+    requires { MayCall world.old.told.state world.old.out }
+    ensures { Kept G.stream world.old world.new }
+{
+    let Ok(handles) = two_held(alloc) else {
+        return false;
+    };
+    HandleOf::give_all_up(handles, world);
+    true
+}
+
+/// Gives handles and guards up together. Returns whether there was memory for them.
+#[tactic(auto, using(rt_world::proofs::Walked::close_laws))]
+fn gives_all_up<G: Rng>(alloc: Global, world: &mut Making<G>) -> bool
+    requires { MayCall world.old.told.state world.old.out }
+    ensures { Kept G.stream world.old world.new }
+{
+    let handles = gives_handles_up(alloc, world);
+    let guards = gives_guards_up(alloc, world);
+    handles && guards
+}
+
+/// Gives pollers up, one by one and together. Returns whether all were there.
+#[tactic(auto, using(rt_world::proofs::Walked::close_laws))]
+fn gives_up<G: Rng>(alloc: Global, context: &Context, world: &mut Making<G>) -> bool
+    requires { MayCall world.old.told.state world.old.out }
+    ensures { Kept G.stream world.old world.new }
+{
+    let each = gives_pollers_up(alloc, context, world);
+    let all = gives_all_up(alloc, world);
+    each && all
+}
+
 /// Whether a task is spawned on a child, and the pollers are given up.
 #[tactic(auto, using(rt_world::proofs::Walked::close_laws))]
 fn works_on_children<G: Rng>(alloc: Global, context: &Context, world: &mut Making<G>) -> bool
@@ -236,7 +300,7 @@ fn works_on_children<G: Rng>(alloc: Global, context: &Context, world: &mut Makin
     ensures { Kept G.stream world.old world.new }
 {
     let spawned = spawns_on_a_child(alloc, context, world);
-    let given_up = gives_pollers_up(alloc, context, world);
+    let given_up = gives_up(alloc, context, world);
     spawned && given_up
 }
 

@@ -1,21 +1,6 @@
 -- What a chief does next: it hires a worker, and waits for it in a way of its own.
 use Rattle.std.specs.Prelude.{ℕ, codes, List, [], ◌∷◌, None, Result, Ok, Err}
-use Rattle.rt_base.specs.declared.error.Error.{Error}
-use Rattle.rt_base.specs.declared.error.Error.TheVariants.{Timeout as TimedOut}
-use Rattle.rt_base.specs.declared.poll.Poll.{Poll}
-use Rattle.rt_base.specs.declared.poll.Poll.TheVariants.{Ready as IsReady, Pending as IsPending}
-use Rattle.rt_audit.specs.declared.call.Call.TheVariants.{CloseNode}
-use Rattle.rt_model.specs.declared.answer.Answer.{Answer}
-use Rattle.rt_model.specs.declared.answer.Answer.TheVariants.{Pending, Ready}
-use Rattle.rt_model.specs.Tied.{TaskSteps}
-use Rattle.rt_model.specs.Turns.{Plainly}
-use Rattle.rt_model.specs.Walk.{Step, Last, Spends, Gives, then, followed_by}
-use Rattle.rt_core.specs.Contexts.{Context, childs, root_context, spawns}
-use Rattle.rt_core.specs.Handles.{TaskHandle, held_handle, task_polls, task_spends, no_polls, no_spends}
-use Rattle.rt_core.specs.Select.{select_polls, lets_go}
-use Rattle.rt_core.specs.Sleeper.{Sleeper}
-use Rattle.rt_core.specs.Pollers.{sleep_for, sleep_polls, sleep_spends, closes}
-use Rattle.rt_core.specs.Timeouts.{timeout_polls, timeout_spends}
+use Rattle.rt_core.specs.Tasks.{Error, TimedOut, Poll, IsReady, IsPending, Answer, Pending, Ready, TaskSteps, Step, Last, Gives, then, followed_by, Context, root_context, starts, TaskHandle, held_handle, task_polls, task_spends, no_polls, no_spends, select_polls, lets_go, Sleeper, sleep_for, sleep_polls, sleep_spends, closes, timeout_polls, timeout_spends}
 use Rattle.rt_core.specs.declared.timeout.Timeout.{Timeout}
 use Rattle.rt_errand.specs.declared.chief.Chief.{Chief}
 use Rattle.rt_errand.specs.declared.chief.Plan.{Plan}
@@ -86,13 +71,9 @@ waits c (ToChoose number) time task handle = chooses c (handle ∷ held_handle (
 abbrev pub worker : Chief → Context → Chief
 worker c context = record c { context = context; work = Naps }
 
-abbrev pub spawned : Chief → Plan → ℕ → ℕ → Context → Result (TaskHandle Output) Error → Next
-spawned c plan time task context (Ok handle) = waits c plan time task handle
-spawned c plan time task context (Err error) = Spends (Plainly (CloseNode context.node)) (Gives (Ready (Err error)) c)
-
--- a child was made for its worker
-abbrev pub hired : Chief → Plan → ℕ → ℕ → Result Context Error → Next
-hired c plan time task (Ok context) = then (spawns context (worker c)) (λ handle told. spawned c plan time task context handle)
+-- its worker was spawned, or refused
+abbrev pub hired : Chief → Plan → ℕ → ℕ → Result (TaskHandle Output) Error → Next
+hired c plan time task (Ok handle) = waits c plan time task handle
 hired c plan time task (Err error) = Gives (Ready (Err error)) c
 
 -- a worker's sleep answered so
@@ -111,7 +92,7 @@ naps c (Err error) = Gives (Ready (Err error)) c
 -- it hires a worker, or holds a number
 abbrev pub begins : Chief → Plan → ℕ → ℕ → Next
 begins c (ToHold duration number) time task = limiting c duration (held_handle (Ok (Ok number))) time task
-begins c plan time task = then (childs c.context (codes "worker")) (λ child told. hired c plan time task child)
+begins c plan time task = then (starts c.context (codes "worker") (worker c)) (λ handle told. hired c plan time task handle)
 
 -- a poll, by what is to be done
 abbrev pub polled : Chief → Work → ℕ → ℕ → Next

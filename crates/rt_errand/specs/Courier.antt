@@ -1,22 +1,6 @@
 -- What a courier does next: it makes a slot, and gets by it what it sends itself.
 use Rattle.std.specs.Prelude.{ℕ, Result, Ok, Err}
-use Rattle.rt_base.specs.declared.error.Error.{Error}
-use Rattle.rt_base.specs.declared.error.Error.TheVariants.{Timeout as TimedOut}
-use Rattle.rt_base.specs.declared.poll.Poll.{Poll}
-use Rattle.rt_base.specs.declared.poll.Poll.TheVariants.{Ready as IsReady, Pending as IsPending}
-use Rattle.rt_audit.specs.declared.call.Call.TheVariants.{Slots}
-use Rattle.rt_audit.specs.declared.slot_call.SlotCall.TheVariants.{Make as Slot, Close as SlotClose}
-use Rattle.rt_audit.specs.declared.reply.CallReply.{CallReply}
-use Rattle.rt_audit.specs.declared.reply.CallReply.TheVariants.{SlotAt}
-use Rattle.rt_model.specs.declared.answer.Answer.{Answer}
-use Rattle.rt_model.specs.declared.answer.Answer.TheVariants.{Pending, Ready, NoMemory}
-use Rattle.rt_model.specs.Tied.{TaskSteps}
-use Rattle.rt_model.specs.Turns.{Plainly, Sending, Heard, Plain, Handed}
-use Rattle.rt_model.specs.Walk.{Step, Last, Does, Spends, Gives, then, followed_by}
-use Rattle.rt_core.specs.Contexts.{root_context}
-use Rattle.rt_core.specs.Handles.{TaskHandle, received_handle, handle_aborts, aborted, task_polls, task_spends}
-use Rattle.rt_core.specs.Sleeper.{Sleeper}
-use Rattle.rt_core.specs.Pollers.{sleep_for, sleep_polls, closes}
+use Rattle.rt_core.specs.Tasks.{Error, TimedOut, Poll, IsReady, IsPending, Slots, Slot, SlotClose, CallReply, SlotAt, Answer, Pending, Ready, NoMemory, TaskSteps, Plainly, Sending, Heard, Plain, Handed, Step, Last, Does, Spends, Gives, then, followed_by, root_context, TaskHandle, received_handle, handle_aborts, aborted, task_polls, task_spends, Sleeper, sleep_for, sleep_polls, closes}
 use Rattle.rt_errand.specs.declared.courier.Courier.{Courier}
 use Rattle.rt_errand.specs.declared.courier.Parcel.{Parcel}
 use Rattle.rt_errand.specs.declared.courier.Parcel.TheVariants.{Number, Failure, Nothing, Late, Unwanted}

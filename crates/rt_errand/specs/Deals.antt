@@ -1,10 +1,6 @@
 -- What a dealer does: it draws in each of the three ways, and then asks for the digest.
 use Rattle.std.specs.Prelude.{ℕ, List, Result, Ok, Err}
-use Rattle.rt_base.specs.declared.error.Error.{Error}
-use Rattle.rt_model.specs.declared.answer.Answer.{Answer}
-use Rattle.rt_model.specs.declared.answer.Answer.TheVariants.{Ready, NoMemory}
-use Rattle.rt_model.specs.Walk.{Step, Gives, then}
-use Rattle.rt_core.specs.Drawing.{asks_auditor, asks_bytes, asks_u32, asks_u64}
+use Rattle.rt_core.specs.Tasks.{Error, Answer, Ready, NoMemory, Step, Gives, then, asks_auditor, asks_bytes, asks_u32, asks_u64}
 use Rattle.rt_errand.specs.declared.dealer.Dealer.{Dealer}
 
 abbrev pub Dealing : Type 0

@@ -1,18 +1,6 @@
 -- What an errand does next.
 use Rattle.std.specs.Prelude.{ℕ, Result, Ok, Err}
-use Rattle.rt_base.specs.declared.error.Error.{Error}
-use Rattle.rt_base.specs.declared.poll.Poll.{Poll}
-use Rattle.rt_base.specs.declared.poll.Poll.TheVariants.{Ready as IsReady, Pending as IsPending}
-use Rattle.rt_audit.specs.declared.call.Call.TheVariants.{Wake}
-use Rattle.rt_audit.specs.declared.reply.CallReply.TheVariants.{Refused}
-use Rattle.rt_model.specs.declared.answer.Answer.{Answer}
-use Rattle.rt_model.specs.declared.answer.Answer.TheVariants.{Pending, Ready}
-use Rattle.rt_model.specs.Tied.{TaskSteps}
-use Rattle.rt_model.specs.Turns.{Plainly, Heard, Plain}
-use Rattle.rt_model.specs.Walk.{Step, Last, Does, Gives, then, followed_by}
-use Rattle.rt_core.specs.Contexts.{root_context}
-use Rattle.rt_core.specs.Sleeper.{Sleeper}
-use Rattle.rt_core.specs.Pollers.{sleep_for, sleep_polls, sleep_spends, reschedule_polls, reschedule_spends, closes}
+use Rattle.rt_core.specs.Tasks.{Error, Poll, IsReady, IsPending, Wake, Refused, Answer, Pending, Ready, TaskSteps, Plainly, Heard, Plain, Step, Last, Does, Gives, then, followed_by, root_context, Sleeper, sleep_for, sleep_polls, sleep_spends, reschedule_polls, reschedule_spends, closes}
 use Rattle.rt_core.specs.declared.yields.Reschedule.{Reschedule}
 use Rattle.rt_errand.specs.declared.errand.Errand.{Errand}
 use Rattle.rt_errand.specs.declared.errand.Stage.{Stage}

@@ -1,17 +1,6 @@
 -- What an heir does next.
 use Rattle.std.specs.Prelude.{ℕ, codes, Result, Ok, Err}
-use Rattle.rt_base.specs.declared.error.Error.{Error}
-use Rattle.rt_base.specs.declared.poll.Poll.{Poll}
-use Rattle.rt_base.specs.declared.poll.Poll.TheVariants.{Ready as IsReady, Pending as IsPending}
-use Rattle.rt_audit.specs.declared.call.Call.TheVariants.{CloseNode}
-use Rattle.rt_model.specs.declared.answer.Answer.{Answer}
-use Rattle.rt_model.specs.declared.answer.Answer.TheVariants.{Pending, Ready as IsOver}
-use Rattle.rt_model.specs.Tied.{TaskSteps}
-use Rattle.rt_model.specs.Turns.{Plainly}
-use Rattle.rt_model.specs.Walk.{Step, Last, Spends, Gives, then, followed_by}
-use Rattle.rt_core.specs.Contexts.{Context, childs, root_context, spawns}
-use Rattle.rt_core.specs.Handles.{TaskHandle, task_polls, task_spends}
-use Rattle.rt_core.specs.Pollers.{closes}
+use Rattle.rt_core.specs.Tasks.{Error, Poll, IsReady, IsPending, CloseNode, Answer, Pending, Ready as IsOver, TaskSteps, Plainly, Step, Last, Spends, Gives, then, followed_by, Context, childs, root_context, spawns, TaskHandle, task_polls, task_spends, closes}
 use Rattle.rt_errand.specs.declared.heir.Heir.{Heir}
 use Rattle.rt_errand.specs.declared.heir.Stage.{Stage}
 use Rattle.rt_errand.specs.declared.heir.Stage.TheVariants.{Starts, Waits, Ready, Over}

@@ -1,19 +1,6 @@
 -- What a keeper does next: it serves until its run is stopped, by the closer that it hires.
 use Rattle.std.specs.Prelude.{ℕ, ℤ, pos, codes, None, Result, Ok, Err}
-use Rattle.rt_base.specs.declared.error.Error.{Error}
-use Rattle.rt_base.specs.declared.poll.Poll.{Poll}
-use Rattle.rt_base.specs.declared.poll.Poll.TheVariants.{Ready as IsReady, Pending as IsPending}
-use Rattle.rt_audit.specs.declared.call.Call.TheVariants.{CloseNode}
-use Rattle.rt_model.specs.declared.answer.Answer.{Answer}
-use Rattle.rt_model.specs.declared.answer.Answer.TheVariants.{Pending, Ready}
-use Rattle.rt_model.specs.Tied.{TaskSteps}
-use Rattle.rt_model.specs.Turns.{Plainly}
-use Rattle.rt_model.specs.Walk.{Step, Last, Spends, Gives, then, followed_by}
-use Rattle.rt_core.specs.Contexts.{Context, childs, root_context, spawns}
-use Rattle.rt_core.specs.Handles.{TaskHandle, task_spends}
-use Rattle.rt_core.specs.Pollers.{closes}
-use Rattle.rt_core.specs.Signals.{asks_stopped, signal_polls, signal_spends}
-use Rattle.rt_core.specs.Stopping.{stop_polls, stop_spends}
+use Rattle.rt_core.specs.Tasks.{Error, Poll, IsReady, IsPending, Answer, Pending, Ready, TaskSteps, Step, Last, Gives, then, followed_by, Context, childs, root_context, starts, TaskHandle, task_spends, closes, asks_stopped, signal_polls, signal_spends, stop_polls, stop_spends}
 use Rattle.rt_core.specs.declared.signals.SignalKind.{SignalKind}
 use Rattle.rt_core.specs.declared.stop.Stop.{Stop}
 use Rattle.rt_core.specs.declared.stop.Stopping.TheVariants.{Begins}
@@ -55,16 +42,12 @@ closer context = record { context = context; duty = Closes }
 abbrev pub settles : Keeper → TaskHandle Output → Next
 settles k handle = followed_by (task_spends handle) (asks k)
 
-abbrev pub spawned : Keeper → Context → Result (TaskHandle Output) Error → Next
-spawned k context (Ok handle) = settles k handle
-spawned k context (Err error) = Spends (Plainly (CloseNode context.node)) (Gives (Ready (Err error)) k)
-
-abbrev pub hired : Keeper → Result Context Error → Next
-hired k (Ok context) = then (spawns context closer) (λ handle told. spawned k context handle)
+abbrev pub hired : Keeper → Result (TaskHandle Output) Error → Next
+hired k (Ok handle) = settles k handle
 hired k (Err error) = Gives (Ready (Err error)) k
 
 abbrev pub opens : Keeper → Next
-opens k = then (childs k.context (codes "closer")) (λ child told. hired k child)
+opens k = then (starts k.context (codes "closer") closer) (λ handle told. hired k handle)
 
 -- what it stops is over, and the value that it gave is its output
 abbrev pub over : Keeper → Poll (Result (Unit {0}) Error) → Next

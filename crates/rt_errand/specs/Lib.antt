@@ -7,3 +7,4 @@ pub mod Courier
 pub mod Keeper
 pub mod Naps
 pub mod Deals
+pub mod Client

@@ -1,15 +1,6 @@
 -- What a retry does next.
 use Rattle.std.specs.Prelude.{ℕ, Result, Ok, Err}
-use Rattle.rt_base.specs.declared.error.Error.{Error}
-use Rattle.rt_base.specs.declared.poll.Poll.{Poll}
-use Rattle.rt_base.specs.declared.poll.Poll.TheVariants.{Ready as IsReady, Pending as IsPending}
-use Rattle.rt_model.specs.declared.answer.Answer.{Answer}
-use Rattle.rt_model.specs.declared.answer.Answer.TheVariants.{Pending, Ready}
-use Rattle.rt_model.specs.Tied.{TaskSteps}
-use Rattle.rt_model.specs.Walk.{Step, Last, Gives, then, followed_by}
-use Rattle.rt_core.specs.Contexts.{root_context}
-use Rattle.rt_core.specs.Sleeper.{Sleeper}
-use Rattle.rt_core.specs.Pollers.{sleep_for, sleep_polls, sleep_spends, closes}
+use Rattle.rt_core.specs.Tasks.{Error, Poll, IsReady, IsPending, Answer, Pending, Ready, TaskSteps, Step, Last, Gives, then, followed_by, root_context, Sleeper, sleep_for, sleep_polls, sleep_spends, closes}
 use Rattle.rt_errand.specs.declared.retry.Retry.{Retry}
 use Rattle.rt_errand.specs.declared.retry.Stage.{Stage}
 use Rattle.rt_errand.specs.declared.retry.Stage.TheVariants.{Fresh, First, Second, Third}

@@ -1,12 +1,11 @@
 //! Chiefs: tasks that wait for a worker in ways of their own.
 
 ghost use Rattle.std.specs.Prelude.{◌≡◌};
-ghost use Rattle.rt_world.specs.Calls.{IsPolling, Kept};
-ghost use Rattle.rt_world.specs.Walked.{Polled};
+ghost use Rattle.rt_core.specs.Tasks.{IsPolling, Kept, Polled};
 
 use rt_core::{
-    Answer, Context, Cx, Error, Handle, HandleOf, Nanos, NoMemory, Outcome, Poll, Poller, Refused,
-    Rng, RootMaker, Select, Sleep, Task, Timeout, World,
+    Answer, Context, Cx, Error, Handle, HandleOf, Nanos, NoMemory, Outcome, Poll, Poller, Rng,
+    RootMaker, Select, Sleep, Task, Timeout, World,
 };
 use std::alloc::Global;
 use std::mem;
@@ -69,12 +68,23 @@ fn put(place: &mut Work, work: Work)
     }
 }
 
-#[tactic(auto, using(rt_world::proofs::Walked::task_laws))]
+/// A worker, at its nap.
+fn worker(context: Context, alloc: Global) -> Chief
+    ensures { result ≡ record { context = context; work = Work.Naps; alloc = alloc } }
+{
+    Chief {
+        context,
+        work: Work::Naps,
+        alloc,
+    }
+}
+
+#[tactic(auto, using(rt_core::proofs::Tasks::task_laws))]
 impl Chief {
     ghost use Rattle.std.specs.Prelude.{List, Result, ℕ, Ok};
     ghost use Rattle.rt_core.specs.Contexts.{Context};
     ghost use Rattle.rt_core.specs.Sleeper.{Sleeper};
-    ghost use Rattle.rt_errand.specs.Chief.{Output, chooses, hired, limits, sleeps, waits, watches};
+    ghost use Rattle.rt_errand.specs.Chief.{Output, chooses, limits, sleeps, waits, watches};
 
     /// Polls its worker and then its sleep, and keeps both.
     fn watch<G: Rng>(
@@ -216,45 +226,7 @@ impl Chief {
     }
 }
 
-#[tactic(auto, using(rt_world::proofs::Walked::task_laws))]
-impl Chief {
-    ghost use Rattle.std.specs.Prelude.{Ok};
-    ghost use Rattle.rt_errand.specs.Chief.{hired};
-
-    /// Spawns its worker on this context, and waits for it.
-    fn hire<G: Rng>(
-        &mut self,
-        world: &mut World<Chief, Result<u64, Error>, G>,
-        cx: &Cx,
-        plan: Plan,
-        context: Context,
-    ) -> Answer<Result<u64, Error>>
-        requires polling { IsPolling world.old cx.now.task }
-        requires free { self.old.work ≡ Work.Done }
-        ensures kept { Kept G.stream world.old world.new }
-        ensures steps { Polled (hired self.old plan world.old.told.state.clock.time cx.now.task (Ok context)) world.old world.new result self.new }
-    {
-        let alloc = self.alloc;
-        let spawned = context.spawn(
-            world,
-            |context| Chief {
-                context,
-                work: Work::Naps,
-                alloc,
-            },
-        );
-        match spawned {
-            Ok(handle) => self.wait(world, cx, plan, handle),
-            Err(refused) => {
-                let Refused { back, error } = refused;
-                back.close(world);
-                Answer::Ready(Err(error))
-            }
-        }
-    }
-}
-
-#[tactic(auto, using(rt_world::proofs::Walked::task_laws))]
+#[tactic(auto, using(rt_core::proofs::Tasks::task_laws))]
 impl Task for Chief {
     ghost use Rattle.rt_errand.specs.Chief.{chief_steps};
 
@@ -271,10 +243,14 @@ impl Task for Chief {
                 let limit = self.context.timeout(duration, held);
                 self.limit(world, cx, limit)
             }
-            Work::Begins(plan) => match self.context.child(world, "worker") {
-                Ok(context) => self.hire(world, cx, plan, context),
-                Err(error) => Answer::Ready(Err(error)),
-            },
+            Work::Begins(plan) => {
+                let alloc = self.alloc;
+                let make = |context| worker(context, alloc);
+                match self.context.start(world, "worker", make) {
+                    Ok(handle) => self.wait(world, cx, plan, handle),
+                    Err(error) => Answer::Ready(Err(error)),
+                }
+            }
             Work::Watches(handle, sleep) => self.watch(world, cx, handle, sleep),
             Work::Limits(limit) => self.limit(world, cx, limit),
             Work::Chooses(choice) => self.choose(world, cx, choice),
@@ -315,7 +291,7 @@ pub struct RootChief {
     pub alloc: Global,
 }
 
-#[tactic(auto, using(rt_world::proofs::Walked::maker_laws))]
+#[tactic(auto, using(rt_core::proofs::Tasks::task_laws))]
 impl RootMaker<Chief> for RootChief {
     ghost use Rattle.rt_errand.specs.Chief.{chief_made};
 

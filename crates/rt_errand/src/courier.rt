@@ -1,11 +1,7 @@
 //! Couriers.
 
 ghost use Rattle.std.specs.Prelude.{◌≡◌};
-ghost use Rattle.rt_model.specs.Rules.{MayCall};
-ghost use Rattle.rt_world.specs.Calls.{IsPolling, Kept};
-ghost use Rattle.rt_world.specs.Walked.{Polled};
-ghost use Rattle.rt_core.specs.Contexts.{Context};
-ghost use Rattle.rt_core.specs.declared.handle.Kind.{Kind};
+ghost use Rattle.rt_core.specs.Tasks.{IsPolling, Kept, MayCall, Polled};
 ghost use Rattle.rt_errand.specs.Courier.{answer_of};
 
 use rt_core::{
@@ -82,7 +78,7 @@ fn answered(polled: Poll<Result<Result<u64, Error>, Error>>) -> Answer<Result<u6
     }
 }
 
-#[tactic(auto, using(rt_world::proofs::Walked::task_laws))]
+#[tactic(auto, using(rt_core::proofs::Tasks::task_laws))]
 impl Courier {
     ghost use Rattle.rt_errand.specs.Courier.{asks_again, begins, carries, delivers, looks_out, receives};
 
@@ -239,7 +235,7 @@ impl Courier {
     }
 }
 
-#[tactic(auto, using(rt_world::proofs::Walked::task_laws))]
+#[tactic(auto, using(rt_core::proofs::Tasks::task_laws))]
 impl Task for Courier {
     ghost use Rattle.rt_errand.specs.Courier.{courier_steps};
 
@@ -286,7 +282,7 @@ pub struct RootCourier {
     pub parcel: Parcel,
 }
 
-#[tactic(auto, using(rt_world::proofs::Walked::maker_laws))]
+#[tactic(auto, using(rt_core::proofs::Tasks::task_laws))]
 impl RootMaker<Courier> for RootCourier {
     ghost use Rattle.rt_errand.specs.Courier.{courier_made};
 

@@ -1,14 +1,14 @@
 //! Crews.
 
 ghost use Rattle.std.specs.Prelude.{◌≡◌};
-ghost use Rattle.rt_world.specs.Calls.{IsPolling, Kept};
-ghost use Rattle.rt_world.specs.Walked.{Polled};
+ghost use Rattle.rt_core.specs.Tasks.{IsPolling, Kept, Polled};
 ghost use Rattle.rt_core.specs.Contexts.{Context};
 ghost use Rattle.rt_core.specs.declared.handle.Kind.{Kind};
+ghost use Rattle.rt_errand.specs.Crew.{worker};
 
 use rt_core::{
-    Answer, Context, Cx, Error, Handle, NoMemory, Outcome, Poll, Poller, Refused, Rng, RootMaker,
-    Sleep, Task, World,
+    Answer, Context, Cx, Error, Handle, NoMemory, Outcome, Poll, Poller, Rng, RootMaker, Sleep,
+    Task, World,
 };
 use std::mem;
 
@@ -50,11 +50,11 @@ fn put(place: &mut Work, work: Work)
     }
 }
 
-#[tactic(auto, using(rt_world::proofs::Walked::task_laws))]
+#[tactic(auto, using(rt_core::proofs::Tasks::task_laws))]
 impl Crew {
-    ghost use Rattle.std.specs.Prelude.{Result, ℕ, Ok};
+    ghost use Rattle.std.specs.Prelude.{Result, ℕ};
     ghost use Rattle.rt_core.specs.Sleeper.{Sleeper};
-    ghost use Rattle.rt_errand.specs.Crew.{Output, at, hired, joins, sleeps};
+    ghost use Rattle.rt_errand.specs.Crew.{Output, at, joins, sleeps};
     ghost use Rattle.rt_errand.specs.declared.crew.Crew.{Crew};
 
     /// Polls its handle, and keeps it.
@@ -75,36 +75,6 @@ impl Crew {
             Poll::Pending => Answer::Pending,
             Poll::Ready(Ok(output)) => Answer::Ready(output),
             Poll::Ready(Err(error)) => Answer::Ready(Err(error)),
-        }
-    }
-
-    /// Spawns its worker on this context, and polls its handle.
-    fn hire<G: Rng>(
-        &mut self,
-        world: &mut World<Crew, Result<u64, Error>, G>,
-        cx: &Cx,
-        context: Context,
-        number: u64,
-    ) -> Answer<Result<u64, Error>>
-        requires polling { IsPolling world.old cx.now.task }
-        requires free { self.old.work ≡ Work.Done }
-        ensures kept { Kept G.stream world.old world.new }
-        ensures steps { Polled (hired self.old number (Ok context)) world.old world.new result self.new }
-    {
-        let spawned = context.spawn(
-            world,
-            |context| Crew {
-                context,
-                work: Work::Naps(number),
-            },
-        );
-        match spawned {
-            Ok(handle) => self.join(world, cx, handle),
-            Err(refused) => {
-                let Refused { back, error } = refused;
-                back.close(world);
-                Answer::Ready(Err(error))
-            }
         }
     }
 
@@ -131,7 +101,7 @@ impl Crew {
     }
 }
 
-#[tactic(auto, using(rt_world::proofs::Walked::task_laws))]
+#[tactic(auto, using(rt_core::proofs::Tasks::task_laws))]
 impl Task for Crew {
     ghost use Rattle.rt_errand.specs.Crew.{crew_steps};
 
@@ -143,10 +113,13 @@ impl Task for Crew {
         cx: &Cx,
     ) -> Answer<Self::Output> {
         match mem::replace(&mut self.work, Work::Done) {
-            Work::Hires(number) => match self.context.child(world, "worker") {
-                Ok(context) => self.hire(world, cx, context, number),
-                Err(error) => Answer::Ready(Err(error)),
-            },
+            Work::Hires(number) => {
+                let make = |context| worker(context, number);
+                match self.context.start(world, "worker", make) {
+                    Ok(handle) => self.join(world, cx, handle),
+                    Err(error) => Answer::Ready(Err(error)),
+                }
+            }
             Work::Joins(handle) => self.join(world, cx, handle),
             Work::Naps(number) => match self.context.sleep(world, 1_000_000) {
                 Ok(sleep) => self.sleep(world, cx, sleep, number),
@@ -174,7 +147,7 @@ pub struct RootCrew {
     pub number: u64,
 }
 
-#[tactic(auto, using(rt_world::proofs::Walked::maker_laws))]
+#[tactic(auto, using(rt_core::proofs::Tasks::task_laws))]
 impl RootMaker<Crew> for RootCrew {
     ghost use Rattle.rt_errand.specs.Crew.{crew_made};
 
@@ -198,7 +171,7 @@ pub struct RootPair {
     pub number: u64,
 }
 
-#[tactic(auto, using(rt_world::proofs::Walked::maker_laws))]
+#[tactic(auto, using(rt_core::proofs::Tasks::task_laws))]
 impl RootMaker<Crew> for RootPair {
     ghost use Rattle.rt_errand.specs.Crew.{pair_made};
 
@@ -210,24 +183,21 @@ impl RootMaker<Crew> for RootPair {
         world: &mut World<Crew, Result<u64, Error>, G>,
     ) -> Result<Crew, NoMemory> {
         let number = self.number;
-        let Ok(child) = context.child(world, "worker") else {
-            return Ok(first(context, number));
-        };
-        let spawned = child.spawn(
-            world,
-            |context| Crew {
-                context,
-                work: Work::Naps(number),
-            },
-        );
-        match spawned {
+        match context.start(world, "worker", |context| worker(context, number)) {
             Ok(handle) => handle.give_up(world),
-            Err(refused) => {
-                let Refused { back, error: _ } = refused;
-                back.close(world);
-            }
+            Err(_error) => {}
         }
         Ok(first(context, number))
+    }
+}
+
+/// A worker of this number, at its nap.
+fn worker(context: Context, number: u64) -> Crew
+    ensures { result ≡ worker number context }
+{
+    Crew {
+        context,
+        work: Work::Naps(number),
     }
 }
 

@@ -15,7 +15,7 @@ impl Outcome for Dealer {
 
 #[tactic(auto, using(rt_world::proofs::Walked::task_laws), unfolding(crate::specs::Deals::deals))]
 impl Task for Dealer {
-    ghost use Rattle.rt_core.specs.Pollers.{closes};
+    ghost use Rattle.rt_core.specs.Tasks.{closes};
 
     ghost steps = { record { next = λ d now task. deals d; last = λ d now task. closes d.context.node } };
 

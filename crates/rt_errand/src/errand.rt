@@ -1,8 +1,7 @@
 //! Errands.
 
 ghost use Rattle.std.specs.Prelude.{◌≡◌};
-ghost use Rattle.rt_world.specs.Calls.{IsPolling, Kept};
-ghost use Rattle.rt_world.specs.Walked.{Polled};
+ghost use Rattle.rt_core.specs.Tasks.{IsPolling, Kept, Polled};
 
 use rt_core::{
     Answer, Context, Cx, Error, Nanos, Outcome, Poll, Poller, Reschedule, Rng, Sleep, Task, World,
@@ -40,10 +39,9 @@ impl Outcome for Errand {
     type Output = Result<u64, Error>;
 }
 
-#[tactic(auto, using(rt_world::proofs::Walked::task_laws))]
+#[tactic(auto, using(rt_core::proofs::Tasks::task_laws))]
 impl Errand {
-    ghost use Rattle.rt_errand.specs.Errand.{Output, sleeps, naps};
-    ghost use Rattle.rt_errand.specs.declared.errand.Errand.{Errand};
+    ghost use Rattle.rt_errand.specs.Errand.{sleeps, naps};
 
     /// Polls its sleep, and keeps it.
     fn sleep<G: Rng>(
@@ -83,7 +81,7 @@ impl Errand {
     }
 }
 
-#[tactic(auto, using(rt_world::proofs::Walked::task_laws))]
+#[tactic(auto, using(rt_core::proofs::Tasks::task_laws))]
 impl Task for Errand {
     ghost use Rattle.rt_errand.specs.Errand.{errand_steps};
 

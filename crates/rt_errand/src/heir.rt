@@ -1,10 +1,7 @@
 //! Heirs.
 
 ghost use Rattle.std.specs.Prelude.{◌≡◌};
-ghost use Rattle.rt_world.specs.Calls.{IsPolling, Kept};
-ghost use Rattle.rt_world.specs.Walked.{Polled};
-ghost use Rattle.rt_core.specs.Contexts.{Context};
-ghost use Rattle.rt_core.specs.declared.handle.Kind.{Kind};
+ghost use Rattle.rt_core.specs.Tasks.{IsPolling, Kept, Polled};
 ghost use Rattle.rt_errand.specs.Heir.{ready};
 
 use rt_core::{
@@ -62,7 +59,7 @@ fn ready(context: Context) -> Heir
     }
 }
 
-#[tactic(auto, using(rt_world::proofs::Walked::task_laws))]
+#[tactic(auto, using(rt_core::proofs::Tasks::task_laws))]
 impl Heir {
     ghost use Rattle.std.specs.Prelude.{Ok};
     ghost use Rattle.rt_errand.specs.Heir.{begun, inherits, joins, kept, tries, waits};
@@ -190,7 +187,7 @@ impl Heir {
     }
 }
 
-#[tactic(auto, using(rt_world::proofs::Walked::task_laws))]
+#[tactic(auto, using(rt_core::proofs::Tasks::task_laws))]
 impl Task for Heir {
     ghost use Rattle.rt_errand.specs.Heir.{heir_steps};
 
@@ -229,7 +226,7 @@ impl Task for Heir {
 #[derive(Clone, Copy, Debug)]
 pub struct RootHeir;
 
-#[tactic(auto, using(rt_world::proofs::Walked::maker_laws))]
+#[tactic(auto, using(rt_core::proofs::Tasks::task_laws))]
 impl RootMaker<Heir> for RootHeir {
     ghost use Rattle.rt_errand.specs.Heir.{heir_made};
 

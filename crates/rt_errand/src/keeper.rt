@@ -1,12 +1,12 @@
 //! Keepers: tasks that serve until their run is stopped.
 
 ghost use Rattle.std.specs.Prelude.{◌≡◌};
-ghost use Rattle.rt_world.specs.Calls.{IsPolling, Kept};
-ghost use Rattle.rt_world.specs.Walked.{Polled};
+ghost use Rattle.rt_core.specs.Tasks.{IsPolling, Kept, Polled};
+ghost use Rattle.rt_errand.specs.Keeper.{closer};
 
 use rt_core::{
-    Answer, Context, Cx, Error, Handle, NoMemory, Outcome, Poll, Poller, Refused, Rng, RootMaker,
-    Signal, Stop, Task, World,
+    Answer, Context, Cx, Error, Handle, NoMemory, Outcome, Poll, Poller, Rng, RootMaker, Signal,
+    Stop, Task, World,
 };
 use std::mem;
 
@@ -48,10 +48,20 @@ fn put(place: &mut Duty, duty: Duty)
     }
 }
 
-#[tactic(auto, using(rt_world::proofs::Walked::task_laws))]
+/// A closer, which is to stop the run.
+fn closer(context: Context) -> Keeper
+    ensures { result ≡ closer context }
+{
+    Keeper {
+        context,
+        duty: Duty::Closes,
+    }
+}
+
+#[tactic(auto, using(rt_core::proofs::Tasks::task_laws))]
 impl Keeper {
-    ghost use Rattle.std.specs.Prelude.{Result, ℤ, Ok};
-    ghost use Rattle.rt_errand.specs.Keeper.{asks, hired, serves, settles, stops};
+    ghost use Rattle.std.specs.Prelude.{Result, ℤ};
+    ghost use Rattle.rt_errand.specs.Keeper.{asks, serves, settles, stops};
 
     /// Polls its signal, and keeps it.
     fn serve<G: Rng>(
@@ -106,35 +116,6 @@ impl Keeper {
         self.ask(world, cx)
     }
 
-    /// Spawns its closer on this context, and serves.
-    fn hire<G: Rng>(
-        &mut self,
-        world: &mut World<Keeper, Result<i32, Error>, G>,
-        cx: &Cx,
-        context: Context,
-    ) -> Answer<Result<i32, Error>>
-        requires polling { IsPolling world.old cx.now.task }
-        requires free { self.old.duty ≡ Duty.Done }
-        ensures kept { Kept G.stream world.old world.new }
-        ensures steps { Polled (hired self.old (Ok context)) world.old world.new result self.new }
-    {
-        let spawned = context.spawn(
-            world,
-            |context| Keeper {
-                context,
-                duty: Duty::Closes,
-            },
-        );
-        match spawned {
-            Ok(handle) => self.settle(world, cx, handle),
-            Err(refused) => {
-                let Refused { back, error } = refused;
-                back.close(world);
-                Answer::Ready(Err(error))
-            }
-        }
-    }
-
     /// Polls the end of the shutdown, and keeps it.
     fn stop<G: Rng>(
         &mut self,
@@ -157,7 +138,7 @@ impl Keeper {
     }
 }
 
-#[tactic(auto, using(rt_world::proofs::Walked::task_laws))]
+#[tactic(auto, using(rt_core::proofs::Tasks::task_laws))]
 impl Task for Keeper {
     ghost use Rattle.rt_errand.specs.Keeper.{keeper_steps};
 
@@ -169,8 +150,8 @@ impl Task for Keeper {
         cx: &Cx,
     ) -> Answer<Self::Output> {
         match mem::replace(&mut self.duty, Duty::Done) {
-            Duty::Opens => match self.context.child(world, "closer") {
-                Ok(context) => self.hire(world, cx, context),
+            Duty::Opens => match self.context.start(world, "closer", closer) {
+                Ok(handle) => self.settle(world, cx, handle),
                 Err(error) => Answer::Ready(Err(error)),
             },
             Duty::Serves(signal) => self.serve(world, cx, signal),
@@ -198,9 +179,9 @@ impl Task for Keeper {
 #[derive(Clone, Copy, Debug)]
 pub struct RootKeeper;
 
-#[tactic(auto, using(rt_world::proofs::Walked::maker_laws))]
+#[tactic(auto, using(rt_core::proofs::Tasks::task_laws))]
 impl RootMaker<Keeper> for RootKeeper {
-    ghost use Rattle.rt_model.specs.Walk.{Gives};
+    ghost use Rattle.rt_core.specs.Tasks.{Gives};
     ghost use Rattle.rt_errand.specs.Keeper.{keeper_made};
 
     ghost first = { λ maker now. Gives tt keeper_made };

@@ -12,7 +12,7 @@ pub struct Nap {
     pub turn: Reschedule,
 }
 
-#[tactic(auto, using(rt_world::proofs::Walked::poller_laws, crate::proofs::Joined::joined_laws), unfolding(crate::specs::Naps::nap_polls))]
+#[tactic(auto, using(rt_core::proofs::Tasks::task_laws), unfolding(crate::specs::Naps::nap_polls))]
 impl<T: Outcome> Poller<T, ()> for Nap {
     ghost polls = { λ nap now task. nap_polls nap task };
 
@@ -47,13 +47,10 @@ impl Outcome for Napper {
     type Output = u64;
 }
 
-#[tactic(auto, using(rt_world::proofs::Walked::task_laws))]
+#[tactic(auto, using(rt_core::proofs::Tasks::task_laws))]
 impl Task for Napper {
     ghost use Rattle.std.specs.Prelude.{Ok, Err};
-    ghost use Rattle.rt_base.specs.declared.poll.Poll.TheVariants.{Pending as IsPending, Ready as IsReady};
-    ghost use Rattle.rt_model.specs.declared.answer.Answer.TheVariants.{Pending, Ready, NoMemory as LacksMemory};
-    ghost use Rattle.rt_model.specs.Walk.{Gives, then, followed_by};
-    ghost use Rattle.rt_core.specs.Pollers.{closes};
+    ghost use Rattle.rt_core.specs.Tasks.{IsPending, IsReady, Pending, Ready, NoMemory as LacksMemory, Gives, then, followed_by, closes};
 
     ghost steps = { record { next = λ n now task. (then) (nap_polls n.nap task) (λ told nap. elim told [ IsPending ↦ Gives Pending (record n { nap = nap }) | IsReady answer ↦ elim answer [ Ok over ↦ Gives (Ready 7) (record n { nap = nap }) | Err error ↦ Gives LacksMemory (record n { nap = nap }) ] ]); last = λ n now task. followed_by (nap_spends n.nap) (closes n.context.node) } };
 

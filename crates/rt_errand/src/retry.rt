@@ -1,8 +1,7 @@
 //! Retries.
 
 ghost use Rattle.std.specs.Prelude.{◌≡◌};
-ghost use Rattle.rt_world.specs.Calls.{IsPolling, Kept};
-ghost use Rattle.rt_world.specs.Walked.{Polled};
+ghost use Rattle.rt_core.specs.Tasks.{IsPolling, Kept, Polled};
 
 use rt_core::{
     Answer, Context, Cx, Error, NoMemory, Outcome, Poll, Poller, Rng, RootMaker, Sleep, Task, World,
@@ -29,10 +28,9 @@ impl Outcome for Retry {
     type Output = Result<u64, Error>;
 }
 
-#[tactic(auto, using(rt_world::proofs::Walked::task_laws))]
+#[tactic(auto, using(rt_core::proofs::Tasks::task_laws))]
 impl Retry {
-    ghost use Rattle.rt_errand.specs.Retry.{Output, firsts, seconds, thirds};
-    ghost use Rattle.rt_errand.specs.declared.retry.Retry.{Retry};
+    ghost use Rattle.rt_errand.specs.Retry.{firsts, seconds, thirds};
 
     fn third<G: Rng>(
         &mut self,
@@ -98,7 +96,7 @@ impl Retry {
     }
 }
 
-#[tactic(auto, using(rt_world::proofs::Walked::task_laws))]
+#[tactic(auto, using(rt_core::proofs::Tasks::task_laws))]
 impl Task for Retry {
     ghost use Rattle.rt_errand.specs.Retry.{retry_steps};
 
@@ -136,7 +134,7 @@ impl Task for Retry {
 #[derive(Clone, Copy, Debug)]
 pub struct RootRetry;
 
-#[tactic(auto, using(rt_world::proofs::Walked::maker_laws))]
+#[tactic(auto, using(rt_core::proofs::Tasks::task_laws))]
 impl RootMaker<Retry> for RootRetry {
     ghost use Rattle.rt_errand.specs.Retry.{retry_made};
 

@@ -4,6 +4,8 @@
 #[cfg(test)]
 mod chief;
 #[cfg(test)]
+mod client;
+#[cfg(test)]
 mod courier;
 #[cfg(test)]
 mod errands;

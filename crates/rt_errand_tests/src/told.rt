@@ -6,8 +6,8 @@ use rt_core::{
     Config, Error, Failure, Finished, Journal, MAX_TIME, Nanos, NoMemory, RunError, Runner,
 };
 use rt_errand::{
-    Chief, Courier, Crew, Errand, Heir, Parcel, Plan, Retry, RootChief, RootCourier, RootCrew,
-    RootErrand, RootHeir, RootPair, RootRetry, Stage,
+    Chief, Client, Courier, Crew, Errand, Heir, Parcel, Plan, Retry, RootChief, RootClient,
+    RootCourier, RootCrew, RootErrand, RootHeir, RootPair, RootRetry, Stage,
 };
 use std::alloc::Global;
 use std::process::Abort;
@@ -35,6 +35,8 @@ pub enum Root {
     Pair,
     Heir,
     Chief(Plan),
+    /// Its worker sends 7.
+    Client,
     Courier(Parcel),
 }
 
@@ -212,6 +214,9 @@ fn play(
         Root::Heir => runner.start_and_recover::<Heir, RootHeir>(alloc, RootHeir),
         Root::Chief(plan) => {
             runner.start_and_recover::<Chief, RootChief>(alloc, RootChief { plan, alloc })
+        }
+        Root::Client => {
+            runner.start_and_recover::<Client, RootClient>(alloc, RootClient { number: 7 })
         }
         Root::Courier(parcel) => {
             runner.start_and_recover::<Courier, RootCourier>(alloc, RootCourier { parcel })

@@ -1,5 +1,5 @@
 -- That the entries of a run may come where they stand, found out by computing: a proof for an example, or none, which says nothing.
-use Rattle.rt_laws.proofs.Prelude.{◌≡◌, ◌≢◌, ◌⊎◌, inl, inr, ℕ, ℤ, pos, negsuc, ◌≤◌, ◌<◌, ◌+◌, ◌-◌, ◌^◌, List, [], ◌∷◌, ◌++◌, drop, get_or, length, Option, Some, None, Result, Ok, Err, is_some, option_map, Bool, true, false, not, eqb, ltb, leb, refl, arith, IsPermutation, w32, cast_signed, from_be_bytes, option_zip, option_or, eqb-true, ltb-true, leb-true, IsPermutation-refl, Error, UnknownToken, TooManyTasks, HasExited, ErrClosed, Aborted, Metric, BadLabel, Reserved, Poll, MAX_TIME, Call, Child, CloseNode, Spawn, Abort, AbortTask, WakeCall, Join, GiveUp, SleepPoll, Signaler, CloneSignal, Signal, SignalPoll, SignalClose, SignalerClose, CompletionPoll, CompletionClose, Stop, StoppedCall, NextU32, NextU64, FillBytes, Auditor, Slots, Slot, SlotSend, SlotClose, SlotPoll, SlotGiveUp, AbortWait, CallReply, Done, NodeAt, TaskAt, Closed, SlotAt, SignalAt, CompletionAt, ClosedWith, StillPending, PendingAt, IsReady, Number, Bytes, Refused, AnswerKind, Pending, Ready, Panicked, Stopped, NoMemory, Ended, FinishCause, Entry, Start, CallEntry, Event, Wake, Draw, Root, Round, Visit, Answer, NodeEnd, Advance, Skip, Fire, Cleanup, Crash, Finish, is_live, is_known, is_ended, signal_answer, completion_answer, stopped_answer, round-draws, Begin, Mark, Outcome, Open, There, Exited, IsClosed, TaskResult, find, may_abort, has_signaler, shown_reply, met_reply, stopped_reply, Phase, Blank, Making, Between, Visiting, Entered, Polling, Halted, Ending, Leaving, Turning, Over, Cleaning, Closing, Crashed, Numbers, Announced, State, begun, Stood, stood_in, is_set, skip_to, fires, is_late, from_running, ends_next, left_of, label_at, task_label, after, process_task, task_fields, announced_by, IsOfCall, WasGiven, IsRefusal, OutcomeAnswers, is_free, label_refusal, ChildAnswers, SpawnAnswers, Unless, JoinAnswers, IsSent, SlotAnswers, ReceiveAnswers, ShownAs, Answers, IsEndedNext, CallsAt, MayEvent, MayEnd, MayAnswer, MayRound, MayClose, MayCrash, MayFinish, MayEndNode, MayFree, May, IsLawful}
+use Rattle.rt_laws.proofs.Prelude.{◌≡◌, ◌≢◌, ◌⊎◌, inl, inr, ℕ, ℤ, pos, negsuc, ◌≤◌, ◌<◌, ◌+◌, ◌-◌, ◌^◌, List, [], ◌∷◌, ◌++◌, drop, get_or, length, Option, Some, None, Result, Ok, Err, is_some, option_map, Bool, true, false, not, eqb, ltb, leb, refl, arith, IsPermutation, w32, cast_signed, from_be_bytes, option_zip, option_or, eqb-true, ltb-true, leb-true, IsPermutation-refl, Error, UnknownToken, TooManyTasks, HasExited, ErrClosed, Aborted, Metric, BadLabel, Reserved, Poll, MAX_TIME, Call, Child, CloseNode, Spawn, Abort, AbortTask, WakeCall, Join, GiveUp, SleepPoll, Signaler, CloneSignal, Signal, SignalPoll, SignalClose, SignalerClose, CompletionPoll, CompletionClose, Stop, StoppedCall, NextU32, NextU64, FillBytes, Auditor, Slots, Slot, SlotSend, SlotClose, SlotPoll, SlotGiveUp, AbortWait, CallReply, Done, NodeAt, TaskAt, Closed, SlotAt, SignalAt, CompletionAt, ClosedWith, StillPending, PendingAt, IsReady, Number, Bytes, Refused, AnswerKind, Stopped, NoMemory, Ended, FinishCause, Entry, Start, CallEntry, Event, Wake, Draw, Root, Round, Visit, Answer, NodeEnd, Advance, Skip, Fire, Cleanup, Crash, Finish, is_live, is_known, is_ended, signal_answer, completion_answer, stopped_answer, round-draws, Begin, Mark, Outcome, Open, There, Exited, IsClosed, TaskResult, find, may_abort, has_signaler, shown_reply, met_reply, stopped_reply, Phase, Blank, Making, Between, Visiting, Entered, Polling, Halted, Ending, Leaving, Turning, Over, Cleaning, Closing, Crashed, Numbers, Announced, State, begun, Stood, stood_in, is_set, skip_to, fires, is_late, from_running, ends_next, left_of, label_at, task_label, after, process_task, task_fields, announced_by, IsOfCall, WasGiven, IsRefusal, OutcomeAnswers, is_free, label_refusal, ChildAnswers, SpawnAnswers, Unless, JoinAnswers, IsSent, SlotAnswers, ReceiveAnswers, ShownAs, Answers, IsEndedNext, CallsAt, MayEvent, MayEnd, MayAnswer, MayRound, MayClose, MayCrash, MayFinish, MayEndNode, MayFree, May, IsLawful}
 use Rattle.rt_base.specs.declared.error.Error.TheVariants.{Timeout}
 use Rattle.rt_audit.specs.declared.reply.CallReply.TheVariants.{Value}
 use Rattle.rt_audit.specs.declared.finish.FinishCause.TheVariants as cause
@@ -305,12 +305,9 @@ ends (Closing of) next task = same_option same next (Some task)
 ends _ next task = None
 
 abbrev answered : (s : State) (task : ℕ) (kind : AnswerKind) → Option (MayAnswer s task kind)
-answered s task Pending = is_polling s.phase task
-answered s task Ready = is_polling s.phase task
-answered s task Panicked = is_polling s.phase task
 answered s task Stopped = is_halted s.phase task
-answered s task NoMemory = is_polling s.phase task
 answered s task Ended = ends s.phase (ends_next s.running s.root) task
+answered s task _ = is_polling s.phase task
 
 abbrev rounds : (p : Phase) (s : State) → Option (MayRound p s)
 rounds Between s = is_false (is_late s.clock)

@@ -1,5 +1,5 @@
 -- A cleanup only ends tasks, and a run ends for the cause that it had reached.
-use Rattle.rt_laws.proofs.Prelude.{◌≡◌, ◌≢◌, ◌⊎◌, inl, inr, ℕ, List, [], ◌∷◌, ◌++◌, Option, Some, Bool, true, false, not, ◌&&◌, if◌then◌else◌, arith, refl, sym, ap, ◌∙◌, All, AllByRecursion, All-from_recursion, Call, WakeCall, Abort, AbortTask, Slots, SlotSend, SlotClose, AbortWait, CallReply, AnswerKind, Pending, Ready, Panicked, Stopped, NoMemory, Ended, FinishCause, OutOfMemory, Entry, Start, CallEntry, Event, Wake, Draw, Root, Round, Visit, Answer, NodeEnd, Advance, Skip, Fire, Cleanup, Crash, Finish, only-rounds, Begin, Mark, TaskResult, is_ended, find, those, State, Phase, Between, Turning, Entered, Ending, Leaving, Cleaning, Closing, Crashed, Finished, Stood, stood_in, begun, reached, ends_next, after, after_all, is_closing, is_settled, due_called, due_answered, due_node, due_panic, due_ended, ends_in_panic, cause_of, answered, node_ended, cleans, entered, ended, May, CallsAt, MayAnswer, MayEvent, MayEndNode, MayRound, MayClose, MayCrash, MayFinish, IsLawful, after_all-append, IsOfCleanup}
+use Rattle.rt_laws.proofs.Prelude.{◌≡◌, ◌≢◌, ◌⊎◌, inl, inr, ℕ, List, [], ◌∷◌, ◌++◌, Option, Some, Bool, true, false, not, ◌&&◌, if◌then◌else◌, arith, refl, sym, ap, ◌∙◌, All, AllByRecursion, All-from_recursion, Call, WakeCall, CallReply, AnswerKind, Ended, FinishCause, OutOfMemory, Entry, Start, CallEntry, Event, Wake, Draw, Round, Answer, NodeEnd, Advance, Skip, Cleanup, Crash, Finish, only-rounds, Begin, Mark, TaskResult, is_ended, find, those, State, Phase, Between, Turning, Entered, Ending, Leaving, Cleaning, Closing, Crashed, Finished, Stood, stood_in, begun, reached, ends_next, after, after_all, is_closing, is_settled, due_called, due_answered, due_node, due_panic, due_ended, ends_in_panic, cause_of, answered, node_ended, cleans, entered, ended, May, CallsAt, MayAnswer, MayEvent, MayEndNode, MayRound, MayClose, MayCrash, MayFinish, IsLawful, after_all-append, IsOfCleanup}
 use Rattle.rt_laws.proofs.Clock.{lawful-tail}
 
 -- in a cleanup that began for this cause, if it had one, or behind it
@@ -53,20 +53,11 @@ module _ (cause : Option FinishCause) where
   ended-ends settles _ k = k
 
   answer-ends : (s : State) (task : ℕ) (kind : AnswerKind) → EndsFor cause s.phase → MayAnswer s task kind → IsOfCleanup (Answer task kind) × EndsFor cause (answered s task kind)
-  answer-ends s task Pending k m = absurd (rw m at k)
-  answer-ends s task Ready k m = absurd (rw m at k)
-  answer-ends s task Panicked k m = absurd (rw m at k)
-  answer-ends s task Stopped k m = absurd (rw m at k)
-  answer-ends s task NoMemory k m = absurd (rw m at k)
   answer-ends s task Ended k m = (tt, ended-ends (is_settled s task) s.phase k)
+  answer-ends s task _ k m = absurd (rw m at k)
 
   owes-none : (ms : List (ℕ × Mark)) (ss : Stood) (call : Call) (reply : CallReply) → due_called true ms ss call reply ≡ []
   owes-none ms ss (WakeCall task) reply = refl
-  owes-none ms ss (Abort task) reply = refl
-  owes-none ms ss (AbortTask task) reply = refl
-  owes-none ms ss (Slots (SlotSend slot)) reply = refl
-  owes-none ms ss (Slots (SlotClose slot)) reply = refl
-  owes-none ms ss (Slots (AbortWait slot)) reply = refl
   owes-none ms ss _ reply = refl
 
   owes-called : (closing : Bool) (ms : List (ℕ × Mark)) (ss : Stood) (call : Call) (reply : CallReply) → closing ≡ true → due_called closing ms ss call reply ≡ []
@@ -103,22 +94,17 @@ module _ (cause : Option FinishCause) where
 
   pub ends-entry : (s : State) (e : Entry) → s.owed ≡ [] → EndsFor cause s.phase → May s e → IsOfCleanup e × ((after s e).owed ≡ []) × EndsFor cause (after s e).phase
   unfolding after
-  ends-entry s (Start next now deadline cycle) o k m = absurd (rw m.1.0 at k)
   ends-entry s (CallEntry by call reply) o k m = (tt, owes-called (is_closing s.phase) s.marks (stood_in s) call reply (call-closing s.phase s.root (ends_next s.running s.root) by k m.1.0), k)
   ends-entry s (Event label fields) o k m = (event-of s s.phase label fields k m.1, refl, event-ends s s.phase k)
   ends-entry s (Wake task) o k m = absurd (cc)
   ends-entry s (Draw value) o k m = absurd (no-round s.phase s k (only-rounds s.phase s value m.1))
-  ends-entry s (Root task) o k m = absurd (rw m.1.0 at k)
   ends-entry s (Round order) o k m = absurd (no-round s.phase s k m.1.0)
-  ends-entry s (Visit task) o k m = absurd (rw m.1.0 at k)
   ends-entry s (Answer task kind) o k m = let a = answer-ends s task kind k m.1.0 in (a.0, owes-answered s task kind k, a.1)
   ends-entry s (NodeEnd node) o k m = (tt, owes-node (is_closing s.phase) s node (node-closing s.phase s.marks node k m.1), cleaned-ends s.phase k)
-  ends-entry s (Advance now) o k m = absurd (rw m.1.0 at k)
-  ends-entry s (Skip now) o k m = absurd (rw m.1.0 at k)
-  ends-entry s (Fire alarm) o k m = absurd (rw m.1.0 at k)
   ends-entry s Cleanup o k m = absurd (no-cleanup s.phase k m.1.0)
   ends-entry s (Crash choices) o k m = (tt, refl, crash-ends s.phase s.running k m.1.0)
   ends-entry s (Finish end) o k m = (tt, refl, finish-ends s.phase end k m.1)
+  ends-entry s _ o k m = absurd (rw m.1.0 at k)
 
   pub ends-all : (s : State) (x : List Entry) → s.owed ≡ [] → EndsFor cause s.phase → IsLawful s x → AllByRecursion IsOfCleanup x × EndsFor cause (after_all s x).phase
   ends-all s [] o k l = (tt, k)

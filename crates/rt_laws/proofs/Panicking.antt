@@ -1,5 +1,5 @@
 -- The runs with panics, and what comes near to one is none.
-use Rattle.rt_laws.proofs.Prelude.{◌≡◌, ◌≢◌, ℕ, Bool, true, false, List, [], ◌∷◌, Some, refl, AnswerKind, Pending, Ready, Panicked, Stopped, NoMemory, Ended, FinishCause, Completed, TaskPanicked, Answered, State, Halted, begun, after, after_all, MayAnswer, IsLawful, Value, nothing, IsTied, IsRun, gave_beside, Aborting, begin_catching, panicking_root, panicking_journal, raising_root, failed_beside, kept_panic, reported_journal, caught_journal, answered_kept}
+use Rattle.rt_laws.proofs.Prelude.{◌≡◌, ◌≢◌, ℕ, Bool, true, false, List, [], ◌∷◌, Some, refl, AnswerKind, Stopped, Ended, FinishCause, Completed, TaskPanicked, Answered, State, Halted, begun, after, after_all, MayAnswer, IsLawful, Value, nothing, IsTied, IsRun, gave_beside, Aborting, begin_catching, panicking_root, panicking_journal, raising_root, failed_beside, kept_panic, reported_journal, caught_journal, answered_kept}
 use Rattle.rt_laws.proofs.Clock.{lawful-tail}
 use Rattle.rt_laws.proofs.Values.{same_value}
 use Rattle.rt_laws.proofs.Decided.{lawful}
@@ -52,12 +52,9 @@ module _ (text : List ℕ) where
 
 -- the visit of a root that is stopped is answered in one way
 not-answered : (s : State) (task : ℕ) (kind : AnswerKind) → s.phase ≡ Halted task → kind ≢ Stopped → MayAnswer s task kind → ⊥
-not-answered s task Pending is other m = cc
-not-answered s task Ready is other m = cc
-not-answered s task Panicked is other m = cc
 not-answered s task Stopped is other m = other refl
-not-answered s task NoMemory is other m = cc
 not-answered s task Ended is other m = rw is at m
+not-answered s task _ is other m = cc
 
 pub no_poll : (kind : AnswerKind) → kind ≢ Stopped → IsLawful (begun (begin_catching false)) (answered_kept kind) → ⊥
 unfolding begun after

@@ -1,5 +1,5 @@
 -- Which entries may come in which phase.
-use Rattle.rt_laws.proofs.Prelude.{◌≡◌, ℕ, List, [], Option, Bool, true, false, refl, Call, CallReply, AnswerKind, Pending, Ready, Panicked, Stopped, NoMemory, Ended, FinishCause, Entry, Start, CallEntry, Event, Wake, Draw, Root, Round, Visit, Answer, NodeEnd, Advance, Skip, Fire, Cleanup, Crash, Finish, only-rounds, Mark, State, Phase, Blank, Making, Between, Visiting, Entered, Polling, Halted, Ending, Leaving, Turning, Over, Cleaning, Closing, Crashed, ends_next, CallsAt, May, MayEvent, MayAnswer, MayRound, MayClose, MayCrash, MayFinish, MayEnd, MayEndNode}
+use Rattle.rt_laws.proofs.Prelude.{◌≡◌, ℕ, List, [], Option, Bool, true, false, refl, Call, CallReply, AnswerKind, Ended, FinishCause, Entry, Start, CallEntry, Event, Wake, Draw, Root, Round, Visit, Answer, NodeEnd, Advance, Skip, Fire, Cleanup, Crash, Finish, only-rounds, Mark, State, Phase, Blank, Making, Between, Visiting, Entered, Polling, Halted, Ending, Leaving, Turning, Over, Cleaning, Closing, Crashed, ends_next, CallsAt, May, MayEvent, MayAnswer, MayRound, MayClose, MayCrash, MayFinish, MayEnd, MayEndNode}
 
 -- the entry may come in this phase, if it may come at all
 abbrev pub stands : Phase → Entry → Bool
@@ -70,12 +70,8 @@ end-stands (Closing cause) next task m = refl
 end-stands _ next task m = absurd m
 
 answer-stands : (s : State) (task : ℕ) (kind : AnswerKind) → MayAnswer s task kind → stands s.phase (Answer task kind) ≡ true
-answer-stands s task Pending m = rw m refl
-answer-stands s task Ready m = rw m refl
-answer-stands s task Panicked m = rw m refl
-answer-stands s task Stopped m = rw m refl
-answer-stands s task NoMemory m = rw m refl
 answer-stands s task Ended m = end-stands s.phase (ends_next s.running s.root) task m
+answer-stands s task _ m = rw m refl
 
 node-stands : (p : Phase) (ms : List (ℕ × Mark)) (node : ℕ) → MayEndNode p ms node → stands p (NodeEnd node) ≡ true
 node-stands (Leaving task result left) ms node m = refl
@@ -99,19 +95,14 @@ finish-stands (Crashed reached) cause m = refl
 finish-stands _ cause m = absurd m
 
 pub may_stand : (s : State) (e : Entry) → May s e → stands s.phase e ≡ true
-may_stand s (Start next now deadline cycle) m = rw m.1.0 refl
 may_stand s (CallEntry by call reply) m = call-stands by call reply s.phase s.root (ends_next s.running s.root) m.1.0
 may_stand s (Event label fields) m = event-stands label fields s.phase s m.1
 may_stand s (Wake task) m = refl
 may_stand s (Draw value) m = draw-stands s.phase s value (only-rounds s.phase s value m.1)
-may_stand s (Root task) m = rw m.1.0 refl
 may_stand s (Round order) m = round-stands s.phase s order m.1.0
-may_stand s (Visit task) m = rw m.1.0 refl
 may_stand s (Answer task kind) m = answer-stands s task kind m.1.0
 may_stand s (NodeEnd node) m = node-stands s.phase s.marks node m.1
-may_stand s (Advance now) m = rw m.1.0 refl
-may_stand s (Skip now) m = rw m.1.0 refl
-may_stand s (Fire alarm) m = rw m.1.0 refl
 may_stand s Cleanup m = cleanup-stands s.phase m.1.0
 may_stand s (Crash choices) m = rw m.1.1 (crash-stands s.phase s.running m.1.0)
 may_stand s (Finish cause) m = finish-stands s.phase cause m.1
+may_stand s _ m = rw m.1.0 refl

@@ -1,5 +1,5 @@
 -- A run stops where it has reached a cause.
-use Rattle.rt_laws.proofs.Prelude.{◌≡◌, ◌≢◌, ◌≤◌, ◌-◌, ◌^◌, ◌&&◌, ℕ, List, [], ◌∷◌, Option, Some, None, Bool, true, false, leb, ltb, refl, arith, MAX_TIME, Pending, Ready, Panicked, Stopped, NoMemory, Ended, FinishCause, Timeout, TimeOverflow, Entry, Start, Event, Wake, Draw, Root, Round, Visit, Answer, NodeEnd, Advance, Skip, Fire, Cleanup, Crash, Finish, Alarm, only-rounds, Mark, is_nil, State, Phase, Making, Between, Entered, Polling, Ending, Leaving, Turning, Cleaning, Closing, Crashed, ends_next, is_late, turning_cause, where_true, cause_at, reached, CallsAt, May, MayEvent, MayEnd, MayEndNode, MayRound, MayClose, MayCrash, MayFinish}
+use Rattle.rt_laws.proofs.Prelude.{◌≡◌, ◌≢◌, ◌≤◌, ◌-◌, ◌^◌, ◌&&◌, ℕ, List, [], ◌∷◌, Option, Some, None, Bool, true, false, leb, ltb, refl, arith, MAX_TIME, Ended, FinishCause, Timeout, TimeOverflow, Entry, Event, Wake, Draw, Root, Round, Visit, Answer, NodeEnd, Advance, Skip, Fire, Cleanup, Crash, Finish, Alarm, only-rounds, Mark, is_nil, State, Phase, Making, Between, Entered, Polling, Ending, Leaving, Turning, Cleaning, Closing, Crashed, ends_next, is_late, turning_cause, where_true, cause_at, reached, CallsAt, May, MayEvent, MayEnd, MayEndNode, MayRound, MayClose, MayCrash, MayFinish}
 use Rattle.rt_audit.specs.declared.finish.FinishCause.TheVariants.{TooManyTasks}
 use Rattle.rt_audit.specs.declared.entry.Entry.TheVariants.{Call}
 
@@ -70,7 +70,6 @@ module _ (s : State) (cause : FinishCause) (close : MayClose s.phase) (made : s.
   no-round _ k m = m
 
   only-cleanup : (e : Entry) → May s e → e ≡ Cleanup
-  only-cleanup (Start next now deadline cycle) m = absurd (rw m.1.0 at close)
   only-cleanup (Call by call reply) m = absurd (no-call s.phase s.root (ends_next s.running s.root) by close made m.1.0)
   only-cleanup (Event label fields) m = absurd (no-event s.phase s label fields close made m.1)
   only-cleanup (Wake task) m = absurd (cc)
@@ -78,11 +77,6 @@ module _ (s : State) (cause : FinishCause) (close : MayClose s.phase) (made : s.
   only-cleanup (Root task) m = absurd (made m.1.0)
   only-cleanup (Round order) m = absurd (no-round s.phase is m.1.0)
   only-cleanup (Visit task) m = absurd (none-to-visit _ _ task _ cause m.1.1 (rw m.1.0 at is))
-  only-cleanup (Answer task Pending) m = absurd (rw m.1.0 at close)
-  only-cleanup (Answer task Ready) m = absurd (rw m.1.0 at close)
-  only-cleanup (Answer task Panicked) m = absurd (rw m.1.0 at close)
-  only-cleanup (Answer task Stopped) m = absurd (rw m.1.0 at close)
-  only-cleanup (Answer task NoMemory) m = absurd (rw m.1.0 at close)
   only-cleanup (Answer task Ended) m = absurd (no-end s.phase _ task close m.1.0)
   only-cleanup (NodeEnd node) m = absurd (no-node-end s.phase _ node close m.1)
   only-cleanup (Advance now) m = absurd (no-overflow _ _ cause m.1.1 (rw m.1.2 at m.1.3) (rw m.1.0 at is))
@@ -91,6 +85,7 @@ module _ (s : State) (cause : FinishCause) (close : MayClose s.phase) (made : s.
   only-cleanup Cleanup m = refl
   only-cleanup (Crash choices) m = absurd (no-crash s.phase _ close m.1.0)
   only-cleanup (Finish other) m = absurd (no-finish s.phase other close m.1)
+  only-cleanup _ m = absurd (rw m.1.0 at close)
 
 pub stops : (s : State) (e : Entry) (cause : FinishCause) → MayClose s.phase → s.phase ≢ Making → s.owed ≡ [] → reached s ≡ Some cause → May s e → e ≡ Cleanup
 stops s e cause close made owed is m = only-cleanup s cause close made owed is e m

@@ -11,7 +11,7 @@ use rt_audit::{FinishCause, Journal};
 use rt_base::{Error, Execution, MAX_TIME, Nanos, NoMemory, Poll, Text};
 use rt_journals::BEGIN;
 use rt_model::Begin;
-use rt_world::{Answer, Cx, Outcome, Task, World, WorldOf};
+use rt_world::{Answer, Cx, Makes, Outcome, Spawned, Task, World, WorldOf};
 use std::alloc::Global;
 use std::process::Abort;
 use std::test::Fail;
@@ -39,6 +39,20 @@ impl Task for Probe {
 
     fn end<G: Rng>(self, world: &mut World<Self, u64, G>) {
         world.close_node(0);
+    }
+}
+
+/// Makes probes.
+#[derive(Drop)]
+struct ProbeMaker;
+
+impl Makes<Probe> for ProbeMaker {
+    ghost callable = { λ maker. Unit {0} };
+
+    ghost makes = { λ maker node probe. Unit {0} };
+
+    fn make(self, _node: u64) -> Probe {
+        Probe
     }
 }
 
@@ -90,17 +104,6 @@ fn run(alloc: Global, taken_in: bool) -> Result<Came, NoMemory> {
             Ok(taken_apart(world, None, cause))
         }
         Ok(_) => Ok(run_root(world)),
-    }
-}
-
-/// What comes of spawning a probe.
-fn spawns<G: Rng>(world: &mut WorldOf<Probe, G>, node: u64) -> Result<Option<(u64, u64)>, Error>
-    requires { MayCall world.old.told.state world.old.out }
-    ensures { Kept G.stream world.old world.new }
-{
-    match world.spawn(node, Execution::Dedicated, (), |((), _)| Probe) {
-        Ok(at) => Ok(at),
-        Err((error, ())) => Err(error),
     }
 }
 
@@ -249,11 +252,11 @@ fn made(answer: Result<(u64, bool), Error>) -> Heard {
     }
 }
 
-fn spawned(answer: Result<Option<(u64, u64)>, Error>) -> Heard {
+fn spawned(answer: Result<Spawned<ProbeMaker>, (Error, ProbeMaker)>) -> Heard {
     match answer {
-        Ok(None) => Heard::Closed,
-        Ok(Some((task, node))) => Heard::Task(task, node),
-        Err(error) => refused(error),
+        Ok(Spawned::Closed(ProbeMaker)) => Heard::Closed,
+        Ok(Spawned::Runs { task, node }) => Heard::Task(task, node),
+        Err((error, ProbeMaker)) => refused(error),
     }
 }
 
@@ -341,7 +344,9 @@ fn makes<G: Rng>(alloc: Global, world: &mut WorldOf<Probe, G>, call: &WorldCall)
         WorldCall::Wake(task) => return answered(world.wake(task)),
         WorldCall::Child(node) => return made(world.child(node, "left")),
         WorldCall::CloseNode(node) => world.close_node(node),
-        WorldCall::Spawn(node) => return spawned(spawns(world, node)),
+        WorldCall::Spawn(node) => {
+            return spawned(world.spawn(node, Execution::Dedicated, ProbeMaker));
+        }
         WorldCall::Executions => return hinted(world.executions()),
         WorldCall::Join(task) => return polled(world.join(task)),
         WorldCall::Abort(task) => world.abort(task),

@@ -1,5 +1,7 @@
 -- Who is seated behind a call, by what the machine says of it.
-use Rattle.rt_world.proofs.Prelude.{◌≡◌, inl, inr, ◌+◌, ◌-◌, ◌^◌, leb, not, ◌∙◌, sym, ap, ℕ, List, [], ◌∷◌, ◌++◌, refl, Bool, true, false, Option, Some, None, Result, Ok, Err, IfOk, IfErr, OnOk, OnErr, Error, UnknownToken, TooManyTasks, OutOfMemory, Execution, Call, Child, CloseNode, Spawn, Abort, AbortTask, Wake, Join, GiveUp, SleepPoll, Signaler, CloneSignal, Signal, SignalPoll, SignalClose, SignalerClose, CompletionPoll, CompletionClose, Stop, Stopped, NextU32, NextU64, FillBytes, Auditor, Slots, Slot, SlotSend, SlotClose, SlotPoll, SlotGiveUp, AbortWait, CallReply, Done, NodeAt, TaskAt, SlotAt, Pending, PendingAt, Ready, Refused, Outcome, Open, There, Exited, IsClosed, TaskResult, find, without, has_number, replaced, new_result, may_abort, with_outcome, State, Stood, Phase, Ending, stood_in, numbers_called, running_called, results_called, Answers, CallsAt, JoinAnswers, OutcomeAnswers, SpawnAnswers, Unless, is_free, Ask, Heard, Plainly, Spawning, Plain, Handed, unsent, with_task, Held, call_of, moved_by, has_place, Noted, Shown, Spent, IsRefused, lacking, sleep_reply, spawn_reply, Seen, Roomed, OutRuns, AreSeated, AreThere, AreOpen, IsComing, World, Made, IsUnsent, WorldRefused, Called, child_told}
+use Rattle.rt_world.proofs.Prelude.{◌≡◌, inl, inr, ◌+◌, ◌-◌, ◌^◌, leb, not, ◌∙◌, sym, ap, ℕ, List, [], ◌∷◌, ◌++◌, refl, Bool, true, false, Option, Some, None, Result, Ok, Err, IfOk, IfErr, OnOk, OnErr, Error, UnknownToken, TooManyTasks, OutOfMemory, Execution, Call, Child, CloseNode, Spawn, Abort, AbortTask, Wake, Join, GiveUp, SleepPoll, Slots, Slot, SlotPoll, CallReply, Done, NodeAt, TaskAt, SlotAt, Pending, PendingAt, Ready, Refused, Outcome, Open, There, Exited, IsClosed, TaskResult, find, without, has_number, replaced, new_result, may_abort, with_outcome, State, Stood, Phase, Ending, stood_in, numbers_called, running_called, results_called, Answers, CallsAt, JoinAnswers, OutcomeAnswers, SpawnAnswers, Unless, is_free, Ask, Heard, Plainly, Spawning, Plain, Handed, unsent, with_task, Held, call_of, moved_by, has_place, Noted, Shown, Spent, IsRefused, lacking, sleep_reply, Seen, Roomed, OutRuns, AreSeated, AreThere, AreOpen, IsComing, World, Made, IsUnsent, WorldRefused, Called, child_told}
+use Rattle.rt_world.specs.Calls.{spawned_reply}
+use Rattle.rt_world.specs.declared.spawning.Spawned.{Spawned}
 use Rattle.rt_world.proofs.Walked.{called-lacking, child-called, join-called, spawn-called, slot-called, receive-called}
 use Rattle.rt_world.proofs.Coming.{there-abort, there-open, there-given-up, there-taken, coming-changed, coming-given-up, coming-taken, there-spawned, coming-spawned, open-changed, open-given-up, open-spawned}
 use Rattle.rt_world.proofs.Seats.{numbers-with, seated-more, rising-more, rising-has, runs-more}
@@ -30,34 +32,7 @@ module _ {A O : Type 0} (tasks : Roomed (ℕ × A)) (outputs : Roomed (ℕ × O)
 
     quiet-refused : (call : Call) (e : Error) → (running_called old.told.state.running call (Refused e) ≡ old.told.state.running) × (numbers_called old.told.state.numbers call (Refused e) ≡ old.told.state.numbers) × (results_called old.told.state.results by call (Refused e) ≡ old.told.state.results)
     quiet-refused (Child node label) e = (refl, refl, refl)
-    quiet-refused (CloseNode node) e = (refl, refl, refl)
-    quiet-refused (Abort task) e = (refl, refl, refl)
-    quiet-refused (AbortTask task) e = (refl, refl, refl)
-    quiet-refused (Wake task) e = (refl, refl, refl)
-    quiet-refused (Join task) e = (refl, refl, refl)
-    quiet-refused (GiveUp task) e = (refl, refl, refl)
-    quiet-refused (SleepPoll due) e = (refl, refl, refl)
-    quiet-refused (Spawn node) e = (refl, refl, refl)
-    quiet-refused (Slots Slot) e = (refl, refl, refl)
-    quiet-refused (Slots (SlotSend slot)) e = (refl, refl, refl)
-    quiet-refused (Slots (SlotClose slot)) e = (refl, refl, refl)
-    quiet-refused (Slots (SlotPoll slot)) e = (refl, refl, refl)
-    quiet-refused (Slots (SlotGiveUp slot)) e = (refl, refl, refl)
-    quiet-refused (Slots (AbortWait slot)) e = (refl, refl, refl)
-    quiet-refused Signaler e = (refl, refl, refl)
-    quiet-refused (CloneSignal signal) e = (refl, refl, refl)
-    quiet-refused (Signal signaler value) e = (refl, refl, refl)
-    quiet-refused (SignalPoll signal) e = (refl, refl, refl)
-    quiet-refused (SignalClose signal) e = (refl, refl, refl)
-    quiet-refused (SignalerClose signaler) e = (refl, refl, refl)
-    quiet-refused (CompletionPoll completion) e = (refl, refl, refl)
-    quiet-refused (CompletionClose completion) e = (refl, refl, refl)
-    quiet-refused (Stop value) e = (refl, refl, refl)
-    quiet-refused Stopped e = (refl, refl, refl)
-    quiet-refused NextU32 e = (refl, refl, refl)
-    quiet-refused NextU64 e = (refl, refl, refl)
-    quiet-refused (FillBytes len) e = (refl, refl, refl)
-    quiet-refused Auditor e = (refl, refl, refl)
+    quiet-refused _ e = (refl, refl, refl)
 
     seated-refused : (call : Call) (e : Error) → IsRefused by old new call e → AreSeated tasks outputs out new.told.state
     seated-refused call e (inl lack) = seated-lacking lack.1
@@ -216,11 +191,11 @@ module _ {A O G : Type 0} (old new : Seen) (held end : Held A O) (panic : Option
   refused-spawn node execution made error e (inl lack) = inl (lack.0, rw (lack.1, e) refl)
   refused-spawn node execution made error e (inr n) = inr (made-noted (Spawning node execution made) (Refused error) n e)
 
-  pub refused-calls : {C : Type 0} (node : ℕ) (execution : Execution) (made : ℕ → A) (back : Error × C) → end ≡ held → IsRefused out old new (Spawn node) back.0 → Called (Spawning node execution made) before behind (Plain (Refused back.0))
-  refused-calls {C = C} node execution made back e r = let result : Result (Option (ℕ × ℕ)) (Error × C) = Err back in spawn-called before behind node execution made result tt (refused-spawn node execution made back.0 e r)
+  pub refused-calls : {M : Type 0} (node : ℕ) (execution : Execution) (made : ℕ → A) (back : Error × M) → end ≡ held → IsRefused out old new (Spawn node) back.0 → Called (Spawning node execution made) before behind (Plain (Refused back.0))
+  refused-calls {M = M} node execution made back e r = let result : Result (Spawned M) (Error × M) = Err back in spawn-called before behind node execution made result tt (refused-spawn node execution made back.0 e r)
 
-  pub spawned-calls : (node : ℕ) (execution : Execution) (made : ℕ → A) (at : Option (ℕ × ℕ)) → Made before behind (Spawning node execution made) (spawn_reply at) → Called (Spawning node execution made) before behind (Plain (spawn_reply at))
-  spawned-calls node execution made at n = let result : Result (Option (ℕ × ℕ)) (Error × Unit {0}) = Ok at in spawn-called before behind node execution made result n tt
+  pub spawned-calls : {M : Type 0} (node : ℕ) (execution : Execution) (made : ℕ → A) (spawned : Spawned M) → Made before behind (Spawning node execution made) (spawned_reply spawned) → Called (Spawning node execution made) before behind (Plain (spawned_reply spawned))
+  spawned-calls {M = M} node execution made spawned n = let result : Result (Spawned M) (Error × M) = Ok spawned in spawn-called before behind node execution made result n tt
 
   pub pending-calls : (task : ℕ) → end ≡ held → Noted out old new (Join task) Pending → Called (Plainly (Join task)) before behind (Plain Pending)
   pending-calls task e n = join-called before behind task (Ok None) (made-noted (Plainly (Join task)) Pending n e) tt

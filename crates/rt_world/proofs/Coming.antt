@@ -96,19 +96,11 @@ module _ {O : Type 0} (rs : List (ℕ × TaskResult)) (os : List (ℕ × O)) whe
 
 pub results-answered : (s : State) (k : ℕ) (kind : AnswerKind) → kind ≢ Ended → results_answered s k kind ≡ s.results
 results-answered s k Ended e = absurd (e refl)
-results-answered s k Pending e = refl
-results-answered s k Ready e = refl
-results-answered s k Panicked e = refl
-results-answered s k Stopped e = refl
-results-answered s k NoMemory e = refl
+results-answered s k _ e = refl
 
 pub running-answered : (running : List ℕ) (k : ℕ) (kind : AnswerKind) → kind ≢ Ended → running_answered running k kind ≡ running
 running-answered running k Ended e = absurd (e refl)
-running-answered running k Pending e = refl
-running-answered running k Ready e = refl
-running-answered running k Panicked e = refl
-running-answered running k Stopped e = refl
-running-answered running k NoMemory e = refl
+running-answered running k _ e = refl
 
 -- nobody leaves behind the entries by which a cleanup begins
 pub results-cleaned : (ended : Bool) (cause : Option FinishCause) (rs : List (ℕ × TaskResult)) → results_left (cleans ended cause) rs ≡ rs

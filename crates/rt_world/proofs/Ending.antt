@@ -1,7 +1,7 @@
 -- Who is seated behind what isn't a call.
-use Rattle.rt_world.proofs.Prelude.{◌≡◌, ◌∙◌, sym, ℕ, List, Bool, true, false, Option, Some, None, is_some, unwrap_or, Result, Ok, Err, Answer, FinishCause, Completed, Timeout, Stalled, TaskPanicked, TimeOverflow, Outcome, Open, There, Exited, Closed, reached, after, left_of, find, is_some_number, without, with_outcome, State, Ending, is_ended, Visited, cleanup_by, cleanup_entries, open_in, Seen, StandsFor, StepStands, Turns, Told, pushed_all, MayClose, Roomed, AreSeated, AreThere, IsComing, with_task}
+use Rattle.rt_world.proofs.Prelude.{◌≡◌, ◌∙◌, sym, ℕ, List, Bool, true, false, Option, Some, None, is_some, unwrap_or, Result, Ok, Err, Answer, FinishCause, Completed, Outcome, Open, There, Exited, Closed, reached, after, left_of, find, is_some_number, without, with_outcome, State, Ending, is_ended, Visited, cleanup_by, cleanup_entries, open_in, Seen, StandsFor, StepStands, Turns, Told, pushed_all, MayClose, Roomed, AreSeated, AreThere, IsComing, with_task}
 use Rattle.rt_audit.specs.declared.answer.AnswerKind.TheVariants.{Ready}
-use Rattle.rt_audit.specs.declared.finish.FinishCause.TheVariants.{TooManyTasks, NoMemory}
+use Rattle.rt_audit.specs.declared.finish.FinishCause.TheVariants.{NoMemory}
 use Rattle.rt_world.proofs.Seats.{numbers-with, put-back, rising-without, rising-gone}
 use Rattle.rt_world.proofs.Coming.{coming-cleans, coming-cleaned, results-cleaned, coming-cut, coming-over, coming-turning, coming-put, coming-gone, coming-visiting, there-put, there-ended, there-exited, there-closed, open-ended}
 
@@ -106,11 +106,7 @@ module _ {A O : Type 0} (tasks after_put : Roomed (ℕ × A)) (outputs outputs_p
 cut-by : (s : State) (cause : FinishCause) → StandsFor s cause → MayClose s.phase
 cut-by s NoMemory cut = cut.closes
 cut-by s Completed cut = absurd cut
-cut-by s TaskPanicked cut = cut.0.closes
-cut-by s Timeout cut = cut.0.closes
-cut-by s Stalled cut = cut.0.closes
-cut-by s TimeOverflow cut = cut.0.closes
-cut-by s TooManyTasks cut = cut.0.closes
+cut-by s _ cut = cut.0.closes
 
 coming-stepped : {O : Type 0} (s : State) (os : List (ℕ × O)) (result : Result (Unit {0}) FinishCause) → StepStands s result → IsComing s.phase s.results os
 coming-stepped s os (Ok step) stands = rw stands.0 (coming-turning s.results os)

@@ -1,5 +1,5 @@
 -- A panic that is kept has its text, and so has the one that a run ends by.
-use Rattle.rt_world.proofs.Prelude.{◌≡◌, inl, inr, ◌∙◌, ap, ℕ, List, [], ◌∷◌, refl, Bool, true, false, not, ◌&&◌, ◌||◌, Option, Some, None, is_some, if◌then◌else◌, AnswerKind, IsPending, IsReady, IsPanicked, IsStopped, LacksMemory, IsEnded, FinishCause, Completed, TaskPanicked, Entry, Start, Event, Draw, Root, Round, Visit, AnswerEntry, NodeEnd, Advance, Skip, Fire, Cleanup, Crash, Finish, Alarm, Begin, Outcome, Open, There, Exited, Closed, reached, cause_at, where_true, turning_cause, is_some_number, State, Phase, Blank, Making, Between, Visiting, Entered, Polling, Halted, Ending, Leaving, Turning, Over, Cleaning, Closing, Crashed, Finished, begun, after, after_all, left_of, cause_of, is_panic, ends_in_panic, entered, entered_by, left_pending, finished, leaves, ended, node_ended, cleans, is_settled, May, MayAnswer, MayCrash, MayFinish, IsLawful, Held, Steps, Value, nothing, no_number, given, Moves, MovesAnswer, MovesCleanup, MovesCrash, EndsState, IsTied}
+use Rattle.rt_world.proofs.Prelude.{◌≡◌, inl, inr, ◌∙◌, ap, ℕ, List, [], ◌∷◌, refl, Bool, true, false, not, ◌&&◌, ◌||◌, Option, Some, None, is_some, if◌then◌else◌, AnswerKind, IsPending, IsReady, IsPanicked, IsStopped, LacksMemory, IsEnded, FinishCause, Completed, TaskPanicked, Entry, Start, Event, Draw, Root, Round, Visit, AnswerEntry, NodeEnd, Advance, Skip, Fire, Cleanup, Crash, Finish, Alarm, Begin, Outcome, There, Exited, reached, cause_at, where_true, turning_cause, is_some_number, State, Phase, Blank, Making, Between, Visiting, Entered, Polling, Halted, Ending, Leaving, Turning, Over, Cleaning, Closing, Crashed, Finished, begun, after, after_all, left_of, cause_of, is_panic, ends_in_panic, entered, entered_by, left_pending, finished, leaves, ended, node_ended, cleans, is_settled, May, MayAnswer, MayCrash, MayFinish, IsLawful, Held, Steps, Value, nothing, no_number, given, Moves, MovesAnswer, MovesCleanup, MovesCrash, EndsState, IsTied}
 use Rattle.rt_audit.specs.declared.finish.FinishCause.TheVariants.{NoMemory as OutOfMemory}
 use Rattle.rt_audit.specs.declared.entry.Entry.TheVariants.{Call, Wake}
 
@@ -37,21 +37,11 @@ not-turning None false None [] (a ∷ set) e = cc
 not-turning None false None (k ∷ ready) set e = cc
 
 calm-cause : (phase : Phase) (s : State) → is_calm phase ≡ true → cause_at phase s ≡ Some TaskPanicked → ⊥
-calm-cause Blank s calm e = cc
 calm-cause Making s calm e = not-where _ _ (λ e. cc) e
 calm-cause Between s calm e = not-where _ _ (λ e. cc) e
 calm-cause (Visiting left) s calm e = not-where _ _ (λ e. cc) e
-calm-cause (Entered task left) s calm e = cc
-calm-cause (Polling task left) s calm e = cc
-calm-cause (Halted task) s calm e = cc
-calm-cause (Ending task result left) s calm e = cc
-calm-cause (Leaving task result left) s calm e = cc
 calm-cause Turning s calm e = not-turning _ _ _ _ _ e
-calm-cause (Over cause) s calm e = cc
-calm-cause (Cleaning cause) s calm e = cc
-calm-cause (Closing cause) s calm e = cc
-calm-cause (Crashed cause) s calm e = cc
-calm-cause (Finished cause) s calm e = cc
+calm-cause _ s calm e = cc
 
 calm-halted : (phase : Phase) (task : ℕ) → is_calm phase ≡ true → phase ≡ Halted task → ⊥
 calm-halted phase task calm e = let bad : false ≡ true = rw e at calm in cc
@@ -74,16 +64,7 @@ same-phase panicked catches text Making s t h = calmly panicked catches text Mak
 same-phase panicked catches text Between s t h = calmly panicked catches text Between t refl h.kept
 same-phase panicked catches text (Visiting left) s t h = calmly panicked catches text (Visiting left) t refl h.kept
 same-phase panicked catches text Turning s t h = calmly panicked catches text Turning t refl h.kept
-same-phase panicked catches text (Entered task left) s t h = h
-same-phase panicked catches text (Polling task left) s t h = h
-same-phase panicked catches text (Halted task) s t h = h
-same-phase panicked catches text (Ending task result left) s t h = h
-same-phase panicked catches text (Leaving task result left) s t h = h
-same-phase panicked catches text (Over cause) s t h = h
-same-phase panicked catches text (Cleaning cause) s t h = h
-same-phase panicked catches text (Closing cause) s t h = h
-same-phase panicked catches text (Crashed cause) s t h = h
-same-phase panicked catches text (Finished cause) s t h = h
+same-phase panicked catches text _ s t h = h
 
 both-right : (a b : Bool) → (a && b) ≡ true → b ≡ true
 both-right true b e = e
@@ -146,10 +127,7 @@ kept-ended : (panicked catches text : Bool) (result : Option Outcome) → (panic
 kept-ended true catches text result kept coming e = kept refl
 kept-ended false true text (Some Exited) kept coming e = cc
 kept-ended false false text (Some Exited) kept coming e = coming refl refl
-kept-ended false catches text None kept coming e = cc
-kept-ended false catches text (Some There) kept coming e = cc
-kept-ended false catches text (Some (Open waits)) kept coming e = cc
-kept-ended false catches text (Some Closed) kept coming e = cc
+kept-ended false catches text _ kept coming e = cc
 
 texts-leave : (panicked catches text settles : Bool) (task : ℕ) (result : Option Outcome) (left : List ℕ) (t : State) → (panicked ≡ true → text ≡ true) → HasText panicked catches (leaves settles task result left) (cause_at (leaves settles task result left) t) text
 texts-leave panicked catches text true task result left t kept = calmly panicked catches text (Visiting left) t refl kept

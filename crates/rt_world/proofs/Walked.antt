@@ -1,10 +1,11 @@
 -- Steps are walked call by call, and poller by poller.
-use Rattle.rt_world.proofs.Prelude.{◌≡◌, ◌⊎◌, inl, inr, ℕ, Bool, List, [], ◌∷◌, ◌++◌, refl, sym, ap, ◌∙◌, Option, Some, None, Result, Ok, Err, true, false, append_assoc, arith, is_some, OnOk, OnErr, IfOk, IfErr, append-nil, Error, OutOf, OutOfMemory, Execution, Child, AbortTask, Wake, Join, Slots, Slot, SlotPoll, CallReply, Done, NodeAt, SlotAt, Pending, Ready, Refused, AlarmList, Phase, Making, Polling, Ending, Closing, Stood, Turn, stood_in, ends_next, CallsAt, MayCall, alarm_of, Frees, IsAnswerOf, Ask, Heard, Plainly, Sleeping, Spawning, Plain, Handed, Held, Change, IsCounted, counted, Asks, IsOwn, FreesOne, call_of, heard_of, moved, has_place, find, heard_result, polled, Step, Last, Does, Spends, Counts, Gives, Walks, Fronts, Lacks, Stops, Breaks, then, followed_by, stood_before, IsSpending, walks-then, fronts-then, stops-then, stops-first, frees-counted, frees-append, frees-moved, frees-spent, turn_in, marked, sleep_reply, slept_number, spawn_reply, Stream, World, Drew, Stays, Grows, Kept, Made, IsUnreceived, IsUnsent, SpentBy, Joined, Received, Lasts, Broke, EndsWith, Turned, Walked, Polled, answered_by, Rooted, root_by, Goes, Called, tells, wake_told, sleep_told, slot_told, child_told, spawn_told, join_told, MaySpend, Closes, Counted, Leads}
+use Rattle.rt_world.proofs.Prelude.{◌≡◌, ◌⊎◌, inl, inr, ℕ, Bool, List, [], ◌∷◌, ◌++◌, refl, sym, ap, ◌∙◌, Option, Some, None, Result, Ok, Err, true, false, append_assoc, arith, is_some, OnOk, OnErr, IfOk, IfErr, append-nil, Error, OutOf, OutOfMemory, Execution, Child, AbortTask, Wake, Join, Slots, Slot, SlotPoll, CallReply, Done, NodeAt, SlotAt, Pending, Ready, Refused, AlarmList, Phase, Making, Polling, Ending, Closing, Stood, Turn, stood_in, ends_next, CallsAt, MayCall, alarm_of, Frees, IsAnswerOf, Ask, Heard, Plainly, Sleeping, Spawning, Plain, Handed, Held, Change, IsCounted, counted, Asks, IsOwn, FreesOne, call_of, heard_of, moved, has_place, find, heard_result, polled, Step, Last, Does, Spends, Counts, Gives, Walks, Fronts, Lacks, Stops, Breaks, then, followed_by, stood_before, IsSpending, walks-then, fronts-then, stops-then, stops-first, frees-counted, frees-append, frees-moved, frees-spent, turn_in, marked, sleep_reply, slept_number, Stream, World, Drew, Stays, Grows, Kept, Made, IsUnreceived, IsUnsent, SpentBy, Joined, Received, Lasts, Broke, EndsWith, Turned, Walked, Polled, answered_by, Rooted, root_by, Goes, Called, tells, wake_told, sleep_told, slot_told, child_told, spawn_told, join_told, MaySpend, Closes, Counted, Leads}
 use Rattle.rt_model.specs.declared.answer.Answer.{Answer}
 use Rattle.rt_model.specs.declared.answer.Answer.TheVariants.{NoMemory}
 use Rattle.rt_world.proofs.Drawn.{drew-same, drew-drew}
 use Rattle.rt_world.proofs.Lasting.{lasts-of, grows-of, stays-of, drawn-of}
-use Rattle.rt_world.specs.Calls.{IsRefused, lacking}
+use Rattle.rt_world.specs.Calls.{IsRefused, lacking, spawned_reply}
+use Rattle.rt_world.specs.declared.spawning.Spawned.{Spawned}
 use Rattle.rt_world.specs.Walked.{Spent}
 
 stood-more : (ts us : List Turn) (n0 n1 n2 : Stood) → stood_before us n2 ≡ n1 → stood_before ts n1 ≡ n0 → stood_before (ts ++ us) n2 ≡ n0
@@ -499,8 +500,8 @@ module _ {A O G : Type 0} (old new : World A O G) where
   child-called node label (Ok at) made refused = called-made (Plainly (Child node label)) (NodeAt at.0 at.1) (Plain (NodeAt at.0 at.1)) made (refl, tt) refl
   child-called node label (Err error) made refused = called-refused (Plainly (Child node label)) error (λ reply. (refl, tt)) refl refused
 
-  pub spawn-called : {C : Type 0} (node : ℕ) (execution : Execution) (made : ℕ → A) (result : Result (Option (ℕ × ℕ)) (Error × C)) → IfOk result (λ at. Made old new (Spawning node execution made) (spawn_reply at)) → IfErr result (λ back. IsRefused old new (Spawning node execution made) back.0) → Called (Spawning node execution made) old new (spawn_told result)
-  spawn-called node execution made (Ok at) is refused = called-made (Spawning node execution made) (spawn_reply at) (Plain (spawn_reply at)) is (refl, tt) refl
+  pub spawn-called : {M : Type 0} (node : ℕ) (execution : Execution) (made : ℕ → A) (result : Result (Spawned M) (Error × M)) → IfOk result (λ spawned. Made old new (Spawning node execution made) (spawned_reply spawned)) → IfErr result (λ back. IsRefused old new (Spawning node execution made) back.0) → Called (Spawning node execution made) old new (spawn_told result)
+  spawn-called node execution made (Ok spawned) is refused = called-made (Spawning node execution made) (spawned_reply spawned) (Plain (spawned_reply spawned)) is (refl, tt) refl
   spawn-called node execution made (Err back) is refused = called-refused (Spawning node execution made) back.0 (λ reply. (refl, tt)) refl refused
 
   pub sleep-called : (due : ℕ) (alarm : Option ℕ) (result : Result (Option ℕ) OutOfMemory) → IfOk result (λ told. told ≡ slept_number old.told.state.clock.time old.told.state.alarms due alarm) → IfOk result (λ told. Made old new (Sleeping due alarm) (sleep_reply told)) → OnErr result (new ≡ lacking old) → Called (Sleeping due alarm) old new (sleep_told result)
@@ -726,8 +727,8 @@ module _ {A O G V : Type 0} (old new : World A O G) (read : Heard O → V) (valu
   child-tells node label (Ok at) made refused e = tells-made (Plainly (Child node label)) (NodeAt at.0 at.1) (Plain (NodeAt at.0 at.1)) made (refl, tt) refl e
   child-tells node label (Err error) made refused e = tells-refused (Plainly (Child node label)) error (refl, tt) refl refused e
 
-  pub spawn-tells : {C : Type 0} (node : ℕ) (execution : Execution) (made : ℕ → A) (result : Result (Option (ℕ × ℕ)) (Error × C)) → IfOk result (λ at. Made old new (Spawning node execution made) (spawn_reply at)) → IfErr result (λ back. IsRefused old new (Spawning node execution made) back.0) → read (spawn_told result) ≡ value → Goes (tells (Spawning node execution made) read) old new value tt
-  spawn-tells node execution made (Ok at) is refused e = tells-made (Spawning node execution made) (spawn_reply at) (Plain (spawn_reply at)) is (refl, tt) refl e
+  pub spawn-tells : {M : Type 0} (node : ℕ) (execution : Execution) (made : ℕ → A) (result : Result (Spawned M) (Error × M)) → IfOk result (λ spawned. Made old new (Spawning node execution made) (spawned_reply spawned)) → IfErr result (λ back. IsRefused old new (Spawning node execution made) back.0) → read (spawn_told result) ≡ value → Goes (tells (Spawning node execution made) read) old new value tt
+  spawn-tells node execution made (Ok spawned) is refused e = tells-made (Spawning node execution made) (spawned_reply spawned) (Plain (spawned_reply spawned)) is (refl, tt) refl e
   spawn-tells node execution made (Err back) is refused e = tells-refused (Spawning node execution made) back.0 (refl, tt) refl refused e
 
 -- nothing was walked yet

@@ -16,6 +16,8 @@ use Rattle.rt_model.specs.Effects.{stood_called, drawn_called, is_closing}
 use Rattle.rt_model.specs.Rules.{Answers, MayCall}
 use Rattle.rt_machine.specs.Calls.{turn_in, marked}
 use Rattle.rt_world.specs.World.{World, Drew}
+use Rattle.rt_world.specs.declared.spawning.Spawned.{Spawned}
+use Rattle.rt_world.specs.declared.spawning.Spawned.TheVariants.{Runs, Closed as IsClosed}
 
 -- the mark of a call that ran out of memory stays
 unfoldable pub Stays : Option (List Turn) → Option (List Turn) → Type 0
@@ -90,13 +92,23 @@ IsUnreceived old new slot error =
     ((error ≡ NoMemory) × (new ≡ lacking old))
     ⊎ ((IsUnsent old slot ⊎ (find slot old.held.sent ≡ Some (Err error))) × Made old new (Plainly (Slots (SlotPoll slot))) (Refused error))
 
--- what is made of this for a node's number
-abbrev pub IsMadeBy : {A C : Type 0} → (C × ℕ → A → Type 0) → C → (ℕ → A) → Type 0
-IsMadeBy {A = A} post given made = (number : ℕ) (state : A) → post (given, number) state → state ≡ made number
+-- what came of a call that spawns, as its reply
+abbrev pub spawned_reply : {M : Type 0} → Spawned M → CallReply
+spawned_reply (Runs task node) = TaskAt task node
+spawned_reply (IsClosed back) = Closed
 
--- a task was taken in: of what is given and the number of its node this state was made, one of those that may be, and every maker that
--- gives it there has asked so. On a node that had ended nothing was made, and every maker has
-abbrev pub IsTakenIn : {A C O G : Type 0} → (C × ℕ → A → Type 0) → C → World A O G → World A O G → ℕ → Execution → Option (ℕ × ℕ) → Type 0
-IsTakenIn {A = A} post given old new node execution None = (made : ℕ → A) → Made old new (Spawning node execution made) Closed
-IsTakenIn {A = A} post given old new node execution (Some at) =
-    (state : A) × post (given, at.1) state × ((made : ℕ → A) → made at.1 ≡ state → Made old new (Spawning node execution made) (TaskAt at.0 at.1))
+-- where nothing was made, this maker is handed back
+abbrev pub HandsBack : {M : Type 0} → Spawned M → M → Type 0
+HandsBack (Runs task node) maker = Unit {0}
+HandsBack (IsClosed back) maker = back ≡ maker
+
+-- this is what a maker makes for each number of a node
+abbrev pub IsMadeBy : {A : Type 0} → (ℕ → A → Type 0) → (ℕ → A) → Type 0
+IsMadeBy {A = A} makes made = (node : ℕ) (state : A) → makes node state → state ≡ made node
+
+-- a task was taken in: for the number of its node this state was made, one of those that may be, and every function that gives it there
+-- has asked so. On a node that had ended nothing was made, and every function has
+abbrev pub IsTakenIn : {A M O G : Type 0} → (ℕ → A → Type 0) → World A O G → World A O G → ℕ → Execution → Spawned M → Type 0
+IsTakenIn {A = A} makes old new node execution (IsClosed back) = (made : ℕ → A) → Made old new (Spawning node execution made) Closed
+IsTakenIn {A = A} makes old new node execution (Runs task own) =
+    (state : A) × makes own state × ((made : ℕ → A) → made own ≡ state → Made old new (Spawning node execution made) (TaskAt task own))

@@ -13,9 +13,10 @@ use Rattle.rt_model.specs.Turns.{Ask, Heard, Plain, Handed, Held, Change, counte
 use Rattle.rt_model.specs.Walk.{Step, Last, Does, Gives, Spends as IsSpent, Counts, Walks, Fronts, Stops, then, followed_by, stood_before}
 use Rattle.rt_super.specs.declared.stopper.Stopped.{Stopped}
 use Rattle.rt_model.specs.Signals.{met_reply, shown_reply, stopped_reply}
-use Rattle.rt_machine.specs.Calls.{sleep_reply, spawn_reply}
+use Rattle.rt_machine.specs.Calls.{sleep_reply}
 use Rattle.rt_world.specs.World.{World}
-use Rattle.rt_world.specs.Calls.{SpentBy}
+use Rattle.rt_world.specs.Calls.{SpentBy, spawned_reply}
+use Rattle.rt_world.specs.declared.spawning.Spawned.{Spawned}
 
 -- a call ran out of memory after these turns: those among the further ones are a front of the walk, and what they made is
 -- held. What the others made is free
@@ -148,8 +149,8 @@ abbrev pub child_told : {O : Type 0} → Result (ℕ × Bool) Error → Heard O
 child_told (Ok made) = Plain (NodeAt made.0 made.1)
 child_told (Err error) = Plain (Refused error)
 
-abbrev pub spawn_told : {C O : Type 0} → Result (Option (ℕ × ℕ)) (Error × C) → Heard O
-spawn_told (Ok at) = Plain (spawn_reply at)
+abbrev pub spawn_told : {M O : Type 0} → Result (Spawned M) (Error × M) → Heard O
+spawn_told (Ok spawned) = Plain (spawned_reply spawned)
 spawn_told (Err back) = Plain (Refused back.0)
 
 -- a poll of a result hands out what is there

@@ -26,6 +26,7 @@ pub use poller::Poller;
 pub use receiving::{ResultReceiver, ResultSender, polled};
 pub use rt_model::{Answer, Begin};
 pub use rt_super::Stopped;
+pub use spawning::{Makes, Spawned};
 pub use task::Task;
 pub use tasks::Tasks;
 pub use world::{World, WorldOf};

@@ -3,8 +3,7 @@
 ghost use Rattle.std.specs.Prelude.{ℕ, ◌≡◌, ◌<◌, IfOk, IfErr, OnOk, None, Some, [], true, false, vec_len, vec_capacity};
 ghost use Rattle.rt_model.specs.Rules.{MayCall};
 ghost use Rattle.rt_model.specs.Turns.{Spawning};
-ghost use Rattle.rt_machine.specs.Calls.{spawn_reply};
-ghost use Rattle.rt_world.specs.Calls.{Kept, Made, IsMadeBy, IsRefused, IsTakenIn};
+ghost use Rattle.rt_world.specs.Calls.{HandsBack, Kept, Made, IsMadeBy, IsRefused, IsTakenIn, spawned_reply};
 ghost use Rattle.rt_world.specs.Walked.{Called, spawn_told};
 
 use crate::World;
@@ -14,29 +13,57 @@ use rand_core::Rng;
 use rt_base::{Error, Execution, NoMemory};
 use std::alloc::Global;
 
+/// A type whose values make the state of a task. They needn't be `Drop`, so they may hold tokens: where nothing is made of
+/// one, it is handed back.
+///
+/// `callable` says whether one may be used, and `makes` which states it may make, by the number of the task's own node.
+pub trait Makes<T>: Sized {
+    ghost use Rattle.std.specs.Prelude.{ℕ};
+
+    // whether it may be used
+    ghost callable: { Self → Type 0 };
+
+    // the states that it may make
+    ghost makes: { Self → ℕ → T → Type 0 };
+
+    /// Makes the state of a task whose own context is on the node of this number.
+    fn make(self, node: u64) -> T
+        requires { callable self }
+        ensures { makes self node result };
+}
+
+/// What came of a call that spawns.
+#[derive(Debug, Drop)]
+pub enum Spawned<M> {
+    /// The task of this number runs, and its own context is on this node.
+    Runs { task: u64, node: u64 },
+    /// The node had ended, and is closed. Nothing was made, and the maker is handed back.
+    Closed(M),
+}
+
 #[tactic(auto, using(crate::proofs::Walked::call_laws, crate::proofs::Walked::stay_laws, crate::proofs::Calling::seated_laws, crate::proofs::Slotted::slotted_laws))]
 impl<T, O, G: Rng> World<T, O, G> {
-    /// Spawns a task on a node, which asks to run there, and returns the task's number and that of the fresh node on
-    /// which its own context is, or `None` where the node has ended; it is closed then. The state of the task is made
-    /// of what is given and of the fresh node's number. A refusal hands back what was given. It takes memory.
+    /// Spawns a task on a node, which asks to run there, and returns its number and that of the fresh node on which its
+    /// own context is. The maker makes its state, by the fresh node's number. Where the node has ended nothing is made,
+    /// and the node is closed. That and a refusal hand the maker back. It takes memory.
     ///
     /// Errors: `NoMemory` at any time, or else the first that holds: `UnknownToken` where the node isn't live or has
     /// a task, `TooManyTasks` exactly where the next number is `u64::MAX`.
-    pub fn spawn<C: Drop, F: FnOnce((C, u64)) -> T + Drop>(
+    pub fn spawn<M: Makes<T>>(
         &mut self,
         node: u64,
         execution: Execution,
-        given: C,
-        make: F,
-    ) -> Result<Option<(u64, u64)>, (Error, C)>
+        maker: M,
+    ) -> Result<Spawned<M>, (Error, M)>
         requires calling { MayCall self.old.told.state self.old.out }
-        requires callable { F.IsAlwaysCallable make }
+        requires callable { M.callable maker }
         ensures kept { Kept G.stream self.old self.new }
-        ensures back { IfErr result (λ back. back.1 ≡ given) }
-        ensures ok { (made : ℕ → T) → IsMadeBy (F.post make) given made → IfOk result (λ at. Made self.old self.new (Spawning node execution made) (spawn_reply at)) }
-        ensures taken_in { IfOk result (λ at. IsTakenIn (F.post make) given self.old self.new node execution at) }
+        ensures back { IfErr result (λ back. back.1 ≡ maker) }
+        ensures closed { IfOk result (λ spawned. HandsBack spawned maker) }
+        ensures ok { (made : ℕ → T) → IsMadeBy (M.makes maker) made → IfOk result (λ spawned. Made self.old self.new (Spawning node execution made) (spawned_reply spawned)) }
+        ensures taken_in { IfOk result (λ spawned. IsTakenIn (M.makes maker) self.old self.new node execution spawned) }
         ensures err { (made : ℕ → T) → IfErr result (λ back. IsRefused self.old self.new (Spawning node execution made) back.0) }
-        ensures called { (made : ℕ → T) → IsMadeBy (F.post make) given made → Called (Spawning node execution made) self.old self.new (spawn_told result) }
+        ensures called { (made : ℕ → T) → IsMadeBy (M.makes maker) made → Called (Spawning node execution made) self.old self.new (spawn_told result) }
     {
         let reserved = reserve_places(
             self.machine.allocator(),
@@ -46,24 +73,24 @@ impl<T, O, G: Rng> World<T, O, G> {
         );
         let Ok(block) = reserved else {
             self.machine.lack();
-            return Err((Error::NoMemory, given));
+            return Err((Error::NoMemory, maker));
         };
         self.machine.facts();
         match self.machine.spawn(self.out, node) {
             Err(error) => {
                 block.destroy_empty();
-                Err((error, given))
+                Err((error, maker))
             }
             Ok(None) => {
                 block.destroy_empty();
-                Ok(None)
+                Ok(Spawned::Closed(maker))
             }
             Ok(Some((task, number))) => {
-                let state = make((given, number));
+                let state = maker.make(number);
                 self.tasks.add(block, state);
                 self.outputs.skip();
                 self.executions.push_reserved((task, execution));
-                Ok(Some((task, number)))
+                Ok(Spawned::Runs { task, node: number })
             }
         }
     }

@@ -1,4 +1,4 @@
-use Rattle.rt_world.proofs.Walked.{spent-nothing}
+use Rattle.rt_core.proofs.Tasks.{spent-nothing}
 use Rattle.rt_errand.proofs.chief.ChiefTask.end.Goals as goal
 
 pub returns-in-Watches-clause-steps : goal.returns-in-Watches-clause-steps

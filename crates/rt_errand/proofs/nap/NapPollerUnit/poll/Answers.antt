@@ -1,5 +1,5 @@
 use Rattle.rt_errand.specs.Naps.{nap_polls, rests}
-use Rattle.rt_errand.proofs.Joined.{goes-gives, goes-then}
+use Rattle.rt_core.proofs.Tasks.{goes-gives, goes-then}
 use Rattle.rt_errand.proofs.nap.NapPollerUnit.poll.Goals as goal
 
 pub returns-in-Pending-clause-steps : goal.returns-in-Pending-clause-steps

@@ -1,5 +1,6 @@
 use Rattle.rt_world.proofs.Prelude.{◌≡◌, ◌∙◌, refl, sym, Some, None, false, arith, inl, NoMemory, Spawn, TaskAt, Noted, Spawning, is_closing}
 use Rattle.rt_audit.specs.declared.reply.CallReply.TheVariants.{Closed}
+use Rattle.rt_world.specs.declared.spawning.Spawned.TheVariants.{Runs, Closed as IsClosed}
 use Rattle.rt_world.proofs.Seats.{grows-more, not-closing, some-none}
 use Rattle.rt_world.proofs.Drawn.{drew-same}
 use Rattle.rt_world.proofs.Lasting.{lasts-of}
@@ -16,12 +17,12 @@ returns-in-Err-clause-err g c made =
 pub returns-in-Err-clause-called : goal.returns-in-Err-clause-called
 returns-in-Err-clause-called g c made by =
     let w = c.self.inside in
-    rw (← c.self.view_is) (refused-calls w.machine c.spawn.new.self _ _ w.panic w.out w.rng c.args.node c.args.execution made (c.in-Err.error, c.args.given) (rw (c.reserve_places-reserved.ensures.tasks, c.reserve_places-reserved.ensures.outputs, c.reserve_places-reserved.ensures.executions) refl) c.in-Err.ensures.err)
+    rw (← c.self.view_is) (refused-calls w.machine c.spawn.new.self _ _ w.panic w.out w.rng c.args.node c.args.execution made (c.in-Err.error, c.args.maker) (rw (c.reserve_places-reserved.ensures.tasks, c.reserve_places-reserved.ensures.outputs, c.reserve_places-reserved.ensures.executions) refl) c.in-Err.ensures.err)
 
 pub returns-in-Ok-None-clause-called : goal.returns-in-Ok-None-clause-called
 returns-in-Ok-None-clause-called g c made by =
     let w = c.self.inside in
-    rw (← c.self.view_is) (spawned-calls w.machine c.spawn.new.self _ _ w.panic w.out w.rng c.args.node c.args.execution made None (made-noted w.machine c.spawn.new.self _ _ w.panic w.out w.rng (Spawning c.args.node c.args.execution made) Closed (rw c.in-Ok-None.field-0-is at c.in-Ok-None.ensures.ok) (rw (c.reserve_places-reserved.ensures.tasks, c.reserve_places-reserved.ensures.outputs, c.reserve_places-reserved.ensures.executions) refl)))
+    rw (← c.self.view_is) (spawned-calls w.machine c.spawn.new.self _ _ w.panic w.out w.rng c.args.node c.args.execution made (IsClosed c.args.maker) (made-noted w.machine c.spawn.new.self _ _ w.panic w.out w.rng (Spawning c.args.node c.args.execution made) Closed (rw c.in-Ok-None.field-0-is at c.in-Ok-None.ensures.ok) (rw (c.reserve_places-reserved.ensures.tasks, c.reserve_places-reserved.ensures.outputs, c.reserve_places-reserved.ensures.executions) refl)))
 
 pub invariant_of-self-in-Ok-Some : goal.invariant_of-self-in-Ok-Some
 invariant_of-self-in-Ok-Some g c =
@@ -72,7 +73,7 @@ returns-in-Ok-Some-clause-called g c made by =
     let task : c.in-Ok-Some.task ≡ w.tasks.next = spawns-next w.machine.told.state c.args.node c.in-Ok-Some.task c.in-Ok-Some.number noted.answers ∙ sym c.self.invariant.0.next in
     let state : c.make-state.result ≡ made c.in-Ok-Some.number = by c.in-Ok-Some.number c.make-state.result c.make-state.ensures in
     rw (← c.self.view_is)
-    (spawned-calls w.machine c.spawn.new.self _ _ w.panic w.out w.rng c.args.node c.args.execution made (Some (c.in-Ok-Some.task, c.in-Ok-Some.number))
+    (spawned-calls w.machine c.spawn.new.self _ _ w.panic w.out w.rng {M = Unit {0}} c.args.node c.args.execution made (Runs c.in-Ok-Some.task c.in-Ok-Some.number)
     (made-noted w.machine c.spawn.new.self _ _ w.panic w.out w.rng (Spawning c.args.node c.args.execution made) (TaskAt c.in-Ok-Some.task c.in-Ok-Some.number) noted
     (rw (c.add.ensures.items, c.skip.ensures.items, c.push_reserved.ensures.items, r.outputs, r.tasks, r.executions, r.tasks_next, ← task, state) refl)))
 
@@ -80,4 +81,4 @@ pub returns-in_default-clause-called : goal.returns-in_default-clause-called
 returns-in_default-clause-called g c made by =
     let w = c.self.inside in
     let r = c.reserve_places-reserved.ensures in
-    rw (← c.self.view_is) (refused-calls w.machine c.lack.new.self _ _ w.panic w.out w.rng c.args.node c.args.execution made (NoMemory, c.args.given) (rw (r.tasks, r.outputs, r.executions) refl) (inl (refl, c.lack.ensures)))
+    rw (← c.self.view_is) (refused-calls w.machine c.lack.new.self _ _ w.panic w.out w.rng c.args.node c.args.execution made (NoMemory, c.args.maker) (rw (r.tasks, r.outputs, r.executions) refl) (inl (refl, c.lack.ensures)))

@@ -1,6 +1,6 @@
 use Rattle.rt_core.proofs.Prelude.{◌≡◌, ◌∙◌, arith, length, nil_from_length, into_iter_items, kept-kept, calling-kept}
 use Rattle.rt_core.proofs.Choosing.{each-more, each-done}
-use Rattle.rt_core.proofs.select.give_all_up.Goals as goal
+use Rattle.rt_core.proofs.handle.HandleOf.give_all_up.Goals as goal
 
 pub loop-handle-preserved : goal.loop-handle-preserved
 loop-handle-preserved g c = record {
