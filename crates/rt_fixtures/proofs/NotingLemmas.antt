@@ -1,10 +1,5 @@
 -- What is noted in steps, one after the other.
-use Rattle.std.proofs.Common.{◌≡◌, ℕ, zero, suc, ◌+◌, ◌≤◌, Bool, List, [], ◌∷◌, ◌++◌, length, take, Option, Some, None, arith, sym, ap, ◌∙◌, subst}
-use Rattle.std.specs.List.{concat}
-use Rattle.std.proofs.lemmas.List.{append-nil, append_assoc, length-append}
-use Rattle.rt_base.specs.declared.event.Event.{Event}
-use Rattle.rt_base.specs.Noted.{Noted, Adds}
-use Rattle.rt_fixtures.specs.Noting.{closing_event}
+use Rattle.rt_fixtures.proofs.Prelude.{◌≡◌, ℕ, zero, suc, ◌+◌, ◌≤◌, Bool, List, [], ◌∷◌, ◌++◌, length, take, Option, Some, None, arith, sym, ap, ◌∙◌, subst, concat, append-nil, append_assoc, length-append, Event, Noted, Adds, closing_event}
 
 -- nothing
 pub adds-none : (old new : Option (List Noted)) → new ≡ old → Adds old [] new

@@ -9,7 +9,7 @@ ghost use Rattle.rt_fixtures.specs.Noting.{named, refusal, ending, closing_event
 
 use rt_base::{Addr, Env, Error, Event, Items, NoMemory, Poll, Text};
 use rt_bufs::{IoBuf, IoBufs};
-use rt_net::{Network, Receiving, Reply, Sending};
+use rt_net::{Accepting, Network, Receiving, Reply, Sending};
 use std::alloc::Global;
 
 pub struct Noting<N> {
@@ -45,8 +45,18 @@ impl<S: Sending> Sending for NotingSink<S> {
 impl<S: Receiving> Receiving for NotingStream<S> {
     ghost receiving = { λ k. S.receiving k.inner };
 
+    ghost place = { λ k. S.place k.inner };
+
     fn is_receiving(&self) -> bool {
         self.inner.is_receiving()
+    }
+}
+
+impl<L: Accepting> Accepting for NotingListener<L> {
+    ghost accepting = { λ k. L.accepting k.inner };
+
+    fn is_accepting(&self) -> bool {
+        self.inner.is_accepting()
     }
 }
 
@@ -188,7 +198,9 @@ fn count_of(answer: &Poll<IoBufs>) -> u64
 
 impl<N: Network> Noting<N> {
     /// A wrapper that counted nothing yet.
-    pub fn new(alloc: Global, inner: N) -> Noting<N> {
+    pub fn new(alloc: Global, inner: N) -> Noting<N>
+        ensures { result.inner ≡ inner }
+    {
         Noting {
             inner,
             alloc,
@@ -198,7 +210,9 @@ impl<N: Network> Noting<N> {
     }
 
     /// What it wraps, and how many bytes were sent and received.
-    pub fn into_parts(self) -> (N, u64, u64) {
+    pub fn into_parts(self) -> (N, u64, u64)
+        ensures { result.0 ≡ self.inner }
+    {
         let Noting {
             inner,
             alloc: _,
@@ -271,11 +285,17 @@ impl<N: Network> Network for Noting<N> {
     ghost use Rattle.rt_base.specs.Noted.{Noted, Happened};
     ghost use Rattle.rt_fixtures.specs.Noting.{around, followed, ending, outcome, counted_bytes, count_if_ok, receipt_of, receipt_of_reply, count_with, count_with_reply, with_listener, with_halves, with_taken, KnowDialer};
 
+    ghost callable = { λ s. N.callable s.inner };
+
     ghost refusals = { λ s. N.refusals s.inner };
 
     ghost most = { N.most + 2 };
 
     ghost asked = { λ s k. N.asked s.inner k.inner };
+
+    ghost unread = { λ s k. N.unread s.inner k.inner };
+
+    ghost woken = { λ s. N.woken s.inner };
 
     ghost sends = { λ s k b t r u l x.
         ((y : List Noted) × N.sends s.inner k.inner b t r u.inner l.inner y × (x ≡ around (codes "send_attempt") (codes "send_success") (codes "send_failure") (ending r.value) y) × (l.remote ≡ k.remote) × (u ≡ record s { inner = u.inner; sent = counted_bytes s.sent (count_if_ok r.value (length b.bytes)) }))
@@ -325,7 +345,7 @@ impl<N: Network> Network for Noting<N> {
 
     ghost closes_listener = { λ s k u. N.closes_listener s.inner k.inner u.inner × (u ≡ record s { inner = u.inner }) };
 
-    ghost tells_woken = { λ s r u. N.tells_woken s.inner r u.inner × (u ≡ record s { inner = u.inner }) };
+    ghost tells_next = { λ s u. N.tells_next s.inner u.inner × (u ≡ record s { inner = u.inner }) };
 
     fn most_entries() -> Option<usize> {
         N::most_entries()?.checked_add(2)
@@ -416,6 +436,10 @@ impl<N: Network> Network for Noting<N> {
 
     fn asked_len(&self, stream: &NotingStream<N::Stream>) -> usize {
         self.inner.asked_len(&stream.inner)
+    }
+
+    fn unread_len(&self, stream: &NotingStream<N::Stream>) -> usize {
+        self.inner.unread_len(&stream.inner)
     }
 
     fn peek<E: Env>(

@@ -1,29 +1,11 @@
 -- A `recv` that waits keeps its length, and is answered by so many bytes.
-use Rattle.std.proofs.Common.{◌≡◌, ℕ, zero, suc, Bool, true, false, cond, List, [], ◌∷◌, Option, Some, None, Result, Ok, Err, refl, sym, ap, ◌∙◌, subst}
-use Rattle.std.specs.Prelude.{IfOk, slice_get, slice_set}
-use Rattle.rt_base.specs.declared.error.Error.{Error}
-use Rattle.rt_base.specs.declared.error.Error.TheVariants.{RecvFailed}
-use Rattle.rt_base.specs.declared.poll.Poll.{Poll}
-use Rattle.rt_base.specs.declared.poll.Poll.TheVariants.{Ready, Pending}
-use Rattle.rt_bufs.specs.Chunked.{Chunked}
-use Rattle.rt_net.specs.declared.reply.Reply.{Reply}
-use Rattle.rt_net.specs.Asked.{HasLength, asked_of}
-use Rattle.rt_net.specs.Channel.{ChannelState, Answers, PollsReceive, pulled, after_answer, after_recv, after_poll_recv, started_length}
-use Rattle.rt_net.specs.Network.{live_stream, if_lives, has_stream, at, at_stream}
-use Rattle.rt_net.specs.Waiting.{is_not_ready, waits, still_waits}
+use Rattle.rt_net.proofs.Prelude.{◌≡◌, ℕ, zero, suc, true, List, [], ◌∷◌, Some, Result, Ok, Err, refl, sym, ap, ◌∙◌, subst, IfOk, slice_get, slice_set, Error, RecvFailed, Poll, Ready, Pending, Chunked, Reply, HasLength, AreThere, asked_of, unread_of, ChannelState, Answers, PollsReceive, pulled, after_answer, after_recv, after_poll_recv, started_length, unread, live_stream, has_stream, at, at_stream, is_not_ready, waits, still_waits}
+use Rattle.std.specs.Prelude.{length}
+use Rattle.rt_net.proofs.Live.{stands}
 
 -- a live stream's channel stands in the list
-
-lives-at : (c d : ChannelState) (b : Bool) → cond b (Some c) None ≡ Some d → (let o : Option ChannelState = Some c in o) ≡ Some d
-lives-at c d true e = e
-lives-at c d false e = absurd (cc)
-
-lives-if : (o : Option ChannelState) (c : ChannelState) → if_lives has_stream o ≡ Some c → o ≡ Some c
-lives-if None c e = absurd (cc)
-lives-if (Some d) c e = lives-at d c (has_stream d) e
-
 stream-get : (cs : List ChannelState) (n : ℕ) (c : ChannelState) → live_stream cs n ≡ Some c → slice_get cs n ≡ Some c
-stream-get cs n c e = lives-if (slice_get cs n) c e
+stream-get cs n c e = stands has_stream (slice_get cs n) c e
 
 get-set : {X : Type 0} (xs : List X) (n : ℕ) (x y : X) → slice_get xs n ≡ Some x → slice_get (slice_set xs n y) n ≡ Some y
 get-set [] n x y e = absurd (cc)
@@ -45,6 +27,20 @@ polls-length cs now n c (Ok p) is live h =
     let there : started_length c ≡ asked_of (slice_get now n) = sym (ap asked_of (stream-get cs n c live)) ∙ ap (λ ks. asked_of (slice_get ks n)) is in
     subst (λ m. HasLength m p) there (answers-length c (started_length c) p h)
 polls-length cs now n c (Err e) is live h = tt
+
+-- and what is there is that of the channel before
+
+pub unread-there : (cs now : List ChannelState) (n : ℕ) (c : ChannelState) → cs ≡ now → live_stream cs n ≡ Some c → length (unread c) ≡ unread_of (live_stream now n)
+unread-there cs now n c is live = sym (ap unread_of live) ∙ ap (λ ks. unread_of (live_stream ks n)) is
+
+pub receives-there : (cs now : List ChannelState) (n len : ℕ) (c : ChannelState) (r : Result (Reply (Poll Chunked)) Error) → cs ≡ now → live_stream cs n ≡ Some c → IfOk r (λ x. AreThere len (length (unread c)) x.value) → IfOk r (λ x. AreThere len (unread_of (live_stream now n)) x.value)
+receives-there cs now n len c r is live h = subst (λ k. IfOk r (λ x. AreThere len k x.value)) (unread-there cs now n c is live) h
+
+pub polls-there : (cs now : List ChannelState) (n : ℕ) (c : ChannelState) (r : Result (Poll Chunked) Error) → cs ≡ now → live_stream cs n ≡ Some c → IfOk r (AreThere (started_length c) (length (unread c))) → IfOk r (AreThere (asked_of (slice_get now n)) (unread_of (live_stream now n)))
+polls-there cs now n c r is live h =
+    let asks : started_length c ≡ asked_of (slice_get now n) = sym (ap asked_of (stream-get cs n c live)) ∙ ap (λ ks. asked_of (slice_get ks n)) is in
+    let there = unread-there cs now n c is live in
+    subst (λ k. IfOk r (AreThere k (unread_of (live_stream now n)))) asks (subst (λ k. IfOk r (AreThere (started_length c) k)) there h)
 
 -- what waits has the length that was asked for
 

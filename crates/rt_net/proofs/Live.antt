@@ -1,8 +1,14 @@
 -- A live object in its list, and what a call on it leaves.
-use Rattle.std.proofs.Common.{◌≡◌, ℕ, Bool, true, false, cond, List, Option, Some, None, refl, sym, ap, ◌∙◌, subst}
-use Rattle.std.specs.Prelude.{slice_get, slice_set, slice_index_or, is_some, MatchOption}
-use Rattle.std.proofs.lemmas.Option.{get_or_from_slice_get}
-use Rattle.rt_net.specs.Network.{if_lives, at}
+use Rattle.rt_net.proofs.Prelude.{◌≡◌, ℕ, Bool, true, false, cond, List, Option, Some, None, refl, sym, ap, ◌∙◌, subst, slice_get, slice_set, slice_index_or, is_some, MatchOption, get_or_from_slice_get, if_lives, at}
+
+stands-in : {X : Type 0} (x d : X) (b : Bool) → cond b (Some x) None ≡ Some d → (let o : Option X = Some x in o) ≡ Some d
+stands-in x d true e = e
+stands-in x d false e = absurd (cc)
+
+-- a live object is that at its number
+pub stands : {X : Type 0} (lives : X → Bool) (o : Option X) (x : X) → if_lives lives o ≡ Some x → o ≡ Some x
+stands lives None x e = absurd (cc)
+stands lives (Some d) x e = stands-in d x (lives d) e
 
 kept : {X : Type 0} (b : Bool) (d : X) → is_some (cond b (Some d) None) ≡ true → cond b (Some d) None ≡ Some d
 kept true d e = refl

@@ -1,10 +1,6 @@
 -- The place of an address in a list.
-use Rattle.std.proofs.Common.{◌≡◌, ℕ, ◌+◌, Bool, true, false, cond, ◌||◌, List, [], ◌∷◌, ◌++◌, if◌then◌else◌, Option, Some, None, refl, ap, ◌∙◌, rules}
-use Rattle.std.specs.List.{position, position_from, list_any}
-use Rattle.std.proofs.lemmas.Iterator.Adapters.{position_from-zero}
-use Rattle.indexmap.specs.IndexSet.{insert_key}
-use Rattle.rt_base.specs.declared.addr.Addr.{Addr}
-use Rattle.rt_net.specs.Network.{addr_eq, number_at}
+use Rattle.rt_net.proofs.Prelude.{◌≡◌, ℕ, ◌+◌, Bool, true, false, cond, ◌||◌, List, [], ◌∷◌, ◌++◌, Option, Some, None, refl, ap, ◌∙◌, rules, position, position_from, list_any, position_from-zero, insert_key, Addr, addr_eq, number_at}
+use Rattle.std.proofs.Common.{if◌then◌else◌}
 
 same-either-way : (a b : Addr) → addr_eq a b ≡ addr_eq b a
 same-either-way a b = search rules

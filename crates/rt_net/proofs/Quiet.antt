@@ -1,15 +1,5 @@
 -- Channels whose waiting tasks lack their cause.
-use Rattle.std.proofs.Common.{◌≡◌, ℕ, ◌+◌, ◌-◌, ◌<◌, ◌≤◌, true, take, length, Some, Option, arith, ap, subst, sym, ◌∙◌}
-use Rattle.std.specs.Option.{unwrap_or}
-use Rattle.std.proofs.lemmas.Grind.{common_steps}
-use Rattle.std.proofs.lemmas.List.{length-take-le}
-use Rattle.rt_base.specs.declared.poll.Poll.TheVariants.{Ready}
-use Rattle.rt_bufs.specs.Chunked.{Chunked}
-use Rattle.rt_net.specs.declared.pipe.Pipe.TheInside.{Inside}
-use Rattle.rt_net.specs.Forgotten.{IsWhole}
-use Rattle.rt_net.specs.Pipe.{channel_of}
-use Rattle.rt_net.specs.declared.half.Parked.{Parked}
-use Rattle.rt_net.specs.Channel.{ChannelState, IsQuiet, left, held, unread, is_open, Answers, started_length}
+use Rattle.rt_net.proofs.Prelude.{◌≡◌, ℕ, ◌+◌, ◌-◌, ◌<◌, ◌≤◌, true, take, length, Some, Option, arith, ap, subst, sym, ◌∙◌, unwrap_or, common_steps, length-take-le, Ready, Chunked, Inside, IsWhole, channel_of, Parked, ChannelState, IsQuiet, left, held, unread, is_open, Answers, started_length}
 
 -- a `recv` that parks for what is missing
 pub parked-quiet : (c : ChannelState) (h len task : ℕ) → held c ≡ h → IsQuiet c → h < len → is_open c.sink ≡ true → is_open c.stream ≡ true → left c < len - h → IsQuiet (record c { receiver = Some (record { need = len - h; task = task }); receiving = Some len })

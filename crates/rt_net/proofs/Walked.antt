@@ -1,9 +1,6 @@
 -- One more step of a walk through a list: whether any passes a test, and what holds of each.
-use Rattle.std.proofs.Common.{◌≡◌, ℕ, ◌+◌, ◌<◌, Bool, ◌||◌, List, length, take, refl, sym, ap, ◌∙◌, subst, slice_index_or}
-use Rattle.std.specs.List.{list_any, AllWithin}
-use Rattle.std.proofs.lemmas.List.Elements.{AllWithin-more}
-use Rattle.std.proofs.lemmas.List.Folds.{list_any_more}
-use Rattle.std.proofs.lemmas.Option.{slice_get_read, get_or_from_slice_get}
+use Rattle.rt_net.proofs.Prelude.{◌≡◌, ℕ, ◌+◌, ◌<◌, Bool, ◌||◌, List, length, take, refl, sym, ap, ◌∙◌, subst, list_any, AllWithin, AllWithin-more, list_any_more, slice_get_read, get_or_from_slice_get}
+use Rattle.std.proofs.Common.{slice_index_or}
 
 -- what was read at a place stands there, whatever else would
 read-at : {X : Type 0} (xs : List X) (i : ℕ) (x d : X) → i < length xs → x ≡ slice_index_or xs i x → slice_index_or xs i d ≡ x

@@ -81,7 +81,7 @@ abbrev pub IsBound : NetworkState → Addr → Type 0
 IsBound s a = is_some (number_at s.addresses a) ≡ true
 
 abbrev pub NetBinds : NetworkState → Addr → Result Listener Error → Type 0
-NetBinds s a (Ok l) = (¬ IsDialerAddress a) × (¬ IsBound s a) × (l ≡ record { number = length s.listeners; address = a })
+NetBinds s a (Ok l) = (¬ IsDialerAddress a) × (¬ IsBound s a) × (l ≡ record { number = length s.listeners; address = a; accepting = false })
 NetBinds s a (Err BindFailed) = IsDialerAddress a ⊎ IsBound s a
 NetBinds s a (Err NoMemory) = Unit {0}
 NetBinds s a (Err e) = ⊥
@@ -149,9 +149,6 @@ closed_at s n (Some l) = record s {
 abbrev pub net_after_close : NetworkState → ℕ → NetworkState
 net_after_close s n = closed_at s n (live_listener s.listeners n)
 
--- the next task that the last closing woke, and the network once it was returned
-abbrev pub next_told : NetworkState → Option ℕ
-next_told s = slice_get s.woken 0
-
+-- the network once the next task that the last closing woke was returned
 abbrev pub told : NetworkState → NetworkState
 told s = record s { woken = drop 1 s.woken }

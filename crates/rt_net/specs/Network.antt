@@ -12,11 +12,13 @@ use Rattle.rt_net.specs.declared.acceptor.Connection.{Connection}
 use Rattle.rt_net.specs.Channel.{ChannelState, receiver_task, closed_sink, closed_stream, given_up_send, given_up_recv}
 
 -- `waiting` is the connections that were dialed and not accepted, in the order of their dials, and `task` the task
--- that waits for the next
+-- that waits for the next. `accepting` is whether an `accept` is started, until it is answered or given up; a dial wakes
+-- its task and leaves it started.
 pub record ListenerState : Type 0 where
   pub alive : Bool
   pub waiting : List Connection
   pub task : Option ℕ
+  pub accepting : Bool
 
 -- `port` is the port of the next dialer, `addresses` are those of the listeners, by their numbers, and `woken` the tasks
 -- that the last closing of a listener woke and that were not told yet
@@ -133,11 +135,11 @@ woken_by_closing cs (c ∷ rest) =
 
 -- a listener where nothing waits
 abbrev pub fresh_listener : ListenerState
-fresh_listener = record { alive = true; waiting = []; task = None }
+fresh_listener = record { alive = true; waiting = []; task = None; accepting = false }
 
 -- a listener that was closed: its address stays taken
 abbrev pub closed_listener : ListenerState → ListenerState
-closed_listener l = record l { alive = false; waiting = []; task = None }
+closed_listener l = record l { alive = false; waiting = []; task = None; accepting = false }
 
 -- the first connection, or that there is none
 abbrev pub Accepts : ListenerState → Poll Connection → Type 0
@@ -146,8 +148,8 @@ Accepts l Pending = l.waiting ≡ []
 
 -- the listener after it: the connection is taken, or the task waits
 abbrev pub after_accept : {A : Type 0} → ListenerState → ℕ → Poll A → ListenerState
-after_accept l task (Ready _) = record l { waiting = drop 1 l.waiting; task = None }
-after_accept l task Pending = record l { task = Some task }
+after_accept l task (Ready _) = record l { waiting = drop 1 l.waiting; task = None; accepting = false }
+after_accept l task Pending = record l { task = Some task; accepting = true }
 
 -- the addresses are the same
 abbrev pub addr_eq : Addr → Addr → Bool
@@ -182,10 +184,16 @@ with_accepted ls n task (Err _) = ls
 abbrev pub with_connection : List ListenerState → ℕ → Connection → List ListenerState
 with_connection ls n c = at_listener ls n (λ l. record l { waiting = l.waiting ++ c ∷ []; task = None })
 
--- the wait for a connection is given up
-abbrev pub without_task : List ListenerState → ℕ → List ListenerState
-without_task ls n = at_listener ls n (λ l. record l { task = None })
+-- the `accept` is given up
+abbrev pub given_up_accept : ListenerState → ListenerState
+given_up_accept l = record l { task = None; accepting = false }
 
--- a wait for a connection is at a live listener, where none waits
-abbrev pub IsQuietListener : ListenerState → Type 0
-IsQuietListener l = (t : ℕ) → l.task ≡ Some t → (l.waiting ≡ []) × (l.alive ≡ true)
+abbrev pub with_given_up_accept : List ListenerState → ℕ → List ListenerState
+with_given_up_accept ls n = at_listener ls n given_up_accept
+
+-- Who waits. A parked `accept` is a started one at a live listener where no connection waits, and a started one where
+-- none waits is parked. Only a live listener has an `accept` started.
+pub record IsQuietListener (l : ListenerState) : Type 0 where
+  pub task : (t : ℕ) → l.task ≡ Some t → (l.waiting ≡ []) × (l.alive ≡ true) × (l.accepting ≡ true)
+  pub accepting : l.accepting ≡ true → l.waiting ≡ [] → (t : ℕ) × (l.task ≡ Some t)
+  pub started : l.accepting ≡ true → l.alive ≡ true

@@ -30,6 +30,15 @@ still_waits (Err NoMemory) = true
 still_waits (Err UnknownToken) = true
 still_waits (Err _) = false
 
+-- a call that may also be made while one waits: it waits where it is pending, and goes on as before where it was refused
+-- and changed nothing
+abbrev pub waits_on : {A : Type 0} → Bool → Result (Poll A) Error → Bool
+waits_on before (Ok Pending) = true
+waits_on before (Ok (Ready _)) = false
+waits_on before (Err NoMemory) = before
+waits_on before (Err UnknownToken) = before
+waits_on before (Err _) = false
+
 -- no wait of the halves of a new connection is started
 abbrev pub AreIdle : {K M : Type 0} → (K → Bool) → (M → Bool) → Result (Reply (K × M)) Error → Type 0
 AreIdle sending receiving (Ok r) = (sending r.value.0 ≡ false) × (receiving r.value.1 ≡ false)

@@ -1,6 +1,6 @@
 // One listener, and the connections that wait at it.
 ghost use Rattle.std.specs.Prelude.{◌≡◌, [], ◌∷◌, ◌++◌, true, None, OnErr, IfOk, OnOk};
-ghost use Rattle.rt_net.specs.Network.{Accepts, after_accept, fresh_listener, closed_listener, IsQuietListener, after_closing, woken_by_closing};
+ghost use Rattle.rt_net.specs.Network.{Accepts, after_accept, fresh_listener, closed_listener, given_up_accept, IsQuietListener, after_closing, woken_by_closing};
 
 use crate::channels::{close_sink, close_stream};
 use crate::pipe::Pipe;
@@ -22,7 +22,8 @@ pub struct Connection {
     pub stream: u64,
 }
 
-/// A listener: the connections that wait in the order of their dials, and the task that waits for one.
+/// A listener: the connections that wait in the order of their dials, the task that waits for one, and whether an `accept`
+/// is started.
 /// Closing a connection wakes at most two tasks. The room for them is taken at each dial, so closing takes no memory.
 #[derive(Debug, Drop)]
 pub struct Acceptor {
@@ -30,18 +31,19 @@ pub struct Acceptor {
     waiting: VecDeque<Connection>,
     woken: VecDeque<u64>,
     task: Option<u64>,
+    accepting: bool,
 }
 
 impl Model for Acceptor {
     ghost use Rattle.std.specs.Prelude.{◌≡◌, ◌*◌, ◌≤◌, [], ℕ, Some, length, true};
     ghost use Rattle.std.specs.VecDeque.{deque_capacity};
-    ghost use Rattle.rt_net.specs.Network.{ListenerState};
+    ghost use Rattle.rt_net.specs.Network.{ListenerState, IsQuietListener};
 
     ghost Value = { ListenerState };
 
-    ghost view = { λ a. record { alive = a.alive; waiting = a.waiting.items; task = a.task } };
+    ghost view = { λ a. record { alive = a.alive; waiting = a.waiting.items; task = a.task; accepting = a.accepting } };
 
-    ghost invariant = { λ a. ((t : ℕ) → a.task ≡ Some t → (a.waiting.items ≡ []) × (a.alive ≡ true)) × (a.woken.items ≡ []) × (2 * length a.waiting.items ≤ deque_capacity a.woken) };
+    ghost invariant = { λ a. IsQuietListener (record { alive = a.alive; waiting = a.waiting.items; task = a.task; accepting = a.accepting }) × (a.woken.items ≡ []) × (2 * length a.waiting.items ≤ deque_capacity a.woken) };
 }
 
 impl Acceptor {
@@ -54,6 +56,7 @@ impl Acceptor {
             waiting: VecDeque::new(alloc),
             woken: VecDeque::new(alloc),
             task: None,
+            accepting: false,
         }
     }
 
@@ -94,20 +97,23 @@ impl Acceptor {
         match self.waiting.pop_front() {
             Some(connection) => {
                 self.task = None;
+                self.accepting = false;
                 Poll::Ready(connection)
             }
             None => {
                 self.task = Some(task);
+                self.accepting = true;
                 Poll::Pending
             }
         }
     }
 
-    /// Lets no task wait.
+    /// Gives a started `accept` up.
     pub fn give_up(&mut self)
-        ensures { self.new ≡ record self.old { task = None } }
+        ensures { self.new ≡ given_up_accept self.old }
     {
         self.task = None;
+        self.accepting = false;
     }
 
     /// Closes it and both halves of each connection that waits, and returns the tasks that this wakes. It takes no
@@ -119,6 +125,7 @@ impl Acceptor {
     {
         self.alive = false;
         self.task = None;
+        self.accepting = false;
         let empty = VecDeque::new(*self.woken.allocator());
         let mut woken = mem::replace(&mut self.woken, empty);
         let none = VecDeque::new(*self.waiting.allocator());

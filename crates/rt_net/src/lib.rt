@@ -21,4 +21,4 @@ pub use half::{Half, Parked};
 pub use net::{DEFAULT_BUFFER_SIZE, Net};
 pub use network::{ListenerOf, Network, SinkOf, StreamOf};
 pub use reply::Reply;
-pub use tokens::{Listener, Receiving, Sending, Sink, Stream};
+pub use tokens::{Accepting, Listener, Receiving, Sending, Sink, Stream};

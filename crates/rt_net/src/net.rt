@@ -10,7 +10,7 @@ ghost use Rattle.rt_base.specs.Counted.{counted, Counts};
 use crate::acceptor::Acceptor;
 use crate::channels::{close_sink, close_stream, has_sink, has_stream};
 use crate::pipe::Pipe;
-use crate::reply::{is_pending, waits};
+use crate::reply::{is_pending, waits, waits_on};
 use crate::waited::anyone_waits_at;
 use crate::{Connection, Listener, Network, Reply, Sink, Stream};
 use indexmap::IndexSet;
@@ -189,6 +189,7 @@ impl Net {
         Ok(Listener {
             number,
             address: socket,
+            accepting: false,
         })
     }
 
@@ -262,16 +263,20 @@ impl Network for Net {
 
     ghost use Rattle.std.specs.Prelude.{◌≡◌, [], slice_get};
     ghost use Rattle.rt_net.specs.Kept.{answered, moved_to};
-    ghost use Rattle.rt_net.specs.Asked.{asked_of};
-    ghost use Rattle.rt_net.specs.Waiting.{is_pending, still_waits, waits};
-    ghost use Rattle.rt_net.specs.Network.{sink_wakes, stream_wakes, with_given_up_send, with_given_up_recv, with_closed_sink, with_closed_stream, without_task};
-    ghost use Rattle.rt_net.specs.Calls.{NetSends, NetPollsSend, NetReceives, NetPollsReceive, NetPeeks, NetBinds, NetDials, NetAccepts, net_after_send, net_after_poll_send, net_after_recv, net_after_poll_recv, net_after_bind, net_after_dial, net_after_accept, net_after_close, with_channels, with_listeners, told, next_told};
+    ghost use Rattle.rt_net.specs.Asked.{asked_of, unread_of};
+    ghost use Rattle.rt_net.specs.Waiting.{is_pending, still_waits, waits, waits_on};
+    ghost use Rattle.rt_net.specs.Network.{sink_wakes, stream_wakes, with_given_up_send, with_given_up_recv, with_closed_sink, with_closed_stream, with_given_up_accept, live_stream};
+    ghost use Rattle.rt_net.specs.Calls.{NetSends, NetPollsSend, NetReceives, NetPollsReceive, NetPeeks, NetBinds, NetDials, NetAccepts, net_after_send, net_after_poll_send, net_after_recv, net_after_poll_recv, net_after_bind, net_after_dial, net_after_accept, net_after_close, with_channels, with_listeners, told};
 
     ghost refusals = { λ v. v.refusals };
 
     ghost most = { 0 };
 
     ghost asked = { λ v k. asked_of (slice_get v.state.channels k.number) };
+
+    ghost unread = { λ v k. unread_of (live_stream v.state.channels k.number) };
+
+    ghost woken = { λ v. v.state.woken };
 
     ghost sends = { λ v k b t r w l x. NetSends v.state k.number b.bytes r × (w ≡ answered v (net_after_send v.state k.number b.bytes t r.value) r.value) × (l ≡ record k { sending = is_pending r.value }) × (x ≡ []) };
 
@@ -295,17 +300,17 @@ impl Network for Net {
 
     ghost dials = { λ v a r w x. NetDials v.state a r × (w ≡ answered v (net_after_dial v.state a r) r) × (x ≡ []) };
 
-    ghost accepts = { λ v k t r w l x. NetAccepts v.state k.number r × (w ≡ answered v (net_after_accept v.state k.number t r) r) × (l ≡ k) × (x ≡ []) };
+    ghost accepts = { λ v k t r w l x. NetAccepts v.state k.number r × (w ≡ answered v (net_after_accept v.state k.number t r) r) × (l ≡ record k { accepting = waits_on k.accepting r }) × (x ≡ []) };
 
-    ghost polls_accept = { λ v k t r w l x. NetAccepts v.state k.number r × (w ≡ answered v (net_after_accept v.state k.number t r) r) × (l ≡ k) × (x ≡ []) };
+    ghost polls_accept = { λ v k t r w l x. NetAccepts v.state k.number r × (w ≡ answered v (net_after_accept v.state k.number t r) r) × (l ≡ record k { accepting = waits_on k.accepting r }) × (x ≡ []) };
 
     ghost has_address = { λ v k a. a ≡ k.address };
 
-    ghost gives_accept_up = { λ v k w l. (w ≡ moved_to v (with_listeners v.state (without_task v.state.listeners k.number))) × (l ≡ k) };
+    ghost gives_accept_up = { λ v k w l. (w ≡ moved_to v (with_listeners v.state (with_given_up_accept v.state.listeners k.number))) × (l ≡ record k { accepting = false }) };
 
     ghost closes_listener = { λ v k w. w ≡ moved_to v (net_after_close v.state k.number) };
 
-    ghost tells_woken = { λ v r w. (r ≡ next_told v.state) × (w ≡ moved_to v (told v.state)) };
+    ghost tells_next = { λ v w. w ≡ moved_to v (told v.state) };
 
     fn most_entries() -> Option<usize> {
         Some(0)
@@ -379,6 +384,13 @@ impl Network for Net {
             .map_or(0, |pipe| pipe.asked_len())
     }
 
+    fn unread_len(&self, stream: &Stream) -> usize {
+        if !has_stream(&self.channels, stream.number) {
+            return 0;
+        }
+        self.channels[stream.number as usize].unread_len()
+    }
+
     fn peek<E: Env>(
         &mut self,
         _env: &mut E,
@@ -436,6 +448,7 @@ impl Network for Net {
         task: u64,
     ) -> Result<Poll<(Addr, Sink, Stream)>, Error> {
         let answer = self.take(listener.number, task);
+        listener.accepting = waits_on(listener.accepting, &answer);
         self.counted(answer)
     }
 
@@ -457,10 +470,15 @@ impl Network for Net {
         if self.has_listener(listener.number) {
             self.listeners[listener.number as usize].give_up();
         }
+        listener.accepting = false;
     }
 
     fn close_listener(&mut self, listener: Listener) {
-        let Listener { number, address: _ } = listener;
+        let Listener {
+            number,
+            address: _,
+            accepting: _,
+        } = listener;
         if self.has_listener(number) {
             self.woken = self.listeners[number as usize].close(&mut self.channels);
         }

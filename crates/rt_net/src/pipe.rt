@@ -1,8 +1,9 @@
 // One channel: the bytes that were not received yet, and who waits at its two ends.
-ghost use Rattle.std.specs.Prelude.{◌≡◌, ◌-◌, ◌<◌, ◌≤◌, OnOk, OnErr, IfOk, IfErr, None, true, false};
+ghost use Rattle.std.specs.Prelude.{◌≡◌, ◌-◌, ◌<◌, ◌≤◌, OnOk, OnErr, IfOk, IfErr, None, true, false, length};
 ghost use Rattle.rt_base.specs.declared.error.Error.TheVariants.{RecvFailed};
 ghost use Rattle.rt_base.specs.declared.poll.Poll.TheVariants.{Pending};
-ghost use Rattle.rt_net.specs.Channel.{fresh, is_open, receiver_task, failed_send, Sends, PollsSend, after_send, after_poll_send, closed_sink, closed_stream, given_up_send, given_up_recv, sent, appended, handed_task, is_drained, Settles, settled, answered, pulled, drained_task, moved, failed_recv, parked, Receives, PollsReceive, after_recv, after_poll_recv, started_length, Peeks, held, left, with_ended_sink, AreCounted, IsQuiet};
+ghost use Rattle.rt_net.specs.Asked.{AreThere};
+ghost use Rattle.rt_net.specs.Channel.{fresh, is_open, receiver_task, failed_send, Sends, PollsSend, after_send, after_poll_send, closed_sink, closed_stream, given_up_send, given_up_recv, sent, appended, handed_task, is_drained, Settles, settled, answered, pulled, drained_task, moved, failed_recv, parked, Receives, PollsReceive, after_recv, after_poll_recv, started_length, Peeks, held, left, unread, with_ended_sink, AreCounted, IsQuiet};
 
 use crate::byte_queue::ByteQueue;
 use crate::forgotten::Forgotten;
@@ -126,6 +127,7 @@ impl Pipe {
     pub fn recv(&mut self, len: usize, task: u64) -> Result<Reply<Poll<IoBufs>>, Error>
         requires { self.old.stream.alive ≡ true }
         ensures receives { Receives self.old len result }
+        ensures there { IfOk result (λ r. AreThere len (length (unread self.old)) r.value) }
         ensures after { self.new ≡ after_recv self.old len task result }
     {
         if self.stream.is_spent() {
@@ -146,6 +148,7 @@ impl Pipe {
     pub fn poll_recv(&mut self, task: u64) -> Result<Poll<IoBufs>, Error>
         requires { self.old.stream.alive ≡ true }
         ensures polls { PollsReceive self.old result }
+        ensures there { IfOk result (AreThere (started_length self.old) (length (unread self.old))) }
         ensures after { self.new ≡ after_poll_recv self.old task result }
     {
         let Some(len) = self.receiving else {
@@ -169,6 +172,14 @@ impl Pipe {
         ensures { result ≡ started_length self.now }
     {
         self.receiving.unwrap_or(0)
+    }
+
+    /// Returns how many bytes are here that no `recv` returned yet.
+    pub fn unread_len(&self) -> usize
+        requires { self.now.stream.alive ≡ true }
+        ensures { result ≡ length (unread self.now) }
+    {
+        self.bytes.len()
     }
 
     /// Returns a copy of the first bytes held, at most `max_len`.

@@ -1,6 +1,6 @@
 // What a call on the network returns, and which answers leave it waiting.
 ghost use Rattle.std.specs.Prelude.{◌≡◌, None};
-ghost use Rattle.rt_net.specs.Waiting.{is_pending, waits};
+ghost use Rattle.rt_net.specs.Waiting.{is_pending, waits, waits_on};
 
 use rt_base::{Error, Nanos, Poll};
 
@@ -42,6 +42,17 @@ pub fn waits<V>(answer: &Result<Reply<Poll<V>>, Error>) -> bool
 {
     match answer {
         Ok(reply) => matches!(reply.value, Poll::Pending),
+        Err(_) => false,
+    }
+}
+
+/// Returns whether a call waits that may also be made while one waits, which it then was before.
+pub fn waits_on<V>(before: bool, answer: &Result<Poll<V>, Error>) -> bool
+    ensures { result ≡ waits_on before answer.now }
+{
+    match answer {
+        Ok(poll) => matches!(poll, Poll::Pending),
+        Err(Error::NoMemory | Error::UnknownToken) => before,
         Err(_) => false,
     }
 }

@@ -1,5 +1,5 @@
-// The tokens of a `Net`, and what each half of a channel tells of itself.
-ghost use Rattle.std.specs.Prelude.{◌≡◌, Bool, false};
+// The tokens of a `Net`, and what each half of a channel and each listener tells of itself.
+ghost use Rattle.std.specs.Prelude.{◌≡◌, ℕ, Bool, false};
 
 use rt_base::Addr;
 
@@ -16,9 +16,22 @@ pub trait Sending {
 pub trait Receiving {
     ghost receiving: { Self → Bool };
 
+    // The number of the stream, which no other stream of its network has. A call at another one leaves what is asked for at
+    // this one.
+    ghost place: { Self → ℕ };
+
     /// Returns whether a `recv` of the half waits.
     fn is_receiving(&self) -> bool
         ensures { result ≡ receiving self.now };
+}
+
+/// A listener, which says whether an `accept` of it is started and neither answered nor given up.
+pub trait Accepting {
+    ghost accepting: { Self → Bool };
+
+    /// Returns whether an `accept` of the listener is started.
+    fn is_accepting(&self) -> bool
+        ensures { result ≡ accepting self.now };
 }
 
 /// The half of a channel from which bytes are sent. It must be spent by `Network::close_sink`.
@@ -84,6 +97,8 @@ impl Stream {
 impl Receiving for Stream {
     ghost receiving = { λ k. k.receiving };
 
+    ghost place = { λ k. k.number };
+
     fn is_receiving(&self) -> bool {
         self.receiving
     }
@@ -94,6 +109,7 @@ impl Receiving for Stream {
 pub struct Listener {
     pub(crate) number: u64,
     pub(crate) address: Addr,
+    pub(crate) accepting: bool,
 }
 
 impl Listener {
@@ -102,5 +118,13 @@ impl Listener {
         ensures { result ≡ self.now.number }
     {
         self.number
+    }
+}
+
+impl Accepting for Listener {
+    ghost accepting = { λ k. k.accepting };
+
+    fn is_accepting(&self) -> bool {
+        self.accepting
     }
 }

@@ -2,6 +2,10 @@
 #![tactic(auto)]
 
 #[cfg(test)]
+mod calls;
+#[cfg(test)]
 mod line;
+#[cfg(test)]
+mod listeners;
 #[cfg(test)]
 mod tests;

@@ -5,16 +5,29 @@
 
 use rt_base::{Env, Error, Poll};
 use rt_bufs::{IoBuf, IoBufs};
-use rt_fixtures::{Ending, seen, seen_error};
-use rt_net::{Network, Receiving, Sending};
+use rt_fixtures::{Ending, Noting, seen, seen_error};
+use rt_net::{Net, Network, Receiving, Sending};
 use std::alloc::Global;
 use std::process::Abort;
+
+// A network whose calls may be made at any time.
+pub trait Free: Network {
+    ghost free: { (x : Self) → Self.callable x };
+}
+
+impl Free for Net {
+    ghost free = { λ _. tt };
+}
+
+impl<N: Free> Free for Noting<N> {
+    ghost free = { λ x. N.free x.inner };
+}
 
 // The word of a call, and its number.
 type Call<'a> = (&'a str, usize);
 
 // How a call ends, and the task that it wakes.
-type Taken = (Ending, Option<u64>);
+pub type Taken = (Ending, Option<u64>);
 
 // A step as it is written, its call, and how it ends.
 type Step<'a> = (&'a str, Call<'a>, Taken);
@@ -91,7 +104,7 @@ fn came(answer: Result<Poll<IoBufs>, Error>, received: &mut usize) -> Ending {
 }
 
 // Receives the bytes that come next for task 2, and polls a `recv` that waits.
-pub fn receive_next<N: Network, E: Env>(
+pub fn receive_next<N: Free, E: Env>(
     net: &mut N,
     env: &mut E,
     stream: &mut N::Stream,
@@ -129,12 +142,13 @@ fn call_in(call: &str) -> Option<Call<'_>> {
         ("send" | "recv" | "peek", Some(count)) => Some((word, count)),
         ("send-256s" | "send-30000s", Some(count)) => Some((word, count)),
         ("poll-send" | "give-up-send" | "poll-recv" | "give-up-recv", None) => Some((word, 0)),
+        ("unread", None) => Some((word, 0)),
         _ => None,
     }
 }
 
 // How a call ends, and the task that it wakes.
-fn wanted_in(ends: &str) -> Option<Taken> {
+pub fn wanted_in(ends: &str) -> Option<Taken> {
     match ends.split_once(" wakes ") {
         Some((ending, task)) => Some((ending_in(ending)?, Some(task.parse::<u64>().ok()?))),
         None => Some((ending_in(ends)?, None)),
@@ -170,7 +184,7 @@ fn times_in(group: &str) -> Option<(u64, &str)> {
 }
 
 // Polls a `send` that waits.
-pub fn poll_put<N: Network, E: Env>(
+pub fn poll_put<N: Free, E: Env>(
     net: &mut N,
     env: &mut E,
     sink: &mut N::Sink,
@@ -193,11 +207,7 @@ fn sent_by(rt: &impl Abort, alloc: Global, call: Call<'_>, from: usize) -> IoBuf
 }
 
 // Closes both halves, and returns the tasks that this wakes.
-pub fn close<N: Network>(
-    net: &mut N,
-    sink: N::Sink,
-    stream: N::Stream,
-) -> (Option<u64>, Option<u64>) {
+pub fn close<N: Free>(net: &mut N, sink: N::Sink, stream: N::Stream) -> (Option<u64>, Option<u64>) {
     (net.close_sink(sink), net.close_stream(stream))
 }
 
@@ -210,7 +220,7 @@ pub struct Line<N: Network> {
     received: usize,
 }
 
-impl<N: Network> Line<N> {
+impl<N: Free> Line<N> {
     pub fn new(alloc: Global, sink: N::Sink, stream: N::Stream) -> Line<N> {
         Line {
             alloc,
@@ -290,6 +300,7 @@ impl<N: Network> Line<N> {
                 (Ending::Done, None)
             }
             ("peek", most) => (self.peek(net, env, most), None),
+            ("unread", _) => (Ending::Got(net.unread_len(&self.stream)), None),
             call => {
                 let bufs = sent_by(rt, self.alloc, call, self.sent);
                 self.send(net, env, bufs)

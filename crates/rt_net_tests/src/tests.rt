@@ -1,65 +1,15 @@
 // Worked examples on the network in memory. Each body is over any network, so it is proved from the trait alone.
 
-use crate::line::{Line, close, numbered, poll_put, receive_next, step_in};
-use rt_base::{Addr, Env, Error, Ip, NoEnv, Poll};
+use crate::calls::{accept, bind, dial, dials, here, memory, put, v6};
+use crate::line::{Free, Line, close, poll_put, receive_next, step_in};
+use rt_base::{Addr, Env, Ip, NoEnv, Poll};
 use rt_bufs::IoBufs;
 use rt_fixtures::{
-    Ending, Notebook, Noting, NotingSink, NotingStream, got, seen, seen_error, take_room_of_calls,
+    Ending, Notebook, Noting, NotingSink, NotingStream, seen_error, take_room_of_calls,
 };
-use rt_net::{Channel, Net, Network, Receiving, Reply, Sending};
+use rt_net::{Accepting, Channel, Net, Network, Reply};
 use std::alloc::Global;
 use std::process::Abort;
-
-// A network in memory.
-fn memory(rt: &impl Abort, alloc: Global) -> Net {
-    Net::new(alloc).expect(rt, "room")
-}
-
-fn here(port: u16) -> Addr {
-    Addr {
-        ip: Ip::V4([127, 0, 0, 1]),
-        port,
-    }
-}
-
-fn v6(port: u16) -> Addr {
-    Addr {
-        ip: Ip::V6([0, 0, 0, 0, 0, 0, 0, 1]),
-        port,
-    }
-}
-
-// Sends where no `send` waits.
-fn put<N: Network, E: Env>(
-    net: &mut N,
-    env: &mut E,
-    sink: &mut N::Sink,
-    bufs: IoBufs,
-    task: u64,
-) -> Ending {
-    if sink.is_sending() {
-        drop(bufs);
-        return Ending::Other;
-    }
-    seen(net.send(env, sink, bufs, task).value)
-}
-
-// Receives where no `recv` waits, and else polls it.
-fn get<N: Network, E: Env>(
-    net: &mut N,
-    env: &mut E,
-    stream: &mut N::Stream,
-    len: usize,
-    task: u64,
-) -> Ending {
-    if stream.is_receiving() {
-        return got(net.poll_recv(env, stream, task));
-    }
-    match net.recv(env, stream, len, task) {
-        Ok(reply) => got(Ok(reply.value)),
-        Err(error) => seen_error(error),
-    }
-}
 
 // A channel with this buffer size.
 fn line_of(rt: &impl Abort, alloc: Global, net: &mut Net, size: usize) -> Line<Net> {
@@ -95,6 +45,7 @@ fn long_halves_block(rt: HostRuntime) {
 const STORIES: &str = "\
 calls after a given up receive, whose sink goes on, and whose stream is spent | 10 | recv 1 -> waits; give-up-recv -> done; send 5 -> done; recv 1 -> closed
 bytes left over | 100 | send 2 -> done; recv 9 -> waits; peek 9 -> got 2; send 3 -> done; send 10 -> done wakes 2; send 1 -> done; poll-recv -> got 9; peek 9 -> got 6
+bytes that are there without waiting | 3 | unread -> got 0; send 2 -> done; unread -> got 2; send 9 -> waits; unread -> got 11; recv 4 -> got 4; unread -> got 7; recv 7 -> got 7 wakes 1; poll-send -> done; recv 2 -> waits; send 1 -> done; unread -> got 1; poll-recv -> waits; unread -> got 1; send 5 -> done wakes 2; unread -> got 6; poll-recv -> got 2; unread -> got 4; recv 5 -> waits; give-up-recv -> done; unread -> got 4
 bytes left by a closed sink: all, then too few, then nothing more | 10 | send 5 -> done | recv 3 -> got 3; recv 3 -> fails; recv 1 -> closed
 small buffers | 3 0 | send 4 -> waits; poll-send -> waits; recv 4 -> got 4 wakes 1; poll-send -> done; recv 2 -> waits; send 2 -> done wakes 2; poll-recv -> got 2
 a mebibyte in pieces | default | send-256s 4096 -> waits; 14 times recv 65536 -> got 65536; recv 65536 -> got 65536 wakes 1; recv 65536 -> got 65536; poll-send -> done
@@ -156,20 +107,20 @@ fn stories_of_channels(rt: HostRuntime) {
 }
 
 // Calls with a token whose number no live object has.
-const REFUSED: &str =
-    "poll-send -> unknown; poll-recv -> unknown; give-up-recv -> done; recv 1 -> unknown; peek 1 -> unknown";
+const REFUSED: &str = "\
+poll-send -> unknown; poll-recv -> unknown; give-up-recv -> done; recv 1 -> unknown; peek 1 -> unknown; unread -> got 0";
 
 const GIVEN_UP_SEND: &str =
     "recv 20 -> got 20 wakes 3; poll-send -> done; send 20 -> waits; give-up-send -> done";
 
 // The halves of a channel that wait in their own network are refused in the other one.
-fn refuses<N: Network>(rt: &impl Abort, there: &mut N, net: &mut N, other: &mut Line<N>) {
+fn refuses<N: Free>(rt: &impl Abort, there: &mut N, net: &mut N, other: &mut Line<N>) {
     other.takes(rt, there, &mut NoEnv, BLOCK);
     other.takes(rt, net, &mut NoEnv, REFUSED);
 }
 
 // The other network's `send` waits in the place of the channel's own, and for nothing where that was given up.
-fn polls_in_its_place<N: Network>(
+fn polls_in_its_place<N: Free>(
     rt: &impl Abort,
     net: &mut N,
     line: &mut Line<N>,
@@ -183,7 +134,7 @@ fn polls_in_its_place<N: Network>(
 }
 
 // Closes the channel, after which the other network's token is refused, and then that one's channel.
-fn hangs_up_both<N: Network>(
+fn hangs_up_both<N: Free>(
     rt: &impl Abort,
     there: &mut N,
     net: &mut N,
@@ -216,7 +167,7 @@ fn calls_by_the_tokens_of_another_network(rt: HostRuntime) {
 }
 
 // Takes the steps, where `-` is none. Then the sink closes, which wakes this task, and these receives follow.
-fn outlives<N: Network, E: Env>(
+fn outlives<N: Free, E: Env>(
     rt: &impl Abort,
     net: &mut N,
     env: &mut E,
@@ -239,154 +190,16 @@ fn outlives<N: Network, E: Env>(
     let _ = net.close_stream(stream);
 }
 
-// Dials, closes what was dialed, and says how that was refused.
-fn dial<N: Network, E: Env>(net: &mut N, env: &mut E, socket: Addr) -> Ending {
-    match net.dial(env, socket) {
-        Ok(reply) => {
-            let (sink, stream) = reply.value;
-            let _ = close(net, sink, stream);
-            Ending::Done
-        }
-        Err(error) => seen_error(error),
-    }
-}
-
-// Binds, closes what was bound, and says how that was refused.
-fn bind<N: Network, E: Env>(net: &mut N, env: &mut E, socket: Addr) -> Ending {
-    match net.bind(env, socket) {
-        Ok(listener) => {
-            net.close_listener(listener);
-            Ending::Done
-        }
-        Err(error) => seen_error(error),
-    }
-}
-
-// How many of so many dials end so.
-fn dials<N: Network, E: Env>(
-    net: &mut N,
-    env: &mut E,
-    socket: Addr,
-    count: usize,
-    end: Ending,
-) -> usize {
-    let mut ended = 0usize;
-    for _ in 0..count {
-        if dial(net, env, socket) == end {
-            ended = ended.saturating_add(1);
-        }
-    }
-    ended
-}
-
-// Dials with a listener at the address, which is closed then.
-fn dials_listener<N: Network>(net: &mut N, socket: Addr, count: usize, end: Ending) -> usize {
-    match net.bind(&mut NoEnv, socket).ok() {
-        Some(listener) => {
-            let ended = dials(net, &mut NoEnv, socket, count, end);
-            net.close_listener(listener);
-            ended
-        }
-        None => 0,
-    }
-}
-
-// So many dials are taken and the others refused, and then no port is left.
-fn uses_ports_up<N: Network>(rt: &impl Abort, net: &mut N, taken: usize) {
-    let refused = 28232usize.saturating_sub(taken);
-    let reached = dials_listener(net, here(4000), taken, Ending::Done);
-    let failed = dials(
-        net,
-        &mut NoEnv,
-        here(4000),
-        refused,
-        Ending::ConnectionFailed,
-    );
-    assert!(rt; (reached, failed) == (taken, refused));
-    let last = dial(net, &mut NoEnv, here(4000));
-    assert!(rt; last == Ending::PortsExhausted);
-    let heard = dials_listener(net, here(5000), 1, Ending::PortsExhausted);
-    assert!(rt; heard == 1);
-}
-
-#[test]
-fn ports_run_out(rt: HostRuntime) {
-    for taken in [28232, 14116, 0] {
-        let mut net = memory(&rt, rt.alloc());
-        uses_ports_up(&rt, &mut net, taken);
-        drop(net);
-    }
-}
-
-// Binds twice while the listener lives, and once after it.
-fn binds_again<N: Network>(net: &mut N, socket: Addr) -> (Ending, Ending) {
-    match net.bind(&mut NoEnv, socket).ok() {
-        Some(listener) => {
-            let again = bind(net, &mut NoEnv, socket);
-            net.close_listener(listener);
-            (again, bind(net, &mut NoEnv, socket))
-        }
-        None => (Ending::Other, Ending::Other),
-    }
-}
-
-// How many of so many ports can be bound at.
-fn binds<N: Network>(net: &mut N, count: u16) -> usize {
-    let mut bound = 0usize;
-    for port in 0..count {
-        if bind(net, &mut NoEnv, here(port)) == Ending::Done {
-            bound = bound.saturating_add(1);
-        }
-    }
-    bound
-}
-
-// A dialer's address and one that was bound before can't be bound at, and many others can.
-fn binds_addresses<N: Network>(rt: &impl Abort, net: &mut N) {
-    assert!(rt; bind(net, &mut NoEnv, here(32768)) == Ending::BindFailed);
-    assert!(rt; binds_again(net, here(61000)) == (Ending::BindFailed, Ending::BindFailed));
-    assert!(rt; binds(net, 10000) == 10000);
-}
-
-#[test]
-fn bound_addresses(rt: HostRuntime) {
-    let mut net = memory(&rt, rt.alloc());
-    binds_addresses(&rt, &mut net);
-    drop(net);
-}
-
 // Sends, receives, peeks, waits and gives up.
 const EACH_STEP: &str = "\
-send 9 -> waits; recv 5 -> got 5 wakes 1; poll-send -> done; peek 1 -> got 1; recv 90 -> waits; poll-recv -> waits; \
-give-up-send -> done; give-up-recv -> done";
-
-// Accepts a connection, closes it, and returns its dialer's port, or 0 where none waits, or how that was refused.
-fn accept<N: Network, E: Env>(
-    net: &mut N,
-    env: &mut E,
-    listener: &mut N::Listener,
-    first: bool,
-) -> Result<u16, Ending> {
-    let taken = if first {
-        net.accept(env, listener, 5)
-    } else {
-        net.poll_accept(env, listener, 5)
-    };
-    match taken {
-        Ok(Poll::Ready((dialer, sink, stream))) => {
-            let _ = close(net, sink, stream);
-            Ok(dialer.port)
-        }
-        Ok(Poll::Pending) => Ok(0),
-        Err(error) => Err(seen_error(error)),
-    }
-}
+send 9 -> waits; recv 5 -> got 5 wakes 1; poll-send -> done; peek 1 -> got 1; unread -> got 4; \
+recv 90 -> waits; poll-recv -> waits; give-up-send -> done; give-up-recv -> done";
 
 // The port of a listener, what it accepts before and after a dial, and how the dial ended.
 type Heard = (u16, Result<u16, Ending>, Ending, Result<u16, Ending>);
 
 // Binds, accepts before and after a dial, and closes.
-fn listens<N: Network>(net: &mut N, socket: Addr) -> Heard {
+fn listens<N: Free>(net: &mut N, socket: Addr) -> Heard {
     match net.bind(&mut NoEnv, socket) {
         Ok(mut listener) => {
             let address = net.local_addr(&listener);
@@ -402,7 +215,7 @@ fn listens<N: Network>(net: &mut N, socket: Addr) -> Heard {
 }
 
 // Takes each step on a channel of 7 bytes of buffer, and then listens.
-fn exercise<N: Network>(rt: &impl Abort, net: &mut N, line: Line<N>) {
+fn exercise<N: Free>(rt: &impl Abort, net: &mut N, line: Line<N>) {
     line.takes_all(rt, net, &mut NoEnv, EACH_STEP);
     let heard = listens(net, here(4000));
     assert!(rt; heard == (4000, Ok(0), Ending::Done, Ok(32768)));
@@ -414,8 +227,10 @@ fn hears_at_home(rt: &impl Abort, home: &mut Net, away: &mut Net) {
         .bind(&mut NoEnv, here(5000))
         .expect(rt, "the address is free");
     let refused = accept(away, &mut NoEnv, &mut listener, true);
+    assert!(rt; !listener.is_accepting());
     let waits = accept(home, &mut NoEnv, &mut listener, true);
     let polled = accept(away, &mut NoEnv, &mut listener, false);
+    assert!(rt; listener.is_accepting());
     let unknown = Err(Ending::UnknownToken);
     assert!(rt; (refused, waits, polled) == (unknown, Ok(0), unknown));
     assert!(rt; (home.waiting_acceptor(1), home.anyone_waits()) == (Some(5), true));
@@ -440,7 +255,7 @@ fn surface(rt: HostRuntime) {
 }
 
 // The halves of a channel of what the wrapper passes calls on to.
-fn noted<N: Network>(line: Line<N>, remote: Addr) -> Line<Noting<N>> {
+fn noted<N: Free>(line: Line<N>, remote: Addr) -> Line<Noting<N>> {
     let alloc = line.alloc;
     let (sink, stream, _) = line.into_halves();
     let sink = NotingSink {
@@ -455,7 +270,7 @@ fn noted<N: Network>(line: Line<N>, remote: Addr) -> Line<Noting<N>> {
 }
 
 // The same through a wrapper, which counts the bytes.
-fn passes_on<N: Network>(rt: &impl Abort, alloc: Global, inner: N, line: Line<N>) -> N {
+fn passes_on<N: Free>(rt: &impl Abort, alloc: Global, inner: N, line: Line<N>) -> N {
     let mut net = Noting::new(alloc, inner);
     exercise(rt, &mut net, noted(line, here(4000)));
     let (inner, sent, received) = net.into_parts();
@@ -490,58 +305,9 @@ fn room_of_several_calls(rt: HostRuntime) {
     gets_room::<Net, HostRuntime>(&rt, rt.alloc());
 }
 
-// Dials, receives so many bytes for one task and sends these for another, which ends so.
-fn dials_and_waits<N: Network>(
-    rt: &impl Abort,
-    net: &mut N,
-    socket: Addr,
-    len: usize,
-    bufs: IoBufs,
-    tasks: (u64, u64),
-    endings: (Ending, Ending),
-) -> (N::Sink, N::Stream) {
-    let reply = net
-        .dial(&mut NoEnv, socket)
-        .expect(rt, "a listener is there");
-    let (mut sink, mut stream) = reply.value;
-    let received = get(net, &mut NoEnv, &mut stream, len, tasks.0);
-    let sent = put(net, &mut NoEnv, &mut sink, bufs, tasks.1);
-    assert!(rt; (received, sent) == endings);
-    (sink, stream)
-}
-
-// In the order of their dials, each one's receiver before its sender. The second waits to receive alone, the third to send.
-fn wakes_dialers<N: Network>(rt: &impl Abort, alloc: Global, net: &mut N) {
-    let at = here(4000);
-    let listener = net.bind(&mut NoEnv, at).expect(rt, "the address is free");
-    let long = numbered(rt, alloc, 0, 65537);
-    let waits = (Ending::Waits, Ending::Waits);
-    let (sink, stream) = dials_and_waits(rt, net, at, 1, long, (7, 1), waits);
-    let short = numbered(rt, alloc, 0, 1);
-    let receives = (Ending::Waits, Ending::Done);
-    let (second_sink, second_stream) = dials_and_waits(rt, net, at, 1, short, (8, 3), receives);
-    let long = numbered(rt, alloc, 0, 65537);
-    let sends = (Ending::Got(0), Ending::Waits);
-    let (third_sink, third_stream) = dials_and_waits(rt, net, at, 0, long, (9, 2), sends);
-    net.close_listener(listener);
-    for task in [Some(7), Some(1), Some(8), Some(2), None] {
-        assert!(rt; net.next_woken() == task);
-    }
-    let _ = close(net, sink, stream);
-    let _ = close(net, second_sink, second_stream);
-    let _ = close(net, third_sink, third_stream);
-}
-
-#[test]
-fn closed_listener_wakes_its_dialers(rt: HostRuntime) {
-    let mut net = memory(&rt, rt.alloc());
-    wakes_dialers(&rt, rt.alloc(), &mut net);
-    drop(net);
-}
-
 // A dial wakes the task that waits at the listener, which takes the connection: the channel that leads to the
 // listener, the one that leads to the dialer, and the dialer's port.
-fn connects<N: Network, E: Env>(
+fn connects<N: Free, E: Env>(
     rt: &impl Abort,
     alloc: Global,
     net: &mut N,
@@ -583,7 +349,7 @@ const SPOKEN_BACK: &str =
     "send 2 -> done; peek 1 -> got 0; recv 1 -> got 1; recv 2 -> waits; send 1 -> done wakes 2; poll-recv -> got 2";
 
 // One listener and one dialer after the other, and what they say to each other.
-fn serves<N: Network, E: Env>(
+fn serves<N: Free, E: Env>(
     rt: &impl Abort,
     alloc: Global,
     net: &mut N,
@@ -598,7 +364,7 @@ fn serves<N: Network, E: Env>(
 }
 
 // Two dialers wait at the listener, and are taken in the order of their dials.
-fn takes_two<N: Network, E: Env>(
+fn takes_two<N: Free, E: Env>(
     rt: &impl Abort,
     net: &mut N,
     env: &mut E,
@@ -614,7 +380,7 @@ fn takes_two<N: Network, E: Env>(
 }
 
 // Two listeners, of which the second serves two dialers, keeps two waiting, and serves one more.
-fn server_and_client<N: Network, E: Env>(
+fn server_and_client<N: Free, E: Env>(
     rt: &impl Abort,
     alloc: Global,
     net: &mut N,
@@ -644,7 +410,7 @@ fn server_and_client_over_memory(rt: HostRuntime) {
 }
 
 // Both wrappers count the bytes.
-fn wraps_twice<N: Network>(rt: &impl Abort, alloc: Global, inner: N) -> N {
+fn wraps_twice<N: Free>(rt: &impl Abort, alloc: Global, inner: N) -> N {
     let mut net = Noting::new(alloc, Noting::new(alloc, inner));
     server_and_client(rt, alloc, &mut net, &mut NoEnv, here(7000), v6(7000));
     let (inner, sent, received) = net.into_parts();
@@ -663,12 +429,7 @@ fn server_and_client_over_two_wrappers(rt: HostRuntime) {
 const WAITS: &str = "send 2 -> done; recv 3 -> waits; send 1 -> done wakes 2; poll-recv -> got 3";
 
 // Takes the steps on each of two channels, which stay.
-fn takes_on_both<N: Network>(
-    rt: &impl Abort,
-    net: &mut N,
-    first: &mut Line<N>,
-    second: &mut Line<N>,
-) {
+fn takes_on_both<N: Free>(rt: &impl Abort, net: &mut N, first: &mut Line<N>, second: &mut Line<N>) {
     first.takes(rt, net, &mut NoEnv, WAITS);
     second.takes(rt, net, &mut NoEnv, WAITS);
 }
@@ -688,7 +449,7 @@ fn channels_side_by_side(rt: HostRuntime) {
 }
 
 // The stream closes first, and then a `send` fails.
-fn fails_to_send<N: Network, E: Env>(rt: &impl Abort, net: &mut N, env: &mut E, line: Line<N>) {
+fn fails_to_send<N: Free, E: Env>(rt: &impl Abort, net: &mut N, env: &mut E, line: Line<N>) {
     let alloc = line.alloc;
     let (mut sink, stream, _) = line.into_halves();
     let _ = net.close_stream(stream);
@@ -702,7 +463,7 @@ recv 2 -> waits; send 3 -> done wakes 2; poll-recv -> got 2; send 65537 -> waits
 recv 70000 -> waits";
 
 // Calls that succeed, wait and fail.
-fn ends_each_way<N: Network, E: Env>(
+fn ends_each_way<N: Free, E: Env>(
     rt: &impl Abort,
     alloc: Global,
     net: &mut N,
@@ -719,7 +480,7 @@ fn ends_each_way<N: Network, E: Env>(
 }
 
 // What a wrapper notes of them.
-fn notes_endings<N: Network>(rt: &impl Abort, alloc: Global, inner: N) -> N {
+fn notes_endings<N: Free>(rt: &impl Abort, alloc: Global, inner: N) -> N {
     let mut net = Noting::new(alloc, inner);
     let mut env = Notebook::new(alloc);
     ends_each_way(rt, alloc, &mut net, &mut env, here(4000));
@@ -751,7 +512,7 @@ fn anywhere(last: u8) -> Addr {
 }
 
 // Binds at as many addresses at once, and dials the last bound.
-fn binds_many<N: Network>(net: &mut N, left: u8) -> Ending {
+fn binds_many<N: Free>(net: &mut N, left: u8) -> Ending {
     match net.bind(&mut NoEnv, anywhere(left)) {
         Ok(listener) => {
             let seen = if left == 0 {
@@ -780,7 +541,7 @@ fn opens_many(rt: &impl Abort, alloc: Global, net: &mut Net, left: u16) {
 
 // As many connections at once through one listener. A byte of its own is sent on each way of each, and received once the
 // later connections are closed.
-fn connects_many<N: Network>(
+fn connects_many<N: Free>(
     rt: &impl Abort,
     alloc: Global,
     net: &mut N,

@@ -1,4 +1,5 @@
-use Rattle.std.proofs.Common.{◌≡◌, ◌+◌, ◌≤◌, length, vec_len, vec_capacity, arith, rules}
+use Rattle.rt_fixtures.proofs.Prelude.{◌≡◌, ◌+◌, ◌≤◌, length, vec_len, arith, rules}
+use Rattle.std.proofs.Common.{vec_capacity}
 use Rattle.rt_fixtures.proofs.NotingLemmas.{chunk-fits}
 use Rattle.rt_fixtures.proofs.noting.fill.Goals as goal
 

@@ -1,6 +1,4 @@
-use Rattle.std.proofs.Common.{◌≡◌, ◌+◌, ◌≤◌, ◌++◌, length, take}
-use Rattle.std.specs.Prelude.{vec_capacity}
-use Rattle.std.specs.List.{concat}
+use Rattle.rt_fixtures.proofs.Prelude.{◌≡◌, ◌+◌, ◌≤◌, ◌++◌, length, take, vec_capacity, concat}
 use Rattle.rt_fixtures.proofs.noting.fill.Given as goal
 
 abbrev pub invariant-loop-index : goal.invariant-loop-index

@@ -1,4 +1,4 @@
-use Rattle.std.proofs.Common.{◌<◌, ◌||◌, length, ap, ◌∙◌, arith, rules}
+use Rattle.rt_net.proofs.Prelude.{◌<◌, ◌||◌, length, ap, ◌∙◌, arith, rules}
 use Rattle.rt_net.proofs.Walked.{any-more, all-more}
 use Rattle.rt_net.proofs.waited.anyone_waits_at.Goals as goal
 

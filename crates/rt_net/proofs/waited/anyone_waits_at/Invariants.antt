@@ -1,5 +1,4 @@
-use Rattle.std.proofs.Common.{◌≡◌, take}
-use Rattle.std.specs.List.{list_any, AllWithin}
+use Rattle.rt_net.proofs.Prelude.{◌≡◌, take, list_any, AllWithin}
 use Rattle.rt_net.proofs.waited.anyone_waits_at.Given as goal
 
 abbrev pub invariant-loop-index : goal.invariant-loop-index

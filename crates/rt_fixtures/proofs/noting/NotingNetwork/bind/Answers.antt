@@ -1,7 +1,4 @@
-use Rattle.std.proofs.Common.{true, Some, ◌∷◌, ◌++◌, refl, ap, inl, rules}
-use Rattle.rt_base.specs.Noted.{Happened}
-use Rattle.std.specs.Prelude.{codes}
-use Rattle.rt_fixtures.specs.Noting.{named}
+use Rattle.rt_fixtures.proofs.Prelude.{true, Some, ◌∷◌, ◌++◌, refl, ap, inl, rules, Happened, codes, named}
 use Rattle.rt_fixtures.proofs.NotingLemmas.{adds-around, closing-same}
 use Rattle.rt_fixtures.proofs.noting.NotingNetwork.bind.Goals as goal
 

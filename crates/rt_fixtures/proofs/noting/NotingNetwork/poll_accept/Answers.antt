@@ -1,5 +1,4 @@
-use Rattle.std.proofs.Common.{[], ◌++◌, refl, ap, subst, inl, inr, rules}
-use Rattle.rt_base.specs.Noted.{Adds}
+use Rattle.rt_fixtures.proofs.Prelude.{[], ◌++◌, refl, ap, subst, inl, inr, rules, Adds}
 use Rattle.rt_fixtures.proofs.NotingLemmas.{adds-none, adds-both, closing-same}
 use Rattle.rt_fixtures.proofs.noting.NotingNetwork.poll_accept.Goals as goal
 

@@ -1,6 +1,4 @@
-use Rattle.std.proofs.Common.{[], ◌++◌, refl, ap, subst, inl, inr, rules}
-use Rattle.rt_base.specs.Noted.{Adds}
-use Rattle.rt_fixtures.specs.Noting.{receipt}
+use Rattle.rt_fixtures.proofs.Prelude.{[], ◌++◌, refl, ap, subst, inl, inr, rules, Adds, receipt}
 use Rattle.rt_fixtures.proofs.NotingLemmas.{adds-none, adds-both, closing-same}
 use Rattle.rt_fixtures.proofs.noting.NotingNetwork.poll_recv.Goals as goal
 

@@ -1,5 +1,4 @@
-use Rattle.std.proofs.Common.{[], refl, subst, inl, inr, rules}
-use Rattle.rt_base.specs.Noted.{Adds}
+use Rattle.rt_fixtures.proofs.Prelude.{[], refl, subst, inl, inr, rules, Adds}
 use Rattle.rt_fixtures.proofs.NotingLemmas.{adds-none, adds-both}
 use Rattle.rt_fixtures.proofs.noting.NotingNetwork.poll_send.Goals as goal
 

@@ -1,7 +1,4 @@
-use Rattle.std.proofs.Common.{[], ◌∷◌, ◌++◌, refl, ap, inl, inr, rules}
-use Rattle.std.specs.Prelude.{codes}
-use Rattle.rt_base.specs.Noted.{Happened}
-use Rattle.rt_fixtures.specs.Noting.{named, receipt}
+use Rattle.rt_fixtures.proofs.Prelude.{[], ◌∷◌, ◌++◌, refl, ap, inl, inr, rules, codes, Happened, named, receipt}
 use Rattle.rt_fixtures.proofs.NotingLemmas.{adds-none, adds-around, closing-same}
 use Rattle.rt_fixtures.proofs.noting.NotingNetwork.recv.Goals as goal
 

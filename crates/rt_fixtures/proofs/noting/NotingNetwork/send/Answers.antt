@@ -1,4 +1,4 @@
-use Rattle.std.proofs.Common.{[], refl, inl, inr, rules}
+use Rattle.rt_fixtures.proofs.Prelude.{[], refl, inl, inr, rules}
 use Rattle.rt_fixtures.proofs.NotingLemmas.{adds-none, adds-around}
 use Rattle.rt_fixtures.proofs.noting.NotingNetwork.send.Goals as goal
 

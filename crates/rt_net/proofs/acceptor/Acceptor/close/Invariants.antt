@@ -1,6 +1,4 @@
-use Rattle.std.proofs.Common.{◌≡◌, ◌+◌, ◌*◌, ◌≤◌, ◌++◌, length}
-use Rattle.std.specs.VecDeque.{deque_capacity}
-use Rattle.rt_net.specs.Network.{after_closing, woken_by_closing}
+use Rattle.rt_net.proofs.Prelude.{◌≡◌, ◌+◌, ◌*◌, ◌≤◌, ◌++◌, length, deque_capacity, after_closing, woken_by_closing}
 use Rattle.rt_net.proofs.acceptor.Acceptor.close.Given as goal
 
 abbrev pub invariant-loop-connection : goal.invariant-loop-connection

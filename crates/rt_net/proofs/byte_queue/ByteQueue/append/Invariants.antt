@@ -1,5 +1,4 @@
-use Rattle.std.proofs.Common.{◌≡◌, ◌++◌, length, take}
-use Rattle.std.specs.List.{concat}
+use Rattle.rt_net.proofs.Prelude.{◌≡◌, ◌++◌, length, take, concat}
 use Rattle.rt_net.proofs.byte_queue.ByteQueue.append.Given as goal
 
 abbrev pub invariant-loop-index : goal.invariant-loop-index

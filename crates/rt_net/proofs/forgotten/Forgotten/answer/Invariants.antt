@@ -1,4 +1,4 @@
-use Rattle.rt_net.specs.Forgotten.{with_answered}
+use Rattle.rt_net.proofs.Prelude.{with_answered}
 use Rattle.rt_net.proofs.forgotten.Forgotten.answer.Given as goal
 
 abbrev pub ghost-set : goal.ghost-set

@@ -1,4 +1,4 @@
-use Rattle.rt_net.specs.Forgotten.{with_lost}
+use Rattle.rt_net.proofs.Prelude.{with_lost}
 use Rattle.rt_net.proofs.forgotten.Forgotten.lose.Given as goal
 
 abbrev pub ghost-set : goal.ghost-set

@@ -1,23 +1,5 @@
-use Rattle.std.proofs.Common.{[], ◌∷◌, refl}
-use Rattle.std.proofs.raw_atomic.Walks.{proved}
-use base.Logic.{ent, emp}
-use base.Fml.{ftrue}
-use seplogic.Ra.Ura.{Ura}
-use mir.Val.{Val, vstruct, vcons, vnil}
-use types.Logic.{Logic, sem}
-use types.Kit.{‵, ◌⊛◌, ◌$◌, ◌∵◌, !, qed, done, keep, fjoin, suffices, use0}
-use types.Run.{no_more, and_then, enter, returns}
-use types.ByLocal.{alloc_all, pass_all, free_all, look_at, get, sets}
-use types.Part.{agg}
-use denote.Builtin.{unit}
-use denote.RattleType.{RattleType, owns}
-use denote.Shadow.{makes_shadow}
-use denote.Signature.{types_at}
-use denote.Steps.{nothing}
-use denote.Struct.Struct.{Struct}
-use denote.Triple.Walked.{walk_of, says, ends_at}
+use Rattle.rt_net.proofs.Prelude.{[], ◌∷◌, refl, proved, ent, emp, ftrue, Ura, Val, vstruct, vcons, vnil, Logic, sem, ‵, ◌⊛◌, ◌$◌, ◌∵◌, !, qed, done, keep, fjoin, suffices, use0, no_more, and_then, enter, returns, alloc_all, pass_all, free_all, look_at, get, sets, agg, unit, RattleType, owns, makes_shadow, types_at, nothing, Struct, walk_of, says, ends_at, nothing_forgotten}
 use Rattle.std.specs.contracts.marker.PhantomData as marker
-use Rattle.rt_net.specs.Forgotten.{nothing_forgotten}
 use Rattle.rt_net.specs.contracts.forgotten.Forgotten.new as f
 use Rattle.rt_net.proofs.forgotten.Forgotten.new.Statement.{statement}
 use Rattle.rt_net.proofs.forgotten.Forgotten.new.Code as code

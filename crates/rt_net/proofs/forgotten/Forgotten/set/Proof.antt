@@ -1,24 +1,7 @@
-use Rattle.std.proofs.Common.{[], ◌∷◌, refl, w64}
-use Rattle.std.proofs.raw_atomic.Walks.{proved}
-use base.Fml.{ftrue, fsep, flft}
-use mir.Syntax.{named}
-use mir.Val.{vunit}
-use types.Kit.{‵, ◌⊛◌, ◌$◌, ◌∵◌, !, qed, done, move, keep, split, join, fsplit, fsplit3, feq_i, suffices, frame, group}
-use types.Run.{of_opd, unit_lit, enter, returns}
-use types.ByLocal.{alloc_all, pass_all, free_all, look_at, sets}
-use denote.Builtin.{RefOf, usize}
-use denote.Exit.{yes}
-use denote.Plain.{uint_vals, uint_Tells}
-use denote.RattleType.{owns}
-use denote.Ref.{mut_vals, mut_Tells, shr_vals, shr_Tells}
-use denote.Signature.{plain, types_at}
-use denote.Steps.{nothing, opens, closes}
-use denote.Triple.Walked.{Stays, walk_of, says, stay_ref, stay_dropped, Goes-ref, Goes-dropped, ends_at}
+use Rattle.rt_net.proofs.Prelude.{[], ◌∷◌, refl, w64, proved, ftrue, fsep, flft, named, vunit, ‵, ◌⊛◌, ◌$◌, ◌∵◌, !, qed, done, move, keep, split, join, fsplit, fsplit3, feq_i, suffices, frame, group, of_opd, unit_lit, enter, returns, alloc_all, pass_all, free_all, look_at, sets, RefOf, usize, yes, uint_vals, uint_Tells, owns, mut_vals, mut_Tells, shr_vals, shr_Tells, plain, types_at, nothing, opens, closes, Stays, walk_of, says, stay_ref, stay_dropped, Goes-ref, Goes-dropped, ends_at, R, Q}
 use Rattle.rt_net.specs.contracts.forgotten.Forgotten.set as f
 use Rattle.rt_net.proofs.forgotten.Forgotten.set.Statement.{statement}
 use Rattle.rt_net.proofs.forgotten.Forgotten.set.Code as code
-use Rattle.rt_net.specs.contracts.forgotten.Forgotten.{the_row as R}
-use Rattle.rt_net.specs.contracts.byte_queue.ByteQueue.{the_row as Q}
 
 abbrev stayed : Stays f.ended.signature.params f.ended.kept
 stayed = (stay_ref (0 ∷ []) tt (plain (λ _. R)), (stay_dropped (RefOf (1 ∷ []) tt (plain (λ _. Q)) (λ _. tt)) yes, (stay_dropped (plain (λ _. usize)) yes, tt)))

@@ -1,10 +1,4 @@
-use Rattle.std.proofs.Common.{◌≡◌, ◌+◌, ◌∷◌, [], ◌++◌, true, Some, None, Option, ℕ, sym, ap, ◌∙◌, rules, append_assoc}
-use Rattle.std.specs.Prelude.{is_some, slice_set}
-use Rattle.rt_net.specs.Calls.{connected, next_connection}
-use Rattle.rt_net.specs.Channel.{fresh}
-use Rattle.rt_net.specs.Network.{live_listener, listener_at, is_alive, with_connection}
-use Rattle.rt_net.specs.Kept.{Kept, moved_to}
-use Rattle.rt_net.specs.contracts.net.Net.{the_view}
+use Rattle.rt_net.proofs.Prelude.{◌≡◌, ◌+◌, ◌∷◌, [], ◌++◌, true, Some, None, Option, ℕ, sym, ap, ◌∙◌, rules, append_assoc, is_some, slice_set, connected, next_connection, fresh, live_listener, listener_at, is_alive, with_connection, Kept, moved_to, the_view}
 use Rattle.rt_net.proofs.Live.{live-there, after-at}
 use Rattle.rt_net.proofs.net.Net.connect.Goals as goal
 

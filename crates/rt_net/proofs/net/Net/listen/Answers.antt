@@ -1,6 +1,4 @@
-use Rattle.std.proofs.Common.{◌≡◌, ◌∷◌, [], None, length, arith, rules, ap, ◌∙◌}
-use Rattle.std.proofs.lemmas.List.{length-append}
-use Rattle.rt_net.specs.Network.{number_at}
+use Rattle.rt_net.proofs.Prelude.{◌≡◌, ◌∷◌, [], None, length, arith, rules, ap, ◌∙◌, length-append, number_at}
 use Rattle.rt_net.proofs.Places.{goes-last}
 use Rattle.rt_net.proofs.net.Net.listen.Goals as goal
 

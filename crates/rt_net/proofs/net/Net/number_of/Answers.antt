@@ -1,6 +1,4 @@
-use Rattle.std.proofs.Common.{ap, ◌∙◌}
-use Rattle.rt_net.specs.Kept.{Kept}
-use Rattle.rt_net.specs.Network.{number_at}
+use Rattle.rt_net.proofs.Prelude.{ap, ◌∙◌, Kept, number_at}
 use Rattle.rt_net.proofs.Places.{number-position}
 use Rattle.rt_net.proofs.net.Net.number_of.Goals as goal
 

@@ -1,9 +1,4 @@
-use Rattle.std.proofs.Common.{◌≡◌, [], Err, refl, rules, subst}
-use Rattle.rt_base.specs.declared.error.Error.TheVariants.{UnknownToken}
-use Rattle.rt_net.specs.Calls.{NetPeeks}
-use Rattle.rt_net.specs.Channel.{Peeks}
-use Rattle.rt_net.specs.Kept.{Kept}
-use Rattle.rt_net.specs.Network.{has_stream}
+use Rattle.rt_net.proofs.Prelude.{◌≡◌, [], Err, refl, rules, subst, UnknownToken, NetPeeks, Peeks, Kept, has_stream}
 use Rattle.rt_net.proofs.Live.{called}
 use Rattle.rt_net.proofs.net.NetNetwork.peek.Goals as goal
 

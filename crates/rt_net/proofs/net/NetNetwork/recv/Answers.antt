@@ -1,10 +1,6 @@
-use Rattle.std.proofs.Common.{◌≡◌, [], Err, rules, subst}
-use Rattle.rt_base.specs.declared.error.Error.TheVariants.{UnknownToken}
-use Rattle.rt_net.specs.Calls.{NetReceives}
-use Rattle.rt_net.specs.Channel.{Receives, after_recv}
-use Rattle.rt_net.specs.Kept.{Kept}
-use Rattle.rt_net.specs.Network.{live_stream, has_stream}
-use Rattle.rt_net.proofs.Asked.{receives-asks}
+use Rattle.rt_net.proofs.Prelude.{◌≡◌, [], Err, ap, rules, subst, UnknownToken, NetReceives, ChannelState, Receives, after_recv, Kept, live_stream, has_stream}
+use Rattle.rt_net.proofs.Asked.{receives-asks, receives-there}
+use Rattle.rt_net.proofs.Left.{stream-kept}
 use Rattle.rt_net.proofs.Live.{live-there, after-at, called}
 use Rattle.rt_net.proofs.net.NetNetwork.recv.Goals as goal
 
@@ -23,3 +19,19 @@ returns-clause-asked g c w =
     let live = live-there has_stream cs n _ c.index_mut.ensures.value (search rules) in
     let left = after-at cs n _ _ (λ k. after_recv k c.args.len c.args.task r) (live_stream cs n) live c.recv-answer.ensures.after in
     receives-asks cs c.counted-2.new.self.state.channels n c.args.len c.args.task _ r (search (rules, left)) live (rw c.counted-2.ensures.answer at w)
+
+pub returns-clause-there : goal.returns-clause-there
+returns-clause-there g c =
+    let cs = c.self.inside.channels.items in
+    let n = c.args.stream.now.number in
+    let live = live-there has_stream cs n _ c.index_mut.ensures.value (search rules) in
+    rw c.counted-2.ensures.answer (receives-there cs c.args.self.now.state.channels n c.args.len _ c.recv-answer.result (ap (λ (v : Kept). v.state.channels) c.self.view_is) live c.recv-answer.ensures.there)
+
+pub returns-clause-waiting : goal.returns-clause-waiting
+returns-clause-waiting g c k d =
+    let cs = c.self.inside.channels.items in
+    let n = c.args.stream.now.number in
+    let f = λ (e : ChannelState). after_recv e c.args.len c.args.task c.recv-answer.result in
+    let live = live-there has_stream cs n _ c.index_mut.ensures.value (search rules) in
+    let left = after-at cs n _ _ f (live_stream cs n) live c.recv-answer.ensures.after in
+    stream-kept cs c.args.self.now.state.channels c.counted-2.new.self.state.channels n k.number f (ap (λ (v : Kept). v.state.channels) c.self.view_is) (search (rules, left)) d

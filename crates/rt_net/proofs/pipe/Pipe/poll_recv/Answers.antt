@@ -1,8 +1,4 @@
-use Rattle.std.proofs.Common.{◌≡◌, ap, Option, take, sym, ◌∙◌, subst}
-use Rattle.std.specs.Prelude.{IsSomeAnd}
-use Rattle.rt_bufs.specs.Chunked.{Chunked}
-use Rattle.rt_base.specs.declared.poll.Poll.TheVariants.{Ready}
-use Rattle.rt_net.specs.Channel.{ChannelState, Answers, started_length}
+use Rattle.rt_net.proofs.Prelude.{◌≡◌, ap, Option, take, sym, ◌∙◌, subst, IsSomeAnd, Chunked, Ready, ChannelState, Answers, started_length}
 use Rattle.rt_net.proofs.Quiet.{answer-started}
 use Rattle.rt_net.proofs.pipe.Pipe.poll_recv.Goals as goal
 

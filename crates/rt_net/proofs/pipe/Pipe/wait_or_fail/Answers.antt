@@ -1,5 +1,4 @@
-use Rattle.std.proofs.Common.{rules, arith, ◌≡◌, ◌<◌}
-use Rattle.rt_net.specs.Pipe.{channel_of}
+use Rattle.rt_net.proofs.Prelude.{rules, arith, ◌≡◌, ◌<◌, channel_of}
 use Rattle.rt_net.proofs.Quiet.{parked-quiet}
 use Rattle.rt_net.proofs.pipe.Pipe.wait_or_fail.Goals as goal
 
