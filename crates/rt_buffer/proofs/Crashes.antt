@@ -1,25 +1,17 @@
 -- What a crash of a store in memory leaves of a blob of which no change is open.
-use Rattle.std.proofs.Common.{◌≡◌, ◌==◌, ℕ, Bool, true, false, List, [], ◌∷◌, slice_set, slice_get, Option, Some, None, Result, Ok, Err, refl, sym, ap, ◌∙◌, subst}
-use Rattle.std.proofs.lemmas.Bool.{eqb-false, eqb-true}
-use Rattle.rt_base.specs.declared.choice.Choice.{Choice}
-use Rattle.rt_base.specs.declared.error.Error.{Error}
-use Rattle.rt_base.specs.declared.poll.Poll.{Poll}
+use Rattle.rt_buffer.proofs.Prelude.{◌≡◌, ◌==◌, ℕ, Bool, true, false, List, [], ◌∷◌, slice_set, slice_get, Option, Some, None, Result, Ok, Err, refl, sym, ap, ◌∙◌, subst, eqb-false, eqb-true, Choice, Error, Poll, BlobVersion, blob_of, all_crashed, choices_after, crashed_at, Blob, Mutation, named_numbers, IsDurable, FileState, crashed, Kept, left_of, memory_bytes, memory_left, memory_promised, at_blob, if_open, is_token, Held, Stepped, Asked, IfStepped, Keeps, CrashLeaves, MemoryKeeps, answer_of}
 use Rattle.rt_base.specs.declared.poll.Poll.TheVariants as poll
-use Rattle.rt_base.specs.declared.version.BlobVersion.{BlobVersion}
-use Rattle.rt_store.specs.Calls.{blob_of}
-use Rattle.rt_store.specs.Crash.{all_crashed, choices_after, crashed_at}
-use Rattle.rt_store.specs.declared.blob.Blob.{Blob}
-use Rattle.rt_store.specs.declared.mutation.Mutation.{Mutation}
-use Rattle.rt_store.specs.Directory.{named_numbers}
-use Rattle.rt_store.specs.File.{FileState, crashed}
-use Rattle.rt_store.specs.Kept.{Kept}
-use Rattle.rt_store.specs.Store.{at_blob}
-use Rattle.rt_buffer.proofs.Kept.{is_open_at, set_here}
-use Rattle.rt_buffer.proofs.Others.{set_other}
-use Rattle.rt_buffer.specs.declared.held.Held.{Held}
-use Rattle.rt_buffer.specs.Durable.{Asked, IsDurable}
-use Rattle.rt_buffer.specs.Memory.{CrashLeaves, left_of, memory_bytes, memory_left, memory_promised}
-use Rattle.rt_buffer.specs.Steps.{answer_of}
+use Rattle.rt_buffer.proofs.Lists.{set_here, set_other}
+use Rattle.rt_buffer.specs.declared.write_op.Rest.TheVariants as work
+use Rattle.rt_buffer.specs.declared.write_op.Stepped.TheVariants as step
+
+open_here : (n : ℕ) (b c : FileState) (yes : Bool) → is_token n b.token ≡ yes → if_open n (Some b) ≡ Some c → (b ≡ c) × (is_token n b.token ≡ true)
+open_here n b c true is e = (cc, is)
+open_here n b c false is e = let none : if_open n (Some b) ≡ None = rw is refl in absurd (cc)
+
+is_open_at : (n : ℕ) (o : Option FileState) (b : FileState) → if_open n o ≡ Some b → (o ≡ Some b) × (is_token n b.token ≡ true)
+is_open_at n None b e = absurd (cc)
+is_open_at n (Some a) b e = let h = open_here n a b (is_token n a.token) refl e in (ap (λ (f : FileState). Some f) h.0, rw (sym h.0) h.1)
 
 -- these bytes stand at a place, and no change of them is open
 abbrev Rests : List ℕ → FileState → Type 0
@@ -70,3 +62,23 @@ pub asked_left : (p : Poll (Result Unit Error)) (h : Held) (v : Kept) (k : Blob)
 asked_left (poll.Ready (Ok u)) h v k is asked = asked.1
 asked_left (poll.Ready (Err e)) h v k is asked = absurd (cc)
 asked_left poll.Pending h v k is asked = absurd (cc)
+
+crash_keeps : (version : BlobVersion) (token : Option ℕ) (removed : Bool) (content base : List ℕ) (later : List Mutation) (cs : List Choice) (bytes : List ℕ)
+    → left_of (Some (record { version = version; token = token; removed = removed; content = content; base = base; later = later })) ≡ Some bytes
+    → (crashed cs (record { version = version; token = token; removed = removed; content = content; base = base; later = later })).content ≡ bytes
+crash_keeps version token removed content base [] cs bytes e = cc
+crash_keeps version token removed content base (l ∷ ls) cs bytes e = absurd (cc)
+
+-- where each crash leaves the bytes, it does by each choice
+pub crash_leaves : (v : Kept) (k : Blob) (content : List ℕ) (h : Held) → Keeps memory_bytes memory_left memory_promised content work.Sync h v k → (b : FileState) (cs : List Choice) → blob_of v k ≡ Some b → (crashed cs b).content ≡ content
+crash_leaves v k content h kept b cs is =
+    let left : left_of (Some b) ≡ Some content = rw is at (kept.1 ∙ ap (λ (bs : List ℕ). Some bs) kept.0.0) in
+    crash_keeps b.version b.token b.removed b.content b.base b.later cs content left
+
+pub stepped_by : {W P : Type 0} (r : Stepped W P) (done next : W → Type 0) (waits later : P → Type 0) → ((w : W) → done w → next w) → ((p : P) → waits p → later p) → IfStepped r done waits → IfStepped r next later
+stepped_by (step.Done w) done next waits later so then h = so w h
+stepped_by (step.Waiting p) done next waits later so then h = then p h
+stepped_by (step.Failed e) done next waits later so then h = tt
+
+pub memory_all : MemoryKeeps
+memory_all = record { crash = λ v k durable. store_leaves (memory_bytes v k) v k refl durable }

@@ -1,9 +1,6 @@
 -- Bytes that are cut where their chunks end.
-use Rattle.std.proofs.Common.{◌≡◌, ◌+◌, ℕ, zero, suc, List, [], ◌∷◌, ◌++◌, Some, length, take, refl, ap, slice_get, arith}
-use Rattle.std.proofs.lemmas.List.{take_at, drop_at}
+use Rattle.rt_buffer.proofs.Prelude.{◌≡◌, ◌+◌, ℕ, zero, suc, List, [], ◌∷◌, ◌++◌, Some, length, take, refl, ap, slice_get, arith, take_at, drop_at, concat, cut}
 use Rattle.std.specs.Prelude.{map}
-use Rattle.std.specs.List.{concat}
-use Rattle.rt_buffer.specs.Pieces.{cut}
 
 -- so the chunks come back
 pub cut_joined : (chunks : List (List ℕ)) → cut (map length chunks) (concat chunks) ≡ chunks

@@ -1,16 +1,6 @@
 -- What a reader stands for, read by read.
-use Rattle.std.proofs.Common.{◌≡◌, ℕ, ◌+◌, ◌-◌, ◌≤◌, true, false, List, [], ◌++◌, length, take, drop, Result, Ok, Err, IfOk, OnOk, OnErr, refl, ap, ◌∙◌, inl, inr, arith}
-use Rattle.std.proofs.Math.Seq.{take-add}
-use Rattle.std.proofs.lemmas.Bool.{cases_lt, lt-leb, le-leb}
-use Rattle.std.proofs.lemmas.List.{drop-drop, drop-take, take-take, length-drop, drop_all}
-use Rattle.std.specs.Prelude.{nat_le}
-use Rattle.rt_base.specs.declared.error.Error.{Error}
-use Rattle.rt_base.specs.declared.options.ReadOptions.{ReadOptions}
-use Rattle.rt_base.specs.Noted.{Noted}
-use Rattle.rt_bufs.specs.Chunked.{Chunked}
-use Rattle.rt_bufs.specs.WritableChunks.{WritableChunks}
-use Rattle.rt_buffer.specs.Reading.{Ahead, advanced, end_of, placed_at, sought, filled, fetch_len, no_hints, TakesHeld, Joins, Gives, Fetches}
-use Rattle.rt_buffer.specs.Flat.{HasBytes, StandsFor}
+use Rattle.rt_buffer.proofs.Prelude.{◌≡◌, ℕ, ◌+◌, ◌-◌, ◌≤◌, true, false, List, [], ◌++◌, length, take, drop, Result, Ok, Err, IfOk, OnOk, OnErr, refl, ap, ◌∙◌, inl, inr, arith, take-add, cases_lt, lt-leb, le-leb, drop-drop, drop-take, take-take, length-drop, drop_all, nat_le, Error, Noted, Chunked, WritableChunks, Ghosts, Ahead, advanced, placed_at, sought, filled, fetch_len, TakesHeld, Joins, Gives, Fetches, StandsFor}
+use Rattle.rt_buffer.specs.Reading.{end_of}
 
 drop_part : (n k m : ℕ) (xs : List ℕ) → m ≡ n + k → drop n (take m xs) ≡ take k (drop n xs)
 drop_part n k m xs e = rw e (drop-take n k xs)
@@ -73,13 +63,14 @@ flat_gives a new w n (Ok f) r c s h e l g = flat_joins a new w n f.bytes r c s (
 flat_gives a new w n (Err x) r c s h e l g = (rw g.1 (stands_placed a (end_of a) c s), rw g.0 tt)
 
 -- a read that fetches
-pub flat_fetched : {S B : Type 0} (reads : S → B → ℕ → ℕ → ReadOptions → Result WritableChunks Error → S → List Noted → Type 0) (refusals : S → ℕ) (bytes : S → B → List ℕ)
-    (blob : B) (a new : Ahead) (w len : ℕ) (old store : S) (r : Result Chunked Error) (x : List Noted)
-    → HasBytes reads bytes → StandsFor a (bytes old blob) → w ≤ fetch_len a w → len ≡ length a.held + w → Fetches reads refusals blob a w old r store new x
-    → StandsFor new (bytes store blob) × IfOk r (λ b. b.bytes ≡ take len (drop a.position (bytes old blob)))
-flat_fetched reads refusals bytes blob a new w len old store r x has s h e f =
-    let kept : bytes store blob ≡ bytes old blob = has.keeps old blob (end_of a) (fetch_len a w) no_hints f.0 store x f.1 in
-    rw (kept, e) (flat_gives a new w (fetch_len a w) f.0 r (bytes old blob) s h (λ b is. has.answers old blob (end_of a) (fetch_len a w) no_hints b store x (rw is at f.1)) f.3 f.4)
+pub flat_fetched : {S B : Type 0} (c : Ghosts S B) (blob : B) (a new : Ahead) (w len : ℕ) (old store : S) (r : Result Chunked Error) (x : List Noted)
+    → StandsFor a (c.bytes old blob) → w ≤ fetch_len a w → len ≡ length a.held + w → Fetches c blob a w old r store new x
+    → StandsFor new (c.bytes store blob) × IfOk r (λ b. b.bytes ≡ take len (drop a.position (c.bytes old blob)))
+flat_fetched c blob a new w len old store r x s h e f =
+    let reads = f.1 in
+    let kept = reads.1.0 in
+    let answers = reads.1.1 in
+    rw (kept, e) (flat_gives a new w (fetch_len a w) f.0 r (c.bytes old blob) s h (λ b is. rw is at answers) f.3 f.4)
 
 pub stands_sought : (a : Ahead) (p : ℕ) (c : List ℕ) → StandsFor a c → StandsFor (sought a p) c
 stands_sought a p c s = elim (cases_lt p a.position) [

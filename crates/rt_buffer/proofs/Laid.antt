@@ -1,19 +1,6 @@
 -- A content seen through a tip.
-use Rattle.std.proofs.Common.{◌≡◌, ℕ, ◌+◌, ◌-◌, ◌≤◌, ◌<◌, min, Bool, true, List, [], ◌++◌, length, take, drop, Result, Ok, Err, IfOk, OnOk, refl, sym, ap, ◌∙◌, inl, inr, arith}
-use Rattle.std.proofs.Math.ListN.{replicate}
-use Rattle.std.proofs.lemmas.Bool.{cases_lt, leb-true, and_parts}
-use Rattle.std.proofs.lemmas.List.{drop_all, take_all, drop-take, take-take, drop-append-le, take-append-le, append-nil, length-append, length-take, length-take-le, length-drop, length-replicate, append_assoc}
-use Rattle.std.specs.Prelude.{nat_le, nat_lt, ◌&&◌, ◌^◌, if◌then◌else◌}
-use Rattle.rt_base.specs.declared.error.Error.{Error}
-use Rattle.rt_base.specs.declared.options.ReadOptions.{ReadOptions}
-use Rattle.rt_base.specs.Noted.{Noted}
-use Rattle.rt_bufs.specs.WritableChunks.{WritableChunks}
-use Rattle.rt_bufs.specs.Chunked.{Chunked}
-use Rattle.rt_store.specs.Content.{written}
-use Rattle.rt_buffer.specs.Tip.{Tip, is_within, merged, laid_over}
-use Rattle.rt_buffer.specs.Writing.{LiesOver, ReadsTip, before_tip, AddsTip, ReadsThrough}
-use Rattle.rt_buffer.specs.Flat.{HasBytes}
-use Rattle.rt_buffer.specs.Reading.{no_hints}
+use Rattle.rt_buffer.proofs.Prelude.{◌≡◌, ℕ, ◌+◌, ◌-◌, ◌≤◌, ◌<◌, min, Bool, true, List, [], ◌++◌, length, take, drop, Result, Ok, Err, IfOk, OnOk, refl, sym, ap, ◌∙◌, inl, inr, arith, replicate, cases_lt, leb-true, and_parts, drop_all, take_all, drop-take, take-take, drop-append-le, take-append-le, append-nil, length-append, length-take, length-take-le, length-drop, length-replicate, append_assoc, nat_le, nat_lt, ◌^◌, if◌then◌else◌, Error, Noted, WritableChunks, Chunked, written, Ghosts, Tip, is_within, merged, laid_over, LiesOver, ReadsTip, before_tip, AddsTip, ReadsThrough}
+use Rattle.std.specs.Prelude.{◌&&◌}
 use Rattle.rt_buffer.proofs.Written.{take-append, drop-append}
 
 -- bytes that begin within a content and end no earlier than it
@@ -124,9 +111,9 @@ flat_adds t offset len (Ok f) (Ok b) c l h e g = g ∙ flat_through t offset len
 flat_adds t offset len (Ok f) (Err x) c l h e g = tt
 flat_adds t offset len (Err x) r c l h e g = rw g tt
 
-pub flat_reads : {S B : Type 0} (reads : S → B → ℕ → ℕ → ReadOptions → Result WritableChunks Error → S → List Noted → Type 0) (refusals : S → ℕ) (bytes : S → B → List ℕ)
-    (blob : B) (t : Tip) (offset len : ℕ) (old new : S) (r : Result Chunked Error) (x : List Noted)
-    → HasBytes reads bytes → LiesOver t (bytes old blob) → offset < t.offset → ReadsThrough reads refusals blob t offset len old r new x
-    → IfOk r (λ b. b.bytes ≡ take len (drop offset (laid_over t (bytes old blob))))
-flat_reads reads refusals bytes blob t offset len old new r x has l h f =
-    flat_adds t offset len f.0 r (bytes old blob) l h (λ b is. has.answers old blob offset (before_tip t offset len) no_hints b new x (rw is at f.1)) f.3
+pub flat_reads : {S B : Type 0} (c : Ghosts S B) (blob : B) (t : Tip) (offset len : ℕ) (old new : S) (r : Result Chunked Error) (x : List Noted)
+    → LiesOver t (c.bytes old blob) → offset < t.offset → ReadsThrough c blob t offset len old r new x → IfOk r (λ b. b.bytes ≡ take len (drop offset (laid_over t (c.bytes old blob))))
+flat_reads c blob t offset len old new r x l h f =
+    let reads = f.1 in
+    let answers = reads.1.1 in
+    flat_adds t offset len f.0 r (c.bytes old blob) l h (λ b is. rw is at answers) f.3

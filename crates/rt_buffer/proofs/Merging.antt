@@ -1,8 +1,5 @@
 -- Chunks that go into a tip.
-use Rattle.std.proofs.Common.{◌≡◌, ℕ, Bool, true, false, List, [], ◌∷◌, length, refl, sym, ap, ◌∙◌, slice_get}
-use Rattle.std.specs.Prelude.{unwrap_or, if◌then◌else◌}
-use Rattle.rt_buffer.specs.Tip.{Tip, is_within}
-use Rattle.rt_buffer.specs.Pieces.{Merging, merged_chunks, pieces}
+use Rattle.rt_buffer.proofs.Prelude.{◌≡◌, ℕ, Bool, true, false, List, [], ◌∷◌, length, refl, sym, ap, ◌∙◌, slice_get, unwrap_or, if◌then◌else◌, Tip, is_within, Merging, merged_chunks, pieces}
 
 -- the first one lies beyond the tip's reach
 pub merged_stops : (t : Tip) (at : ℕ) (chunks : List (List ℕ)) (first : List ℕ) → first ≡ unwrap_or (slice_get chunks 0) [] → is_within t at (length first) ≡ false → (e : Merging) → e ≡ merged_chunks t at chunks → (e.tip ≡ t) × (e.left ≡ pieces at chunks)

@@ -1,16 +1,5 @@
 -- A store's count with another one added to it.
-use Rattle.std.proofs.Common.{◌≡◌, ℕ, ◌+◌, ◌≤◌, ◌<◌, Result, Ok, Err, arith}
-use Rattle.std.specs.Prelude.{◌^◌}
-use Rattle.rt_base.specs.Counted.{Counts}
-use Rattle.rt_base.specs.Outside.{HasRisen}
-use Rattle.rt_base.specs.declared.error.Error.{Error}
-use Rattle.rt_base.specs.declared.error.Error.TheVariants.{NoMemory}
-use Rattle.rt_buffer.specs.Mocks.{one_more}
-use Rattle.rt_store.specs.Answered.{CountsDone, CountsPoll, CountsStart}
-use Rattle.rt_store.specs.declared.ticket.Done.{Done}
-use Rattle.rt_store.specs.declared.ticket.Done.TheVariants.{Now, Gated}
-use Rattle.rt_store.specs.declared.ticket.Ticket.{Ticket}
-use Rattle.rt_store.specs.declared.ticket.Ticket.TheVariants.{Ready, Numbered}
+use Rattle.rt_buffer.proofs.Prelude.{◌≡◌, ℕ, ◌+◌, ◌≤◌, ◌<◌, Result, Ok, Err, arith, ◌^◌, Counts, HasRisen, Error, NoMemory, one_more, CountsDone, CountsPoll, CountsStart, Done, Now, Gated, Ticket, Ready, Numbered}
 
 pub counts_more : {A : Type 0} (old new more : ℕ) (r : Result A Error) → Counts old new r → Counts (old + more) (new + more) r
 counts_more old new more (Ok a) h = omega (arith, h)

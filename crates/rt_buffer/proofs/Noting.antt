@@ -1,11 +1,5 @@
 -- What is noted by one call after another.
-use Rattle.std.proofs.Common.{◌≡◌, ℕ, List, [], ◌++◌, Option, Some, None, Result, Ok, refl, sym, ap, ◌∙◌, subst}
-use Rattle.std.proofs.lemmas.List.{append_assoc, append-nil}
-use Rattle.rt_base.specs.declared.error.Error.{Error}
-use Rattle.rt_base.specs.Noted.{Noted, Adds}
-use Rattle.rt_base.specs.Counted.{Notes}
-use Rattle.rt_store.specs.declared.ticket.Done.{Done}
-use Rattle.rt_buffer.specs.Reading.{ResizesAndSyncs}
+use Rattle.rt_buffer.proofs.Prelude.{◌≡◌, ℕ, List, [], ◌++◌, Option, Some, None, Result, Ok, refl, sym, ap, ◌∙◌, subst, append_assoc, append-nil, Error, Noted, Adds, Notes, Done, ResizesAndSyncs}
 
 pub adds_both : (old mid new : Option (List Noted)) (xs ys : List Noted) → Adds old xs mid → Adds mid ys new → Adds old (xs ++ ys) new
 adds_both None mid new xs ys h k = tt

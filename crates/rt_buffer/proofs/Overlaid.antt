@@ -1,15 +1,6 @@
 -- A blob that is written to beside its tip.
-use Rattle.std.proofs.Common.{◌≡◌, ℕ, ◌+◌, ◌-◌, ◌≤◌, ◌<◌, max, Bool, true, false, List, [], ◌∷◌, ◌++◌, length, take, drop, refl, sym, ap, ◌∙◌, arith}
-use Rattle.std.proofs.Math.ListN.{replicate}
-use Rattle.std.proofs.lemmas.Bool.Decides.{nat_tests}
-use Rattle.std.proofs.lemmas.List.{append-nil, append_assoc, drop-append-le, length-append, length-drop, length-replicate, length-take, length-take-le, drop-drop, take-append-drop, take-append-le, take-take, take_all, take_at}
-use Rattle.std.specs.Prelude.{nat_le, nat_lt, Some, None}
-use Rattle.rt_store.specs.Content.{resized, written}
-use Rattle.rt_buffer.specs.Tip.{Tip, bytes_before, bytes_to_write, drained, empty_tip, end_of, laid_over, raised, resized_tip, shortened}
-use Rattle.rt_buffer.specs.Writing.{LiesOver, has_bytes, is_in_the_way}
-use Rattle.rt_buffer.specs.Pieces.{chunks_written, with_bytes}
-use Rattle.rt_bufs.specs.Chunked.{NoneEmpty}
-use Rattle.std.specs.List.{concat}
+use Rattle.rt_buffer.proofs.Prelude.{◌≡◌, ℕ, ◌+◌, ◌-◌, ◌≤◌, ◌<◌, max, Bool, true, false, List, [], ◌∷◌, ◌++◌, length, take, drop, refl, sym, ap, ◌∙◌, arith, replicate, nat_tests, append-nil, append_assoc, drop-append-le, length-append, length-drop, length-replicate, length-take, length-take-le, drop-drop, take-append-drop, take-append-le, take-take, take_all, take_at, nat_le, nat_lt, resized, written, Tip, bytes_before, bytes_to_write, drained, empty_tip, end_of, laid_over, raised, resized_tip, shortened, LiesOver, has_bytes, is_in_the_way, chunks_written, with_bytes, NoneEmpty, concat}
+use Rattle.std.specs.Prelude.{Some, None}
 use Rattle.rt_buffer.proofs.Laid.{drop_behind, laid_is}
 use Rattle.rt_buffer.proofs.Written.{take-append}
 

@@ -1,10 +1,6 @@
 -- What a tip has to write, and what it shows.
-use Rattle.std.proofs.Common.{◌≡◌, ℕ, List, [], ◌∷◌, Some, None, false, refl, sym, ap, ◌∙◌, arith, take}
-use Rattle.std.proofs.lemmas.List.{append-nil, take_all}
-use Rattle.rt_buffer.specs.Tip.{Tip, bytes_to_write, laid_over}
-use Rattle.rt_buffer.specs.Writing.{LiesOver, has_bytes}
+use Rattle.rt_buffer.proofs.Prelude.{◌≡◌, ℕ, List, [], ◌∷◌, Some, None, false, refl, sym, ap, ◌∙◌, arith, take, append-nil, take_all, Tip, bytes_to_write, laid_over, LiesOver, has_bytes, written}
 use Rattle.rt_buffer.proofs.Laid.{laid_is}
-use Rattle.rt_store.specs.Content.{written}
 
 -- a tip without bytes shows its blob
 pub shows_none : (at capacity : ℕ) (bs content : List ℕ) → LiesOver (record { offset = at; bytes = bs; capacity = capacity }) content → bytes_to_write (record { offset = at; bytes = bs; capacity = capacity }) ≡ None → content ≡ laid_over (record { offset = at; bytes = bs; capacity = capacity }) content

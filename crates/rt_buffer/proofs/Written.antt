@@ -1,10 +1,5 @@
 -- Bytes that are put over others.
-use Rattle.std.proofs.Common.{◌≡◌, ℕ, ◌+◌, ◌-◌, List, [], ◌++◌, length, take, drop, refl, ap, ◌∙◌, inl, inr, arith}
-use Rattle.std.proofs.Math.ListN.{replicate}
-use Rattle.std.proofs.Math.Seq.{take-append-add, drop-append-add}
-use Rattle.std.proofs.lemmas.Bool.{cases_lt}
-use Rattle.std.proofs.lemmas.List.{take-append-le, drop-append-le, append_assoc, append-nil, take-replicate, length-replicate, drop_all, take_all}
-use Rattle.rt_store.specs.Content.{written}
+use Rattle.rt_buffer.proofs.Prelude.{◌≡◌, ℕ, ◌+◌, ◌-◌, List, [], ◌++◌, length, take, drop, refl, ap, ◌∙◌, inl, inr, arith, replicate, take-append-add, drop-append-add, cases_lt, take-append-le, drop-append-le, append_assoc, append-nil, take-replicate, length-replicate, drop_all, take_all, written}
 
 take_past : (n k : ℕ) (xs ys : List ℕ) → n ≡ length xs + k → take n (xs ++ ys) ≡ xs ++ take k ys
 take_past n k xs ys e = rw e (take-append-add xs ys k)

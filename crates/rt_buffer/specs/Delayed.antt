@@ -9,7 +9,8 @@ use Rattle.rt_base.specs.Counted.{Counts}
 use Rattle.rt_base.specs.Noted.{Noted}
 use Rattle.rt_base.specs.Options.{without_write_options}
 use Rattle.rt_bufs.specs.Chunked.{Chunked}
-use Rattle.rt_buffer.specs.Calls.{StoreCalls}
+use Rattle.rt_buffer.specs.Calls.{IsClose, IsGivenUp, IsPoll, IsSync, IsWrite}
+use Rattle.rt_store.specs.declared.storage.Storage.{Ghosts}
 use Rattle.rt_buffer.specs.declared.shared_blob.SharedBlob.{SharedBlob}
 use Rattle.rt_buffer.specs.declared.stage.Hold.{Hold}
 use Rattle.rt_buffer.specs.declared.stage.Passed.{Passed}
@@ -97,11 +98,11 @@ held_less blobs n (Some (Some b)) = slice_set blobs n (if is_last b then None el
 abbrev pub without_holder : {B : Type 0} → List (Option (SharedBlob B)) → ℕ → List (Option (SharedBlob B))
 without_holder blobs n = held_less blobs n (slice_get blobs n)
 
-abbrev pub Closes : {S B : Type 0} → StoreCalls S B → Option B → S → S → Type 0
+abbrev pub Closes : {S B : Type 0} → Ghosts S B → Option B → S → S → Type 0
 Closes c None old new = new ≡ old
-Closes c (Some b) old new = c.closes old b new
+Closes c (Some b) old new = IsClose c old b new
 
-abbrev pub LetsGo : {S B : Type 0} → StoreCalls S B → Option ℕ → Delayed S B → Delayed S B → Type 0
+abbrev pub LetsGo : {S B : Type 0} → Ghosts S B → Option ℕ → Delayed S B → Delayed S B → Type 0
 LetsGo c None s t = t ≡ s
 LetsGo c (Some n) s t = Closes c (closed_by (slice_get s.blobs n)) s.inner t.inner × (t ≡ record s { inner = t.inner; blobs = without_holder s.blobs n })
 
@@ -141,15 +142,15 @@ abbrev pub with_ticket : {S B : Type 0} → Hold → Delayed S B → Delayed S B
 with_ticket h s = record s { blobs = with_holder s.blobs h.blob; tickets = s.tickets ++ stage.Held h ∷ [] }
 
 -- a sync takes the gate, and else is passed on
-abbrev pub SyncsAt : {S B : Type 0} → StoreCalls S B → ℕ → B → Option ℕ → Delayed S B → Result Done Error → Delayed S B → List Noted → Type 0
-SyncsAt c n b None s r t x = PassesOn (c.syncs s.inner b) (record s { pending = called s.pending }) r t x
+abbrev pub SyncsAt : {S B : Type 0} → Ghosts S B → ℕ → B → Option ℕ → Delayed S B → Result Done Error → Delayed S B → List Noted → Type 0
+SyncsAt c n b None s r t x = PassesOn (IsSync c s.inner b) (record s { pending = called s.pending }) r t x
 SyncsAt c n b (Some gate) s r t x =
     (r ≡ Ok (Gated (Numbered (length s.tickets)))) × (t ≡ with_ticket (record { blob = n; hold = Some gate; counts = false }) (record s { pending = called s.pending })) × (x ≡ [])
 
-abbrev pub SyncsOr : {S B : Type 0} → StoreCalls S B → ℕ → B → Delayed S B → Result Done Error → Delayed S B → List Noted → Type 0
+abbrev pub SyncsOr : {S B : Type 0} → Ghosts S B → ℕ → B → Delayed S B → Result Done Error → Delayed S B → List Noted → Type 0
 SyncsOr c n b s r t x = SyncsAt c n b (gate_of s.pending) s r t x ⊎ ((r ≡ Err NoMemory) × (t ≡ s) × (x ≡ []))
 
-abbrev pub Syncs : {S B : Type 0} → StoreCalls S B → ℕ → Option B → Delayed S B → Result Done Error → Delayed S B → List Noted → Type 0
+abbrev pub Syncs : {S B : Type 0} → Ghosts S B → ℕ → Option B → Delayed S B → Result Done Error → Delayed S B → List Noted → Type 0
 Syncs c n None s r t x = (r ≡ Err UnknownToken) × (t ≡ refused s) × (x ≡ [])
 Syncs c n (Some b) s r t x = SyncsOr c n b s r t x
 
@@ -162,12 +163,12 @@ Starts n (Some b) s (Err e) t x = Lacks e s t x
 
 -- a write that isn't durable, or comes while that isn't armed, is passed on; else it is one that isn't durable, and then a sync,
 -- whose room was taken before
-abbrev pub WritesThen : {S B : Type 0} → StoreCalls S B → ℕ → B → Result Done Error → Delayed S B → Result Done Error → Delayed S B → List Noted → Type 0
+abbrev pub WritesThen : {S B : Type 0} → Ghosts S B → ℕ → B → Result Done Error → Delayed S B → Result Done Error → Delayed S B → List Noted → Type 0
 WritesThen c n b (Err e) s r t x = (r ≡ Err e) × (t ≡ s) × (x ≡ [])
 WritesThen c n b (Ok Now) s r t x = SyncsAt c n b (gate_of s.pending) s r t x
-WritesThen {S = S} c n b (Ok (Gated ticket)) s r t x = (given_up : S) × c.gives_up s.inner ticket given_up × SyncsAt c n b (gate_of s.pending) (moved s given_up) r t x
+WritesThen {S = S} c n b (Ok (Gated ticket)) s r t x = (given_up : S) × IsGivenUp c s.inner ticket given_up × SyncsAt c n b (gate_of s.pending) (moved s given_up) r t x
 
-abbrev pub WritesAt : {S B : Type 0} → StoreCalls S B → (Result Done Error → S → List Noted → Type 0) → (Result Done Error → S → List Noted → Type 0) → ℕ → B → Bool → Delayed S B → Result Done Error → Delayed S B → List Noted → Type 0
+abbrev pub WritesAt : {S B : Type 0} → Ghosts S B → (Result Done Error → S → List Noted → Type 0) → (Result Done Error → S → List Noted → Type 0) → ℕ → B → Bool → Delayed S B → Result Done Error → Delayed S B → List Noted → Type 0
 WritesAt c durably plainly n b false s r t x = PassesOn durably s r t x
 WritesAt {S = S} c durably plainly n b true s r t x =
     (low : Result Done Error) × (mid : S) × (y : List Noted) × (z : List Noted) × plainly low mid y × WritesThen c n b low (moved s mid) r t z × (x ≡ y ++ z)
@@ -176,10 +177,10 @@ WritesAt {S = S} c durably plainly n b true s r t x =
 abbrev pub plain : WriteOptions → WriteOptions
 plain options = without_write_options options (record { sync = true; dont_cache = false })
 
-abbrev pub Writes : {S B : Type 0} → StoreCalls S B → ℕ → Option B → Bool → ℕ → Chunked → WriteOptions → Delayed S B → Result Done Error → Delayed S B → List Noted → Type 0
+abbrev pub Writes : {S B : Type 0} → Ghosts S B → ℕ → Option B → Bool → ℕ → Chunked → WriteOptions → Delayed S B → Result Done Error → Delayed S B → List Noted → Type 0
 Writes c n None is_held offset bufs options s r t x = (r ≡ Err UnknownToken) × (t ≡ refused s) × (x ≡ [])
 Writes c n (Some b) is_held offset bufs options s r t x =
-    WritesAt c (c.writes s.inner b offset bufs options) (c.writes s.inner b offset bufs (plain options)) n b is_held s r t x ⊎ ((r ≡ Err NoMemory) × (t ≡ s) × (x ≡ []))
+    WritesAt c (IsWrite c s.inner b offset bufs options) (IsWrite c s.inner b offset bufs (plain options)) n b is_held s r t x ⊎ ((r ≡ Err NoMemory) × (t ≡ s) × (x ≡ []))
 
 -- Polls.
 
@@ -203,24 +204,24 @@ counted_done true (Err e) p = p
 counted_done false r p = p
 
 -- a ticket is answered: it is out, and its blob is closed where nothing holds it any more
-abbrev pub Finishes : {S B : Type 0} → StoreCalls S B → ℕ → Option ℕ → Bool → Result Unit Error → Delayed S B → Delayed S B → Type 0
+abbrev pub Finishes : {S B : Type 0} → Ghosts S B → ℕ → Option ℕ → Bool → Result Unit Error → Delayed S B → Delayed S B → Type 0
 Finishes c n blob counts r s t = LetsGo c blob (without_ticket n (record s { pending = counted_done counts r s.pending })) t
 
 -- the answer of an inner ticket is taken out of that, which is none of the inner store's any more
-abbrev pub AnswersInner : {S B : Type 0} → StoreCalls S B → ℕ → Option ℕ → Bool → Result Unit Error → Delayed S B → Poll (Result Unit Error) → Delayed S B → Type 0
+abbrev pub AnswersInner : {S B : Type 0} → Ghosts S B → ℕ → Option ℕ → Bool → Result Unit Error → Delayed S B → Poll (Result Unit Error) → Delayed S B → Type 0
 AnswersInner c n blob counts r s p t = (p ≡ poll.Ready r) × Finishes c n blob counts r s t
 
-abbrev pub AfterInner : {S B : Type 0} → StoreCalls S B → ℕ → Passed → Ticket → Delayed S B → Poll (Result Unit Error) → Delayed S B → Type 0
+abbrev pub AfterInner : {S B : Type 0} → Ghosts S B → ℕ → Passed → Ticket → Delayed S B → Poll (Result Unit Error) → Delayed S B → Type 0
 AfterInner c n k (Numbered m) s p t = (p ≡ poll.Pending) × (t ≡ s)
 AfterInner c n k (Ready r) s p t = AnswersInner c n k.blob k.counts r s p t
 
 -- the inner ticket is polled: the answer is pending while it has its number, and what it holds once it is ready
-abbrev pub PollsInner : {S B : Type 0} → StoreCalls S B → ℕ → ℕ → Passed → Delayed S B → Poll (Result Unit Error) → Delayed S B → List Noted → Type 0
+abbrev pub PollsInner : {S B : Type 0} → Ghosts S B → ℕ → ℕ → Passed → Delayed S B → Poll (Result Unit Error) → Delayed S B → List Noted → Type 0
 PollsInner {S = S} c n task k s p t x =
-    (low : Poll (Result Unit Error)) × (mid : S) × (u : Ticket) × c.polls s.inner (Numbered k.number) task low mid u x × PollsTicket (Numbered k.number) low u × AfterInner c n k u (moved s mid) p t
+    (low : Poll (Result Unit Error)) × (mid : S) × (u : Ticket) × IsPoll c s.inner (Numbered k.number) task low mid u x × PollsTicket (Numbered k.number) low u × AfterInner c n k u (moved s mid) p t
 
 -- a sync that goes on is one of the inner store
-abbrev pub AfterSync : {S B : Type 0} → StoreCalls S B → ℕ → ℕ → Hold → Result Done Error → Delayed S B → Poll (Result Unit Error) → Delayed S B → List Noted → Type 0
+abbrev pub AfterSync : {S B : Type 0} → Ghosts S B → ℕ → ℕ → Hold → Result Done Error → Delayed S B → Poll (Result Unit Error) → Delayed S B → List Noted → Type 0
 AfterSync c n task h (Err e) s p t x = (p ≡ poll.Ready (Err e)) × Finishes c n (Some h.blob) h.counts (Err e) s t × (x ≡ [])
 AfterSync c n task h (Ok Now) s p t x = (p ≡ poll.Ready (Ok tt)) × Finishes c n (Some h.blob) h.counts (Ok tt) s t × (x ≡ [])
 AfterSync c n task h (Ok (Gated (Ready r))) s p t x = AnswersInner c n (Some h.blob) h.counts r s p t × (x ≡ [])
@@ -228,22 +229,22 @@ AfterSync c n task h (Ok (Gated (Numbered m))) s p t x =
     let k : Passed = record { number = m; blob = Some h.blob; counts = h.counts } in
     PollsInner c n task k (record s { tickets = slice_set s.tickets n (stage.Passed k) }) p t x
 
-abbrev pub SyncsReleased : {S B : Type 0} → StoreCalls S B → ℕ → ℕ → Hold → Option B → Delayed S B → Poll (Result Unit Error) → Delayed S B → List Noted → Type 0
+abbrev pub SyncsReleased : {S B : Type 0} → Ghosts S B → ℕ → ℕ → Hold → Option B → Delayed S B → Poll (Result Unit Error) → Delayed S B → List Noted → Type 0
 SyncsReleased c n task h None s p t x = (p ≡ poll.Ready (Err UnknownToken)) × (t ≡ refused (without_ticket n s)) × (x ≡ [])
 SyncsReleased {S = S} c n task h (Some b) s p t x =
-    (low : Result Done Error) × (mid : S) × (y : List Noted) × (z : List Noted) × c.syncs s.inner b low mid y × AfterSync c n task h low (moved s mid) p t z × (x ≡ y ++ z)
+    (low : Result Done Error) × (mid : S) × (y : List Noted) × (z : List Noted) × IsSync c s.inner b low mid y × AfterSync c n task h low (moved s mid) p t z × (x ≡ y ++ z)
 
 -- what it was released with: an error is answered without a call of the inner store
-abbrev pub AfterHold : {S B : Type 0} → StoreCalls S B → ℕ → ℕ → Hold → Poll (Result Unit Error) → Delayed S B → Poll (Result Unit Error) → Delayed S B → List Noted → Type 0
+abbrev pub AfterHold : {S B : Type 0} → Ghosts S B → ℕ → ℕ → Hold → Poll (Result Unit Error) → Delayed S B → Poll (Result Unit Error) → Delayed S B → List Noted → Type 0
 AfterHold c n task h poll.Pending s p t x = (p ≡ poll.Pending) × (t ≡ s) × (x ≡ [])
 AfterHold c n task h (poll.Ready (Err e)) s p t x = (p ≡ poll.Ready (Err e)) × Finishes c n (Some h.blob) h.counts (Err e) (refused s) t × (x ≡ [])
 AfterHold c n task h (poll.Ready (Ok u)) s p t x = SyncsReleased c n task h (blob_at s.blobs h.blob) s p t x
 
-abbrev pub PollsHeld : {S B : Type 0} → StoreCalls S B → ℕ → ℕ → Hold → Delayed S B → Poll (Result Unit Error) → Delayed S B → List Noted → Type 0
+abbrev pub PollsHeld : {S B : Type 0} → Ghosts S B → ℕ → ℕ → Hold → Delayed S B → Poll (Result Unit Error) → Delayed S B → List Noted → Type 0
 PollsHeld c n task h s p t x = AfterHold c n task h (hold_answer s.pending h.hold) (record s { pending = polled h.hold task s.pending }) p t x
 
 -- a number of no ticket, or of one that is out, is refused
-abbrev pub PollsStage : {S B : Type 0} → StoreCalls S B → ℕ → ℕ → Option Stage → Delayed S B → Poll (Result Unit Error) → Delayed S B → List Noted → Type 0
+abbrev pub PollsStage : {S B : Type 0} → Ghosts S B → ℕ → ℕ → Option Stage → Delayed S B → Poll (Result Unit Error) → Delayed S B → List Noted → Type 0
 PollsStage c n task None s p t x = (p ≡ poll.Ready (Err UnknownToken)) × (t ≡ refused s) × (x ≡ [])
 PollsStage c n task (Some stage.Out) s p t x = (p ≡ poll.Ready (Err UnknownToken)) × (t ≡ refused s) × (x ≡ [])
 PollsStage c n task (Some (stage.Held h)) s p t x = PollsHeld c n task h s p t x
@@ -255,39 +256,39 @@ Settles old poll.Pending p new = (p ≡ poll.Pending) × (new ≡ old)
 Settles old (poll.Ready r) p new = IsCopy r p × (new ≡ Ready r)
 
 -- one that is ready answers a copy, with no call of the inner store
-abbrev pub Polls : {S B : Type 0} → StoreCalls S B → ℕ → Ticket → Delayed S B → Poll (Result Unit Error) → Delayed S B → Ticket → List Noted → Type 0
+abbrev pub Polls : {S B : Type 0} → Ghosts S B → ℕ → Ticket → Delayed S B → Poll (Result Unit Error) → Delayed S B → Ticket → List Noted → Type 0
 Polls c task (Ready held) s p t u x = PollsTicket (Ready held) p u × (t ≡ s) × (x ≡ [])
 Polls c task (Numbered n) s p t u x =
     (q : Poll (Result Unit Error)) × PollsStage c n task (slice_get s.tickets n) s q t x × Settles (Numbered n) q p u
 
 -- a ticket that is given up is out and holds its blob no more, and one of the inner store is given up there. One that is ready is
 -- out already
-abbrev pub GivesUpStage : {S B : Type 0} → StoreCalls S B → ℕ → Option Stage → Delayed S B → Delayed S B → Type 0
+abbrev pub GivesUpStage : {S B : Type 0} → Ghosts S B → ℕ → Option Stage → Delayed S B → Delayed S B → Type 0
 GivesUpStage c n None s t = t ≡ s
 GivesUpStage c n (Some stage.Out) s t = t ≡ s
 GivesUpStage c n (Some (stage.Held h)) s t = LetsGo c (Some h.blob) (without_ticket n s) t
 GivesUpStage {S = S} c n (Some (stage.Passed k)) s t =
-    (given_up : S) × c.gives_up s.inner (Numbered k.number) given_up × LetsGo c k.blob (without_ticket n (moved s given_up)) t
+    (given_up : S) × IsGivenUp c s.inner (Numbered k.number) given_up × LetsGo c k.blob (without_ticket n (moved s given_up)) t
 
-abbrev pub GivesUp : {S B : Type 0} → StoreCalls S B → Ticket → Delayed S B → Delayed S B → Type 0
+abbrev pub GivesUp : {S B : Type 0} → Ghosts S B → Ticket → Delayed S B → Delayed S B → Type 0
 GivesUp c (Ready held) s t = t ≡ s
 GivesUp c (Numbered n) s t = GivesUpStage c n (slice_get s.tickets n) s t
 
 -- the end of the store: what is left of the inner store's tickets is given up, and what is left of its blobs is closed, the last
 -- first
-abbrev pub GivesUpLast : {S B : Type 0} → StoreCalls S B → Stage → S → S → Type 0
+abbrev pub GivesUpLast : {S B : Type 0} → Ghosts S B → Stage → S → S → Type 0
 GivesUpLast c (stage.Held h) old new = new ≡ old
-GivesUpLast c (stage.Passed k) old new = c.gives_up old (Numbered k.number) new
+GivesUpLast c (stage.Passed k) old new = IsGivenUp c old (Numbered k.number) new
 GivesUpLast c stage.Out old new = new ≡ old
 
-abbrev pub GivesUpAll : {S B : Type 0} → StoreCalls S B → List Stage → S → S → Type 0
+abbrev pub GivesUpAll : {S B : Type 0} → Ghosts S B → List Stage → S → S → Type 0
 GivesUpAll c [] old new = new ≡ old
 GivesUpAll {S = S} c (k ∷ ks) old new = (mid : S) × GivesUpAll c ks old mid × GivesUpLast c k mid new
 
-abbrev pub ClosesLast : {S B : Type 0} → StoreCalls S B → Option (SharedBlob B) → S → S → Type 0
+abbrev pub ClosesLast : {S B : Type 0} → Ghosts S B → Option (SharedBlob B) → S → S → Type 0
 ClosesLast c None old new = new ≡ old
-ClosesLast c (Some b) old new = c.closes old b.inner new
+ClosesLast c (Some b) old new = IsClose c old b.inner new
 
-abbrev pub ClosesAll : {S B : Type 0} → StoreCalls S B → List (Option (SharedBlob B)) → S → S → Type 0
+abbrev pub ClosesAll : {S B : Type 0} → Ghosts S B → List (Option (SharedBlob B)) → S → S → Type 0
 ClosesAll c [] old new = new ≡ old
 ClosesAll {S = S} c (b ∷ bs) old new = (mid : S) × ClosesAll c bs old mid × ClosesLast c b mid new

@@ -3,7 +3,6 @@ pub mod Delayed
 pub mod DelayedBytes
 pub mod Durable
 pub mod Flat
-pub mod Framing
 pub mod Lent
 pub mod Memory
 pub mod Mocks

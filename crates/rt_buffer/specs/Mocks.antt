@@ -1,5 +1,5 @@
 -- Stores that a test lets fail, over an inner store.
-use Rattle.std.specs.Prelude.{◌≡◌, ℕ, ◌+◌, ◌-◌, ◌^◌, min, Bool, true, false, List, [], Option, Some, Result, Ok, Err}
+use Rattle.std.specs.Prelude.{◌≡◌, ℕ, ◌+◌, ◌-◌, ◌^◌, min, Bool, true, false, List, [], Result, Ok, Err}
 use Rattle.rt_base.specs.declared.error.Error.{Error}
 use Rattle.rt_base.specs.declared.error.Error.TheVariants.{Io}
 use Rattle.rt_base.specs.declared.io_kind.IoKind.TheVariants.{InjectedPartitionSyncFault, InjectedWriteFailure}
@@ -7,7 +7,7 @@ use Rattle.rt_base.specs.Noted.{Noted}
 use Rattle.rt_buffer.specs.declared.write_fault.WriteFaults.{WriteFaults}
 use Rattle.rt_store.specs.declared.ticket.Done.{Done}
 use Rattle.rt_store.specs.declared.ticket.Ticket.{Ticket}
-use Rattle.rt_store.specs.declared.ticket.Ticket.TheVariants.{Ready, Numbered}
+use Rattle.rt_store.specs.declared.ticket.Ticket.TheVariants.{Ready}
 
 -- the answer of the inner store
 abbrev pub inside : {A B : Type 0} → (A → B) → Result A Error → Result B Error
@@ -44,10 +44,3 @@ failed_sync = Err (Io InjectedPartitionSyncFault)
 
 abbrev pub failed_start : Result Ticket Error
 failed_start = Ok (Ready (Err (Io InjectedPartitionSyncFault)))
-
--- what each crash leaves of a blob once the sync of a ticket is done, by what the inner store promises. A poll never answers success
--- for a sync that failed, so what its ticket promises never comes due
-abbrev pub or_failed : {S B : Type 0} → (S → B → List ℕ) → (S → Ticket → B → Option (List ℕ)) → S → Ticket → B → Option (List ℕ)
-or_failed bytes promised s (Ready (Ok u)) b = promised s (Ready (Ok u)) b
-or_failed bytes promised s (Ready (Err e)) b = Some (bytes s b)
-or_failed bytes promised s (Numbered n) b = promised s (Numbered n) b

@@ -8,6 +8,8 @@ use Rattle.rt_base.specs.declared.options.ReadOptions.{ReadOptions}
 use Rattle.rt_base.specs.Noted.{Noted}
 use Rattle.rt_bufs.specs.Chunked.{Chunked}
 use Rattle.rt_bufs.specs.WritableChunks.{WritableChunks}
+use Rattle.rt_buffer.specs.Calls.{IsRead}
+use Rattle.rt_store.specs.declared.storage.Storage.{Ghosts}
 use Rattle.rt_store.specs.declared.ticket.Done.{Done}
 
 -- `position` is the place of the next byte, and `held` has the bytes from there on that were fetched before; `size` is
@@ -67,11 +69,11 @@ abbrev pub no_hints : ReadOptions
 no_hints = record { dont_cache = false }
 
 -- a read that fetches: one read of the store, from the end of the held bytes on
-abbrev pub Fetches : {S B : Type 0} → (S → B → ℕ → ℕ → ReadOptions → Result WritableChunks Error → S → List Noted → Type 0) → (S → ℕ) → B → Ahead → ℕ → S → Result Chunked Error → S → Ahead → List Noted → Type 0
-Fetches reads refusals blob a lacking old r store new x =
+abbrev pub Fetches : {S B : Type 0} → Ghosts S B → B → Ahead → ℕ → S → Result Chunked Error → S → Ahead → List Noted → Type 0
+Fetches c blob a lacking old r store new x =
     (fetched : Result WritableChunks Error)
-    × reads old blob (end_of a) (fetch_len a lacking) no_hints fetched store x
-    × Counts (refusals old) (refusals store) fetched
+    × IsRead c old blob (end_of a) (fetch_len a lacking) no_hints fetched store x
+    × Counts (c.refusals old) (c.refusals store) fetched
     × IfOk fetched (λ b. length b.bytes ≡ fetch_len a lacking)
     × Gives a.held lacking (placed_at a (end_of a)) fetched r new
 

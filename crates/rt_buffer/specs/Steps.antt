@@ -9,7 +9,8 @@ use Rattle.rt_base.specs.declared.poll.Poll.{Poll}
 use Rattle.rt_base.specs.declared.poll.Poll.TheVariants as poll
 use Rattle.rt_base.specs.Noted.{Noted}
 use Rattle.rt_bufs.specs.Chunked.{Chunked}
-use Rattle.rt_buffer.specs.Calls.{StoreCalls}
+use Rattle.rt_buffer.specs.Calls.{IsGivenUp, IsPoll, IsResize, IsStart, IsSync, IsWrite}
+use Rattle.rt_store.specs.declared.storage.Storage.{Ghosts}
 use Rattle.rt_buffer.specs.declared.held.Held.{Held}
 use Rattle.rt_buffer.specs.declared.sync_state.SyncState.{SyncState}
 use Rattle.rt_buffer.specs.declared.sync_state.SyncState.TheVariants.{Clean, Dirty, Started}
@@ -91,48 +92,48 @@ Settled (poll.Ready (Err e)) mid t held r new = (r ≡ Err e) × (new ≡ writer
 Settled poll.Pending mid t held r new = (r ≡ Ok poll.Pending) × (new ≡ writer mid (with_state held (Started t)))
 
 -- the wait for a started sync. A ticket that is ready is none of the store's, and its poll leaves that as it was
-abbrev pub WaitsFor : {S B : Type 0} → StoreCalls S B → ℕ → SyncState → Act S
+abbrev pub WaitsFor : {S B : Type 0} → Ghosts S B → ℕ → SyncState → Act S
 WaitsFor c task Clean old r new x = Rests old r new x
 WaitsFor c task Dirty old r new x = Rests old r new x
 WaitsFor {S} c task (Started t) old r new x =
-    (p : Poll (Result Unit Error)) × (mid : S) × (held : Ticket) × c.polls old.store t task p mid held x
+    (p : Poll (Result Unit Error)) × (mid : S) × (held : Ticket) × IsPoll c old.store t task p mid held x
     × PollsTicket t p held × CountsPoll (c.refusals old.store) (c.refusals mid) t held × Settled p mid held old.held r new × (is_numbered t ≡ false → mid ≡ old.store)
 
-abbrev pub Waits : {S B : Type 0} → StoreCalls S B → ℕ → Act S
+abbrev pub Waits : {S B : Type 0} → Ghosts S B → ℕ → Act S
 Waits c task old r new x = WaitsFor c task old.held.state old r new x
 
 -- a durable change is done, or its ticket is held and polled
-abbrev pub Settles : {S B : Type 0} → StoreCalls S B → ℕ → Done → Act S
+abbrev pub Settles : {S B : Type 0} → Ghosts S B → ℕ → Done → Act S
 Settles c task Now old r new x = Rests (writer old.store (with_state old.held Clean)) r new x
 Settles c task (Gated t) old r new x = Waits c task (writer old.store (with_state old.held (Started t))) r new x
 
-abbrev pub SettlesBehind : {S B : Type 0} → StoreCalls S B → ℕ → Result Done Error → List Noted → Act S
+abbrev pub SettlesBehind : {S B : Type 0} → Ghosts S B → ℕ → Result Done Error → List Noted → Act S
 SettlesBehind c task (Ok d) y mid r new x = (z : List Noted) × (x ≡ y ++ z) × Settles c task d mid r new z
 SettlesBehind c task (Err e) y mid r new x = (r ≡ Err e) × (new ≡ mid) × (x ≡ y)
 
 -- a change that is durable once it is answered, with what its call may return, leave and note
-abbrev pub Keeps : {S B : Type 0} → StoreCalls S B → ℕ → (Result Done Error → S → List Noted → Type 0) → Act S
+abbrev pub Keeps : {S B : Type 0} → Ghosts S B → ℕ → (Result Done Error → S → List Noted → Type 0) → Act S
 Keeps {S} c task change old r new x =
     (d : Result Done Error) × (mid : S) × (y : List Noted) × change d mid y × CountsDone (c.refusals old.store) (c.refusals mid) d
     × SettlesBehind c task d y (writer mid old.held) r new x
 
 -- a sync of the blob
-abbrev pub SyncsBlob : {S B : Type 0} → StoreCalls S B → B → ℕ → Act S
-SyncsBlob c blob task old r new x = Keeps c task (c.syncs old.store blob) old r new x
+abbrev pub SyncsBlob : {S B : Type 0} → Ghosts S B → B → ℕ → Act S
+SyncsBlob c blob task old r new x = Keeps c task (IsSync c old.store blob) old r new x
 
 -- one durable write
-abbrev pub WritesDurably : {S B : Type 0} → StoreCalls S B → B → ℕ → ℕ → Chunked → Act S
-WritesDurably c blob task offset bytes old r new x = Keeps c task (c.writes old.store blob offset bytes durably) old r new x
+abbrev pub WritesDurably : {S B : Type 0} → Ghosts S B → B → ℕ → ℕ → Chunked → Act S
+WritesDurably c blob task offset bytes old r new x = Keeps c task (IsWrite c old.store blob offset bytes durably) old r new x
 
 -- a write that needn't be durable: the blob counts as changed, and a ticket for it is given up
-abbrev pub Changed : {S B : Type 0} → StoreCalls S B → Result Done Error → S → Held → Progress → Writer S → Type 0
+abbrev pub Changed : {S B : Type 0} → Ghosts S B → Result Done Error → S → Held → Progress → Writer S → Type 0
 Changed c (Ok Now) mid held r new = (r ≡ is_done) × (new ≡ writer mid (with_state held Dirty))
-Changed c (Ok (Gated t)) mid held r new = (r ≡ is_done) × c.gives_up mid t new.store × (new.held ≡ with_state held Dirty)
+Changed c (Ok (Gated t)) mid held r new = (r ≡ is_done) × IsGivenUp c mid t new.store × (new.held ≡ with_state held Dirty)
 Changed c (Err e) mid held r new = (r ≡ Err e) × (new ≡ writer mid (with_state held Dirty))
 
-abbrev pub WritesOut : {S B : Type 0} → StoreCalls S B → B → ℕ → Chunked → Act S
+abbrev pub WritesOut : {S B : Type 0} → Ghosts S B → B → ℕ → Chunked → Act S
 WritesOut {S} c blob offset bytes old r new x =
-    (d : Result Done Error) × (mid : S) × c.writes old.store blob offset bytes plain d mid x × CountsDone (c.refusals old.store) (c.refusals mid) d
+    (d : Result Done Error) × (mid : S) × IsWrite c old.store blob offset bytes plain d mid x × CountsDone (c.refusals old.store) (c.refusals mid) d
     × Changed c d mid old.held r new
 
 -- buffers of the bytes that are taken out of a tip, where there is memory for them
@@ -142,24 +143,24 @@ AreBuffers taken (Ok (Some b)) = taken ≡ Some (b.0.bytes, b.1)
 AreBuffers taken (Err e) = e ≡ NoMemory
 
 -- what is changed is made durable: by a sync, where a change is open
-abbrev pub SavesChanges : {S B : Type 0} → StoreCalls S B → B → ℕ → SyncState → Act S
+abbrev pub SavesChanges : {S B : Type 0} → Ghosts S B → B → ℕ → SyncState → Act S
 SavesChanges c blob task Clean old r new x = Rests old r new x
 SavesChanges c blob task Dirty old r new x = SyncsBlob c blob task old r new x
 SavesChanges c blob task (Started t) old r new x = SyncsBlob c blob task old r new x
 
 -- by one durable write of the tip where none is open, and else by a write and a sync
-abbrev pub SavesBytes : {S B : Type 0} → StoreCalls S B → B → ℕ → ℕ → Chunked → SyncState → Act S
+abbrev pub SavesBytes : {S B : Type 0} → Ghosts S B → B → ℕ → ℕ → Chunked → SyncState → Act S
 SavesBytes c blob task offset bytes Clean old r new x = WritesDurably c blob task offset bytes old r new x
 SavesBytes c blob task offset bytes Dirty old r new x = Then (WritesOut c blob offset bytes) (SyncsBlob c blob task) old r new x
 SavesBytes c blob task offset bytes (Started t) old r new x = Then (WritesOut c blob offset bytes) (SyncsBlob c blob task) old r new x
 
 -- with the bytes that a tip gave out, and the tip without them
-abbrev pub SavesTaken : {S B : Type 0} → StoreCalls S B → B → ℕ → Result (Option (Chunked × ℕ)) Error → Act S
+abbrev pub SavesTaken : {S B : Type 0} → Ghosts S B → B → ℕ → Result (Option (Chunked × ℕ)) Error → Act S
 SavesTaken c blob task (Err e) old r new x = Lacks old r new x
 SavesTaken c blob task (Ok None) old r new x = SavesChanges c blob task old.held.state (writer old.store (with_tip old.held (drained old.held.tip))) r new x
 SavesTaken c blob task (Ok (Some b)) old r new x = SavesBytes c blob task b.1 b.0 old.held.state (writer old.store (with_tip old.held (drained old.held.tip))) r new x
 
-abbrev pub Saves : {S B : Type 0} → StoreCalls S B → B → ℕ → Act S
+abbrev pub Saves : {S B : Type 0} → Ghosts S B → B → ℕ → Act S
 Saves c blob task old r new x =
     (t : Result (Option (Chunked × ℕ)) Error) × AreBuffers (bytes_to_write old.held.tip) t × SavesTaken c blob task t old r new x
 
@@ -168,29 +169,29 @@ abbrev pub progress_of : Result Unit Error → Progress
 progress_of (Ok u) = is_done
 progress_of (Err e) = Err e
 
-abbrev pub ResizesBlob : {S B : Type 0} → StoreCalls S B → B → ℕ → Act S
+abbrev pub ResizesBlob : {S B : Type 0} → Ghosts S B → B → ℕ → Act S
 ResizesBlob {S} c blob len old r new x =
-    (a : Result Unit Error) × (mid : S) × c.resizes old.store blob len a mid x × Counts (c.refusals old.store) (c.refusals mid) a
+    (a : Result Unit Error) × (mid : S) × IsResize c old.store blob len a mid x × Counts (c.refusals old.store) (c.refusals mid) a
     × (r ≡ progress_of a) × (new ≡ writer mid (with_state old.held Dirty))
 
 -- the same after a write of the bytes that the tip gave out for it
-abbrev pub ResizesTaken : {S B : Type 0} → StoreCalls S B → B → ℕ → Result (Option (Chunked × ℕ)) Error → Act S
+abbrev pub ResizesTaken : {S B : Type 0} → Ghosts S B → B → ℕ → Result (Option (Chunked × ℕ)) Error → Act S
 ResizesTaken c blob len (Err e) old r new x = Lacks old r new x
 ResizesTaken c blob len (Ok None) old r new x = ResizesBlob c blob len (writer old.store (with_tip old.held (resized_tip old.held.tip len))) r new x
 ResizesTaken c blob len (Ok (Some b)) old r new x =
     Then (WritesOut c blob b.1 b.0) (ResizesBlob c blob len) (writer old.store (with_tip old.held (resized_tip old.held.tip len))) r new x
 
-abbrev pub ResizesTip : {S B : Type 0} → StoreCalls S B → B → ℕ → Act S
+abbrev pub ResizesTip : {S B : Type 0} → Ghosts S B → B → ℕ → Act S
 ResizesTip c blob len old r new x =
     (t : Result (Option (Chunked × ℕ)) Error) × AreBuffers (bytes_before old.held.tip len) t × ResizesTaken c blob len t old r new x
 
 -- the bytes of the tip are written out, where it has any
-abbrev pub DrainsTaken : {S B : Type 0} → StoreCalls S B → B → Result (Option (Chunked × ℕ)) Error → Act S
+abbrev pub DrainsTaken : {S B : Type 0} → Ghosts S B → B → Result (Option (Chunked × ℕ)) Error → Act S
 DrainsTaken c blob (Err e) old r new x = Lacks old r new x
 DrainsTaken c blob (Ok None) old r new x = Rests (writer old.store (with_tip old.held (drained old.held.tip))) r new x
 DrainsTaken c blob (Ok (Some b)) old r new x = WritesOut c blob b.1 b.0 (writer old.store (with_tip old.held (drained old.held.tip))) r new x
 
-abbrev pub Drains : {S B : Type 0} → StoreCalls S B → B → Act S
+abbrev pub Drains : {S B : Type 0} → Ghosts S B → B → Act S
 Drains c blob old r new x =
     (t : Result (Option (Chunked × ℕ)) Error) × AreBuffers (bytes_to_write old.held.tip) t × DrainsTaken c blob t old r new x
 
@@ -202,17 +203,17 @@ abbrev pub HoldsStarted : {S : Type 0} → Result Ticket Error → S → Held �
 HoldsStarted (Ok t) mid held r new = (r ≡ is_done) × (new ≡ writer mid (record held { state = Started t; syncs = next_sync held.syncs }))
 HoldsStarted (Err e) mid held r new = (r ≡ Err e) × (new ≡ writer mid held)
 
-abbrev pub StartsSync : {S B : Type 0} → StoreCalls S B → B → Act S
+abbrev pub StartsSync : {S B : Type 0} → Ghosts S B → B → Act S
 StartsSync {S} c blob old r new x =
-    (a : Result Ticket Error) × (mid : S) × c.starts old.store blob a mid x × CountsStart (c.refusals old.store) (c.refusals mid) a
+    (a : Result Ticket Error) × (mid : S) × IsStart c old.store blob a mid x × CountsStart (c.refusals old.store) (c.refusals mid) a
     × HoldsStarted a mid old.held r new
 
-abbrev pub BeginsFor : {S B : Type 0} → StoreCalls S B → B → SyncState → Act S
+abbrev pub BeginsFor : {S B : Type 0} → Ghosts S B → B → SyncState → Act S
 BeginsFor c blob Clean old r new x = Rests old r new x
 BeginsFor c blob Dirty old r new x = StartsSync c blob old r new x
 BeginsFor c blob (Started t) old r new x = Rests old r new x
 
-abbrev pub Begins : {S B : Type 0} → StoreCalls S B → B → Act S
+abbrev pub Begins : {S B : Type 0} → Ghosts S B → B → Act S
 Begins c blob old r new x = BeginsFor c blob old.held.state old r new x
 
 -- a chunk goes into the tip, where there is memory for it
@@ -233,39 +234,39 @@ abbrev pub IsBuffer : List ℕ → Result Chunked Error → Type 0
 IsBuffer chunk (Ok b) = b.bytes ≡ chunk
 IsBuffer chunk (Err e) = e ≡ NoMemory
 
-abbrev pub WritesBuffer : {S B : Type 0} → StoreCalls S B → B → ℕ → ℕ → Result Chunked Error → Act S
+abbrev pub WritesBuffer : {S B : Type 0} → Ghosts S B → B → ℕ → ℕ → Result Chunked Error → Act S
 WritesBuffer c blob at end (Err e) old r new x = Lacks old r new x
 WritesBuffer {S} c blob at end (Ok b) old r new x = (mid : Writer S) × WritesOut c blob at b old r mid x × Raised end r mid new
 
-abbrev pub WritesChunk : {S B : Type 0} → StoreCalls S B → B → ℕ → List ℕ → Act S
+abbrev pub WritesChunk : {S B : Type 0} → Ghosts S B → B → ℕ → List ℕ → Act S
 WritesChunk c blob at chunk old r new x =
     (b : Result Chunked Error) × IsBuffer chunk b × WritesBuffer c blob at (at + length chunk) b old r new x
 
 -- where it can't be merged: a tip that has bytes before its end is written out first, and then it is tried again
-abbrev pub PutsPast : {S B : Type 0} → StoreCalls S B → B → ℕ → List ℕ → Bool → Act S
+abbrev pub PutsPast : {S B : Type 0} → Ghosts S B → B → ℕ → List ℕ → Bool → Act S
 PutsPast c blob at chunk true old r new x = MergesChunk at chunk old r new x
 PutsPast c blob at chunk false old r new x = WritesChunk c blob at chunk old r new x
 
-abbrev pub PutsAgain : {S B : Type 0} → StoreCalls S B → B → ℕ → List ℕ → Act S
+abbrev pub PutsAgain : {S B : Type 0} → Ghosts S B → B → ℕ → List ℕ → Act S
 PutsAgain c blob at chunk old r new x = PutsPast c blob at chunk (is_within old.held.tip at (length chunk)) old r new x
 
-abbrev pub PutsBeyond : {S B : Type 0} → StoreCalls S B → B → ℕ → List ℕ → Bool → Act S
+abbrev pub PutsBeyond : {S B : Type 0} → Ghosts S B → B → ℕ → List ℕ → Bool → Act S
 PutsBeyond c blob at chunk true old r new x = Then (Drains c blob) (PutsAgain c blob at chunk) old r new x
 PutsBeyond c blob at chunk false old r new x = WritesChunk c blob at chunk old r new x
 
-abbrev pub PutsFor : {S B : Type 0} → StoreCalls S B → B → ℕ → List ℕ → Bool → Act S
+abbrev pub PutsFor : {S B : Type 0} → Ghosts S B → B → ℕ → List ℕ → Bool → Act S
 PutsFor c blob at chunk true old r new x = MergesChunk at chunk old r new x
 PutsFor c blob at chunk false old r new x = PutsBeyond c blob at chunk (is_in_the_way old.held.tip (at + length chunk)) old r new x
 
-abbrev pub Puts : {S B : Type 0} → StoreCalls S B → B → ℕ → List ℕ → Act S
+abbrev pub Puts : {S B : Type 0} → Ghosts S B → B → ℕ → List ℕ → Act S
 Puts c blob at chunk old r new x = PutsFor c blob at chunk (is_within old.held.tip at (length chunk)) old r new x
 
 -- chunk by chunk, each after the one before it
-abbrev pub PutsChunks : {S B : Type 0} → StoreCalls S B → B → ℕ → List (List ℕ) → Act S
+abbrev pub PutsChunks : {S B : Type 0} → Ghosts S B → B → ℕ → List (List ℕ) → Act S
 PutsChunks c blob at [] old r new x = Rests old r new x
 PutsChunks c blob at (chunk ∷ chunks) old r new x = Then (Puts c blob at chunk) (PutsChunks c blob (at + length chunk) chunks) old r new x
 
-abbrev pub PutsAll : {S B : Type 0} → StoreCalls S B → B → Pieces → Act S
+abbrev pub PutsAll : {S B : Type 0} → Ghosts S B → B → Pieces → Act S
 PutsAll c blob p old r new x = PutsChunks c blob p.at p.chunks old r new x
 
 -- how much of its environment that takes at most, by what a call of the store does
@@ -277,7 +278,7 @@ room_for most (work.Write p) = length p.chunks * (2 * most)
 room_for most work.Start = 2 * most
 
 -- what a call does once no started sync is held
-abbrev pub Finishes : {S B : Type 0} → StoreCalls S B → B → Rest → ℕ → Act S
+abbrev pub Finishes : {S B : Type 0} → Ghosts S B → B → Rest → ℕ → Act S
 Finishes c blob work.Nothing task old r new x = Rests old r new x
 Finishes c blob work.Sync task old r new x = Saves c blob task old r new x
 Finishes c blob (work.Resize len) task old r new x = ResizesTip c blob len old r new x
@@ -296,36 +297,36 @@ IsLeft blob left store w = (w.0 ≡ blob) × (w.1 ≡ left.held) × (store ≡ l
 
 -- what a call returns: the writer where it is done, the writer and what is left to do where it waits, and else the error, and
 -- then the blob is closed
-abbrev pub Ends : {S B : Type 0} → StoreCalls S B → B → Rest → Progress → Writer S → S → Stepped (B × Held) ((B × Held) × Rest) → Type 0
+abbrev pub Ends : {S B : Type 0} → Ghosts S B → B → Rest → Progress → Writer S → S → Stepped (B × Held) ((B × Held) × Rest) → Type 0
 Ends c blob rest (Ok (poll.Ready u)) left store (step.Done w) = IsLeft blob left store w
 Ends c blob rest (Ok poll.Pending) left store (step.Waiting p) = IsLeft blob left store p.0 × (p.1 ≡ rest)
-Ends c blob rest (Err e) left store (step.Failed f) = (f ≡ e) × ClosesWriter c.gives_up c.closes left.held.state blob left.store store
+Ends c blob rest (Err e) left store (step.Failed f) = (f ≡ e) × ClosesWriter c left.held.state blob left.store store
 Ends c blob rest r left store s = ⊥
 
 -- a call waits for a started sync, and does its work where that is done: a wait keeps the work for later
-abbrev pub RunsBehind : {S B : Type 0} → StoreCalls S B → B → Rest → ℕ → Progress → List Noted → Writer S → S → Stepped (B × Held) ((B × Held) × Rest) → List Noted → Type 0
+abbrev pub RunsBehind : {S B : Type 0} → Ghosts S B → B → Rest → ℕ → Progress → List Noted → Writer S → S → Stepped (B × Held) ((B × Held) × Rest) → List Noted → Type 0
 RunsBehind {S} c blob rest task (Ok (poll.Ready u)) y mid store s x =
     (z : List Noted) × (x ≡ y ++ z) × (r : Progress) × (left : Writer S) × Finishes c blob rest task mid r left z × Ends c blob work.Nothing r left store s
 RunsBehind c blob rest task (Ok poll.Pending) y mid store s x = (x ≡ y) × Ends c blob rest (Ok poll.Pending) mid store s
 RunsBehind c blob rest task (Err e) y mid store s x = (x ≡ y) × Ends c blob rest (Err e) mid store s
 
-abbrev pub Runs : {S B : Type 0} → StoreCalls S B → B → Rest → ℕ → Writer S → S → Stepped (B × Held) ((B × Held) × Rest) → List Noted → Type 0
+abbrev pub Runs : {S B : Type 0} → Ghosts S B → B → Rest → ℕ → Writer S → S → Stepped (B × Held) ((B × Held) × Rest) → List Noted → Type 0
 Runs {S} c blob rest task old store s x =
     (a : Progress) × (mid : Writer S) × (y : List Noted) × Waits c task old a mid y × RunsBehind c blob rest task a y mid store s x
 
 -- a write: what goes into the tip goes there with no wait, and the call waits before it writes the others
-abbrev pub WritesLeft : {S B : Type 0} → StoreCalls S B → B → ℕ → Writer S → Pieces → S → Stepped (B × Held) ((B × Held) × Rest) → List Noted → Type 0
+abbrev pub WritesLeft : {S B : Type 0} → Ghosts S B → B → ℕ → Writer S → Pieces → S → Stepped (B × Held) ((B × Held) × Rest) → List Noted → Type 0
 WritesLeft c blob task old p store s x = elim p.chunks [
   | [] ↦ Ends c blob work.Nothing is_done old store s × (x ≡ [])
   | chunk ∷ chunks ↦ Runs c blob (work.Write p) task old store s x
 ]
 
 -- there was no memory to put a chunk into the tip
-abbrev pub LosesTip : {S B : Type 0} → StoreCalls S B → B → Writer S → S → Stepped (B × Held) ((B × Held) × Rest) → List Noted → Type 0
-LosesTip c blob old store s x = (s ≡ step.Failed NoMemory) × ClosesWriter c.gives_up c.closes old.held.state blob old.store store × (x ≡ [])
+abbrev pub LosesTip : {S B : Type 0} → Ghosts S B → B → Writer S → S → Stepped (B × Held) ((B × Held) × Rest) → List Noted → Type 0
+LosesTip c blob old store s x = (s ≡ step.Failed NoMemory) × ClosesWriter c old.held.state blob old.store store × (x ≡ [])
 
 -- a write that ends within numbers: of the chunks, as many as lie within the tip's reach one after the other go into it
-abbrev pub WritesAt : {S B : Type 0} → StoreCalls S B → B → ℕ → List (List ℕ) → ℕ → Writer S → S → Stepped (B × Held) ((B × Held) × Rest) → List Noted → Type 0
+abbrev pub WritesAt : {S B : Type 0} → Ghosts S B → B → ℕ → List (List ℕ) → ℕ → Writer S → S → Stepped (B × Held) ((B × Held) × Rest) → List Noted → Type 0
 WritesAt c blob offset chunks task old store s x =
     LosesTip c blob old store s x
     ⊎ WritesLeft c blob task (writer old.store (with_tip old.held (merged_chunks old.held.tip offset chunks).tip)) (merged_chunks old.held.tip offset chunks).left store s x
@@ -348,11 +349,11 @@ GivesHandle blob writer waiting (begun.Waiting p) = waiting p ≡ blob
 GivesHandle blob writer waiting (begun.Failed e) = ⊤
 
 -- a start with an empty tip changes no byte, and so it waits for nothing
-abbrev pub StartsFor : {S B : Type 0} → StoreCalls S B → B → ℕ → Bool → Writer S → S → Stepped (B × Held) ((B × Held) × Rest) → List Noted → Type 0
+abbrev pub StartsFor : {S B : Type 0} → Ghosts S B → B → ℕ → Bool → Writer S → S → Stepped (B × Held) ((B × Held) × Rest) → List Noted → Type 0
 StartsFor c blob task true old store s x = Runs c blob work.Start task old store s x
 StartsFor {S} c blob task false old store s x = (r : Progress) × (left : Writer S) × Begins c blob old r left x × Ends c blob work.Nothing r left store s
 
-abbrev pub Starts : {S B : Type 0} → StoreCalls S B → B → ℕ → Writer S → S → Begun (B × Held) ((B × Held) × Rest) → List Noted → Type 0
+abbrev pub Starts : {S B : Type 0} → Ghosts S B → B → ℕ → Writer S → S → Begun (B × Held) ((B × Held) × Rest) → List Noted → Type 0
 Starts {S} {B} c blob task old store b x =
     (s : Stepped (B × Held) ((B × Held) × Rest)) × StartsFor c blob task (has_bytes old.held.tip.bytes) old store s x × (b ≡ with_handle s)
 
@@ -362,9 +363,9 @@ answer_of (poll.Ready (Ok u)) = is_done
 answer_of (poll.Ready (Err e)) = Err e
 answer_of poll.Pending = Ok poll.Pending
 
-abbrev pub PollsFor : {S B : Type 0} → StoreCalls S B → ℕ → Bool → Act S
+abbrev pub PollsFor : {S B : Type 0} → Ghosts S B → ℕ → Bool → Act S
 PollsFor c task true old r new x = Waits c task old r new x
 PollsFor c task false old r new x = Rests old r new x
 
-abbrev pub PollsHandle : {S B : Type 0} → StoreCalls S B → ℕ → ℕ → Act S
+abbrev pub PollsHandle : {S B : Type 0} → Ghosts S B → ℕ → ℕ → Act S
 PollsHandle c number task old r new x = PollsFor c task (old.held.syncs == number) old r new x

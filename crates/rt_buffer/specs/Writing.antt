@@ -3,14 +3,14 @@ use Rattle.std.specs.Prelude.{◌≡◌, ℕ, ◌-◌, ◌≤◌, min, Bool, tru
 use Rattle.rt_base.specs.Counted.{Counts}
 use Rattle.rt_base.specs.declared.error.Error.{Error}
 use Rattle.rt_base.specs.declared.error.Error.TheVariants.{NoMemory}
-use Rattle.rt_base.specs.declared.options.ReadOptions.{ReadOptions}
 use Rattle.rt_base.specs.Noted.{Noted}
 use Rattle.rt_bufs.specs.Chunked.{Chunked}
 use Rattle.rt_bufs.specs.WritableChunks.{WritableChunks}
+use Rattle.rt_buffer.specs.Calls.{IsClose, IsGivenUp, IsRead}
 use Rattle.rt_buffer.specs.declared.sync_state.SyncState.{SyncState}
 use Rattle.rt_buffer.specs.declared.sync_state.SyncState.TheVariants.{Clean, Dirty, Started}
 use Rattle.rt_store.specs.Answered.{is_numbered}
-use Rattle.rt_store.specs.declared.ticket.Ticket.{Ticket}
+use Rattle.rt_store.specs.declared.storage.Storage.{Ghosts}
 use Rattle.rt_buffer.specs.Reading.{no_hints}
 use Rattle.rt_buffer.specs.Tip.{Tip, end_of}
 
@@ -47,11 +47,11 @@ AddsTip t more (Ok fetched) (Err e) = e ≡ NoMemory
 AddsTip t more (Err e) r = r ≡ Err e
 
 -- a read that begins before the tip: one read of the store, up to the tip
-abbrev pub ReadsThrough : {S B : Type 0} → (S → B → ℕ → ℕ → ReadOptions → Result WritableChunks Error → S → List Noted → Type 0) → (S → ℕ) → B → Tip → ℕ → ℕ → S → Result Chunked Error → S → List Noted → Type 0
-ReadsThrough reads refusals blob t offset len old r new x =
+abbrev pub ReadsThrough : {S B : Type 0} → Ghosts S B → B → Tip → ℕ → ℕ → S → Result Chunked Error → S → List Noted → Type 0
+ReadsThrough c blob t offset len old r new x =
     (fetched : Result WritableChunks Error)
-    × reads old blob offset (before_tip t offset len) no_hints fetched new x
-    × Counts (refusals old) (refusals new) fetched
+    × IsRead c old blob offset (before_tip t offset len) no_hints fetched new x
+    × Counts (c.refusals old) (c.refusals new) fetched
     × AddsTip t (len - before_tip t offset len) fetched r
 
 -- a tip lies over the end of a content: it begins within it or at its end, and ends no earlier
@@ -59,7 +59,7 @@ abbrev pub LiesOver : Tip → List ℕ → Type 0
 LiesOver t content = (t.offset ≤ length content) × (length content ≤ end_of t)
 
 -- a started sync is given up, which leaves the store as it was where its ticket is ready, and then the blob is closed
-abbrev pub ClosesWriter : {S B : Type 0} → (S → Ticket → S → Type 0) → (S → B → S → Type 0) → SyncState → B → S → S → Type 0
-ClosesWriter {S} gives_up closes Clean blob old new = closes old blob new
-ClosesWriter {S} gives_up closes Dirty blob old new = closes old blob new
-ClosesWriter {S} gives_up closes (Started t) blob old new = (mid : S) × gives_up old t mid × (is_numbered t ≡ false → mid ≡ old) × closes mid blob new
+abbrev pub ClosesWriter : {S B : Type 0} → Ghosts S B → SyncState → B → S → S → Type 0
+ClosesWriter {S} c Clean blob old new = IsClose c old blob new
+ClosesWriter {S} c Dirty blob old new = IsClose c old blob new
+ClosesWriter {S} c (Started t) blob old new = (mid : S) × IsGivenUp c old t mid × (is_numbered t ≡ false → mid ≡ old) × IsClose c mid blob new

@@ -1,27 +1,25 @@
 // A writer of a store in memory, by what each crash leaves.
 ghost use Rattle.std.specs.Prelude.{◌≡◌, ◌+◌, ◌≤◌, ℕ, ⊤, List, Ok, Some};
 ghost use Rattle.rt_base.specs.declared.choice.Choice.{Choice};
-ghost use Rattle.rt_buffer.specs.Durable.{Asked, HoldsBytes, HoldsSync, IfStepped, Keeping, Keeps, KnowsState};
-ghost use Rattle.rt_buffer.specs.Memory.{CrashLeaves, MemoryKeeps, memory_bytes, memory_left, memory_promised};
+ghost use Rattle.rt_buffer.specs.Durable.{Asked, HoldsBytes, HoldsSync, IfStepped, Keeping, Keeps, KnowsState, OnOthers};
+ghost use Rattle.rt_buffer.specs.Memory.{CrashLeaves, MemoryKeeps};
 ghost use Rattle.rt_base.specs.Counted.{Notes};
-ghost use Rattle.rt_buffer.specs.Framing.{OnOthers};
 ghost use Rattle.rt_buffer.specs.Steps.{PollsHandle, Runs, answer_of, seen_step, writer};
 ghost use Rattle.rt_buffer.specs.Tip.{laid_over};
 ghost use Rattle.rt_buffer.specs.Writing.{LiesOver};
 ghost use Rattle.rt_store.specs.Calls.{blob_of};
 ghost use Rattle.rt_store.specs.File.{FileState, crashed};
+ghost use Rattle.rt_store.specs.Memory.{memory_bytes, memory_left, memory_promised};
 
-use crate::called::Called;
 use crate::sync_handle::SyncHandle;
 use crate::write::Write;
 use crate::write_op::{Rest, Step};
 use rt_base::{Env, Error, Poll};
-use rt_store::MemStore;
+use rt_store::{MemStore, Storage};
 
 impl Write<MemStore> {
     /// Does [`sync`](Self::sync) over a store in memory, after which each crash leaves exactly the bytes that the
-    /// writer stands for. Such a store keeps bytes, so what other calls of the writer say of stores that do holds
-    /// over it.
+    /// writer stands for.
     pub fn sync_in_memory<E: Env>(
         self,
         store: &mut MemStore,
@@ -36,8 +34,8 @@ impl Write<MemStore> {
             (λ p. Keeping memory_bytes memory_left memory_promised (laid_over self.held.tip (memory_bytes store.old self.blob)) p.rest p.write.held store.new self.blob) }
         ensures crash { LiesOver self.held.tip (memory_bytes store.old self.blob) → KnowsState memory_bytes memory_left memory_promised self.held.state store.old self.blob →
             IfStepped result (λ w. CrashLeaves (laid_over self.held.tip (memory_bytes store.old self.blob)) store.new self.blob) (λ p. ⊤) }
-        ensures runs { Notes (E.noted env.old) (λ x. Runs ⟦<MemStore as Called>⟧.calls self.blob Rest.Sync task (writer store.old self.held) store.new (seen_step (λ w. (w.blob, w.held)) (λ p. ((p.write.blob, p.write.held), p.rest)) result) x) (E.noted env.new) }
-        ensures others { OnOthers ⟦<MemStore as Called>⟧.calls self.held.state self.blob store.old store.new (λ know. IfStepped result (λ w. know w.held.state) (λ p. know p.write.held.state)) }
+        ensures runs { Notes (E.noted env.old) (λ x. Runs ⟦<MemStore as Storage>⟧ self.blob Rest.Sync task (writer store.old self.held) store.new (seen_step (λ w. (w.blob, w.held)) (λ p. ((p.write.blob, p.write.held), p.rest)) result) x) (E.noted env.new) }
+        ensures others { OnOthers ⟦<MemStore as Storage>⟧ self.held.state self.blob store.old store.new (λ know. IfStepped result (λ w. know w.held.state) (λ p. know p.write.held.state)) }
         ensures spent { E.spare env.old ≤ E.spare env.new + 4 }
     {
         self.sync(store, env, task)
@@ -46,8 +44,7 @@ impl Write<MemStore> {
 
 impl SyncHandle {
     /// Does [`poll`](Self::poll) over a store in memory: once the sync that the writer holds returned Ok, each crash
-    /// leaves exactly the bytes that the writer stood for when it began, where nothing was changed since. Such a
-    /// store keeps bytes, so what the start of the sync says of stores that do holds over it.
+    /// leaves exactly the bytes that the writer stood for when it began, where nothing was changed since.
     pub fn poll_in_memory<E: Env>(
         &mut self,
         write: &mut Write<MemStore>,
@@ -63,8 +60,8 @@ impl SyncHandle {
             result ≡ Poll.Ready (Ok tt) → CrashLeaves content store.new write.old.blob }
         ensures blob { write.new.blob ≡ write.old.blob }
         ensures same { self.new ≡ self.old }
-        ensures polls { Notes (E.noted env.old) (λ x. PollsHandle ⟦<MemStore as Called>⟧.calls self.old.number task (writer store.old write.old.held) (answer_of result) (writer store.new write.new.held) x) (E.noted env.new) }
-        ensures others { OnOthers ⟦<MemStore as Called>⟧.calls write.old.held.state write.old.blob store.old store.new (λ know. know write.new.held.state) }
+        ensures polls { Notes (E.noted env.old) (λ x. PollsHandle ⟦<MemStore as Storage>⟧ self.old.number task (writer store.old write.old.held) (answer_of result) (writer store.new write.new.held) x) (E.noted env.new) }
+        ensures others { OnOthers ⟦<MemStore as Storage>⟧ write.old.held.state write.old.blob store.old store.new (λ know. know write.new.held.state) }
         ensures spent { E.spare env.old ≤ E.spare env.new + 1 }
     {
         self.poll(write, store, env, task)

@@ -3,7 +3,6 @@
 #![tactic(auto)]
 
 mod ahead;
-mod called;
 mod deferred_sync;
 mod delayed_sync;
 mod held;
@@ -25,7 +24,6 @@ mod write;
 mod write_fault;
 mod write_op;
 
-pub use called::Called;
 pub use deferred_sync::{
     DeferredSync, drive_pending_syncs, fail_pending_syncs, next_pending_sync,
     release_next_pending_syncs, release_pending_syncs,

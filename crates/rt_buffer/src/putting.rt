@@ -5,7 +5,6 @@ ghost use Rattle.rt_base.specs.declared.error.Error.{Error};
 ghost use Rattle.rt_buffer.specs.Steps.{AreBuffers, Drains, Puts, PutsAgain, PutsAll, Then, WritesChunk, WritesOut, is_started, with_tip, writer};
 ghost use Rattle.rt_buffer.specs.Tip.{bytes_to_write, drained, is_within, merged};
 
-use crate::called::Called;
 use crate::pieces::Pieces;
 use crate::sync_state::SyncState;
 use crate::write::Write;
@@ -22,12 +21,14 @@ impl<S: Storage> Write<S> {
         offset: u64,
         bufs: IoBufs,
     ) -> Result<Poll<()>, Error>
-        requires { is_started self.old.held.state ≡ false }
+        requires callable { S.callable store.old }
+        requires free { is_started self.old.held.state ≡ false }
         ensures lasts { (start : E) → E.lasts start env.old → E.lasts start env.new }
-        ensures writes { Notes (E.noted env.old) (λ x. WritesOut ⟦<S as Called>⟧.calls self.old.blob offset bufs (writer store.old self.old.held) result (writer store.new self.new.held) x) (E.noted env.new) }
+        ensures writes { Notes (E.noted env.old) (λ x. WritesOut ⟦<S as Storage>⟧ self.old.blob offset bufs (writer store.old self.old.held) result (writer store.new self.new.held) x) (E.noted env.new) }
         ensures settled { is_started self.new.held.state ≡ false }
         ensures blob { self.new.blob ≡ self.old.blob }
         ensures spent { E.spare env.old ≤ E.spare env.new + S.most }
+        ensures callable { S.callable store.new }
     {
         self.held.set_state(SyncState::Dirty);
         match store.write_at(env, &self.blob, offset, bufs, WriteOptions::default())? {
@@ -54,12 +55,14 @@ impl<S: Storage> Write<S> {
 
     // Writes the bytes of the tip out, where there are any.
     pub(crate) fn drain<E: Env>(&mut self, store: &mut S, env: &mut E) -> Result<Poll<()>, Error>
-        requires { is_started self.old.held.state ≡ false }
+        requires callable { S.callable store.old }
+        requires free { is_started self.old.held.state ≡ false }
         ensures lasts { (start : E) → E.lasts start env.old → E.lasts start env.new }
-        ensures drains { Notes (E.noted env.old) (λ x. Drains ⟦<S as Called>⟧.calls self.old.blob (writer store.old self.old.held) result (writer store.new self.new.held) x) (E.noted env.new) }
+        ensures drains { Notes (E.noted env.old) (λ x. Drains ⟦<S as Storage>⟧ self.old.blob (writer store.old self.old.held) result (writer store.new self.new.held) x) (E.noted env.new) }
         ensures settled { is_started self.new.held.state ≡ false }
         ensures blob { self.new.blob ≡ self.old.blob }
         ensures spent { E.spare env.old ≤ E.spare env.new + S.most }
+        ensures callable { S.callable store.new }
     {
         match self.take_tip() {
             Err(error) => Err(error),
@@ -87,13 +90,15 @@ impl<S: Storage> Write<S> {
         at: u64,
         chunk: IoBuf,
     ) -> Result<Poll<()>, Error>
+        requires callable { S.callable store.old }
         requires free { is_started self.old.held.state ≡ false }
         requires fits { at + length chunk < 2 ^ 64 }
         ensures lasts { (start : E) → E.lasts start env.old → E.lasts start env.new }
-        ensures writes { Notes (E.noted env.old) (λ x. WritesChunk ⟦<S as Called>⟧.calls self.old.blob at chunk (writer store.old self.old.held) result (writer store.new self.new.held) x) (E.noted env.new) }
+        ensures writes { Notes (E.noted env.old) (λ x. WritesChunk ⟦<S as Storage>⟧ self.old.blob at chunk (writer store.old self.old.held) result (writer store.new self.new.held) x) (E.noted env.new) }
         ensures settled { is_started self.new.held.state ≡ false }
         ensures blob { self.new.blob ≡ self.old.blob }
         ensures spent { E.spare env.old ≤ E.spare env.new + S.most }
+        ensures callable { S.callable store.new }
     {
         let end = at + chunk.len() as u64;
         let bufs = IoBufs::from_buf(self.alloc, chunk)?;
@@ -115,13 +120,15 @@ impl<S: Storage> Write<S> {
         at: u64,
         chunk: IoBuf,
     ) -> Result<Poll<()>, Error>
+        requires callable { S.callable store.old }
         requires free { is_started self.old.held.state ≡ false }
         requires fits { at + length chunk < 2 ^ 64 }
         ensures lasts { (start : E) → E.lasts start env.old → E.lasts start env.new }
-        ensures puts { Notes (E.noted env.old) (λ x. PutsAgain ⟦<S as Called>⟧.calls self.old.blob at chunk (writer store.old self.old.held) result (writer store.new self.new.held) x) (E.noted env.new) }
+        ensures puts { Notes (E.noted env.old) (λ x. PutsAgain ⟦<S as Storage>⟧ self.old.blob at chunk (writer store.old self.old.held) result (writer store.new self.new.held) x) (E.noted env.new) }
         ensures settled { is_started self.new.held.state ≡ false }
         ensures blob { self.new.blob ≡ self.old.blob }
         ensures spent { E.spare env.old ≤ E.spare env.new + S.most }
+        ensures callable { S.callable store.new }
     {
         match self.merge(at, &chunk) {
             Err(error) => Err(error),
@@ -139,13 +146,15 @@ impl<S: Storage> Write<S> {
         at: u64,
         chunk: IoBuf,
     ) -> Result<Poll<()>, Error>
+        requires callable { S.callable store.old }
         requires free { is_started self.old.held.state ≡ false }
         requires fits { at + length chunk < 2 ^ 64 }
         ensures lasts { (start : E) → E.lasts start env.old → E.lasts start env.new }
-        ensures puts { Notes (E.noted env.old) (λ x. Then (Drains ⟦<S as Called>⟧.calls self.old.blob) (PutsAgain ⟦<S as Called>⟧.calls self.old.blob at chunk) (writer store.old self.old.held) result (writer store.new self.new.held) x) (E.noted env.new) }
+        ensures puts { Notes (E.noted env.old) (λ x. Then (Drains ⟦<S as Storage>⟧ self.old.blob) (PutsAgain ⟦<S as Storage>⟧ self.old.blob at chunk) (writer store.old self.old.held) result (writer store.new self.new.held) x) (E.noted env.new) }
         ensures settled { is_started self.new.held.state ≡ false }
         ensures blob { self.new.blob ≡ self.old.blob }
         ensures spent { E.spare env.old ≤ E.spare env.new + 2 * S.most }
+        ensures callable { S.callable store.new }
     {
         match self.drain(store, env) {
             Err(error) => Err(error),
@@ -162,13 +171,15 @@ impl<S: Storage> Write<S> {
         at: u64,
         chunk: IoBuf,
     ) -> Result<Poll<()>, Error>
+        requires callable { S.callable store.old }
         requires free { is_started self.old.held.state ≡ false }
         requires fits { at + length chunk < 2 ^ 64 }
         ensures lasts { (start : E) → E.lasts start env.old → E.lasts start env.new }
-        ensures puts { Notes (E.noted env.old) (λ x. Puts ⟦<S as Called>⟧.calls self.old.blob at chunk (writer store.old self.old.held) result (writer store.new self.new.held) x) (E.noted env.new) }
+        ensures puts { Notes (E.noted env.old) (λ x. Puts ⟦<S as Storage>⟧ self.old.blob at chunk (writer store.old self.old.held) result (writer store.new self.new.held) x) (E.noted env.new) }
         ensures settled { is_started self.new.held.state ≡ false }
         ensures blob { self.new.blob ≡ self.old.blob }
         ensures spent { E.spare env.old ≤ E.spare env.new + 2 * S.most }
+        ensures callable { S.callable store.new }
     {
         let is_in_the_way = self.held.tip.is_in_the_way(at + chunk.len() as u64);
         match self.merge(at, &chunk) {
@@ -186,11 +197,13 @@ impl<S: Storage> Write<S> {
         env: &mut E,
         left: Pieces,
     ) -> Result<Poll<()>, Error>
-        requires { is_started self.old.held.state ≡ false }
+        requires callable { S.callable store.old }
+        requires free { is_started self.old.held.state ≡ false }
         ensures lasts { (start : E) → E.lasts start env.old → E.lasts start env.new }
-        ensures puts { Notes (E.noted env.old) (λ x. PutsAll ⟦<S as Called>⟧.calls self.old.blob left (writer store.old self.old.held) result (writer store.new self.new.held) x) (E.noted env.new) }
+        ensures puts { Notes (E.noted env.old) (λ x. PutsAll ⟦<S as Storage>⟧ self.old.blob left (writer store.old self.old.held) result (writer store.new self.new.held) x) (E.noted env.new) }
         ensures blob { self.new.blob ≡ self.old.blob }
         ensures spent { E.spare env.old ≤ E.spare env.new + length left.chunks * (2 * S.most) }
+        ensures callable { S.callable store.new }
     {
         let mut left = left;
         let mut at = left.at();

@@ -2,7 +2,7 @@
 ghost use Rattle.std.specs.Prelude.{◌≡◌, ◌+◌, ◌-◌, ◌<◌, ◌≤◌, ◌↔◌, ℕ, [], List, Err, IfOk, IfErr, OnErr, OnOk, length, take, drop};
 ghost use Rattle.rt_base.specs.Counted.{Notes};
 ghost use Rattle.rt_base.specs.declared.error.Error.{Error};
-ghost use Rattle.rt_buffer.specs.Flat.{HasBytes, StandsFor};
+ghost use Rattle.rt_buffer.specs.Flat.{StandsFor};
 ghost use Rattle.rt_buffer.specs.Reading.{TakesHeld, Fetches, Gives, Joins, ResizesAndSyncs, end_of, remaining, fetch_len, sought};
 
 use crate::ahead::Ahead;
@@ -77,15 +77,17 @@ impl<S: Storage> Read<S> {
     /// `NoMemory`. After one of the last two that came after the store's answer nothing is held, and the place is
     /// after what was held.
     pub fn read<E: Env>(&mut self, store: &mut S, env: &mut E, len: usize) -> Result<IoBufs, Error>
+        requires callable { S.callable store.old }
         ensures lasts { (start : E) → E.lasts start env.old → E.lasts start env.new }
         ensures insufficient { remaining self.old.ahead < len → (result ≡ Err Error.BlobInsufficientLength) × (self.new ≡ self.old) × (store.new ≡ store.old) × (env.new ≡ env.old) }
         ensures from_memory { len ≤ length self.old.ahead.held → TakesHeld self.old.ahead len result self.new.ahead × (store.new ≡ store.old) × (env.new ≡ env.old) }
         ensures fetched { len ≤ remaining self.old.ahead → length self.old.ahead.held < len →
-            Notes (E.noted env.old) (λ x. Fetches S.reads S.refusals self.old.blob self.old.ahead (len - length self.old.ahead.held) store.old result store.new self.new.ahead x) (E.noted env.new) }
-        ensures flat { (bytes : S → S.Blob → List ℕ) → HasBytes S.reads bytes → StandsFor self.old.ahead (bytes store.old self.old.blob) →
-            StandsFor self.new.ahead (bytes store.new self.old.blob) × IfOk result (λ b. b.bytes ≡ take len (drop self.old.ahead.position (bytes store.old self.old.blob))) }
+            Notes (E.noted env.old) (λ x. Fetches ⟦<S as Storage>⟧ self.old.blob self.old.ahead (len - length self.old.ahead.held) store.old result store.new self.new.ahead x) (E.noted env.new) }
+        ensures flat { StandsFor self.old.ahead (S.bytes store.old self.old.blob) →
+            StandsFor self.new.ahead (S.bytes store.new self.old.blob) × IfOk result (λ b. b.bytes ≡ take len (drop self.old.ahead.position (S.bytes store.old self.old.blob))) }
         ensures blob { self.new.blob ≡ self.old.blob }
         ensures spent { E.spare env.old ≤ E.spare env.new + S.most }
+        ensures callable { S.callable store.new }
     {
         if self.ahead.remaining() < len as u64 {
             return Err(Error::BlobInsufficientLength);
@@ -98,12 +100,14 @@ impl<S: Storage> Read<S> {
 
     // Reads all that is held and so many bytes more, which the blob has.
     fn fetch<E: Env>(&mut self, store: &mut S, env: &mut E, lacking: usize) -> Result<IoBufs, Error>
-        requires { lacking ≤ self.old.ahead.size - end_of self.old.ahead }
+        requires callable { S.callable store.old }
+        requires within { lacking ≤ self.old.ahead.size - end_of self.old.ahead }
         ensures lasts { (start : E) → E.lasts start env.old → E.lasts start env.new }
-        ensures fetched { Notes (E.noted env.old) (λ x. Fetches S.reads S.refusals self.old.blob self.old.ahead lacking store.old result store.new self.new.ahead x) (E.noted env.new) }
+        ensures fetched { Notes (E.noted env.old) (λ x. Fetches ⟦<S as Storage>⟧ self.old.blob self.old.ahead lacking store.old result store.new self.new.ahead x) (E.noted env.new) }
         ensures enough { lacking ≤ fetch_len self.old.ahead lacking }
         ensures blob { self.new.blob ≡ self.old.blob }
         ensures spent { E.spare env.old ≤ E.spare env.new + S.most }
+        ensures callable { S.callable store.new }
     {
         let len = self.ahead.fetch_len(lacking);
         let held = self.ahead.take_all();
@@ -166,9 +170,11 @@ impl<S: Storage> Read<S> {
     ///
     /// Errors: the store's refusals, and `NoMemory`.
     pub fn resize<E: Env>(self, store: &mut S, env: &mut E, len: u64) -> Result<Done, Error>
+        requires callable { S.callable store.old }
         ensures lasts { (start : E) → E.lasts start env.old → E.lasts start env.new }
         ensures gives { Notes (E.noted env.old) (λ x. (left : S) × ResizesAndSyncs S.resizes S.syncs self.blob len store.old result left x × S.closes left self.blob store.new) (E.noted env.new) }
         ensures spent { E.spare env.old ≤ E.spare env.new + (S.most + S.most) }
+        ensures callable { S.callable store.new }
     {
         let Read {
             blob,
@@ -182,7 +188,9 @@ impl<S: Storage> Read<S> {
 
     /// Closes the blob. It takes no memory.
     pub fn close(self, store: &mut S)
+        requires callable { S.callable store.old }
         ensures closed { S.closes store.old self.blob store.new }
+        ensures callable { S.callable store.new }
     {
         let Read {
             blob,
@@ -200,9 +208,11 @@ fn resize_and_sync<S: Storage, E: Env>(
     blob: &BlobOf<S>,
     len: u64,
 ) -> Result<Done, Error>
+    requires callable { S.callable store.old }
     ensures lasts { (start : E) → E.lasts start env.old → E.lasts start env.new }
     ensures gives { Notes (E.noted env.old) (λ x. ResizesAndSyncs S.resizes S.syncs blob.now len store.old result store.new x) (E.noted env.new) }
     ensures spent { E.spare env.old ≤ E.spare env.new + (S.most + S.most) }
+    ensures callable { S.callable store.new }
 {
     store.resize(env, blob, len)?;
     store.sync(env, blob)

@@ -4,7 +4,6 @@ ghost use Rattle.rt_base.specs.Counted.{Notes};
 ghost use Rattle.rt_buffer.specs.Steps.{AreBuffers, ResizesBlob, ResizesTip, Then, WritesOut, is_started, with_tip, writer};
 ghost use Rattle.rt_buffer.specs.Tip.{bytes_before, resized_tip};
 
-use crate::called::Called;
 use crate::sync_state::SyncState;
 use crate::write::Write;
 use rt_base::{Env, Error, Poll};
@@ -18,11 +17,13 @@ impl<S: Storage> Write<S> {
         env: &mut E,
         len: u64,
     ) -> Result<Poll<()>, Error>
-        requires { is_started self.old.held.state ≡ false }
+        requires callable { S.callable store.old }
+        requires free { is_started self.old.held.state ≡ false }
         ensures lasts { (start : E) → E.lasts start env.old → E.lasts start env.new }
-        ensures resizes { Notes (E.noted env.old) (λ x. ResizesBlob ⟦<S as Called>⟧.calls self.old.blob len (writer store.old self.old.held) result (writer store.new self.new.held) x) (E.noted env.new) }
+        ensures resizes { Notes (E.noted env.old) (λ x. ResizesBlob ⟦<S as Storage>⟧ self.old.blob len (writer store.old self.old.held) result (writer store.new self.new.held) x) (E.noted env.new) }
         ensures blob { self.new.blob ≡ self.old.blob }
         ensures spent { E.spare env.old ≤ E.spare env.new + S.most }
+        ensures callable { S.callable store.new }
     {
         self.held.set_state(SyncState::Dirty);
         match store.resize(env, &self.blob, len) {
@@ -54,11 +55,13 @@ impl<S: Storage> Write<S> {
         bufs: IoBufs,
         len: u64,
     ) -> Result<Poll<()>, Error>
-        requires { is_started self.old.held.state ≡ false }
+        requires callable { S.callable store.old }
+        requires free { is_started self.old.held.state ≡ false }
         ensures lasts { (start : E) → E.lasts start env.old → E.lasts start env.new }
-        ensures writes { Notes (E.noted env.old) (λ x. Then (WritesOut ⟦<S as Called>⟧.calls self.old.blob offset bufs) (ResizesBlob ⟦<S as Called>⟧.calls self.old.blob len) (writer store.old self.old.held) result (writer store.new self.new.held) x) (E.noted env.new) }
+        ensures writes { Notes (E.noted env.old) (λ x. Then (WritesOut ⟦<S as Storage>⟧ self.old.blob offset bufs) (ResizesBlob ⟦<S as Storage>⟧ self.old.blob len) (writer store.old self.old.held) result (writer store.new self.new.held) x) (E.noted env.new) }
         ensures blob { self.new.blob ≡ self.old.blob }
         ensures spent { E.spare env.old ≤ E.spare env.new + 2 * S.most }
+        ensures callable { S.callable store.new }
     {
         match self.write_out(store, env, offset, bufs) {
             Err(error) => Err(error),
@@ -74,11 +77,13 @@ impl<S: Storage> Write<S> {
         env: &mut E,
         len: u64,
     ) -> Result<Poll<()>, Error>
-        requires { is_started self.old.held.state ≡ false }
+        requires callable { S.callable store.old }
+        requires free { is_started self.old.held.state ≡ false }
         ensures lasts { (start : E) → E.lasts start env.old → E.lasts start env.new }
-        ensures resizes { Notes (E.noted env.old) (λ x. ResizesTip ⟦<S as Called>⟧.calls self.old.blob len (writer store.old self.old.held) result (writer store.new self.new.held) x) (E.noted env.new) }
+        ensures resizes { Notes (E.noted env.old) (λ x. ResizesTip ⟦<S as Storage>⟧ self.old.blob len (writer store.old self.old.held) result (writer store.new self.new.held) x) (E.noted env.new) }
         ensures blob { self.new.blob ≡ self.old.blob }
         ensures spent { E.spare env.old ≤ E.spare env.new + 2 * S.most }
+        ensures callable { S.callable store.new }
     {
         match self.cut_tip(len) {
             Err(error) => Err(error),

@@ -1,13 +1,9 @@
 // A store whose syncs fail in one partition.
-ghost use Rattle.std.specs.Prelude.{◌≡◌, ◌<◌, ◌^◌, ◌↔◌, ℕ, Bool, List, Option, IsTrue, string_bytes};
+ghost use Rattle.std.specs.Prelude.{◌≡◌, ◌<◌, ◌^◌, ◌↔◌, IsTrue, string_bytes};
 ghost use Rattle.rt_base.specs.declared.error.Error.{Error};
 ghost use Rattle.rt_base.specs.declared.io_kind.IoKind.{IoKind};
-ghost use Rattle.rt_buffer.specs.Durable.{KeepsBytes, LeavesOthers, OpensApart, ReadsLeave};
-ghost use Rattle.rt_buffer.specs.Flat.{HasBytes};
-ghost use Rattle.rt_buffer.specs.Mocks.{one_more, or_failed};
-ghost use Rattle.rt_store.specs.declared.ticket.Ticket.{Ticket};
+ghost use Rattle.rt_buffer.specs.Mocks.{one_more};
 
-use crate::called::Called;
 use rt_base::{BlobVersion, Env, Error, IoKind, NoMemory, Poll, ReadOptions, WriteOptions};
 use rt_bufs::{IoBufs, IoBufsMut};
 use rt_store::{BlobOf, Done, Storage, Ticket};
@@ -29,26 +25,11 @@ pub struct SyncFaultBlob<S: Storage> {
 }
 
 impl<S: Storage> SyncFaultContext<S> {
-    /// Makes a store over the inner one that refused no sync yet. Where the inner store keeps the bytes of its blobs,
-    /// so does this one; and where the inner store's calls leave the other blobs as they were, so do those of this
-    /// one, and so of its opens and reads.
+    /// Makes a store over the inner one that refused no sync yet.
     pub fn new(inner: S, fail_partition: String) -> SyncFaultContext<S>
         ensures inner { result.inner ≡ inner }
         ensures partition { result.fail_partition ≡ fail_partition }
         ensures refusals { result.refusals ≡ 0 }
-        ensures keeps { (bytes : S → S.Blob → List ℕ) → (left : S → S.Blob → Option (List ℕ)) → (promised : S → Ticket → S.Blob → Option (List ℕ)) →
-            KeepsBytes ⟦<S as Called>⟧.calls bytes left promised →
-            KeepsBytes ⟦<SyncFaultContext<S> as Called>⟧.calls (λ s k. bytes s.inner k.inner) (λ s k. left s.inner k.inner) (λ s t k. or_failed bytes promised s.inner t k.inner) }
-        ensures others { (bytes : S → S.Blob → List ℕ) → (left : S → S.Blob → Option (List ℕ)) → (promised : S → Ticket → S.Blob → Option (List ℕ)) → (apart : S → S.Blob → S.Blob → Bool) → (opened : S → S.Blob → Bool) →
-            LeavesOthers ⟦<S as Called>⟧.calls bytes left promised apart opened →
-            LeavesOthers ⟦<SyncFaultContext<S> as Called>⟧.calls (λ s k. bytes s.inner k.inner) (λ s k. left s.inner k.inner) (λ s t k. or_failed bytes promised s.inner t k.inner) (λ s k j. apart s.inner k.inner j.inner) (λ s k. opened s.inner k.inner) }
-        ensures opens { (bytes : S → S.Blob → List ℕ) → (left : S → S.Blob → Option (List ℕ)) → (promised : S → Ticket → S.Blob → Option (List ℕ)) → (apart : S → S.Blob → S.Blob → Bool) → (opened : S → S.Blob → Bool) →
-            OpensApart S.opens bytes left promised apart opened →
-            OpensApart ⟦<SyncFaultContext<S> as Storage>⟧.opens (λ s k. bytes s.inner k.inner) (λ s k. left s.inner k.inner) (λ s t k. or_failed bytes promised s.inner t k.inner) (λ s k j. apart s.inner k.inner j.inner) (λ s k. opened s.inner k.inner) }
-        ensures reads { (bytes : S → S.Blob → List ℕ) → (left : S → S.Blob → Option (List ℕ)) → (promised : S → Ticket → S.Blob → Option (List ℕ)) → (apart : S → S.Blob → S.Blob → Bool) → (opened : S → S.Blob → Bool) →
-            ReadsLeave S.reads bytes left promised apart opened →
-            ReadsLeave ⟦<SyncFaultContext<S> as Storage>⟧.reads (λ s k. bytes s.inner k.inner) (λ s k. left s.inner k.inner) (λ s t k. or_failed bytes promised s.inner t k.inner) (λ s k j. apart s.inner k.inner j.inner) (λ s k. opened s.inner k.inner) }
-        ensures has { (bytes : S → S.Blob → List ℕ) → HasBytes S.reads bytes → HasBytes ⟦<SyncFaultContext<S> as Storage>⟧.reads (λ s k. bytes s.inner k.inner) }
     {
         SyncFaultContext {
             inner,
@@ -84,7 +65,21 @@ impl<S: Storage> Storage for SyncFaultContext<S> {
     ghost use Rattle.rt_buffer.specs.Mocks.{FaultyCall, failed_sync, failed_start, inside};
     ghost use Rattle.rt_store.specs.Answered.{PollsTicket, is_numbered};
 
+    ghost callable = { λ s. S.callable s.inner };
+
     ghost refusals = { λ s. S.refusals s.inner + s.refusals };
+
+    ghost bytes = { λ s k. S.bytes s.inner k.inner };
+
+    ghost left = { λ s k. S.left s.inner k.inner };
+
+    ghost promised = { λ s t k. S.promised s.inner t k.inner };
+
+    ghost apart = { λ s k j. S.apart s.inner k.inner j.inner };
+
+    ghost opened = { λ s k. S.opened s.inner k.inner };
+
+    ghost both_ways = { λ s k j near. S.both_ways s.inner k.inner j.inner near };
 
     ghost most = { S.most };
 

@@ -1,12 +1,9 @@
 // A started sync of a writer, to be asked for its answer.
-ghost use Rattle.std.specs.Prelude.{◌≡◌, ◌+◌, ◌≤◌, ℕ, List, Option};
+ghost use Rattle.std.specs.Prelude.{◌≡◌, ◌+◌, ◌≤◌};
 ghost use Rattle.rt_base.specs.Counted.{Notes};
-ghost use Rattle.rt_buffer.specs.Durable.{Asked, HoldsSync, KeepsBytes};
-ghost use Rattle.rt_buffer.specs.Framing.{OnOthers};
+ghost use Rattle.rt_buffer.specs.Durable.{Asked, HoldsSync, OnOthers};
 ghost use Rattle.rt_buffer.specs.Steps.{PollsHandle, answer_of, with_handle, seen_start, seen_step, writer};
-ghost use Rattle.rt_store.specs.declared.ticket.Ticket.{Ticket};
 
-use crate::called::Called;
 use crate::write::Write;
 use crate::write_op::{Step, Stepped, WriteOp};
 use rt_base::{Env, Error, Poll};
@@ -43,15 +40,16 @@ impl SyncHandle {
         env: &mut E,
         task: u64,
     ) -> Poll<Result<(), Error>>
+        requires callable { S.callable store.old }
         ensures lasts { (start : E) → E.lasts start env.old → E.lasts start env.new }
-        ensures polls { Notes (E.noted env.old) (λ x. PollsHandle ⟦<S as Called>⟧.calls self.old.number task (writer store.old write.old.held) (answer_of result) (writer store.new write.new.held) x) (E.noted env.new) }
-        ensures durable { (bytes : S → S.Blob → List ℕ) → (left : S → S.Blob → Option (List ℕ)) → (promised : S → Ticket → S.Blob → Option (List ℕ)) →
-            KeepsBytes ⟦<S as Called>⟧.calls bytes left promised → write.old.held.syncs ≡ self.old.number → HoldsSync bytes left promised write.old.held store.old write.old.blob →
-            (bytes store.new write.old.blob ≡ bytes store.old write.old.blob) × Asked bytes left promised (answer_of result) write.new.held store.new write.old.blob }
+        ensures polls { Notes (E.noted env.old) (λ x. PollsHandle ⟦<S as Storage>⟧ self.old.number task (writer store.old write.old.held) (answer_of result) (writer store.new write.new.held) x) (E.noted env.new) }
+        ensures durable { write.old.held.syncs ≡ self.old.number → HoldsSync S.bytes S.left S.promised write.old.held store.old write.old.blob →
+            (S.bytes store.new write.old.blob ≡ S.bytes store.old write.old.blob) × Asked S.bytes S.left S.promised (answer_of result) write.new.held store.new write.old.blob }
         ensures blob { write.new.blob ≡ write.old.blob }
         ensures same { self.new ≡ self.old }
-        ensures others { OnOthers ⟦<S as Called>⟧.calls write.old.held.state write.old.blob store.old store.new (λ know. know write.new.held.state) }
+        ensures others { OnOthers ⟦<S as Storage>⟧ write.old.held.state write.old.blob store.old store.new (λ know. know write.new.held.state) }
         ensures spent { E.spare env.old ≤ E.spare env.new + S.most }
+        ensures callable { S.callable store.new }
     {
         if write.held.syncs != self.number {
             return Poll::Ready(Ok(()));

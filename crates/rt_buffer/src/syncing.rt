@@ -5,7 +5,6 @@ ghost use Rattle.rt_buffer.specs.declared.sync_state.SyncState.{SyncState};
 ghost use Rattle.rt_buffer.specs.Steps.{Begins, Drains, IfStarted, Saves, Settles, SyncsBlob, Then, Waits, WritesDurably, WritesOut, is_started, with_state, writer};
 ghost use Rattle.rt_store.specs.Answered.{is_numbered};
 
-use crate::called::Called;
 use crate::sync_state::SyncState;
 use crate::write::Write;
 use rt_base::{Env, Error, Poll, WriteOptions};
@@ -16,10 +15,12 @@ use std::mem;
 impl<S: Storage> Write<S> {
     // Gives a started sync up that is done: its ticket is ready, and the store stays as it was.
     fn settle(&mut self, store: &mut S)
-        requires { IfStarted self.old.held.state (λ t. is_numbered t ≡ false) }
+        requires callable { S.callable store.old }
+        requires free { IfStarted self.old.held.state (λ t. is_numbered t ≡ false) }
         ensures store { store.new ≡ store.old }
         ensures held { self.new.held ≡ with_state self.old.held SyncState.Clean }
         ensures blob { self.new.blob ≡ self.old.blob }
+        ensures callable { S.callable store.new }
     {
         match mem::replace(&mut self.held.state, SyncState::Clean) {
             SyncState::Clean | SyncState::Dirty => unreachable!(),
@@ -35,11 +36,13 @@ impl<S: Storage> Write<S> {
         env: &mut E,
         task: u64,
     ) -> Result<Poll<()>, Error>
+        requires callable { S.callable store.old }
         ensures lasts { (start : E) → E.lasts start env.old → E.lasts start env.new }
-        ensures waits { Notes (E.noted env.old) (λ x. Waits ⟦<S as Called>⟧.calls task (writer store.old self.old.held) result (writer store.new self.new.held) x) (E.noted env.new) }
+        ensures waits { Notes (E.noted env.old) (λ x. Waits ⟦<S as Storage>⟧ task (writer store.old self.old.held) result (writer store.new self.new.held) x) (E.noted env.new) }
         ensures settled { result ≡ Ok (Poll.Ready tt) → is_started self.new.held.state ≡ false }
         ensures blob { self.new.blob ≡ self.old.blob }
         ensures spent { E.spare env.old ≤ E.spare env.new + S.most }
+        ensures callable { S.callable store.new }
     {
         let SyncState::Started(ticket) = &mut self.held.state else {
             return Ok(Poll::Ready(()));
@@ -62,11 +65,13 @@ impl<S: Storage> Write<S> {
         done: Done,
         task: u64,
     ) -> Result<Poll<()>, Error>
-        requires { is_started self.old.held.state ≡ false }
+        requires callable { S.callable store.old }
+        requires free { is_started self.old.held.state ≡ false }
         ensures lasts { (start : E) → E.lasts start env.old → E.lasts start env.new }
-        ensures settles { Notes (E.noted env.old) (λ x. Settles ⟦<S as Called>⟧.calls task done (writer store.old self.old.held) result (writer store.new self.new.held) x) (E.noted env.new) }
+        ensures settles { Notes (E.noted env.old) (λ x. Settles ⟦<S as Storage>⟧ task done (writer store.old self.old.held) result (writer store.new self.new.held) x) (E.noted env.new) }
         ensures blob { self.new.blob ≡ self.old.blob }
         ensures spent { E.spare env.old ≤ E.spare env.new + S.most }
+        ensures callable { S.callable store.new }
     {
         match done {
             Done::Now => {
@@ -86,11 +91,13 @@ impl<S: Storage> Write<S> {
         env: &mut E,
         task: u64,
     ) -> Result<Poll<()>, Error>
-        requires { is_started self.old.held.state ≡ false }
+        requires callable { S.callable store.old }
+        requires free { is_started self.old.held.state ≡ false }
         ensures lasts { (start : E) → E.lasts start env.old → E.lasts start env.new }
-        ensures syncs { Notes (E.noted env.old) (λ x. SyncsBlob ⟦<S as Called>⟧.calls self.old.blob task (writer store.old self.old.held) result (writer store.new self.new.held) x) (E.noted env.new) }
+        ensures syncs { Notes (E.noted env.old) (λ x. SyncsBlob ⟦<S as Storage>⟧ self.old.blob task (writer store.old self.old.held) result (writer store.new self.new.held) x) (E.noted env.new) }
         ensures blob { self.new.blob ≡ self.old.blob }
         ensures spent { E.spare env.old ≤ E.spare env.new + 2 * S.most }
+        ensures callable { S.callable store.new }
     {
         let done = store.sync(env, &self.blob)?;
         self.keep(store, env, done, task)
@@ -104,11 +111,13 @@ impl<S: Storage> Write<S> {
         bufs: IoBufs,
         task: u64,
     ) -> Result<Poll<()>, Error>
-        requires { is_started self.old.held.state ≡ false }
+        requires callable { S.callable store.old }
+        requires free { is_started self.old.held.state ≡ false }
         ensures lasts { (start : E) → E.lasts start env.old → E.lasts start env.new }
-        ensures writes { Notes (E.noted env.old) (λ x. WritesDurably ⟦<S as Called>⟧.calls self.old.blob task offset bufs (writer store.old self.old.held) result (writer store.new self.new.held) x) (E.noted env.new) }
+        ensures writes { Notes (E.noted env.old) (λ x. WritesDurably ⟦<S as Storage>⟧ self.old.blob task offset bufs (writer store.old self.old.held) result (writer store.new self.new.held) x) (E.noted env.new) }
         ensures blob { self.new.blob ≡ self.old.blob }
         ensures spent { E.spare env.old ≤ E.spare env.new + 2 * S.most }
+        ensures callable { S.callable store.new }
     {
         let done = store.write_at(env, &self.blob, offset, bufs, WriteOptions::SYNC)?;
         self.keep(store, env, done, task)
@@ -124,11 +133,13 @@ impl<S: Storage> Write<S> {
         bufs: IoBufs,
         task: u64,
     ) -> Result<Poll<()>, Error>
-        requires { is_started self.old.held.state ≡ false }
+        requires callable { S.callable store.old }
+        requires free { is_started self.old.held.state ≡ false }
         ensures lasts { (start : E) → E.lasts start env.old → E.lasts start env.new }
-        ensures writes { Notes (E.noted env.old) (λ x. Then (WritesOut ⟦<S as Called>⟧.calls self.old.blob offset bufs) (SyncsBlob ⟦<S as Called>⟧.calls self.old.blob task) (writer store.old self.old.held) result (writer store.new self.new.held) x) (E.noted env.new) }
+        ensures writes { Notes (E.noted env.old) (λ x. Then (WritesOut ⟦<S as Storage>⟧ self.old.blob offset bufs) (SyncsBlob ⟦<S as Storage>⟧ self.old.blob task) (writer store.old self.old.held) result (writer store.new self.new.held) x) (E.noted env.new) }
         ensures blob { self.new.blob ≡ self.old.blob }
         ensures spent { E.spare env.old ≤ E.spare env.new + 3 * S.most }
+        ensures callable { S.callable store.new }
     {
         match self.write_out(store, env, offset, bufs) {
             Err(error) => Err(error),
@@ -144,11 +155,13 @@ impl<S: Storage> Write<S> {
         env: &mut E,
         task: u64,
     ) -> Result<Poll<()>, Error>
-        requires { is_started self.old.held.state ≡ false }
+        requires callable { S.callable store.old }
+        requires free { is_started self.old.held.state ≡ false }
         ensures lasts { (start : E) → E.lasts start env.old → E.lasts start env.new }
-        ensures saves { Notes (E.noted env.old) (λ x. Saves ⟦<S as Called>⟧.calls self.old.blob task (writer store.old self.old.held) result (writer store.new self.new.held) x) (E.noted env.new) }
+        ensures saves { Notes (E.noted env.old) (λ x. Saves ⟦<S as Storage>⟧ self.old.blob task (writer store.old self.old.held) result (writer store.new self.new.held) x) (E.noted env.new) }
         ensures blob { self.new.blob ≡ self.old.blob }
         ensures spent { E.spare env.old ≤ E.spare env.new + 3 * S.most }
+        ensures callable { S.callable store.new }
     {
         let taken = self.take_tip();
         let is_clean = self.held.is_clean();
@@ -165,10 +178,12 @@ impl<S: Storage> Write<S> {
 
     // Starts a sync where a change is open.
     pub(crate) fn begin<E: Env>(&mut self, store: &mut S, env: &mut E) -> Result<Poll<()>, Error>
+        requires callable { S.callable store.old }
         ensures lasts { (start : E) → E.lasts start env.old → E.lasts start env.new }
-        ensures begins { Notes (E.noted env.old) (λ x. Begins ⟦<S as Called>⟧.calls self.old.blob (writer store.old self.old.held) result (writer store.new self.new.held) x) (E.noted env.new) }
+        ensures begins { Notes (E.noted env.old) (λ x. Begins ⟦<S as Storage>⟧ self.old.blob (writer store.old self.old.held) result (writer store.new self.new.held) x) (E.noted env.new) }
         ensures blob { self.new.blob ≡ self.old.blob }
         ensures spent { E.spare env.old ≤ E.spare env.new + S.most }
+        ensures callable { S.callable store.new }
     {
         match self.held.state {
             SyncState::Clean | SyncState::Started(_) => Ok(Poll::Ready(())),
@@ -188,11 +203,13 @@ impl<S: Storage> Write<S> {
         store: &mut S,
         env: &mut E,
     ) -> Result<Poll<()>, Error>
-        requires { is_started self.old.held.state ≡ false }
+        requires callable { S.callable store.old }
+        requires free { is_started self.old.held.state ≡ false }
         ensures lasts { (start : E) → E.lasts start env.old → E.lasts start env.new }
-        ensures begins { Notes (E.noted env.old) (λ x. Then (Drains ⟦<S as Called>⟧.calls self.old.blob) (Begins ⟦<S as Called>⟧.calls self.old.blob) (writer store.old self.old.held) result (writer store.new self.new.held) x) (E.noted env.new) }
+        ensures begins { Notes (E.noted env.old) (λ x. Then (Drains ⟦<S as Storage>⟧ self.old.blob) (Begins ⟦<S as Storage>⟧ self.old.blob) (writer store.old self.old.held) result (writer store.new self.new.held) x) (E.noted env.new) }
         ensures blob { self.new.blob ≡ self.old.blob }
         ensures spent { E.spare env.old ≤ E.spare env.new + 2 * S.most }
+        ensures callable { S.callable store.new }
     {
         match self.drain(store, env) {
             Err(error) => Err(error),

@@ -1,20 +1,16 @@
 // A writer of a blob that holds the last bytes back.
-ghost use Rattle.std.specs.Prelude.{◌≡◌, ◌+◌, ◌-◌, ◌*◌, ◌^◌, ◌<◌, ◌≤◌, ℕ, [], List, Ok, Err, IfOk, OnErr, OnOk, length, take, drop, if◌then◌else◌, ◌||◌, ◌&&◌, not, true, false, Option, MatchResult, ⊤};
+ghost use Rattle.std.specs.Prelude.{◌≡◌, ◌+◌, ◌-◌, ◌*◌, ◌^◌, ◌<◌, ◌≤◌, [], Ok, Err, IfOk, OnErr, OnOk, length, take, drop, if◌then◌else◌, ◌||◌, ◌&&◌, not, true, false, ℕ, List, MatchResult, ⊤};
 ghost use Rattle.rt_base.specs.Counted.{Notes};
 ghost use Rattle.rt_base.specs.declared.error.Error.{Error};
 ghost use Rattle.rt_buffer.specs.declared.sync_state.SyncState.{SyncState};
-ghost use Rattle.rt_buffer.specs.Durable.{HoldsSync, IfBegun, IfStepped, Keeping, Keeps, KeepsBytes, KnowsState, Shows};
-ghost use Rattle.rt_buffer.specs.Flat.{HasBytes};
-ghost use Rattle.rt_buffer.specs.Framing.{OnOthers};
+ghost use Rattle.rt_buffer.specs.Durable.{HoldsSync, IfBegun, IfStepped, Keeping, Keeps, KnowsState, OnOthers, Shows};
 ghost use Rattle.rt_buffer.specs.Memory.{MemoryKeeps};
 ghost use Rattle.rt_buffer.specs.Pieces.{with_bytes};
 ghost use Rattle.rt_buffer.specs.Steps.{Ends, Finishes, GivesHandle, Runs, Starts, WritesAt, is_started, room_for, seen_start, seen_step, writer};
 ghost use Rattle.rt_buffer.specs.Tip.{empty_tip, end_of, is_within, merged, laid_over};
 ghost use Rattle.rt_buffer.specs.Writing.{has_bytes, needs_sync, ReadsTip, ReadsThrough, LiesOver, ClosesWriter};
 ghost use Rattle.rt_store.specs.Content.{resized, written};
-ghost use Rattle.rt_store.specs.declared.ticket.Ticket.{Ticket};
 
-use crate::called::Called;
 use crate::held::Held;
 use crate::pieces::Pieces;
 use crate::sync_handle::{Started, handed};
@@ -37,7 +33,7 @@ pub struct Write<S: Storage> {
 
 impl<S: Storage> Write<S> {
     /// Makes a writer of a blob of this size in bytes, that holds up to `capacity` bytes back. The blob counts as
-    /// changed. What a store in memory keeps of its blobs is said here too, for each writer of one.
+    /// changed.
     pub fn new(alloc: Global, blob: BlobOf<S>, size: u64, capacity: usize) -> Write<S>
         requires { 0 < capacity }
         ensures blob { result.blob ≡ blob }
@@ -78,16 +74,18 @@ impl<S: Storage> Write<S> {
         offset: u64,
         len: usize,
     ) -> Result<IoBufs, Error>
+        requires callable { S.callable store.old }
         ensures lasts { (start : E) → E.lasts start env.old → E.lasts start env.new }
         ensures overflow { 2 ^ 64 ≤ offset + len → (result ≡ Err Error.OffsetOverflow) × (store.new ≡ store.old) × (env.new ≡ env.old) }
         ensures insufficient { offset + len < 2 ^ 64 → end_of self.now.held.tip < offset + len → (result ≡ Err Error.BlobInsufficientLength) × (store.new ≡ store.old) × (env.new ≡ env.old) }
         ensures from_tip { offset + len ≤ end_of self.now.held.tip → self.now.held.tip.offset ≤ offset → ReadsTip self.now.held.tip offset len result × (store.new ≡ store.old) × (env.new ≡ env.old) }
         ensures nothing { offset ≤ end_of self.now.held.tip → len ≡ 0 → MatchResult result (λ b. b.bytes ≡ []) (λ e. e ≡ Error.NoMemory) × (store.new ≡ store.old) × (env.new ≡ env.old) }
         ensures from_blob { offset + len ≤ end_of self.now.held.tip → offset < self.now.held.tip.offset → 0 < len →
-            Notes (E.noted env.old) (λ x. ReadsThrough S.reads S.refusals self.now.blob self.now.held.tip offset len store.old result store.new x) (E.noted env.new) }
-        ensures flat { (bytes : S → S.Blob → List ℕ) → HasBytes S.reads bytes → LiesOver self.now.held.tip (bytes store.old self.now.blob) →
-            IfOk result (λ b. b.bytes ≡ take len (drop offset (laid_over self.now.held.tip (bytes store.old self.now.blob)))) }
+            Notes (E.noted env.old) (λ x. ReadsThrough ⟦<S as Storage>⟧ self.now.blob self.now.held.tip offset len store.old result store.new x) (E.noted env.new) }
+        ensures flat { LiesOver self.now.held.tip (S.bytes store.old self.now.blob) →
+            IfOk result (λ b. b.bytes ≡ take len (drop offset (laid_over self.now.held.tip (S.bytes store.old self.now.blob)))) }
         ensures spent { E.spare env.old ≤ E.spare env.new + S.most }
+        ensures callable { S.callable store.new }
     {
         let size = self.held.tip.size();
         let Some(end) = offset.checked_add(len as u64) else {
@@ -123,8 +121,10 @@ impl<S: Storage> Write<S> {
 
     /// Closes the blob, and gives up a started sync. The bytes that are held back are lost. It takes no memory.
     pub fn close(self, store: &mut S)
-        ensures closed { ClosesWriter S.gives_sync_up S.closes self.held.state self.blob store.old store.new }
-        ensures others { OnOthers ⟦<S as Called>⟧.calls self.held.state self.blob store.old store.new (λ know. ⊤) }
+        requires callable { S.callable store.old }
+        ensures closed { ClosesWriter ⟦<S as Storage>⟧ self.held.state self.blob store.old store.new }
+        ensures others { OnOthers ⟦<S as Storage>⟧ self.held.state self.blob store.old store.new (λ know. ⊤) }
+        ensures callable { S.callable store.new }
     {
         let Write {
             blob,
@@ -157,14 +157,15 @@ impl<S: Storage> Write<S> {
         bufs: IoBufs,
         task: u64,
     ) -> Step<S>
+        requires callable { S.callable store.old }
         ensures lasts { (start : E) → E.lasts start env.old → E.lasts start env.new }
-        ensures overflow { 2 ^ 64 ≤ offset + length bufs.bytes → Ends ⟦<S as Called>⟧.calls self.blob Rest.Nothing (Err Error.OffsetOverflow) (writer store.old self.held) store.new (seen_step (λ w. (w.blob, w.held)) (λ p. ((p.write.blob, p.write.held), p.rest)) result) × (env.new ≡ env.old) }
-        ensures writes { offset + length bufs.bytes < 2 ^ 64 → Notes (E.noted env.old) (λ x. WritesAt ⟦<S as Called>⟧.calls self.blob offset bufs.chunks task (writer store.old self.held) store.new (seen_step (λ w. (w.blob, w.held)) (λ p. ((p.write.blob, p.write.held), p.rest)) result) x) (E.noted env.new) }
-        ensures flat { (bytes : S → S.Blob → List ℕ) → (left : S → S.Blob → Option (List ℕ)) → (promised : S → Ticket → S.Blob → Option (List ℕ)) →
-            KeepsBytes ⟦<S as Called>⟧.calls bytes left promised → LiesOver self.held.tip (bytes store.old self.blob) → KnowsState bytes left promised self.held.state store.old self.blob →
-            IfStepped result (λ w. Shows bytes left promised (with_bytes offset bufs.bytes (laid_over self.held.tip (bytes store.old self.blob))) w.held store.new self.blob) (λ p. Keeping bytes left promised (with_bytes offset bufs.bytes (laid_over self.held.tip (bytes store.old self.blob))) p.rest p.write.held store.new self.blob) }
-        ensures others { OnOthers ⟦<S as Called>⟧.calls self.held.state self.blob store.old store.new (λ know. IfStepped result (λ w. know w.held.state) (λ p. know p.write.held.state)) }
+        ensures overflow { 2 ^ 64 ≤ offset + length bufs.bytes → Ends ⟦<S as Storage>⟧ self.blob Rest.Nothing (Err Error.OffsetOverflow) (writer store.old self.held) store.new (seen_step (λ w. (w.blob, w.held)) (λ p. ((p.write.blob, p.write.held), p.rest)) result) × (env.new ≡ env.old) }
+        ensures writes { offset + length bufs.bytes < 2 ^ 64 → Notes (E.noted env.old) (λ x. WritesAt ⟦<S as Storage>⟧ self.blob offset bufs.chunks task (writer store.old self.held) store.new (seen_step (λ w. (w.blob, w.held)) (λ p. ((p.write.blob, p.write.held), p.rest)) result) x) (E.noted env.new) }
+        ensures flat { LiesOver self.held.tip (S.bytes store.old self.blob) → KnowsState S.bytes S.left S.promised self.held.state store.old self.blob →
+            IfStepped result (λ w. Shows S.bytes S.left S.promised (with_bytes offset bufs.bytes (laid_over self.held.tip (S.bytes store.old self.blob))) w.held store.new self.blob) (λ p. Keeping S.bytes S.left S.promised (with_bytes offset bufs.bytes (laid_over self.held.tip (S.bytes store.old self.blob))) p.rest p.write.held store.new self.blob) }
+        ensures others { OnOthers ⟦<S as Storage>⟧ self.held.state self.blob store.old store.new (λ know. IfStepped result (λ w. know w.held.state) (λ p. know p.write.held.state)) }
         ensures spent { E.spare env.old ≤ E.spare env.new + (S.most + length bufs.chunks * (2 * S.most)) }
+        ensures callable { S.callable store.new }
     {
         let mut left = match Pieces::new(self.alloc, offset, bufs) {
             Ok(left) => left,
@@ -182,13 +183,14 @@ impl<S: Storage> Write<S> {
     ///
     /// Errors: that of the started sync, the store's refusal, `NoMemory`. After one the blob is closed.
     pub fn sync<E: Env>(self, store: &mut S, env: &mut E, task: u64) -> Step<S>
+        requires callable { S.callable store.old }
         ensures lasts { (start : E) → E.lasts start env.old → E.lasts start env.new }
-        ensures runs { Notes (E.noted env.old) (λ x. Runs ⟦<S as Called>⟧.calls self.blob Rest.Sync task (writer store.old self.held) store.new (seen_step (λ w. (w.blob, w.held)) (λ p. ((p.write.blob, p.write.held), p.rest)) result) x) (E.noted env.new) }
-        ensures durable { (bytes : S → S.Blob → List ℕ) → (left : S → S.Blob → Option (List ℕ)) → (promised : S → Ticket → S.Blob → Option (List ℕ)) →
-            KeepsBytes ⟦<S as Called>⟧.calls bytes left promised → LiesOver self.held.tip (bytes store.old self.blob) → KnowsState bytes left promised self.held.state store.old self.blob →
-            IfStepped result (λ w. Keeps bytes left promised (laid_over self.held.tip (bytes store.old self.blob)) Rest.Sync w.held store.new self.blob) (λ p. Keeping bytes left promised (laid_over self.held.tip (bytes store.old self.blob)) p.rest p.write.held store.new self.blob) }
-        ensures others { OnOthers ⟦<S as Called>⟧.calls self.held.state self.blob store.old store.new (λ know. IfStepped result (λ w. know w.held.state) (λ p. know p.write.held.state)) }
+        ensures runs { Notes (E.noted env.old) (λ x. Runs ⟦<S as Storage>⟧ self.blob Rest.Sync task (writer store.old self.held) store.new (seen_step (λ w. (w.blob, w.held)) (λ p. ((p.write.blob, p.write.held), p.rest)) result) x) (E.noted env.new) }
+        ensures durable { LiesOver self.held.tip (S.bytes store.old self.blob) → KnowsState S.bytes S.left S.promised self.held.state store.old self.blob →
+            IfStepped result (λ w. Keeps S.bytes S.left S.promised (laid_over self.held.tip (S.bytes store.old self.blob)) Rest.Sync w.held store.new self.blob) (λ p. Keeping S.bytes S.left S.promised (laid_over self.held.tip (S.bytes store.old self.blob)) p.rest p.write.held store.new self.blob) }
+        ensures others { OnOthers ⟦<S as Storage>⟧ self.held.state self.blob store.old store.new (λ know. IfStepped result (λ w. know w.held.state) (λ p. know p.write.held.state)) }
         ensures spent { E.spare env.old ≤ E.spare env.new + 4 * S.most }
+        ensures callable { S.callable store.new }
     {
         self.run(store, env, Rest::Sync, task)
     }
@@ -198,14 +200,15 @@ impl<S: Storage> Write<S> {
     ///
     /// Errors: that of the earlier sync, the store's refusal, `NoMemory`. After one the blob is closed.
     pub fn start_sync<E: Env>(mut self, store: &mut S, env: &mut E, task: u64) -> Started<S>
+        requires callable { S.callable store.old }
         ensures lasts { (start : E) → E.lasts start env.old → E.lasts start env.new }
-        ensures starts { Notes (E.noted env.old) (λ x. Starts ⟦<S as Called>⟧.calls self.blob task (writer store.old self.held) store.new (seen_start (λ w. (w.blob, w.held)) (λ p. ((p.write.blob, p.write.held), p.rest)) result) x) (E.noted env.new) }
+        ensures starts { Notes (E.noted env.old) (λ x. Starts ⟦<S as Storage>⟧ self.blob task (writer store.old self.held) store.new (seen_start (λ w. (w.blob, w.held)) (λ p. ((p.write.blob, p.write.held), p.rest)) result) x) (E.noted env.new) }
         ensures handle { GivesHandle self.blob (λ w. (w.blob, w.held)) (λ p. p.write.blob) result }
-        ensures durable { (bytes : S → S.Blob → List ℕ) → (left : S → S.Blob → Option (List ℕ)) → (promised : S → Ticket → S.Blob → Option (List ℕ)) →
-            KeepsBytes ⟦<S as Called>⟧.calls bytes left promised → LiesOver self.held.tip (bytes store.old self.blob) → KnowsState bytes left promised self.held.state store.old self.blob →
-            IfBegun result (λ w. Keeps bytes left promised (laid_over self.held.tip (bytes store.old self.blob)) Rest.Start w.held store.new self.blob) (λ p. Keeping bytes left promised (laid_over self.held.tip (bytes store.old self.blob)) p.rest p.write.held store.new self.blob) }
-        ensures others { OnOthers ⟦<S as Called>⟧.calls self.held.state self.blob store.old store.new (λ know. IfBegun result (λ w. know w.held.state) (λ p. know p.write.held.state)) }
+        ensures durable { LiesOver self.held.tip (S.bytes store.old self.blob) → KnowsState S.bytes S.left S.promised self.held.state store.old self.blob →
+            IfBegun result (λ w. Keeps S.bytes S.left S.promised (laid_over self.held.tip (S.bytes store.old self.blob)) Rest.Start w.held store.new self.blob) (λ p. Keeping S.bytes S.left S.promised (laid_over self.held.tip (S.bytes store.old self.blob)) p.rest p.write.held store.new self.blob) }
+        ensures others { OnOthers ⟦<S as Storage>⟧ self.held.state self.blob store.old store.new (λ know. IfBegun result (λ w. know w.held.state) (λ p. know p.write.held.state)) }
         ensures spent { E.spare env.old ≤ E.spare env.new + 3 * S.most }
+        ensures callable { S.callable store.new }
     {
         if self.held.tip.is_empty() {
             let progress = self.begin(store, env);
@@ -218,13 +221,14 @@ impl<S: Storage> Write<S> {
     ///
     /// Errors: that of the started sync, the store's refusal, `NoMemory`. After one the blob is closed.
     pub fn resize<E: Env>(self, store: &mut S, env: &mut E, len: u64, task: u64) -> Step<S>
+        requires callable { S.callable store.old }
         ensures lasts { (start : E) → E.lasts start env.old → E.lasts start env.new }
-        ensures runs { Notes (E.noted env.old) (λ x. Runs ⟦<S as Called>⟧.calls self.blob (Rest.Resize len) task (writer store.old self.held) store.new (seen_step (λ w. (w.blob, w.held)) (λ p. ((p.write.blob, p.write.held), p.rest)) result) x) (E.noted env.new) }
-        ensures flat { (bytes : S → S.Blob → List ℕ) → (left : S → S.Blob → Option (List ℕ)) → (promised : S → Ticket → S.Blob → Option (List ℕ)) →
-            KeepsBytes ⟦<S as Called>⟧.calls bytes left promised → LiesOver self.held.tip (bytes store.old self.blob) → KnowsState bytes left promised self.held.state store.old self.blob →
-            IfStepped result (λ w. Shows bytes left promised (resized len (laid_over self.held.tip (bytes store.old self.blob))) w.held store.new self.blob) (λ p. Keeping bytes left promised (resized len (laid_over self.held.tip (bytes store.old self.blob))) p.rest p.write.held store.new self.blob) }
-        ensures others { OnOthers ⟦<S as Called>⟧.calls self.held.state self.blob store.old store.new (λ know. IfStepped result (λ w. know w.held.state) (λ p. know p.write.held.state)) }
+        ensures runs { Notes (E.noted env.old) (λ x. Runs ⟦<S as Storage>⟧ self.blob (Rest.Resize len) task (writer store.old self.held) store.new (seen_step (λ w. (w.blob, w.held)) (λ p. ((p.write.blob, p.write.held), p.rest)) result) x) (E.noted env.new) }
+        ensures flat { LiesOver self.held.tip (S.bytes store.old self.blob) → KnowsState S.bytes S.left S.promised self.held.state store.old self.blob →
+            IfStepped result (λ w. Shows S.bytes S.left S.promised (resized len (laid_over self.held.tip (S.bytes store.old self.blob))) w.held store.new self.blob) (λ p. Keeping S.bytes S.left S.promised (resized len (laid_over self.held.tip (S.bytes store.old self.blob))) p.rest p.write.held store.new self.blob) }
+        ensures others { OnOthers ⟦<S as Storage>⟧ self.held.state self.blob store.old store.new (λ know. IfStepped result (λ w. know w.held.state) (λ p. know p.write.held.state)) }
         ensures spent { E.spare env.old ≤ E.spare env.new + 3 * S.most }
+        ensures callable { S.callable store.new }
     {
         self.run(store, env, Rest::Resize(len), task)
     }
@@ -233,13 +237,14 @@ impl<S: Storage> Write<S> {
     ///
     /// Errors: that of the sync. After one the blob is closed.
     pub fn wait_for_sync<E: Env>(self, store: &mut S, env: &mut E, task: u64) -> Step<S>
+        requires callable { S.callable store.old }
         ensures lasts { (start : E) → E.lasts start env.old → E.lasts start env.new }
-        ensures runs { Notes (E.noted env.old) (λ x. Runs ⟦<S as Called>⟧.calls self.blob Rest.Nothing task (writer store.old self.held) store.new (seen_step (λ w. (w.blob, w.held)) (λ p. ((p.write.blob, p.write.held), p.rest)) result) x) (E.noted env.new) }
-        ensures durable { (bytes : S → S.Blob → List ℕ) → (left : S → S.Blob → Option (List ℕ)) → (promised : S → Ticket → S.Blob → Option (List ℕ)) →
-            KeepsBytes ⟦<S as Called>⟧.calls bytes left promised → HoldsSync bytes left promised self.held store.old self.blob →
-            IfStepped result (λ w. Keeps bytes left promised (bytes store.old self.blob) Rest.Nothing w.held store.new self.blob) (λ p. Keeping bytes left promised (bytes store.old self.blob) p.rest p.write.held store.new self.blob) }
-        ensures others { OnOthers ⟦<S as Called>⟧.calls self.held.state self.blob store.old store.new (λ know. IfStepped result (λ w. know w.held.state) (λ p. know p.write.held.state)) }
+        ensures runs { Notes (E.noted env.old) (λ x. Runs ⟦<S as Storage>⟧ self.blob Rest.Nothing task (writer store.old self.held) store.new (seen_step (λ w. (w.blob, w.held)) (λ p. ((p.write.blob, p.write.held), p.rest)) result) x) (E.noted env.new) }
+        ensures durable { HoldsSync S.bytes S.left S.promised self.held store.old self.blob →
+            IfStepped result (λ w. Keeps S.bytes S.left S.promised (S.bytes store.old self.blob) Rest.Nothing w.held store.new self.blob) (λ p. Keeping S.bytes S.left S.promised (S.bytes store.old self.blob) p.rest p.write.held store.new self.blob) }
+        ensures others { OnOthers ⟦<S as Storage>⟧ self.held.state self.blob store.old store.new (λ know. IfStepped result (λ w. know w.held.state) (λ p. know p.write.held.state)) }
         ensures spent { E.spare env.old ≤ E.spare env.new + S.most }
+        ensures callable { S.callable store.new }
     {
         self.run(store, env, Rest::Nothing, task)
     }
@@ -252,9 +257,11 @@ impl<S: Storage> Write<S> {
         rest: Rest,
         task: u64,
     ) -> Step<S>
+        requires callable { S.callable store.old }
         ensures lasts { (start : E) → E.lasts start env.old → E.lasts start env.new }
-        ensures runs { Notes (E.noted env.old) (λ x. Runs ⟦<S as Called>⟧.calls self.blob rest task (writer store.old self.held) store.new (seen_step (λ w. (w.blob, w.held)) (λ p. ((p.write.blob, p.write.held), p.rest)) result) x) (E.noted env.new) }
+        ensures runs { Notes (E.noted env.old) (λ x. Runs ⟦<S as Storage>⟧ self.blob rest task (writer store.old self.held) store.new (seen_step (λ w. (w.blob, w.held)) (λ p. ((p.write.blob, p.write.held), p.rest)) result) x) (E.noted env.new) }
         ensures spent { E.spare env.old ≤ E.spare env.new + (S.most + room_for S.most rest) }
+        ensures callable { S.callable store.new }
     {
         match self.wait(store, env, task) {
             Ok(Poll::Ready(())) => {
@@ -275,11 +282,13 @@ impl<S: Storage> Write<S> {
         rest: Rest,
         task: u64,
     ) -> Result<Poll<()>, Error>
-        requires { is_started self.old.held.state ≡ false }
+        requires callable { S.callable store.old }
+        requires free { is_started self.old.held.state ≡ false }
         ensures lasts { (start : E) → E.lasts start env.old → E.lasts start env.new }
-        ensures finishes { Notes (E.noted env.old) (λ x. Finishes ⟦<S as Called>⟧.calls self.old.blob rest task (writer store.old self.old.held) result (writer store.new self.new.held) x) (E.noted env.new) }
+        ensures finishes { Notes (E.noted env.old) (λ x. Finishes ⟦<S as Storage>⟧ self.old.blob rest task (writer store.old self.old.held) result (writer store.new self.new.held) x) (E.noted env.new) }
         ensures blob { self.new.blob ≡ self.old.blob }
         ensures spent { E.spare env.old ≤ E.spare env.new + room_for S.most rest }
+        ensures callable { S.callable store.new }
     {
         match rest {
             Rest::Nothing => Ok(Poll::Ready(())),
@@ -292,7 +301,9 @@ impl<S: Storage> Write<S> {
 
     // What a call returns that came to this, with what is left to do where it waits.
     fn end(self, store: &mut S, progress: Result<Poll<()>, Error>, rest: Rest) -> Step<S>
-        ensures { Ends ⟦<S as Called>⟧.calls self.blob rest progress (writer store.old self.held) store.new (seen_step (λ w. (w.blob, w.held)) (λ p. ((p.write.blob, p.write.held), p.rest)) result) }
+        requires callable { S.callable store.old }
+        ensures ends { Ends ⟦<S as Storage>⟧ self.blob rest progress (writer store.old self.held) store.new (seen_step (λ w. (w.blob, w.held)) (λ p. ((p.write.blob, p.write.held), p.rest)) result) }
+        ensures callable { S.callable store.new }
     {
         match progress {
             Ok(Poll::Ready(())) => Stepped::Done(self),
@@ -324,12 +335,14 @@ impl<S: Storage> Write<S> {
         len: usize,
         before: u64,
     ) -> Result<IoBufs, Error>
+        requires callable { S.callable store.old }
         requires before { before ≡ self.now.held.tip.offset - offset }
         requires some { offset < self.now.held.tip.offset }
         requires ends { offset + len ≤ end_of self.now.held.tip }
         ensures lasts { (start : E) → E.lasts start env.old → E.lasts start env.new }
-        ensures reads { Notes (E.noted env.old) (λ x. ReadsThrough S.reads S.refusals self.now.blob self.now.held.tip offset len store.old result store.new x) (E.noted env.new) }
+        ensures reads { Notes (E.noted env.old) (λ x. ReadsThrough ⟦<S as Storage>⟧ self.now.blob self.now.held.tip offset len store.old result store.new x) (E.noted env.new) }
         ensures spent { E.spare env.old ≤ E.spare env.new + S.most }
+        ensures callable { S.callable store.new }
     {
         let first = len.min(before as usize);
         let fetched = store.read_at(env, &self.blob, offset, first, ReadOptions::default())?;

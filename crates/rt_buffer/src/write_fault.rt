@@ -1,11 +1,7 @@
 // A store whose writes a test lets fail.
-ghost use Rattle.std.specs.Prelude.{◌≡◌, ◌<◌, ◌^◌, ℕ, Bool, List, Option, false, true};
-ghost use Rattle.rt_buffer.specs.Durable.{KeepsBytes, LeavesOthers, OpensApart, ReadsLeave};
-ghost use Rattle.rt_buffer.specs.Flat.{HasBytes};
-ghost use Rattle.rt_buffer.specs.Mocks.{counted_write, no_faults, or_failed, refused_write};
-ghost use Rattle.rt_store.specs.declared.ticket.Ticket.{Ticket};
+ghost use Rattle.std.specs.Prelude.{◌≡◌, ◌<◌, ◌^◌, false, true};
+ghost use Rattle.rt_buffer.specs.Mocks.{counted_write, no_faults, refused_write};
 
-use crate::called::Called;
 use rt_base::{BlobVersion, Env, Error, IoKind, NoMemory, Poll, ReadOptions, WriteOptions};
 use rt_bufs::{IoBufs, IoBufsMut};
 use rt_store::{BlobOf, Done, Storage, Ticket};
@@ -73,25 +69,10 @@ pub struct WriteFaultBlob<S: Storage> {
 }
 
 impl<S: Storage> WriteFaultContext<S> {
-    /// Makes a store over the inner one in which no write fails yet, and none was counted. Where the inner store
-    /// keeps the bytes of its blobs, so does this one; and where the inner store's calls leave the other blobs as
-    /// they were, so do those of this one, and so of its opens and reads.
+    /// Makes a store over the inner one in which no write fails yet, and none was counted.
     pub fn new(inner: S) -> WriteFaultContext<S>
         ensures inner { result.inner ≡ inner }
         ensures faults { result.faults ≡ no_faults }
-        ensures keeps { (bytes : S → S.Blob → List ℕ) → (left : S → S.Blob → Option (List ℕ)) → (promised : S → Ticket → S.Blob → Option (List ℕ)) →
-            KeepsBytes ⟦<S as Called>⟧.calls bytes left promised →
-            KeepsBytes ⟦<WriteFaultContext<S> as Called>⟧.calls (λ s k. bytes s.inner k.inner) (λ s k. left s.inner k.inner) (λ s t k. or_failed bytes promised s.inner t k.inner) }
-        ensures others { (bytes : S → S.Blob → List ℕ) → (left : S → S.Blob → Option (List ℕ)) → (promised : S → Ticket → S.Blob → Option (List ℕ)) → (apart : S → S.Blob → S.Blob → Bool) → (opened : S → S.Blob → Bool) →
-            LeavesOthers ⟦<S as Called>⟧.calls bytes left promised apart opened →
-            LeavesOthers ⟦<WriteFaultContext<S> as Called>⟧.calls (λ s k. bytes s.inner k.inner) (λ s k. left s.inner k.inner) (λ s t k. or_failed bytes promised s.inner t k.inner) (λ s k j. apart s.inner k.inner j.inner) (λ s k. opened s.inner k.inner) }
-        ensures opens { (bytes : S → S.Blob → List ℕ) → (left : S → S.Blob → Option (List ℕ)) → (promised : S → Ticket → S.Blob → Option (List ℕ)) → (apart : S → S.Blob → S.Blob → Bool) → (opened : S → S.Blob → Bool) →
-            OpensApart S.opens bytes left promised apart opened →
-            OpensApart ⟦<WriteFaultContext<S> as Storage>⟧.opens (λ s k. bytes s.inner k.inner) (λ s k. left s.inner k.inner) (λ s t k. or_failed bytes promised s.inner t k.inner) (λ s k j. apart s.inner k.inner j.inner) (λ s k. opened s.inner k.inner) }
-        ensures reads { (bytes : S → S.Blob → List ℕ) → (left : S → S.Blob → Option (List ℕ)) → (promised : S → Ticket → S.Blob → Option (List ℕ)) → (apart : S → S.Blob → S.Blob → Bool) → (opened : S → S.Blob → Bool) →
-            ReadsLeave S.reads bytes left promised apart opened →
-            ReadsLeave ⟦<WriteFaultContext<S> as Storage>⟧.reads (λ s k. bytes s.inner k.inner) (λ s k. left s.inner k.inner) (λ s t k. or_failed bytes promised s.inner t k.inner) (λ s k j. apart s.inner k.inner j.inner) (λ s k. opened s.inner k.inner) }
-        ensures has { (bytes : S → S.Blob → List ℕ) → HasBytes S.reads bytes → HasBytes ⟦<WriteFaultContext<S> as Storage>⟧.reads (λ s k. bytes s.inner k.inner) }
     {
         WriteFaultContext {
             inner,
@@ -107,7 +88,21 @@ impl<S: Storage> Storage for WriteFaultContext<S> {
     ghost use Rattle.rt_buffer.specs.Mocks.{FaultyWrites, inside};
     ghost use Rattle.rt_store.specs.Answered.{PollsTicket, is_numbered};
 
+    ghost callable = { λ s. S.callable s.inner };
+
     ghost refusals = { λ s. S.refusals s.inner + s.faults.refusals };
+
+    ghost bytes = { λ s k. S.bytes s.inner k.inner };
+
+    ghost left = { λ s k. S.left s.inner k.inner };
+
+    ghost promised = { λ s t k. S.promised s.inner t k.inner };
+
+    ghost apart = { λ s k j. S.apart s.inner k.inner j.inner };
+
+    ghost opened = { λ s k. S.opened s.inner k.inner };
+
+    ghost both_ways = { λ s k j near. S.both_ways s.inner k.inner j.inner near };
 
     ghost most = { S.most };
 

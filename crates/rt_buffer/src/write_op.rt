@@ -1,13 +1,10 @@
 // A writer's call that waits for a started sync.
-ghost use Rattle.std.specs.Prelude.{◌≡◌, ◌+◌, ◌≤◌, ℕ, ⊤, List, Option};
+ghost use Rattle.std.specs.Prelude.{◌≡◌, ◌+◌, ◌≤◌, ℕ, ⊤, List};
 ghost use Rattle.rt_base.specs.Counted.{Notes};
-ghost use Rattle.rt_buffer.specs.Durable.{IfStepped, Keeping, Keeps, KeepsBytes};
-ghost use Rattle.rt_buffer.specs.Framing.{OnOthers};
+ghost use Rattle.rt_buffer.specs.Durable.{IfStepped, Keeping, Keeps, OnOthers};
 ghost use Rattle.rt_buffer.specs.Steps.{Runs, room_for, seen_step, writer};
 ghost use Rattle.rt_buffer.specs.Writing.{ClosesWriter};
-ghost use Rattle.rt_store.specs.declared.ticket.Ticket.{Ticket};
 
-use crate::called::Called;
 use crate::pieces::Pieces;
 use crate::write::Write;
 use rt_base::{Env, Error};
@@ -47,13 +44,14 @@ impl<S: Storage> WriteOp<S> {
     ///
     /// Errors: that of the started sync, the store's refusal, `NoMemory`. After one the blob is closed.
     pub fn poll<E: Env>(self, store: &mut S, env: &mut E, task: u64) -> Step<S>
+        requires callable { S.callable store.old }
         ensures lasts { (start : E) → E.lasts start env.old → E.lasts start env.new }
-        ensures runs { Notes (E.noted env.old) (λ x. Runs ⟦<S as Called>⟧.calls self.write.blob self.rest task (writer store.old self.write.held) store.new (seen_step (λ w. (w.blob, w.held)) (λ p. ((p.write.blob, p.write.held), p.rest)) result) x) (E.noted env.new) }
-        ensures durable { (bytes : S → S.Blob → List ℕ) → (left : S → S.Blob → Option (List ℕ)) → (promised : S → Ticket → S.Blob → Option (List ℕ)) → (content : List ℕ) →
-            KeepsBytes ⟦<S as Called>⟧.calls bytes left promised → Keeping bytes left promised content self.rest self.write.held store.old self.write.blob →
-            IfStepped result (λ w. Keeps bytes left promised content self.rest w.held store.new self.write.blob) (λ p. Keeping bytes left promised content p.rest p.write.held store.new self.write.blob) }
-        ensures others { OnOthers ⟦<S as Called>⟧.calls self.write.held.state self.write.blob store.old store.new (λ know. IfStepped result (λ w. know w.held.state) (λ p. know p.write.held.state)) }
+        ensures runs { Notes (E.noted env.old) (λ x. Runs ⟦<S as Storage>⟧ self.write.blob self.rest task (writer store.old self.write.held) store.new (seen_step (λ w. (w.blob, w.held)) (λ p. ((p.write.blob, p.write.held), p.rest)) result) x) (E.noted env.new) }
+        ensures durable { (content : List ℕ) → Keeping S.bytes S.left S.promised content self.rest self.write.held store.old self.write.blob →
+            IfStepped result (λ w. Keeps S.bytes S.left S.promised content self.rest w.held store.new self.write.blob) (λ p. Keeping S.bytes S.left S.promised content p.rest p.write.held store.new self.write.blob) }
+        ensures others { OnOthers ⟦<S as Storage>⟧ self.write.held.state self.write.blob store.old store.new (λ know. IfStepped result (λ w. know w.held.state) (λ p. know p.write.held.state)) }
         ensures spent { E.spare env.old ≤ E.spare env.new + (S.most + room_for S.most self.rest) }
+        ensures callable { S.callable store.new }
     {
         let WriteOp { write, rest } = self;
         write.run(store, env, rest, task)
@@ -61,8 +59,10 @@ impl<S: Storage> WriteOp<S> {
 
     /// Gives up the call, and closes the blob. The bytes that are held back are lost. It takes no memory.
     pub fn give_up(self, store: &mut S)
-        ensures closed { ClosesWriter S.gives_sync_up S.closes self.write.held.state self.write.blob store.old store.new }
-        ensures others { OnOthers ⟦<S as Called>⟧.calls self.write.held.state self.write.blob store.old store.new (λ know. ⊤) }
+        requires callable { S.callable store.old }
+        ensures closed { ClosesWriter ⟦<S as Storage>⟧ self.write.held.state self.write.blob store.old store.new }
+        ensures others { OnOthers ⟦<S as Storage>⟧ self.write.held.state self.write.blob store.old store.new (λ know. ⊤) }
+        ensures callable { S.callable store.new }
     {
         let WriteOp { write, rest: _ } = self;
         write.close(store);

@@ -8,6 +8,7 @@ ghost use Rattle.rt_buffer.specs.Flat.{StandsFor};
 ghost use Rattle.rt_store.specs.Calls.{blob_of};
 ghost use Rattle.rt_store.specs.Store.{content_at};
 
+use crate::free::Free;
 use rt_base::{Env, Error, NoEnv, NoMemory, Poll, WriteOptions};
 use rt_buffer::{Begun, Buffer, Read, Started, Step, Stepped, SyncHandle, Write};
 use rt_bufs::{IoBuf, IoBufs};
@@ -221,7 +222,7 @@ pub fn bufs(alloc: Global, bytes: &[u8]) -> Result<IoBufs, NoMemory> {
 }
 
 /// Whether a change was done at once. One that is gated is given up.
-fn ended<S: Storage>(store: &mut S, answer: Result<Done, Error>) -> Result<bool, Error> {
+fn ended<S: Free>(store: &mut S, answer: Result<Done, Error>) -> Result<bool, Error> {
     match answer? {
         Done::Now => Ok(true),
         Done::Gated(ticket) => {
@@ -232,12 +233,12 @@ fn ended<S: Storage>(store: &mut S, answer: Result<Done, Error>) -> Result<bool,
 }
 
 /// Whether a change was done at once.
-pub fn is_now<S: Storage>(store: &mut S, answer: Result<Done, Error>) -> bool {
+pub fn is_now<S: Free>(store: &mut S, answer: Result<Done, Error>) -> bool {
     came(ended(store, answer), true)
 }
 
 /// Whether bytes could be written at the start of a blob.
-fn writes<S: Storage>(alloc: Global, store: &mut S, blob: &S::Blob, bytes: &[u8]) -> bool {
+fn writes<S: Free>(alloc: Global, store: &mut S, blob: &S::Blob, bytes: &[u8]) -> bool {
     match bufs(alloc, bytes).ok() {
         Some(bytes) => {
             let answer = store.write_at(&mut NoEnv, blob, 0, bytes, WriteOptions::default());
@@ -274,14 +275,14 @@ fn are(bytes: Result<IoBufs, Error>, expected: &[u8]) -> bool {
 /// A read: the bytes, how many are held after it and how many are left.
 type Piece = (usize, &'static [u8], usize, u64);
 
-fn reads<S: Storage>(store: &mut S, reader: &mut Read<S>, piece: &Piece) -> bool {
+fn reads<S: Free>(store: &mut S, reader: &mut Read<S>, piece: &Piece) -> bool {
     let (len, expected, held, left) = *piece;
     let bytes = reader.read(store, &mut NoEnv, len);
     are(bytes, expected) & (reader.buffer_remaining() == held) & (reader.blob_remaining() == left)
 }
 
 /// How many reads, one after the other, come to what is written.
-fn reads_each<S: Storage>(store: &mut S, reader: &mut Read<S>, pieces: &[Piece]) -> usize {
+fn reads_each<S: Free>(store: &mut S, reader: &mut Read<S>, pieces: &[Piece]) -> usize {
     let mut right = 0_usize;
     for piece in pieces {
         if reads(store, reader, piece) {
@@ -300,7 +301,7 @@ const READS: &[Piece] = &[
 ];
 
 /// Whether a read of one byte more is refused.
-fn ends<S: Storage>(store: &mut S, reader: &mut Read<S>) -> bool {
+fn ends<S: Free>(store: &mut S, reader: &mut Read<S>) -> bool {
     failed(
         reader.read(store, &mut NoEnv, 1),
         Error::BlobInsufficientLength,
@@ -308,20 +309,20 @@ fn ends<S: Storage>(store: &mut S, reader: &mut Read<S>) -> bool {
 }
 
 /// Whether the text is read, to its end and no further.
-fn reads_text<S: Storage>(store: &mut S, reader: &mut Read<S>) -> bool {
+fn reads_text<S: Free>(store: &mut S, reader: &mut Read<S>) -> bool {
     let seen = reads_each(store, reader, READS);
     let last = ends(store, reader);
     (seen == 4) & last & (reader.position() == 12) & (reader.blob_size() == 12)
 }
 
 /// Whether so many bytes are held after a seek.
-fn seeks<S: Storage>(reader: &mut Read<S>, place: u64, held: usize) -> bool {
+fn seeks<S: Free>(reader: &mut Read<S>, place: u64, held: usize) -> bool {
     went(reader.seek_to(place)) & (reader.buffer_remaining() == held)
 }
 
 const START: &[Piece] = &[(3, b"hel", 5, 9)];
 
-fn seeks_text<S: Storage>(store: &mut S, reader: &mut Read<S>) -> bool {
+fn seeks_text<S: Free>(store: &mut S, reader: &mut Read<S>) -> bool {
     let back = seeks(reader, 0, 0);
     let first = reads_each(store, reader, START);
     let on = seeks(reader, 6, 2) & seeks(reader, 5, 0);
@@ -329,7 +330,7 @@ fn seeks_text<S: Storage>(store: &mut S, reader: &mut Read<S>) -> bool {
     back & (first == 1) & on & past & (reader.position() == 5)
 }
 
-pub fn read_text<S: Storage>(alloc: Global, store: &mut S) -> Result<bool, Error> {
+pub fn read_text<S: Free>(alloc: Global, store: &mut S) -> Result<bool, Error> {
     let (blob, _) = store.open(&mut NoEnv, "p", b"a")?;
     let written = writes(alloc, store, &blob, b"hello world!");
     let mut reader = Read::new(alloc, blob, 12, 8);
@@ -358,19 +359,19 @@ fn blob_is_read_by_buffers(rt: HostRuntime) {
 }
 
 /// Whether a change was refused so.
-fn is_refusal<S: Storage>(store: &mut S, answer: Result<Done, Error>, why: Error) -> bool {
+fn is_refusal<S: Free>(store: &mut S, answer: Result<Done, Error>, why: Error) -> bool {
     failed(ended(store, answer), why)
 }
 
 /// Whether a reader's blob can't be made so long that there is no memory for it.
-fn lacks_memory<S: Storage>(alloc: Global, store: &mut S) -> Result<bool, Error> {
+fn lacks_memory<S: Free>(alloc: Global, store: &mut S) -> Result<bool, Error> {
     let (blob, len) = store.open(&mut NoEnv, "p", b"a")?;
     let answer = Read::new(alloc, blob, len, 8).resize(store, &mut NoEnv, u64::MAX);
     Ok(is_refusal(store, answer, Error::NoMemory))
 }
 
 /// Cuts the text of a reader's blob.
-pub fn cut_text<S: Storage>(alloc: Global, store: &mut S) -> Result<bool, Error> {
+pub fn cut_text<S: Free>(alloc: Global, store: &mut S) -> Result<bool, Error> {
     let (blob, _) = store.open(&mut NoEnv, "p", b"a")?;
     let written = writes(alloc, store, &blob, b"hello world!");
     let answer = Read::new(alloc, blob, 12, 8).resize(store, &mut NoEnv, 5);
@@ -393,7 +394,7 @@ fn reader_is_resized(rt: HostRuntime) {
 type Look = (u64, usize, &'static [u8]);
 
 /// How many looks come to what is written.
-fn sees_each<S: Storage>(store: &mut S, writer: &Write<S>, looks: &[Look]) -> usize {
+fn sees_each<S: Free>(store: &mut S, writer: &Write<S>, looks: &[Look]) -> usize {
     let mut right = 0_usize;
     for (offset, len, expected) in looks {
         if are(writer.read_at(store, &mut NoEnv, *offset, *len), expected) {
@@ -413,28 +414,28 @@ const SEEN: &[Look] = &[
 ];
 
 /// Whether a read of one byte is refused so.
-fn refuses<S: Storage>(store: &mut S, writer: &Write<S>, offset: u64, why: Error) -> bool {
+fn refuses<S: Free>(store: &mut S, writer: &Write<S>, offset: u64, why: Error) -> bool {
     failed(writer.read_at(store, &mut NoEnv, offset, 1), why)
 }
 
-fn sees<S: Storage>(store: &mut S, writer: &Write<S>) -> bool {
+fn sees<S: Free>(store: &mut S, writer: &Write<S>) -> bool {
     let seen = sees_each(store, writer, SEEN);
     let end = refuses(store, writer, 11, Error::BlobInsufficientLength);
     (seen == 5) & end & refuses(store, writer, u64::MAX, Error::OffsetOverflow)
 }
 
 /// Whether a write into the tip is taken in, or isn't.
-fn tries<S: Storage>(writer: &mut Write<S>, offset: u64, bytes: &[u8], went: bool) -> bool {
+fn tries<S: Free>(writer: &mut Write<S>, offset: u64, bytes: &[u8], went: bool) -> bool {
     came(writer.try_write_at(offset, bytes), went)
 }
 
 /// Writes into the tip of a writer behind `hello`.
-fn extends<S: Storage>(writer: &mut Write<S>) -> bool {
+fn extends<S: Free>(writer: &mut Write<S>) -> bool {
     let first = tries(writer, 5, b" world", true) & tries(writer, 4, b"x", false);
     first & tries(writer, 0, b"", true) & (writer.size() == 11) & writer.needs_sync()
 }
 
-pub fn look_over<S: Storage>(alloc: Global, store: &mut S) -> Result<bool, Error> {
+pub fn look_over<S: Free>(alloc: Global, store: &mut S) -> Result<bool, Error> {
     let (blob, _) = store.open(&mut NoEnv, "p", b"a")?;
     let written = writes(alloc, store, &blob, b"hello");
     let mut writer = Write::new(alloc, blob, 5, 16);
@@ -453,7 +454,7 @@ fn tip_is_read_over_its_blob(rt: HostRuntime) {
 }
 
 /// The writer that a call gave back.
-pub fn done<S: Storage>(store: &mut S, step: Step<S>) -> Result<Write<S>, Error> {
+pub fn done<S: Free>(store: &mut S, step: Step<S>) -> Result<Write<S>, Error> {
     match step {
         Stepped::Done(writer) => Ok(writer),
         Stepped::Waiting(op) => {
@@ -465,7 +466,7 @@ pub fn done<S: Storage>(store: &mut S, step: Step<S>) -> Result<Write<S>, Error>
 }
 
 /// Writes buffers, where there was memory for them.
-pub fn put_bufs<S: Storage>(
+pub fn put_bufs<S: Free>(
     store: &mut S,
     writer: Write<S>,
     offset: u64,
@@ -482,7 +483,7 @@ pub fn put_bufs<S: Storage>(
 }
 
 /// Writes bytes in one chunk.
-pub fn put<S: Storage>(
+pub fn put<S: Free>(
     alloc: Global,
     store: &mut S,
     writer: Write<S>,
@@ -493,19 +494,19 @@ pub fn put<S: Storage>(
     done(store, step)
 }
 
-pub fn synced<S: Storage>(store: &mut S, writer: Write<S>) -> Result<Write<S>, Error> {
+pub fn synced<S: Free>(store: &mut S, writer: Write<S>) -> Result<Write<S>, Error> {
     let step = writer.sync(store, &mut NoEnv, 1);
     done(store, step)
 }
 
 /// A writer of the blob, with a tip of 16 bytes.
-pub fn opened<S: Storage>(alloc: Global, store: &mut S, name: &[u8]) -> Result<Write<S>, Error> {
+pub fn opened<S: Free>(alloc: Global, store: &mut S, name: &[u8]) -> Result<Write<S>, Error> {
     let (blob, len) = store.open(&mut NoEnv, "p", name)?;
     Ok(Write::new(alloc, blob, len, 16))
 }
 
 /// The writer, where it has exactly these bytes.
-pub fn showing<S: Storage>(
+pub fn showing<S: Free>(
     store: &mut S,
     writer: Write<S>,
     expected: &[u8],
@@ -519,7 +520,7 @@ pub fn showing<S: Storage>(
 }
 
 /// Writes `hello world!` in three parts.
-fn put_text<S: Storage>(alloc: Global, store: &mut S) -> Result<Write<S>, Error> {
+fn put_text<S: Free>(alloc: Global, store: &mut S) -> Result<Write<S>, Error> {
     let writer = opened(alloc, store, b"a")?;
     let writer = put(alloc, store, writer, 0, b"hello")?;
     let writer = synced(store, writer)?;
@@ -540,14 +541,14 @@ pub fn write_text(alloc: Global, store: &mut MemStore) -> Result<(), Error> {
 /// The text at once, and its first bytes again.
 const WHOLE: &[Piece] = &[(12, b"hello world!", 0, 0)];
 
-fn reads_whole<S: Storage>(store: &mut S, reader: &mut Read<S>) -> bool {
+fn reads_whole<S: Free>(store: &mut S, reader: &mut Read<S>) -> bool {
     let whole = reads_each(store, reader, WHOLE);
     let last = ends(store, reader);
     let back = seeks(reader, 0, 0);
     (whole == 1) & last & back & (reads_each(store, reader, START) == 1)
 }
 
-fn reads_back<S: Storage>(alloc: Global, store: &mut S) -> Result<bool, Error> {
+fn reads_back<S: Free>(alloc: Global, store: &mut S) -> Result<bool, Error> {
     let (blob, len) = store.open(&mut NoEnv, "p", b"a")?;
     let mut reader = Read::new(alloc, blob, len, 8);
     let read = reads_whole(store, &mut reader);
@@ -565,13 +566,13 @@ fn written_blob_is_read_back(rt: HostRuntime) {
 }
 
 /// Cuts or extends a writer.
-fn resized<S: Storage>(store: &mut S, writer: Write<S>, len: u64) -> Result<Write<S>, Error> {
+fn resized<S: Free>(store: &mut S, writer: Write<S>, len: u64) -> Result<Write<S>, Error> {
     let step = writer.resize(store, &mut NoEnv, len, 1);
     done(store, step)
 }
 
 /// Cuts and extends a writer whose bytes are held back, in the end to a length for which there is no memory.
-pub fn resize_text<S: Storage>(alloc: Global, store: &mut S) -> Result<bool, Error> {
+pub fn resize_text<S: Free>(alloc: Global, store: &mut S) -> Result<bool, Error> {
     let mut writer = opened(alloc, store, b"a")?;
     let went = tries(&mut writer, 0, b"hello", true);
     let writer = resized(store, writer, 3)?;
@@ -597,7 +598,7 @@ fn two_chunks(alloc: Global) -> Result<IoBufs, NoMemory> {
 }
 
 /// A write of two chunks, through a tip of four bytes.
-fn put_chunks<S: Storage>(alloc: Global, store: &mut S) -> Result<Write<S>, Error> {
+fn put_chunks<S: Free>(alloc: Global, store: &mut S) -> Result<Write<S>, Error> {
     let (blob, len) = store.open(&mut NoEnv, "p", b"a")?;
     let writer = Write::new(alloc, blob, len, 4);
     let step = put_bufs(store, writer, 0, two_chunks(alloc), 1);
@@ -606,18 +607,18 @@ fn put_chunks<S: Storage>(alloc: Global, store: &mut S) -> Result<Write<S>, Erro
 }
 
 /// Closes the writer that a call gave back.
-pub fn closed<S: Storage>(store: &mut S, answer: Result<Write<S>, Error>) -> Result<(), Error> {
+pub fn closed<S: Free>(store: &mut S, answer: Result<Write<S>, Error>) -> Result<(), Error> {
     answer?.close(store);
     Ok(())
 }
 
 /// Whether a writer was refused so.
-pub fn is_refused<S: Storage>(store: &mut S, answer: Result<Write<S>, Error>, why: Error) -> bool {
+pub fn is_refused<S: Free>(store: &mut S, answer: Result<Write<S>, Error>, why: Error) -> bool {
     failed(closed(store, answer), why)
 }
 
 /// Writes through the tip, past it and before it, and one past the end of numbers.
-fn write_chunks<S: Storage>(alloc: Global, store: &mut S) -> Result<bool, Error> {
+fn write_chunks<S: Free>(alloc: Global, store: &mut S) -> Result<bool, Error> {
     let writer = put_chunks(alloc, store)?;
     let writer = put(alloc, store, writer, 6, b"0123456789")?;
     let writer = showing(store, writer, b"abcdef0123456789")?;
@@ -637,7 +638,7 @@ fn chunks_are_written(rt: HostRuntime) {
 }
 
 /// Syncs `ab`, and writes out `cd` behind it with no sync.
-fn write_behind<S: Storage>(alloc: Global, store: &mut S) -> Result<(), Error> {
+fn write_behind<S: Free>(alloc: Global, store: &mut S) -> Result<(), Error> {
     let (blob, len) = store.open(&mut NoEnv, "p", b"a")?;
     let writer = put(alloc, store, Write::new(alloc, blob, len, 2), 0, b"ab")?;
     let writer = synced(store, writer)?;
@@ -658,7 +659,7 @@ pub fn crash(alloc: Global, store: &mut MemStore) -> Result<usize, Error> {
 }
 
 /// Whether the blob is so long.
-fn is_long<S: Storage>(store: &mut S, expected: u64) -> Result<bool, Error> {
+fn is_long<S: Free>(store: &mut S, expected: u64) -> Result<bool, Error> {
     let (blob, len) = store.open(&mut NoEnv, "p", b"a")?;
     store.close(blob);
     Ok(len == expected)
@@ -682,10 +683,7 @@ fn crash_leaves_what_was_synced(rt: HostRuntime) {
 }
 
 /// The writer and the handle that a start gave.
-pub fn begun<S: Storage>(
-    store: &mut S,
-    started: Started<S>,
-) -> Result<(Write<S>, SyncHandle), Error> {
+pub fn begun<S: Free>(store: &mut S, started: Started<S>) -> Result<(Write<S>, SyncHandle), Error> {
     match started {
         Begun::Done(writer, handle) => Ok((writer, handle)),
         Begun::Waiting(op) => {
@@ -697,13 +695,13 @@ pub fn begun<S: Storage>(
 }
 
 /// Starts a sync.
-pub fn start<S: Storage>(store: &mut S, writer: Write<S>) -> Result<(Write<S>, SyncHandle), Error> {
+pub fn start<S: Free>(store: &mut S, writer: Write<S>) -> Result<(Write<S>, SyncHandle), Error> {
     let started = writer.start_sync(store, &mut NoEnv, 1);
     begun(store, started)
 }
 
 /// Whether the poll of a handle answers so.
-pub fn polls<S: Storage>(
+pub fn polls<S: Free>(
     store: &mut S,
     writer: &mut Write<S>,
     mut handle: SyncHandle,
@@ -712,12 +710,12 @@ pub fn polls<S: Storage>(
     same(handle.poll(writer, store, &mut NoEnv, 1), wanted)
 }
 
-fn is_done<S: Storage>(store: &mut S, writer: &mut Write<S>, handle: SyncHandle) -> bool {
+fn is_done<S: Free>(store: &mut S, writer: &mut Write<S>, handle: SyncHandle) -> bool {
     polls(store, writer, handle, Poll::Ready(Ok(())))
 }
 
 /// Starts a sync, asks for it, and starts one where nothing is to be synced.
-pub fn start_syncs<S: Storage>(alloc: Global, store: &mut S) -> Result<bool, Error> {
+pub fn start_syncs<S: Free>(alloc: Global, store: &mut S) -> Result<bool, Error> {
     let writer = opened(alloc, store, b"a")?;
     let writer = put(alloc, store, writer, 0, b"ab")?;
     let (mut writer, first) = start(store, writer)?;
@@ -738,7 +736,7 @@ fn sync_is_started(rt: HostRuntime) {
 }
 
 /// Whether the blob of a name has exactly these bytes.
-pub fn has_bytes<S: Storage>(
+pub fn has_bytes<S: Free>(
     alloc: Global,
     store: &mut S,
     name: &[u8],
@@ -753,7 +751,7 @@ pub fn has_bytes<S: Storage>(
 type Two<S> = (Write<S>, Write<S>);
 
 /// Writes bytes at the end of a writer, and syncs it.
-fn add_and_sync<S: Storage>(
+fn add_and_sync<S: Free>(
     alloc: Global,
     store: &mut S,
     writer: Write<S>,
@@ -765,7 +763,7 @@ fn add_and_sync<S: Storage>(
 }
 
 /// Both writers, the other one first.
-fn turned<S: Storage>(
+fn turned<S: Free>(
     store: &mut S,
     answer: Result<Write<S>, Error>,
     other: Write<S>,
@@ -780,7 +778,7 @@ fn turned<S: Storage>(
 }
 
 /// A turn of the first one.
-fn turn<S: Storage>(
+fn turn<S: Free>(
     alloc: Global,
     store: &mut S,
     both: Two<S>,
@@ -791,20 +789,20 @@ fn turn<S: Storage>(
     turned(store, answer, other)
 }
 
-fn open_both<S: Storage>(alloc: Global, store: &mut S) -> Result<Two<S>, Error> {
+fn open_both<S: Free>(alloc: Global, store: &mut S) -> Result<Two<S>, Error> {
     let first = opened(alloc, store, b"a")?;
     let second = opened(alloc, store, b"b");
     turned(store, second, first)
 }
 
 /// Writes more than the tip has room for, so that a change is open, and closes the writer.
-fn leave_open<S: Storage>(alloc: Global, store: &mut S, writer: Write<S>) -> Result<(), Error> {
+fn leave_open<S: Free>(alloc: Global, store: &mut S, writer: Write<S>) -> Result<(), Error> {
     put(alloc, store, writer, 0, b"0123456789abcdefg")?.close(store);
     Ok(())
 }
 
 /// Writes `abcd` by one writer and `xyz!` by another, each in two parts that are synced by turns, and then over the first ones.
-fn take_turns<S: Storage>(alloc: Global, store: &mut S) -> Result<(), Error> {
+fn take_turns<S: Free>(alloc: Global, store: &mut S) -> Result<(), Error> {
     let both = open_both(alloc, store)?;
     let both = turn(alloc, store, both, b"ab")?;
     let both = turn(alloc, store, both, b"xyz")?;

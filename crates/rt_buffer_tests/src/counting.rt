@@ -1,35 +1,36 @@
-// A store that holds syncs back over one that counts its tickets: each that has a number ends once.
+// A store of one blob without bytes, which counts its tickets.
 
-ghost use Rattle.std.specs.Prelude.{⊤};
+ghost use Rattle.std.specs.Prelude.{◌≡◌, ⊤, [], Some, true};
 
-use crate::buffers::{came, same};
-use crate::delayed::{poll, poll_and_end, started};
-use rt_base::{BlobVersion, Env, Error, NoEnv, NoMemory, Poll, ReadOptions, WriteOptions};
-use rt_buffer::{DelayedSyncContext, release_pending_syncs};
+use crate::free::Free;
+use rt_base::{BlobVersion, Env, Error, NoMemory, Poll, ReadOptions, WriteOptions};
 use rt_bufs::{IoBufs, IoBufsMut};
 use rt_store::{Done, Storage, Ticket, copy_of};
 use std::alloc::Global;
 
 /// How a sync is answered: at once, in its ticket, or behind a number, at the first poll of that or at none.
 #[derive(Clone, Copy)]
-enum How {
+pub enum How {
     Now,
     Ready,
     Numbered,
     Held,
 }
 
-/// A store of one blob that has no bytes. Of its tickets with a number it counts those that it gave, and those that ended: that were
-/// answered, or given up.
+/// A store of one blob that has no bytes, which it gives out once. Of its tickets with a number it counts those that it gave, and
+/// those that ended: that were answered, or given up.
 #[derive(Drop)]
-struct Counting {
-    how: How,
-    given: u64,
-    ended: u64,
+pub struct Counting {
+    pub how: How,
+    pub is_out: bool,
+    pub given: u64,
+    pub ended: u64,
 }
 
 impl Counting {
-    fn end(&mut self) {
+    fn end(&mut self)
+        ensures { self.new.is_out ≡ self.old.is_out }
+    {
         self.ended = self.ended.saturating_add(1);
     }
 }
@@ -38,6 +39,18 @@ impl Storage for Counting {
     type Blob = u64;
 
     ghost refusals = { λ s. 0 };
+
+    ghost bytes = { λ s b. [] };
+
+    ghost left = { λ s b. Some [] };
+
+    ghost promised = { λ s t b. Some [] };
+
+    ghost apart = { λ s a b. ⊥ };
+
+    ghost opened = { λ s b. s.is_out ≡ true };
+
+    ghost both_ways = { λ s a b near. near };
 
     ghost most = { 0 };
 
@@ -84,6 +97,7 @@ impl Storage for Counting {
         env.reserve(more)
     }
 
+    #[tactic(auto, using(crate::proofs::NoBytes::gives_out, crate::proofs::NoBytes::gives_none))]
     fn open_versioned<E: Env>(
         &mut self,
         env: &mut E,
@@ -91,23 +105,30 @@ impl Storage for Counting {
         name: &[u8],
         versions: (BlobVersion, BlobVersion),
     ) -> Result<(u64, u64, BlobVersion), Error> {
-        let _ = &self.given;
         let _ = env;
         let _ = partition;
         let _ = name;
+        if self.is_out {
+            return Err(Error::NoMemory);
+        }
+        self.is_out = true;
         Ok((0, 0, versions.1))
     }
 
+    #[tactic(auto, using(crate::proofs::NoBytes::gives_out, crate::proofs::NoBytes::gives_none))]
     fn open<E: Env>(
         &mut self,
         env: &mut E,
         partition: &str,
         name: &[u8],
     ) -> Result<(u64, u64), Error> {
-        let _ = &self.given;
         let _ = env;
         let _ = partition;
         let _ = name;
+        if self.is_out {
+            return Err(Error::NoMemory);
+        }
+        self.is_out = true;
         Ok((0, 0))
     }
 
@@ -131,6 +152,7 @@ impl Storage for Counting {
         Err(Error::NoMemory)
     }
 
+    #[tactic(auto, using(crate::proofs::NoBytes::leaves_all))]
     fn read_at<E: Env>(
         &mut self,
         env: &mut E,
@@ -197,6 +219,7 @@ impl Storage for Counting {
         Err(Error::NoMemory)
     }
 
+    #[tactic(auto, using(crate::proofs::NoBytes::leaves, crate::proofs::NoBytes::lets_go))]
     fn write_at<E: Env>(
         &mut self,
         env: &mut E,
@@ -214,6 +237,7 @@ impl Storage for Counting {
         Err(Error::NoMemory)
     }
 
+    #[tactic(auto, using(crate::proofs::NoBytes::leaves))]
     fn resize<E: Env>(&mut self, env: &mut E, blob: &u64, len: u64) -> Result<(), Error> {
         let _ = &self.given;
         let _ = env;
@@ -222,6 +246,7 @@ impl Storage for Counting {
         Err(Error::NoMemory)
     }
 
+    #[tactic(auto, using(crate::proofs::NoBytes::leaves))]
     fn sync<E: Env>(&mut self, env: &mut E, blob: &u64) -> Result<Done, Error> {
         let _ = env;
         let _ = blob;
@@ -235,6 +260,7 @@ impl Storage for Counting {
         }
     }
 
+    #[tactic(auto, using(crate::proofs::NoBytes::leaves))]
     fn start_sync<E: Env>(&mut self, env: &mut E, blob: &u64) -> Result<Ticket, Error> {
         let _ = &self.given;
         let _ = env;
@@ -242,6 +268,7 @@ impl Storage for Counting {
         Err(Error::NoMemory)
     }
 
+    #[tactic(auto, using(crate::proofs::NoBytes::polls, crate::proofs::NoBytes::of_one, crate::proofs::NoBytes::leaves))]
     fn poll_sync<E: Env>(
         &mut self,
         env: &mut E,
@@ -263,6 +290,7 @@ impl Storage for Counting {
         }
     }
 
+    #[tactic(auto, using(crate::proofs::NoBytes::of_one, crate::proofs::NoBytes::leaves))]
     fn give_up_sync(&mut self, ticket: Ticket) {
         match ticket {
             Ticket::Ready(held) => drop(held),
@@ -270,78 +298,13 @@ impl Storage for Counting {
         }
     }
 
+    #[tactic(auto, using(crate::proofs::NoBytes::leaves))]
     fn close(&mut self, blob: u64) {
         let _ = &self.given;
         let _ = blob;
     }
 }
 
-/// What a sync answers once it is released.
-fn answer(is_held: bool) -> Poll<Result<(), Error>> {
-    if is_held {
-        return Poll::Pending;
-    }
-    Poll::Ready(Ok(()))
-}
-
-/// Whether a started sync answers so at two polls, once it is released. It is given up then.
-fn polls_twice<S: Storage>(
-    store: &mut DelayedSyncContext<S>,
-    mut ticket: Ticket,
-    is_held: bool,
-) -> bool {
-    drop(release_pending_syncs(store.pending_mut()));
-    let first = same(poll(store, &mut ticket), answer(is_held));
-    first & same(poll_and_end(store, ticket), answer(is_held))
-}
-
-fn starts<S: Storage>(store: &mut DelayedSyncContext<S>, is_held: bool) -> Result<bool, Error> {
-    let (blob, _) = store.open(&mut NoEnv, "p", b"a")?;
-    let seen = match started(store, &blob) {
-        Some(ticket) => polls_twice(store, ticket, is_held),
-        None => false,
-    };
-    store.close(blob);
-    Ok(seen)
-}
-
-/// How the inner store answers a sync, whether the outer ticket is pending then, and how many tickets with a number the inner store
-/// gave.
-type Sync = (How, bool, u64);
-
-/// Whether as many ended as were given.
-fn ends_all(alloc: Global, sync: &Sync) -> bool {
-    let (how, is_held, given) = *sync;
-    let inner = Counting {
-        how,
-        given: 0,
-        ended: 0,
-    };
-    let mut store = DelayedSyncContext::new(alloc, inner);
-    let seen = came(starts(&mut store, is_held), true);
-    let inner = store.into_inner();
-    seen & (inner.given == given) & (inner.ended == given)
-}
-
-/// For how many they did.
-fn ends_each(alloc: Global, syncs: &[Sync]) -> usize {
-    let mut right = 0_usize;
-    for sync in syncs {
-        if ends_all(alloc, sync) {
-            right = right.wrapping_add(1);
-        }
-    }
-    right
-}
-
-const SYNCS: &[Sync] = &[
-    (How::Now, false, 0),
-    (How::Ready, false, 0),
-    (How::Numbered, false, 1),
-    (How::Held, true, 1),
-];
-
-#[test]
-fn numbered_ticket_ends_once(rt: HostRuntime) {
-    assert!(rt; ends_each(rt.alloc(), SYNCS) == 4);
+impl Free for Counting {
+    ghost always = { λ s. tt };
 }

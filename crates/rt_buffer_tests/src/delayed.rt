@@ -1,6 +1,7 @@
 // Stores whose syncs a test holds back: the worked examples, and each call once.
 
 use crate::buffers::{bufs, came, opened, polls, put, same, start, went};
+use crate::free::Free;
 use rt_base::{Error, IoKind, NoEnv, NoMemory, Poll, WriteOptions};
 use rt_buffer::{
     DelayedSyncContext, PendingSyncs, SyncHandle, Write, drive_pending_syncs, fail_pending_syncs,
@@ -25,7 +26,7 @@ fn counts(pending: &PendingSyncs, starts: u64, entered: u64, done: u64, held: us
 }
 
 /// Whether a sync that was started is pending, and done once it is released.
-fn polls_twice<S: Storage>(
+fn polls_twice<S: Free>(
     store: &mut DelayedSyncContext<S>,
     mut writer: Write<DelayedSyncContext<S>>,
     handle: SyncHandle,
@@ -40,19 +41,13 @@ fn polls_twice<S: Storage>(
 }
 
 /// Writes `ab` and starts a sync.
-fn put_and_start<S: Storage>(
-    alloc: Global,
-    store: &mut S,
-) -> Result<(Write<S>, SyncHandle), Error> {
+fn put_and_start<S: Free>(alloc: Global, store: &mut S) -> Result<(Write<S>, SyncHandle), Error> {
     let writer = opened(alloc, store, b"a")?;
     let writer = put(alloc, store, writer, 0, b"ab")?;
     start(store, writer)
 }
 
-fn holds_started<S: Storage>(
-    alloc: Global,
-    store: &mut DelayedSyncContext<S>,
-) -> Result<bool, Error> {
+fn holds_started<S: Free>(alloc: Global, store: &mut DelayedSyncContext<S>) -> Result<bool, Error> {
     let (writer, handle) = put_and_start(alloc, store)?;
     Ok(polls_twice(store, writer, handle))
 }
@@ -68,12 +63,12 @@ fn started_sync_is_held(rt: HostRuntime) {
 }
 
 /// Polls a ticket.
-pub fn poll<S: Storage>(store: &mut S, ticket: &mut Ticket) -> Poll<Result<(), Error>> {
+pub fn poll<S: Free>(store: &mut S, ticket: &mut Ticket) -> Poll<Result<(), Error>> {
     store.poll_sync(&mut NoEnv, ticket, 3)
 }
 
 /// Polls a ticket and gives it up.
-pub fn poll_and_end<S: Storage>(store: &mut S, mut ticket: Ticket) -> Poll<Result<(), Error>> {
+pub fn poll_and_end<S: Free>(store: &mut S, mut ticket: Ticket) -> Poll<Result<(), Error>> {
     let polled = poll(store, &mut ticket);
     store.give_up_sync(ticket);
     polled
@@ -115,7 +110,7 @@ pub fn gate_of(answer: Result<Done, Error>) -> Option<Ticket> {
 }
 
 /// The ticket of a durable write of `c`, where a gate holds it.
-pub fn write_gated<S: Storage>(alloc: Global, store: &mut S, blob: &S::Blob) -> Option<Ticket> {
+pub fn write_gated<S: Free>(alloc: Global, store: &mut S, blob: &S::Blob) -> Option<Ticket> {
     let bytes = bufs(alloc, b"c").ok()?;
     gate_of(store.write_at(&mut NoEnv, blob, 0, bytes, WriteOptions::SYNC))
 }
@@ -210,7 +205,7 @@ fn release_by(pending: &mut PendingSyncs, how: Release) -> usize {
 }
 
 /// Whether one task is woken by a release, and the sync answers so then.
-fn releases<S: Storage>(
+fn releases<S: Free>(
     store: &mut DelayedSyncContext<S>,
     mut ticket: Ticket,
     how: Release,
@@ -222,11 +217,11 @@ fn releases<S: Storage>(
 }
 
 /// The ticket of a started sync.
-pub fn started<S: Storage>(store: &mut S, blob: &S::Blob) -> Option<Ticket> {
+pub fn started<S: Free>(store: &mut S, blob: &S::Blob) -> Option<Ticket> {
     store.start_sync(&mut NoEnv, blob).ok()
 }
 
-fn starts_and_releases<S: Storage>(
+fn starts_and_releases<S: Free>(
     store: &mut DelayedSyncContext<S>,
     how: Release,
     wanted: SyncEnd,
@@ -269,7 +264,7 @@ const RELEASES: &[(Release, SyncEnd)] = &[
 ];
 
 /// Whether each call on what is held goes once.
-pub fn calls_on_pending<S: Storage>(store: &mut DelayedSyncContext<S>) -> bool {
+pub fn calls_on_pending<S: Free>(store: &mut DelayedSyncContext<S>) -> bool {
     let none = counts(store.pending(), 0, 0, 0, 0);
     let armed = arms(store.pending_mut()) & (store.pending().calls() == 0);
     let unblocked = came(
@@ -280,10 +275,7 @@ pub fn calls_on_pending<S: Storage>(store: &mut DelayedSyncContext<S>) -> bool {
 }
 
 /// How many releases, one after the other, come to what is written.
-fn releases_each<S: Storage>(
-    store: &mut DelayedSyncContext<S>,
-    each: &[(Release, SyncEnd)],
-) -> usize {
+fn releases_each<S: Free>(store: &mut DelayedSyncContext<S>, each: &[(Release, SyncEnd)]) -> usize {
     let mut right = 0_usize;
     for (how, wanted) in each {
         if came(starts_and_releases(store, *how, *wanted), true) {
@@ -302,7 +294,7 @@ fn each_release(rt: HostRuntime) {
 }
 
 /// Whether a released sync is done, its number is refused once it was answered, and the blob is open after two more ends of it.
-fn polls_again<S: Storage>(
+fn polls_again<S: Free>(
     store: &mut DelayedSyncContext<S>,
     blob: &<DelayedSyncContext<S> as Storage>::Blob,
     ticket: Ticket,
@@ -317,7 +309,7 @@ fn polls_again<S: Storage>(
     first & second & went(store.resize(&mut NoEnv, blob, 1))
 }
 
-fn starts_and_polls_again<S: Storage>(store: &mut DelayedSyncContext<S>) -> Result<bool, Error> {
+fn starts_and_polls_again<S: Free>(store: &mut DelayedSyncContext<S>) -> Result<bool, Error> {
     let (blob, _) = store.open(&mut NoEnv, "p", b"c")?;
     let seen = match started(store, &blob) {
         Some(ticket) => polls_again(store, &blob, ticket),

@@ -5,18 +5,16 @@
 
 ghost use Rattle.std.specs.Prelude.{◌≡◌, ℕ, List, Ok, OnOk, true};
 ghost use Rattle.rt_base.specs.declared.poll.Poll.{Poll};
-ghost use Rattle.rt_buffer.specs.Durable.{HoldsBytes, HoldsSync, IfStepped, IsDurable, KeepsBytes, KnowsState};
-ghost use Rattle.rt_buffer.specs.DelayedBytes.{context_bytes, context_left, context_promised};
-ghost use Rattle.rt_buffer.specs.Framing.{MayKnow};
-ghost use Rattle.rt_buffer.specs.Memory.{CrashLeaves, MemoryKeeps, memory_apart, memory_bytes, memory_left, memory_promised};
+ghost use Rattle.rt_buffer.specs.Durable.{HoldsBytes, HoldsSync, IfStepped, KnowsState};
+ghost use Rattle.rt_buffer.specs.Memory.{CrashLeaves, MemoryKeeps};
 ghost use Rattle.rt_buffer.specs.Tip.{laid_over};
 ghost use Rattle.rt_buffer.specs.Writing.{LiesOver};
+ghost use Rattle.rt_store.specs.Durable.{IsDurable};
+ghost use Rattle.rt_store.specs.Memory.{memory_apart, memory_bytes, memory_left, memory_promised};
 
 use crate::buffers::{came, crash, done, has_bytes, memory, opened, put, same, start, synced};
 use rt_base::{Error, NoEnv, Poll};
-use rt_buffer::{
-    Begun, Called, DelayedSyncContext, Step, SyncHandle, Write, release_pending_syncs,
-};
+use rt_buffer::{Begun, DelayedSyncContext, Step, SyncHandle, Write, release_pending_syncs};
 use rt_store::{FaultConfig, MemStore, Storage};
 use std::alloc::Global;
 
@@ -83,14 +81,14 @@ fn sync_beside(
     idle: &Write<MemStore>,
     store: &mut MemStore,
 ) -> Step<MemStore>
-    ensures bytes { memory_apart store.old writer.blob idle.now.blob ≡ true → MayKnow memory_bytes memory_left memory_promised writer.held.state store.old writer.blob →
+    ensures bytes { memory_apart store.old writer.blob idle.now.blob → KnowsState memory_bytes memory_left memory_promised writer.held.state store.old writer.blob →
         memory_bytes store.new idle.now.blob ≡ memory_bytes store.old idle.now.blob }
-    ensures crash { memory_apart store.old writer.blob idle.now.blob ≡ true → MayKnow memory_bytes memory_left memory_promised writer.held.state store.old writer.blob →
+    ensures crash { memory_apart store.old writer.blob idle.now.blob → KnowsState memory_bytes memory_left memory_promised writer.held.state store.old writer.blob →
         IsDurable memory_bytes memory_left store.old idle.now.blob → CrashLeaves (memory_bytes store.old idle.now.blob) store.new idle.now.blob }
-    ensures apart { memory_apart store.old writer.blob idle.now.blob ≡ true → MayKnow memory_bytes memory_left memory_promised writer.held.state store.old writer.blob →
-        memory_apart store.new writer.blob idle.now.blob ≡ true }
-    ensures knows { MayKnow memory_bytes memory_left memory_promised writer.held.state store.old writer.blob →
-        IfStepped result (λ w. MayKnow memory_bytes memory_left memory_promised w.held.state store.new writer.blob) (λ p. MayKnow memory_bytes memory_left memory_promised p.write.held.state store.new writer.blob) }
+    ensures apart { memory_apart store.old writer.blob idle.now.blob → KnowsState memory_bytes memory_left memory_promised writer.held.state store.old writer.blob →
+        memory_apart store.new writer.blob idle.now.blob }
+    ensures knows { KnowsState memory_bytes memory_left memory_promised writer.held.state store.old writer.blob →
+        IfStepped result (λ w. KnowsState memory_bytes memory_left memory_promised w.held.state store.new writer.blob) (λ p. KnowsState memory_bytes memory_left memory_promised p.write.held.state store.new writer.blob) }
 {
     let _ = idle;
     writer.sync_in_memory(store, &mut NoEnv, 1)
@@ -129,10 +127,8 @@ fn crash_leaves_what_an_idle_writer_synced(rt: HostRuntime) {
 /// A store in memory whose syncs are held back.
 type Delayed = DelayedSyncContext<MemStore>;
 
-/// Such a store, that keeps bytes as the one in memory does.
-fn delayed(alloc: Global) -> Result<Delayed, Error>
-    ensures keeps { OnOk result (KeepsBytes ⟦<DelayedSyncContext<MemStore> as Called>⟧.calls (context_bytes memory_bytes) (context_left memory_left) (context_promised memory_bytes memory_promised)) }
-{
+/// Such a store.
+fn delayed(alloc: Global) -> Result<Delayed, Error> {
     let mut inner = MemStore::new(alloc, FaultConfig::default())?;
     let (blob, len) = inner.open(&mut NoEnv, "p", b"a")?;
     Write::new(alloc, blob, len, 16).close(&mut inner);
@@ -146,12 +142,12 @@ fn ask_held(
     writer: &mut Write<Delayed>,
     store: &mut Delayed,
 ) -> Poll<Result<(), Error>>
-    ensures bytes { KeepsBytes ⟦<DelayedSyncContext<MemStore> as Called>⟧.calls (context_bytes memory_bytes) (context_left memory_left) (context_promised memory_bytes memory_promised) → writer.old.held.syncs ≡ handle.old.number →
-        HoldsSync (context_bytes memory_bytes) (context_left memory_left) (context_promised memory_bytes memory_promised) writer.old.held store.old writer.old.blob →
-        context_bytes memory_bytes store.new writer.old.blob ≡ context_bytes memory_bytes store.old writer.old.blob }
-    ensures durable { KeepsBytes ⟦<DelayedSyncContext<MemStore> as Called>⟧.calls (context_bytes memory_bytes) (context_left memory_left) (context_promised memory_bytes memory_promised) → writer.old.held.syncs ≡ handle.old.number →
-        HoldsSync (context_bytes memory_bytes) (context_left memory_left) (context_promised memory_bytes memory_promised) writer.old.held store.old writer.old.blob →
-        result ≡ Poll.Ready (Ok tt) → IsDurable (context_bytes memory_bytes) (context_left memory_left) store.new writer.old.blob }
+    ensures bytes { writer.old.held.syncs ≡ handle.old.number →
+        HoldsSync ⟦<DelayedSyncContext<MemStore> as Storage>⟧.bytes ⟦<DelayedSyncContext<MemStore> as Storage>⟧.left ⟦<DelayedSyncContext<MemStore> as Storage>⟧.promised writer.old.held store.old writer.old.blob →
+        ⟦<DelayedSyncContext<MemStore> as Storage>⟧.bytes store.new writer.old.blob ≡ ⟦<DelayedSyncContext<MemStore> as Storage>⟧.bytes store.old writer.old.blob }
+    ensures durable { writer.old.held.syncs ≡ handle.old.number →
+        HoldsSync ⟦<DelayedSyncContext<MemStore> as Storage>⟧.bytes ⟦<DelayedSyncContext<MemStore> as Storage>⟧.left ⟦<DelayedSyncContext<MemStore> as Storage>⟧.promised writer.old.held store.old writer.old.blob →
+        result ≡ Poll.Ready (Ok tt) → IsDurable ⟦<DelayedSyncContext<MemStore> as Storage>⟧.bytes ⟦<DelayedSyncContext<MemStore> as Storage>⟧.left store.new writer.old.blob }
 {
     handle.poll(writer, store, &mut NoEnv, 1)
 }

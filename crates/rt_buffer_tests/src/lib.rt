@@ -4,12 +4,14 @@
 
 #[cfg(test)]
 mod buffers;
-#[cfg(test)]
 mod counting;
+#[cfg(test)]
+mod counts;
 #[cfg(test)]
 mod delayed;
 #[cfg(test)]
 mod durable;
+mod free;
 #[cfg(test)]
 mod mock;
 #[cfg(test)]

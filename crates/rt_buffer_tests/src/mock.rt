@@ -6,6 +6,7 @@ use crate::buffers::{
 };
 use crate::delayed::{calls_on_pending, delayed, poll_and_end, started};
 use crate::durable::save_two;
+use crate::free::Free;
 use rt_base::{
     DEFAULT_BLOB_VERSION, Error, IoKind, NoEnv, NoMemory, Poll, ReadOptions, WriteOptions,
 };
@@ -20,7 +21,7 @@ fn write_faults(alloc: Global) -> Result<WriteFaultContext<MemStore>, NoMemory> 
 }
 
 /// Writes `ab` and syncs, and then `c`.
-fn write_both<S: Storage>(alloc: Global, store: &mut S) -> Result<Write<S>, Error> {
+fn write_both<S: Free>(alloc: Global, store: &mut S) -> Result<Write<S>, Error> {
     let writer = opened(alloc, store, b"a")?;
     let writer = put(alloc, store, writer, 0, b"ab")?;
     let writer = synced(store, writer)?;
@@ -28,13 +29,13 @@ fn write_both<S: Storage>(alloc: Global, store: &mut S) -> Result<Write<S>, Erro
 }
 
 /// Whether the sync of a writer fails so.
-fn sync_fails<S: Storage>(store: &mut S, writer: Write<S>, why: Error) -> bool {
+fn sync_fails<S: Free>(store: &mut S, writer: Write<S>, why: Error) -> bool {
     let answer = synced(store, writer);
     is_refused(store, answer, why)
 }
 
 /// Whether the sync of a writer is done.
-fn syncs<S: Storage>(store: &mut S, writer: Write<S>) -> bool {
+fn syncs<S: Free>(store: &mut S, writer: Write<S>) -> bool {
     let answer = synced(store, writer);
     went(closed(store, answer))
 }
@@ -74,7 +75,7 @@ fn one_durable_write(rt: HostRuntime) {
 }
 
 /// Whether a sync fails where writes fail from then on.
-fn fails_armed<S: Storage>(alloc: Global, store: &mut WriteFaultContext<S>) -> Result<bool, Error> {
+fn fails_armed<S: Free>(alloc: Global, store: &mut WriteFaultContext<S>) -> Result<bool, Error> {
     let writer = write_both(alloc, store)?;
     store.faults.arm();
     let failure = Error::Io(IoKind::InjectedWriteFailure);
@@ -82,7 +83,7 @@ fn fails_armed<S: Storage>(alloc: Global, store: &mut WriteFaultContext<S>) -> R
 }
 
 /// Whether a sync of a new writer is done.
-fn syncs_new<S: Storage>(alloc: Global, store: &mut S, name: &[u8]) -> Result<bool, Error> {
+fn syncs_new<S: Free>(alloc: Global, store: &mut S, name: &[u8]) -> Result<bool, Error> {
     let writer = opened(alloc, store, name)?;
     Ok(syncs(store, writer))
 }
@@ -99,7 +100,7 @@ fn armed_write_fails(rt: HostRuntime) {
 }
 
 /// What the ticket of a started sync answers.
-fn polled<S: Storage>(store: &mut S, blob: &S::Blob) -> Poll<Result<(), Error>> {
+fn polled<S: Free>(store: &mut S, blob: &S::Blob) -> Poll<Result<(), Error>> {
     match started(store, blob) {
         Some(ticket) => poll_and_end(store, ticket),
         None => Poll::Pending,
@@ -107,13 +108,13 @@ fn polled<S: Storage>(store: &mut S, blob: &S::Blob) -> Poll<Result<(), Error>> 
 }
 
 /// Whether a sync of a blob is done at once.
-fn is_synced<S: Storage>(store: &mut S, blob: &S::Blob) -> bool {
+fn is_synced<S: Free>(store: &mut S, blob: &S::Blob) -> bool {
     let answer = store.sync(&mut NoEnv, blob);
     is_now(store, answer)
 }
 
 /// Whether a sync of a new blob of a partition is done at once, and what a started one answers.
-fn syncs_in<S: Storage>(
+fn syncs_in<S: Free>(
     store: &mut S,
     partition: &str,
 ) -> Result<(bool, Poll<Result<(), Error>>), Error> {
@@ -129,7 +130,7 @@ fn failure() -> Error {
 }
 
 /// Whether the syncs of the failing partition fail.
-fn fails_in_partition<S: Storage>(alloc: Global, store: &mut S) -> Result<bool, Error> {
+fn fails_in_partition<S: Free>(alloc: Global, store: &mut S) -> Result<bool, Error> {
     let (now, polled) = syncs_in(store, "p")?;
     let fails = same(polled, Poll::Ready(Err(failure())));
     let (blob, len) = store.open(&mut NoEnv, "p", b"b")?;
@@ -138,13 +139,13 @@ fn fails_in_partition<S: Storage>(alloc: Global, store: &mut S) -> Result<bool, 
 }
 
 /// Whether both syncs of a new blob of another partition are done.
-fn syncs_both<S: Storage>(store: &mut S) -> Result<bool, Error> {
+fn syncs_both<S: Free>(store: &mut S) -> Result<bool, Error> {
     let (now, polled) = syncs_in(store, "q")?;
     Ok(same(polled, Poll::Ready(Ok(()))) & now)
 }
 
 /// Whether those of another one don't.
-fn syncs_in_other<S: Storage>(alloc: Global, store: &mut S) -> Result<bool, Error> {
+fn syncs_in_other<S: Free>(alloc: Global, store: &mut S) -> Result<bool, Error> {
     let both = syncs_both(store)?;
     let (blob, len) = store.open(&mut NoEnv, "q", b"b")?;
     let writer = Write::new(alloc, blob, len, 16);
@@ -170,7 +171,7 @@ fn partition_sync_fails(rt: HostRuntime) {
 }
 
 /// Writes `abc` and cuts it to `ab`.
-fn writes_two<S: Storage>(alloc: Global, store: &mut S, blob: &S::Blob) -> Result<bool, Error> {
+fn writes_two<S: Free>(alloc: Global, store: &mut S, blob: &S::Blob) -> Result<bool, Error> {
     let bytes = bufs(alloc, b"abc")?;
     let written = store.write_at(&mut NoEnv, blob, 0, bytes, WriteOptions::default());
     let now = is_now(store, written);
@@ -178,7 +179,7 @@ fn writes_two<S: Storage>(alloc: Global, store: &mut S, blob: &S::Blob) -> Resul
 }
 
 /// Reads both bytes, and again into the same buffers.
-fn reads_two<S: Storage>(store: &mut S, blob: &S::Blob) -> Result<bool, Error> {
+fn reads_two<S: Free>(store: &mut S, blob: &S::Blob) -> Result<bool, Error> {
     let none = ReadOptions::default();
     let room = store.read_at(&mut NoEnv, blob, 0, 2, none)?;
     if room.capacity() < 2 {
@@ -192,7 +193,7 @@ const EACH: &[(u64, usize)] = &[(0, 1), (1, 1)];
 const WHOLE: &[(u64, usize)] = &[(0, 2)];
 
 /// How many pieces two reads of several ranges give.
-fn reads_pieces<S: Storage>(
+fn reads_pieces<S: Free>(
     store: &mut S,
     blob: &S::Blob,
     each: &[(u64, usize)],
@@ -205,20 +206,20 @@ fn reads_pieces<S: Storage>(
 }
 
 /// Whether each call on a blob, but for those of syncs, goes once.
-fn calls_on<S: Storage>(alloc: Global, store: &mut S, blob: &S::Blob) -> bool {
+fn calls_on<S: Free>(alloc: Global, store: &mut S, blob: &S::Blob) -> bool {
     let changed = came(writes_two(alloc, store, blob), true);
     let read = came(reads_two(store, blob), true);
     changed & read & came(reads_pieces(store, blob, EACH, WHOLE), 3)
 }
 
 /// Whether one name is found, and removed.
-fn finds_one<S: Storage>(store: &mut S) -> Result<bool, Error> {
+fn finds_one<S: Free>(store: &mut S) -> Result<bool, Error> {
     let found = store.scan(&mut NoEnv, "p")?.len();
     Ok(went(store.remove(&mut NoEnv, "p", None)) & (found == 1))
 }
 
 /// Whether each call of a store over another one, but for those of syncs, goes once.
-fn calls_of<S: Storage>(alloc: Global, store: &mut S) -> Result<bool, Error> {
+fn calls_of<S: Free>(alloc: Global, store: &mut S) -> Result<bool, Error> {
     S::take_room(&mut NoEnv, 4, 3, 0)?;
     let versions = (DEFAULT_BLOB_VERSION, DEFAULT_BLOB_VERSION);
     let (blob, _, _) = store.open_versioned(&mut NoEnv, "p", b"a", versions)?;
@@ -240,7 +241,7 @@ fn calls_of_writer(alloc: Global, store: &mut MemStore) -> bool {
 }
 
 /// Whether each call of a reader goes once.
-fn calls_of_reader<S: Storage>(alloc: Global, store: &mut S) -> bool {
+fn calls_of_reader<S: Free>(alloc: Global, store: &mut S) -> bool {
     came(read_text(alloc, store), true) & came(cut_text(alloc, store), true)
 }
 

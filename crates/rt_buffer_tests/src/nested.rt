@@ -2,6 +2,7 @@
 
 use crate::buffers::{came, same, went};
 use crate::delayed::{arms, gate_of, poll, started, write_gated};
+use crate::free::Free;
 use rt_base::{Error, IoKind, NoEnv, NoMemory, Poll};
 use rt_buffer::{DelayedSyncContext, PendingSyncs, fail_pending_syncs, release_pending_syncs};
 use rt_store::{FaultConfig, MemStore, Storage, Ticket};
@@ -50,13 +51,13 @@ fn memory(alloc: Global, end: End) -> Result<MemStore, NoMemory> {
 }
 
 /// Opens a blob.
-fn open<S: Storage>(store: &mut S) -> Result<S::Blob, Error> {
+fn open<S: Free>(store: &mut S) -> Result<S::Blob, Error> {
     let (blob, _) = store.open(&mut NoEnv, "p", b"a")?;
     Ok(blob)
 }
 
 /// Whether the blob can be opened again.
-fn opens_again<S: Storage>(store: &mut S) -> bool {
+fn opens_again<S: Free>(store: &mut S) -> bool {
     match open(store).ok() {
         Some(blob) => {
             store.close(blob);
@@ -67,19 +68,19 @@ fn opens_again<S: Storage>(store: &mut S) -> bool {
 }
 
 /// Whether the blob was open.
-fn close<S: Storage>(store: &mut S, blob: S::Blob) -> bool {
+fn close<S: Free>(store: &mut S, blob: S::Blob) -> bool {
     let is_open = went(store.resize(&mut NoEnv, &blob, 1));
     store.close(blob);
     is_open
 }
 
-fn give_up_twice<S: Storage>(store: &mut S, ticket: Ticket) {
+fn give_up_twice<S: Free>(store: &mut S, ticket: Ticket) {
     store.give_up_sync(ticket);
     store.give_up_sync(Ticket::Numbered(0));
 }
 
 /// Whether a ticket answers so.
-fn polls<S: Storage>(store: &mut S, ticket: &mut Ticket, wanted: Poll<Result<(), Error>>) -> bool {
+fn polls<S: Free>(store: &mut S, ticket: &mut Ticket, wanted: Poll<Result<(), Error>>) -> bool {
     same(poll(store, ticket), wanted)
 }
 
@@ -104,7 +105,7 @@ fn release_inner(pending: &mut PendingSyncs, end: End) {
 }
 
 /// Whether the sync is pending before the inner store's release, and answered behind it.
-fn polls_twice<S: Storage>(
+fn polls_twice<S: Free>(
     store: &mut DelayedSyncContext<DelayedSyncContext<S>>,
     ticket: &mut Ticket,
     end: End,
@@ -115,7 +116,7 @@ fn polls_twice<S: Storage>(
     held & polls(store, ticket, answer(end))
 }
 
-fn polls_and_ends<S: Storage>(
+fn polls_and_ends<S: Free>(
     store: &mut DelayedSyncContext<DelayedSyncContext<S>>,
     ticket: Ticket,
     end: End,
@@ -127,7 +128,7 @@ fn polls_and_ends<S: Storage>(
 }
 
 /// Whether the polls answer so, and whether the blob is open after two ends of the ticket, and can be opened again once it is closed.
-fn ends<S: Storage>(
+fn ends<S: Free>(
     store: &mut DelayedSyncContext<DelayedSyncContext<S>>,
     end: End,
 ) -> Result<bool, Error> {
@@ -176,12 +177,7 @@ fn inner_ticket_ends_once(rt: HostRuntime) {
 }
 
 /// The ticket of a sync, or of a durable write, that is gated.
-fn gated<S: Storage>(
-    alloc: Global,
-    store: &mut S,
-    blob: &S::Blob,
-    is_write: bool,
-) -> Option<Ticket> {
+fn gated<S: Free>(alloc: Global, store: &mut S, blob: &S::Blob, is_write: bool) -> Option<Ticket> {
     if is_write {
         return write_gated(alloc, store, blob);
     }
@@ -189,7 +185,7 @@ fn gated<S: Storage>(
 }
 
 /// Whether a ticket is pending until the inner store releases its gate, and done then.
-fn passes<S: Storage>(
+fn passes<S: Free>(
     store: &mut DelayedSyncContext<DelayedSyncContext<S>>,
     mut ticket: Ticket,
 ) -> bool {
@@ -201,7 +197,7 @@ fn passes<S: Storage>(
 }
 
 /// Whether a change of a blob is synced so.
-fn syncs<S: Storage>(
+fn syncs<S: Free>(
     alloc: Global,
     store: &mut DelayedSyncContext<DelayedSyncContext<S>>,
     is_write: bool,

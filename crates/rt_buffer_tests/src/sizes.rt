@@ -4,6 +4,7 @@ use crate::buffers::{
     bufs, came, done, memory, opened, put, put_bufs, same, showing, start, synced, went,
 };
 use crate::delayed::{delayed, started};
+use crate::free::Free;
 use crate::waiting::{polls_twice, waiting};
 use rt_base::{Error, NoEnv, NoMemory, Poll};
 use rt_buffer::{
@@ -17,7 +18,7 @@ use std::alloc::Global;
 const MEBIBYTE: usize = 1_048_576;
 
 /// Writes a mebibyte into a tip that has room for it, syncs it, and answers what the writer has before that.
-fn write_large<S: Storage>(alloc: Global, store: &mut S) -> Result<u64, Error> {
+fn write_large<S: Free>(alloc: Global, store: &mut S) -> Result<u64, Error> {
     let mut bytes = Vec::new(alloc);
     bytes.resize(MEBIBYTE, 7)?;
     let (blob, len) = store.open(&mut NoEnv, "p", b"a")?;
@@ -29,7 +30,7 @@ fn write_large<S: Storage>(alloc: Global, store: &mut S) -> Result<u64, Error> {
 }
 
 /// Reads a mebibyte by one buffer, but for its last bytes: how many were read and are held.
-fn read_large<S: Storage>(alloc: Global, store: &mut S) -> Result<usize, Error> {
+fn read_large<S: Free>(alloc: Global, store: &mut S) -> Result<usize, Error> {
     let (blob, len) = store.open(&mut NoEnv, "p", b"a")?;
     let mut reader = Read::new(alloc, blob, len, MEBIBYTE);
     let first = reader.read(store, &mut NoEnv, 1);
@@ -69,12 +70,12 @@ fn chunks_of(alloc: Global, bytes: &[u8]) -> Result<IoBufs, NoMemory> {
 }
 
 /// Writes each byte in a chunk of its own, from the start of the blob on.
-fn put_chunks<S: Storage>(alloc: Global, store: &mut S, writer: Write<S>, bytes: &[u8]) -> Step<S> {
+fn put_chunks<S: Free>(alloc: Global, store: &mut S, writer: Write<S>, bytes: &[u8]) -> Step<S> {
     put_bufs(store, writer, 0, chunks_of(alloc, bytes), 1)
 }
 
 /// Whether many chunks are written at once.
-fn writes_chunks<S: Storage>(alloc: Global, store: &mut S) -> Result<bool, Error> {
+fn writes_chunks<S: Free>(alloc: Global, store: &mut S) -> Result<bool, Error> {
     let bytes = many_bytes(alloc)?;
     let writer = opened(alloc, store, b"a")?;
     let step = put_chunks(alloc, store, writer, bytes.as_slice());
@@ -84,11 +85,7 @@ fn writes_chunks<S: Storage>(alloc: Global, store: &mut S) -> Result<bool, Error
 }
 
 /// Writes them behind a sync that is held.
-fn wait_with_chunks<S: Storage>(
-    alloc: Global,
-    store: &mut S,
-    bytes: &[u8],
-) -> Result<Step<S>, Error> {
+fn wait_with_chunks<S: Free>(alloc: Global, store: &mut S, bytes: &[u8]) -> Result<Step<S>, Error> {
     let writer = opened(alloc, store, b"a")?;
     let writer = put(alloc, store, writer, 0, b"ab")?;
     let (writer, _) = start(store, writer)?;
@@ -96,7 +93,7 @@ fn wait_with_chunks<S: Storage>(
 }
 
 /// Whether many chunks wait for it, and are written once it is released.
-fn waits_with_chunks<S: Storage>(
+fn waits_with_chunks<S: Free>(
     alloc: Global,
     store: &mut DelayedSyncContext<S>,
 ) -> Result<bool, Error> {
@@ -137,7 +134,7 @@ fn number_of(ticket: Ticket) -> Option<u64> {
 }
 
 /// Whether the sync of this number answers so.
-fn polls<S: Storage>(store: &mut S, number: usize, wanted: Poll<Result<(), Error>>) -> bool {
+fn polls<S: Free>(store: &mut S, number: usize, wanted: Poll<Result<(), Error>>) -> bool {
     let mut ticket = Ticket::Numbered(number as u64);
     let polled = store.poll_sync(&mut NoEnv, &mut ticket, task_of(number));
     let _ = number_of(ticket);
@@ -145,18 +142,18 @@ fn polls<S: Storage>(store: &mut S, number: usize, wanted: Poll<Result<(), Error
 }
 
 /// The number of a sync that is started.
-fn started_number<S: Storage>(store: &mut S, blob: &S::Blob) -> Option<u64> {
+fn started_number<S: Free>(store: &mut S, blob: &S::Blob) -> Option<u64> {
     number_of(started(store, blob)?)
 }
 
 /// Whether a sync that is started gets this number, and is pending.
-fn starts<S: Storage>(store: &mut S, blob: &S::Blob, number: usize) -> bool {
+fn starts<S: Free>(store: &mut S, blob: &S::Blob, number: usize) -> bool {
     let found = started_number(store, blob);
     (found == Some(number as u64)) & polls(store, number, Poll::Pending)
 }
 
 /// How many syncs are started and pending.
-fn starts_each<S: Storage>(store: &mut S, blob: &S::Blob) -> usize {
+fn starts_each<S: Free>(store: &mut S, blob: &S::Blob) -> usize {
     let mut right = 0_usize;
     for number in 0..MANY {
         if starts(store, blob, number) {
@@ -167,7 +164,7 @@ fn starts_each<S: Storage>(store: &mut S, blob: &S::Blob) -> usize {
 }
 
 /// How many syncs are done.
-fn ends_each<S: Storage>(store: &mut S) -> usize {
+fn ends_each<S: Free>(store: &mut S) -> usize {
     let mut right = 0_usize;
     for number in 0..MANY {
         if polls(store, number, Poll::Ready(Ok(()))) {
@@ -208,7 +205,7 @@ fn releases(pending: &mut PendingSyncs) -> bool {
 }
 
 /// Whether many syncs are held at once, and all are done once they are released.
-fn holds_many<S: Storage>(store: &mut DelayedSyncContext<S>) -> Result<bool, Error> {
+fn holds_many<S: Free>(store: &mut DelayedSyncContext<S>) -> Result<bool, Error> {
     let (blob, _) = store.open(&mut NoEnv, "p", b"a")?;
     let changed = went(store.resize(&mut NoEnv, &blob, 1));
     let held = starts_each(store, &blob) == MANY;

@@ -2,6 +2,7 @@
 
 use crate::buffers::{bufs, came, done, is_refused, opened, put, put_bufs, showing, start, went};
 use crate::delayed::{arms, delayed};
+use crate::free::Free;
 use rt_base::{Error, IoKind, NoEnv, NoMemory};
 use rt_buffer::{
     Begun, DelayedSyncContext, Started, Step, Stepped, Write, WriteOp, fail_pending_syncs,
@@ -36,7 +37,7 @@ const WAITS: &[Wait] = &[
 const LONG: &[u8] = b"0123456789abcdefg";
 
 /// A writer of `ab`, whose sync is started or isn't, that holds `c` back.
-fn begin<S: Storage>(alloc: Global, store: &mut S, is_started: bool) -> Result<Write<S>, Error> {
+fn begin<S: Free>(alloc: Global, store: &mut S, is_started: bool) -> Result<Write<S>, Error> {
     let writer = opened(alloc, store, b"a")?;
     let writer = put(alloc, store, writer, 0, b"ab")?;
     if !is_started {
@@ -47,7 +48,7 @@ fn begin<S: Storage>(alloc: Global, store: &mut S, is_started: bool) -> Result<W
 }
 
 /// A start without its handle.
-fn step_of<S: Storage>(started: Started<S>) -> Step<S> {
+fn step_of<S: Free>(started: Started<S>) -> Step<S> {
     match started {
         Begun::Done(writer, _) => Stepped::Done(writer),
         Begun::Waiting(op) => Stepped::Waiting(op),
@@ -55,11 +56,11 @@ fn step_of<S: Storage>(started: Started<S>) -> Step<S> {
     }
 }
 
-fn write_long<S: Storage>(alloc: Global, store: &mut S, writer: Write<S>) -> Step<S> {
+fn write_long<S: Free>(alloc: Global, store: &mut S, writer: Write<S>) -> Step<S> {
     put_bufs(store, writer, 3, bufs(alloc, LONG), 3)
 }
 
-fn make<S: Storage>(alloc: Global, store: &mut S, writer: Write<S>, call: Call) -> Step<S> {
+fn make<S: Free>(alloc: Global, store: &mut S, writer: Write<S>, call: Call) -> Step<S> {
     match call {
         Call::Sync => writer.sync(store, &mut NoEnv, 3),
         Call::Start => step_of(writer.start_sync(store, &mut NoEnv, 3)),
@@ -70,7 +71,7 @@ fn make<S: Storage>(alloc: Global, store: &mut S, writer: Write<S>, call: Call) 
 }
 
 /// The call, where it waits.
-pub fn waiting<S: Storage>(store: &mut S, step: Step<S>) -> Option<WriteOp<S>> {
+pub fn waiting<S: Free>(store: &mut S, step: Step<S>) -> Option<WriteOp<S>> {
     match step {
         Stepped::Done(writer) => {
             writer.close(store);
@@ -85,14 +86,14 @@ pub fn waiting<S: Storage>(store: &mut S, step: Step<S>) -> Option<WriteOp<S>> {
 }
 
 /// Whether the call is done, and the writer shows these bytes.
-fn ends<S: Storage>(store: &mut S, step: Step<S>, expected: &[u8]) -> Result<bool, Error> {
+fn ends<S: Free>(store: &mut S, step: Step<S>, expected: &[u8]) -> Result<bool, Error> {
     let writer = done(store, step)?;
     showing(store, writer, expected)?.close(store);
     Ok(true)
 }
 
 /// Whether the call still waits at a poll, and is done at the next one once all that is held is released.
-pub fn polls_twice<S: Storage>(
+pub fn polls_twice<S: Free>(
     store: &mut DelayedSyncContext<S>,
     op: WriteOp<DelayedSyncContext<S>>,
     expected: &[u8],
@@ -108,7 +109,7 @@ pub fn polls_twice<S: Storage>(
     }
 }
 
-fn waits<S: Storage>(
+fn waits<S: Free>(
     alloc: Global,
     store: &mut DelayedSyncContext<S>,
     wait: &Wait,
@@ -150,7 +151,7 @@ fn waiting_call_goes_on(rt: HostRuntime) {
 }
 
 /// Whether a call that waits fails with the sync that it waits for, or is given up.
-fn stops<S: Storage>(
+fn stops<S: Free>(
     store: &mut DelayedSyncContext<S>,
     op: WriteOp<DelayedSyncContext<S>>,
     is_given_up: bool,
@@ -166,7 +167,7 @@ fn stops<S: Storage>(
 }
 
 /// Whether the call stops so, and its blob can be opened anew.
-fn stops_call<S: Storage>(
+fn stops_call<S: Free>(
     alloc: Global,
     store: &mut DelayedSyncContext<S>,
     call: Call,

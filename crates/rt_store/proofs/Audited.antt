@@ -1,10 +1,7 @@
 -- Fields that a checksum takes in, one list after the other.
-use Rattle.std.proofs.Common.{◌≡◌, ℕ, List, [], ◌∷◌, ◌++◌, ap, sym, subst, ◌∙◌, append_assoc, append-nil, Vec, Global}
-use Rattle.std.specs.List.{flat_map}
-use Rattle.rt_hasher.specs.Crc32c.{register_of}
-use Rattle.rt_hasher.specs.Framing.{framed}
+use Rattle.rt_store.proofs.Prelude.{◌≡◌, ℕ, List, [], ◌∷◌, ◌++◌, ap, sym, subst, ◌∙◌, append-nil, Vec, Global, flat_map, register_of, framed, TakesFields}
+use Rattle.std.proofs.Common.{append_assoc}
 use Rattle.rt_store.proofs.Named.{Owned, shown}
-use Rattle.rt_store.specs.Audit.{TakesFields}
 
 takes_both : (a b : List (List ℕ)) (old mid new : ℕ) → TakesFields a old mid → TakesFields b mid new → TakesFields (a ++ b) old new
 takes_both a b old mid new first second before h =

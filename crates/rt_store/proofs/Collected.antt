@@ -1,11 +1,7 @@
 -- Buffers that stand at their places are all there, or one is missing.
-use Rattle.std.proofs.Common.{◌≡◌, ℕ, zero, suc, ◌<◌, ◌≤◌, ◌⊎◌, inl, inr, Bool, true, false, ◌||◌, cond, List, [], ◌∷◌, length, map, get_or, Option, Some, None, Vec, Global, arith, refl, sym, ap, subst, ◌∙◌, rules}
-use Rattle.std.proofs.lemmas.Map.Steps.{le-length_from_below}
-use Rattle.std.specs.List.{list_any}
-use Rattle.std.specs.Prelude.{eqb, slice_get, IsSome, Result, Ok, Err, IfOk, IfErr}
-use Rattle.rt_base.specs.declared.error.Error.{Error}
-use Rattle.rt_base.specs.declared.error.Error.TheVariants.{NoMemory, ReadFailed}
-use Rattle.rt_store.specs.Reading.{are_below, last_or, last_at, IsWhole, AreCollected}
+use Rattle.rt_store.proofs.Prelude.{◌≡◌, ℕ, zero, suc, ◌<◌, ◌≤◌, ◌⊎◌, inl, inr, Bool, true, false, ◌||◌, cond, List, [], ◌∷◌, length, map, get_or, Some, None, Vec, Global, arith, refl, sym, ap, subst, ◌∙◌, rules, le-length_from_below, list_any, eqb, slice_get, IsSome, IfOk, IfErr, Error, NoMemory, ReadFailed, are_below, last_or, last_at, IsWhole, AreCollected}
+use Rattle.std.proofs.Common.{Option}
+use Rattle.std.specs.Prelude.{Result, Ok, Err}
 
 both-false : (b c : Bool) → (b || c) ≡ false → (b ≡ false) × (c ≡ false)
 both-false true c h = search rules

@@ -1,9 +1,6 @@
 -- How the number of later changes moves with one blob, and what a place holds.
-use Rattle.std.proofs.Common.{◌≡◌, ◌≤◌, ◌<◌, ℕ, zero, suc, ◌+◌, Bool, true, false, cond, List, [], ◌∷◌, ◌++◌, length, map, take, drop, get_or, slice_set, refl, sym, ap, ◌∙◌, arith, rules}
-use Rattle.std.specs.Prelude.{Option, None, Some, is_some, slice_get}
-use Rattle.rt_store.specs.File.{FileState, closed, detached, detached_for}
-use Rattle.rt_store.specs.declared.blob.Blob.{Blob}
-use Rattle.rt_store.specs.Store.{count_later, if_open, is_token, live}
+use Rattle.rt_store.proofs.Prelude.{◌≡◌, ◌≤◌, ◌<◌, ℕ, zero, suc, ◌+◌, Bool, true, false, cond, List, [], ◌∷◌, ◌++◌, length, map, take, drop, get_or, slice_set, refl, sym, ap, ◌∙◌, arith, rules, Option, is_some, slice_get, FileState, closed, detached, detached_for, Blob, count_later, if_open, is_token, live}
+use Rattle.std.specs.Prelude.{None, Some}
 
 pub count_set : (bs : List FileState) (i : ℕ) (old new : FileState) → slice_get bs i ≡ Some old → count_later (slice_set bs i new) + length old.later ≡ count_later bs + length new.later
 count_set [] i old new h = search rules

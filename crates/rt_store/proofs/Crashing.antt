@@ -1,15 +1,6 @@
 -- The steps of the loops of a crash over many blobs.
-use Rattle.std.proofs.Common.{◌≡◌, ℕ, ◌≤◌, List, [], ◌∷◌, ◌++◌, length, take, drop, append_assoc, append-nil, arith, refl, sym, ap, subst, ◌∙◌}
-use Rattle.std.proofs.Math.Seq.{take-append_seam, drop-append_seam}
-use Rattle.std.proofs.lemmas.List.{take-append-le, drop-append-le, length-take}
-use Rattle.std.specs.Prelude.{Option}
-use Rattle.rt_base.specs.declared.choice.Choice.{Choice}
-use Rattle.rt_base.specs.Noted.{Noted}
-use Rattle.rt_store.specs.declared.faults.FaultConfig.{FaultConfig}
-use Rattle.rt_store.specs.declared.mutation.Mutation.{Mutation}
-use Rattle.rt_store.specs.Crash.{Chooses, ChoosesAll, all_crashed, crashed_at, choices_after, later_at}
-use Rattle.rt_store.specs.File.{FileState, crashed}
-use Rattle.rt_store.specs.Store.{at_place}
+use Rattle.rt_store.proofs.Prelude.{◌≡◌, ℕ, ◌≤◌, List, [], ◌∷◌, ◌++◌, length, take, drop, append-nil, arith, refl, sym, ap, subst, ◌∙◌, take-append_seam, drop-append_seam, take-append-le, drop-append-le, length-take, Option, Choice, Noted, FaultConfig, Mutation, Chooses, ChoosesAll, all_crashed, crashed_at, choices_after, later_at, FileState, crashed, at_place}
+use Rattle.std.proofs.Common.{append_assoc}
 
 abbrev Record : Type 0
 Record = Option (List Noted)

@@ -1,11 +1,6 @@
 -- Two numbers are drawn, one after the other.
-use Rattle.std.proofs.Common.{◌≡◌, ◌≤◌, ◌+◌, ◌%◌, ℕ, List, [], ◌∷◌, ◌++◌, refl, ap, subst, inr, ◌∙◌}
-use Rattle.std.proofs.lemmas.List.{append_assoc}
-use Rattle.std.specs.Prelude.{Option, None, Some}
-use Rattle.rt_base.specs.Counted.{Notes}
-use Rattle.rt_base.specs.declared.choice.Choice.TheVariants.{Prefix}
-use Rattle.rt_base.specs.Noted.{Noted, Drawn, Adds}
-use Rattle.rt_store.specs.Crash.{WriteChosen, IsCut}
+use Rattle.rt_store.proofs.Prelude.{◌≡◌, ◌≤◌, ◌+◌, ◌%◌, ℕ, List, [], ◌∷◌, ◌++◌, refl, ap, subst, inr, ◌∙◌, append_assoc, Option, Notes, Prefix, Noted, Drawn, Adds, WriteChosen, IsCut}
+use Rattle.std.specs.Prelude.{None, Some}
 use Rattle.rt_store.specs.declared.faults.PartialWriteMode.TheVariants as partial
 
 adds-both : (old mid new : Option (List Noted)) (x y : List Noted) → Adds old x mid → Adds mid y new → Adds old (x ++ y) new

@@ -1,22 +1,7 @@
 -- How often a number stands among the names, and how that moves with one name or one partition.
-use Rattle.std.proofs.Common.{◌≡◌, ◌≤◌, ◌<◌, ◌⊎◌, inl, inr, ℕ, zero, suc, ◌+◌, ◌==◌, Bool, true, false, cond, not, List, [], ◌∷◌, ◌++◌, length, take, get_or, map, slice_set, slice_get, nat_lt, is_some, refl, sym, ap, subst, ◌∙◌, arith, rules}
-use Rattle.std.proofs.lemmas.Bool.{eqb-true, eqb-false, ltb-false}
-use Rattle.std.proofs.lemmas.List.{map-set}
-use Rattle.std.proofs.lemmas.Bool.Decides.{Decides-ltb}
-use Rattle.std.specs.Prelude.{Option, None, Some}
-use Rattle.std.specs.Cmp.Lexicographic.{slice_cmp}
-use Rattle.std.specs.Ordering.{nat_cmp, match_ordering}
-use Rattle.std.specs.declared.cmp.Ordering.{Ordering}
-use Rattle.std.specs.declared.cmp.Ordering.TheVariants.{Less, Equal, Greater}
-use Rattle.rt_store.specs.Directory.{Names, Partitions, is_name, at_name, put_name, without_name, numbers, numbers_of, all_numbers, named_numbers, number_of, names_in, in_names, at_shelf, unnamed, unnamed_in, without_partition, emptied, named, named_in, no_partitions}
-use Rattle.rt_base.specs.declared.choice.Choice.{Choice}
-use Rattle.rt_base.specs.declared.version.BlobVersion.{BlobVersion}
-use Rattle.rt_store.specs.Crash.{all_crashed, choices_after, crashed_at, later_at}
-use Rattle.rt_store.specs.declared.blob.Blob.{Blob}
-use Rattle.rt_store.specs.declared.mutation.Mutation.{Mutation}
-use Rattle.rt_store.specs.File.{FileState, applied, closed, crashed, detached, fresh_file, is_settled, mutated, synced, with_token}
-use Rattle.rt_store.specs.Leading.{one_if, same, times, removals, standing, LeadToBlobs, LeadToShelves}
-use Rattle.rt_store.specs.Store.{at_blob, at_place, all_detached, if_open, is_token, live}
+use Rattle.rt_store.proofs.Prelude.{◌≡◌, ◌≤◌, ◌<◌, ◌⊎◌, inl, inr, ℕ, zero, suc, ◌+◌, ◌==◌, Bool, true, false, cond, not, List, [], ◌∷◌, ◌++◌, length, take, get_or, map, slice_set, refl, sym, ap, subst, ◌∙◌, arith, rules, eqb-true, eqb-false, ltb-false, map-set, Decides-ltb, Option, slice_cmp, nat_cmp, match_ordering, Ordering, Less, Equal, Greater, Names, Partitions, is_name, at_name, put_name, without_name, numbers, numbers_of, all_numbers, named_numbers, number_of, names_in, in_names, at_shelf, unnamed, unnamed_in, without_partition, emptied, named, named_in, no_partitions, Choice, BlobVersion, all_crashed, choices_after, crashed_at, later_at, Blob, Mutation, FileState, applied, closed, crashed, detached, fresh_file, is_settled, mutated, synced, with_token, one_if, same, times, removals, standing, LeadToBlobs, LeadToShelves, at_blob, at_place, all_detached, if_open, is_token, live}
+use Rattle.std.proofs.Common.{slice_get, nat_lt, is_some}
+use Rattle.std.specs.Prelude.{None, Some}
 
 -- the sum of what each number weighs
 abbrev pub weight : (ℕ → ℕ) → Names → ℕ

@@ -4,6 +4,7 @@ mod Counting
 mod Crashing
 mod Drawn
 mod Gated
+mod Kept
 mod Leading
 mod Named
 mod Placed
@@ -11,3 +12,4 @@ mod Ranged
 mod Redone
 mod Refusing
 mod Undone
+pub mod Prelude

@@ -1,14 +1,6 @@
 -- A map from owned names is one from the bytes of the names.
-use Rattle.std.proofs.Common.{◌≡◌, ℕ, Bool, true, false, cond, List, [], ◌∷◌, map, Option, Some, None, refl, sym, ap, subst, ◌∙◌, rules, Vec, Global}
-use Rattle.std.specs.Cmp.Lexicographic.{slice_cmp}
-use Rattle.std.specs.Ordering.{nat_cmp, match_ordering}
-use Rattle.std.specs.declared.cmp.Ordering.{Ordering}
-use Rattle.std.specs.declared.cmp.Ordering.TheVariants.{Less, Equal, Greater}
-use Rattle.std.specs.Map.{lookup, remove_entry}
-use Rattle.std.specs.BTreeMap.{insert_entry}
-use Rattle.std.specs.List.{AllByRecursion}
-use Rattle.std.specs.List.Sorted.{IsStrictlySortedBy}
-use Rattle.rt_store.specs.Directory.{Ascend, is_name, at_name, put_name, without_name, numbers}
+use Rattle.rt_store.proofs.Prelude.{◌≡◌, ℕ, Bool, true, false, cond, List, [], ◌∷◌, map, Some, None, refl, sym, ap, subst, ◌∙◌, rules, Vec, Global, slice_cmp, nat_cmp, match_ordering, Ordering, Less, Equal, Greater, lookup, remove_entry, insert_entry, AllByRecursion, IsStrictlySortedBy, Ascend, is_name, at_name, put_name, without_name, numbers}
+use Rattle.std.proofs.Common.{Option}
 
 abbrev pub Owned : Type 0
 Owned = List (Vec ℕ Global × ℕ)

@@ -1,11 +1,7 @@
 -- Buffers with their places, in the order of the ranges.
-use Rattle.std.proofs.Common.{◌≡◌, ◌+◌, ◌<◌, ◌≤◌, ◌⊎◌, ◌==◌, inl, inr, ℕ, suc, Bool, true, false, cond, List, [], ◌∷◌, length, map, Option, Some, None, arith, refl, sym, ap, subst}
-use Rattle.std.proofs.lemmas.Bool.{eqb-false, lt-ltb}
-use Rattle.std.proofs.lemmas.List.Elements.{All-cons, All-nil}
+use Rattle.rt_store.proofs.Prelude.{◌≡◌, ◌+◌, ◌<◌, ◌≤◌, ◌⊎◌, ◌==◌, inl, inr, ℕ, suc, Bool, true, false, cond, List, [], ◌∷◌, length, map, Some, None, arith, refl, sym, ap, subst, eqb-false, lt-ltb, All-cons, All-nil, IsSome, slice_get, nat_lt, WritableChunks, HaveLengths, HavePlacedLengths, IsWhole, are_below, bytes_of, last_or, lengths_of, placed, placed_bytes}
+use Rattle.std.proofs.Common.{Option}
 use Rattle.std.specs.List.{All}
-use Rattle.std.specs.Prelude.{IsSome, slice_get, nat_lt}
-use Rattle.rt_bufs.specs.WritableChunks.{WritableChunks}
-use Rattle.rt_store.specs.Reading.{HaveLengths, HavePlacedLengths, IsWhole, are_below, bytes_of, last_or, lengths_of, placed, placed_bytes}
 
 abbrev sizes : List WritableChunks → List ℕ
 sizes bufs = map (λ (b : WritableChunks). length b.bytes) bufs

@@ -1,16 +1,7 @@
 -- The steps of the loops of a crash.
-use Rattle.std.proofs.Common.{◌≡◌, ℕ, List, [], ◌∷◌, ◌++◌, length, refl, sym, ap, subst, rules, ◌∙◌}
-use Rattle.std.proofs.lemmas.List.{append_assoc, append-nil}
-use Rattle.std.specs.Prelude.{Option}
-use Rattle.rt_base.specs.Counted.{Notes}
-use Rattle.rt_base.specs.declared.choice.Choice.{Choice}
-use Rattle.rt_base.specs.Noted.{Noted}
+use Rattle.rt_store.proofs.Prelude.{◌≡◌, ℕ, List, [], ◌∷◌, ◌++◌, length, refl, sym, ap, subst, rules, ◌∙◌, append_assoc, Option, Notes, Choice, Noted, Change, FaultConfig, undone, all_undone, mutations, Chosen, Chooses, replay, replayed}
+use Rattle.std.proofs.lemmas.List.{append-nil}
 use Rattle.rt_store.proofs.Undone.{undone_snoc}
-use Rattle.rt_store.specs.declared.change.Change.{Change}
-use Rattle.rt_store.specs.declared.faults.FaultConfig.{FaultConfig}
-use Rattle.rt_store.specs.Changes.{undone, all_undone, mutations}
-use Rattle.rt_store.specs.Crash.{Chosen, Chooses}
-use Rattle.rt_store.specs.File.{replay, replayed}
 
 -- the last change is undone
 pub restore_step : (rest before : List Change) (last : Change) (old new all : List ℕ) → rest ≡ before ++ last ∷ [] → new ≡ undone last.before old → all_undone rest old ≡ all → all_undone before new ≡ all

@@ -1,12 +1,7 @@
 -- A refusal that was found without a draw is the answer of a call that may draw.
-use Rattle.std.proofs.Common.{◌≡◌, ℕ, List, [], sym, ap, ◌∙◌, rules}
+use Rattle.rt_store.proofs.Prelude.{◌≡◌, ℕ, List, [], sym, ap, ◌∙◌, rules, Option, Notes, Error, Io, NoMemory, Noted, Adds, Refused}
 use Rattle.std.proofs.lemmas.List.{append-nil}
-use Rattle.std.specs.Prelude.{Option, None, Some}
-use Rattle.rt_base.specs.Counted.{Notes}
-use Rattle.rt_base.specs.declared.error.Error.{Error}
-use Rattle.rt_base.specs.declared.error.Error.TheVariants.{Io, NoMemory}
-use Rattle.rt_base.specs.Noted.{Noted, Adds}
-use Rattle.rt_store.specs.Draws.{Refused}
+use Rattle.std.specs.Prelude.{None, Some}
 
 adds_none : (old new : Option (List Noted)) → new ≡ old → Adds old [] new
 adds_none None new h = tt

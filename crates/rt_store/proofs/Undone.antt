@@ -1,14 +1,5 @@
 -- A change is undone by writing back what it wrote over, and cutting to the old length.
-use Rattle.std.proofs.Common.{◌≡◌, ◌≤◌, ℕ, zero, suc, ◌+◌, ◌-◌, min, max, true, List, [], ◌∷◌, ◌++◌, length, take, drop, replicate, arith, refl, sym, subst, ◌∙◌, ap, rules}
-use Rattle.std.proofs.Math.Seq.{take-append_seam}
-use Rattle.std.proofs.lemmas.Grind.{common_steps}
-use Rattle.std.proofs.lemmas.List.{length-replicate}
-use Rattle.rt_store.specs.declared.change.Change.{Change}
-use Rattle.rt_store.specs.declared.mutation.Mutation.{Mutation}
-use Rattle.rt_store.specs.declared.mutation.Mutation.TheVariants.{Write, Resize}
-use Rattle.rt_store.specs.Changes.{undone, all_undone, mutations, zeroed, laid, len_after, len_before}
-use Rattle.rt_store.specs.Content.{written, resized}
-use Rattle.rt_store.specs.File.{applied, has_none}
+use Rattle.rt_store.proofs.Prelude.{◌≡◌, ◌≤◌, ℕ, zero, suc, ◌+◌, ◌-◌, min, max, true, List, [], ◌∷◌, ◌++◌, length, take, drop, replicate, arith, refl, sym, subst, ◌∙◌, ap, rules, take-append_seam, common_steps, length-replicate, Change, Mutation, Write, Resize, undone, all_undone, mutations, zeroed, laid, len_after, len_before, written, resized, applied, has_none}
 
 -- what stands from 0 on is written back
 back : (c bs : List ℕ) → take (length c) (take (length bs) c ++ drop (length (take (length bs) c)) (bs ++ drop (length bs) c)) ≡ c

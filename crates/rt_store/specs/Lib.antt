@@ -6,10 +6,12 @@ pub mod Content
 pub mod Crash
 pub mod Directory
 pub mod Draws
+pub mod Durable
 pub mod File
 pub mod Kept
 pub mod Leading
 pub mod Lent
+pub mod Memory
 pub mod Reading
 pub mod Store
 pub mod Whole

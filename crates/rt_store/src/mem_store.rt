@@ -591,8 +591,22 @@ impl Storage for MemStore {
     ghost use Rattle.rt_store.specs.Calls.{KeepsRoom, Reads, ReadsMany, ReadsInOrder, Writes, Resizes, Syncs, Saves, Opens, OpensVersioned, Removes, Scans, PollsSync, started, after_write, after_resize, after_sync, after_open, after_remove, after_poll, polled_ticket, default_range, with_blob};
     ghost use Rattle.rt_store.specs.File.{closed};
     ghost use Rattle.rt_store.specs.Kept.{answered, moved_to};
+    ghost use Rattle.rt_store.specs.Memory.{memory_apart, memory_bytes, memory_left, memory_opened, memory_promised};
+    ghost use Rattle.std.proofs.Common.{sym};
 
     ghost refusals = { λ v. v.refusals };
+
+    ghost bytes = { memory_bytes };
+
+    ghost left = { memory_left };
+
+    ghost promised = { memory_promised };
+
+    ghost apart = { memory_apart };
+
+    ghost opened = { memory_opened };
+
+    ghost both_ways = { λ v k j other same. other (sym same) };
 
     ghost most = { 1 };
 
@@ -769,6 +783,7 @@ impl Storage for MemStore {
         started(answer)
     }
 
+    #[tactic(auto, using(crate::proofs::Kept::polls_keep, crate::proofs::Kept::still_leaves, crate::proofs::Kept::of_none))]
     fn poll_sync<E: Env>(
         &mut self,
         env: &mut E,
@@ -788,6 +803,7 @@ impl Storage for MemStore {
         }
     }
 
+    #[tactic(auto, using(crate::proofs::Kept::still_leaves, crate::proofs::Kept::of_none))]
     fn give_up_sync(&mut self, ticket: Ticket) {
         let _ = &self.faults;
         match ticket {

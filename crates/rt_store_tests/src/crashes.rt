@@ -1,5 +1,6 @@
 // What a crash leaves, by what it draws.
 
+use crate::free::Free;
 use crate::stores::{came, ends, has, memory, reads, set, store_of, syncs, went, write};
 use rt_base::{Choice, Env, Error, Event, NoEnv, NoMemory, WriteOptions};
 use rt_store::{FaultConfig, MemStore, PartialWriteMode, ResizeConfig, Storage, WriteConfig};
@@ -55,7 +56,7 @@ fn chooses<E: Env>(alloc: Global, store: &mut MemStore, env: &mut E, expected: &
     }
 }
 
-fn syncs_or_not<S: Storage>(store: &mut S, blob: &S::Blob, is_synced: bool) -> bool {
+fn syncs_or_not<S: Free>(store: &mut S, blob: &S::Blob, is_synced: bool) -> bool {
     if is_synced {
         return syncs(store, blob);
     }
@@ -63,7 +64,7 @@ fn syncs_or_not<S: Storage>(store: &mut S, blob: &S::Blob, is_synced: bool) -> b
 }
 
 /// Writes three bytes to a blob of a partition, and syncs them or not.
-fn keep<S: Storage>(
+fn keep<S: Free>(
     alloc: Global,
     store: &mut S,
     partition: &str,
@@ -76,7 +77,7 @@ fn keep<S: Storage>(
     Ok(written & synced)
 }
 
-fn keeps<S: Storage>(alloc: Global, store: &mut S, partition: &str, is_synced: bool) -> bool {
+fn keeps<S: Free>(alloc: Global, store: &mut S, partition: &str, is_synced: bool) -> bool {
     came(keep(alloc, store, partition, is_synced), true)
 }
 
@@ -222,7 +223,7 @@ enum Behind {
     Length(u64),
 }
 
-fn follows<S: Storage>(alloc: Global, store: &mut S, blob: &S::Blob, behind: Behind) -> bool {
+fn follows<S: Free>(alloc: Global, store: &mut S, blob: &S::Blob, behind: Behind) -> bool {
     match behind {
         Behind::Write => went(write(alloc, store, blob, 2, WriteOptions::default())),
         Behind::Length(len) => went(store.resize(&mut NoEnv, blob, len)),
@@ -230,7 +231,7 @@ fn follows<S: Storage>(alloc: Global, store: &mut S, blob: &S::Blob, behind: Beh
 }
 
 /// Whether the blob has exactly these bytes.
-fn shows<S: Storage>(store: &mut S, expected: &[u8]) -> Result<bool, Error> {
+fn shows<S: Free>(store: &mut S, expected: &[u8]) -> Result<bool, Error> {
     let (blob, len) = store.open(&mut NoEnv, "p", b"n")?;
     let seen = reads(store, &blob, 0, expected.len(), expected);
     store.close(blob);
@@ -302,7 +303,7 @@ const CUTS: &[Cut] = &[
 ];
 
 /// Three bytes are cut to one, and what comes behind that is done.
-fn cut_and_follow<S: Storage>(alloc: Global, store: &mut S, cut: &Cut) -> Result<bool, Error> {
+fn cut_and_follow<S: Free>(alloc: Global, store: &mut S, cut: &Cut) -> Result<bool, Error> {
     let (behind, is_synced, before, _, _, _) = *cut;
     let (blob, _) = store.open(&mut NoEnv, "p", b"n")?;
     let shorter = went(store.resize(&mut NoEnv, &blob, 1));

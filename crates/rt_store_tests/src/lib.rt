@@ -4,6 +4,8 @@
 #[cfg(test)]
 mod crashes;
 #[cfg(test)]
+mod free;
+#[cfg(test)]
 mod sizes;
 #[cfg(test)]
 mod stores;

@@ -1,6 +1,7 @@
 // Many of each: bytes, changes, blobs, partitions and ranges.
 
 use crate::crashes::crash;
+use crate::free::Free;
 use crate::stores::{bufs, came, done, ends, has, memory, reads_each, reads_placed, went, writes};
 use rt_base::{Error, NoEnv, NoMemory, ReadOptions, WriteOptions};
 use rt_bufs::{IoBufs, IoBufsMut};
@@ -15,7 +16,7 @@ fn chunk_of(alloc: Global, len: usize) -> Result<IoBufs, NoMemory> {
     bufs(alloc, bytes)
 }
 
-fn writes_chunk<S: Storage>(
+fn writes_chunk<S: Free>(
     alloc: Global,
     store: &mut S,
     blob: &S::Blob,
@@ -35,7 +36,7 @@ fn writes_chunk<S: Storage>(
 }
 
 /// Writes so many chunks of this many bytes, one behind the other, and answers how many went in.
-fn write_chunks<S: Storage>(
+fn write_chunks<S: Free>(
     alloc: Global,
     store: &mut S,
     blob: &S::Blob,
@@ -53,12 +54,7 @@ fn write_chunks<S: Storage>(
     right
 }
 
-fn fill<S: Storage>(
-    alloc: Global,
-    store: &mut S,
-    chunk: usize,
-    count: usize,
-) -> Result<usize, Error> {
+fn fill<S: Free>(alloc: Global, store: &mut S, chunk: usize, count: usize) -> Result<usize, Error> {
     let (blob, _) = store.open(&mut NoEnv, "p", b"n")?;
     let written = write_chunks(alloc, store, &blob, chunk, count);
     store.close(blob);
@@ -78,7 +74,7 @@ fn are_bytes(bufs: IoBufsMut, len: u64) -> bool {
 }
 
 /// Whether all bytes of a blob are read at once.
-fn reads_whole<S: Storage>(store: &mut S, size: u64) -> Result<bool, Error> {
+fn reads_whole<S: Free>(store: &mut S, size: u64) -> Result<bool, Error> {
     let (blob, len) = store.open(&mut NoEnv, "p", b"n")?;
     let read = store.read_at(&mut NoEnv, &blob, 0, len as usize, ReadOptions::default());
     store.close(blob);
@@ -111,11 +107,11 @@ fn holds_anew(rt: &impl Abort, alloc: Global, size: &Size) {
 }
 
 /// Makes a blob and a partition of this name.
-fn makes_both<S: Storage>(store: &mut S, name: &str) -> bool {
+fn makes_both<S: Free>(store: &mut S, name: &str) -> bool {
     has(store, "q", name.as_bytes(), 0) & has(store, name, b"a", 0)
 }
 
-fn makes_numbered<S: Storage>(alloc: Global, store: &mut S, number: usize) -> bool {
+fn makes_numbered<S: Free>(alloc: Global, store: &mut S, number: usize) -> bool {
     match format!(in alloc; "{number}") {
         Ok(name) => makes_both(store, name.as_str()),
         Err(_) => false,
@@ -123,7 +119,7 @@ fn makes_numbered<S: Storage>(alloc: Global, store: &mut S, number: usize) -> bo
 }
 
 /// Makes so many blobs in one partition, and as many partitions.
-fn makes_each<S: Storage>(alloc: Global, store: &mut S, count: usize) -> usize {
+fn makes_each<S: Free>(alloc: Global, store: &mut S, count: usize) -> usize {
     let mut right = 0_usize;
     for number in 0..count {
         if makes_numbered(alloc, store, number) {
@@ -134,7 +130,7 @@ fn makes_each<S: Storage>(alloc: Global, store: &mut S, count: usize) -> usize {
 }
 
 /// How many blobs are in the partition.
-fn count_names<S: Storage>(store: &mut S) -> Result<usize, Error> {
+fn count_names<S: Free>(store: &mut S) -> Result<usize, Error> {
     let names = store.scan(&mut NoEnv, "q")?;
     Ok(names.len())
 }
@@ -186,7 +182,7 @@ fn many_ranges(alloc: Global) -> Result<Ranges, NoMemory> {
 }
 
 /// Whether many ranges of a blob are read, with their places and in their order.
-fn reads_many<S: Storage>(alloc: Global, store: &mut S) -> Result<bool, Error> {
+fn reads_many<S: Free>(alloc: Global, store: &mut S) -> Result<bool, Error> {
     let (ranges, pieces) = many_ranges(alloc)?;
     let (blob, _) = store.open(&mut NoEnv, "p", b"a")?;
     let written = writes(alloc, store, &blob, 0);

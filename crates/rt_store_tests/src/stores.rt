@@ -4,6 +4,7 @@
 // are over any store where they can be, since those are proved in less time.
 
 use crate::crashes::begins_anew;
+use crate::free::Free;
 use rt_base::{BlobVersion, Error, IoKind, NoEnv, NoMemory, Poll, ReadOptions, WriteOptions};
 use rt_bufs::{IoBuf, IoBufMut, IoBufs, IoBufsMut};
 use rt_store::{
@@ -72,7 +73,7 @@ fn letters(alloc: Global) -> Result<IoBufs, NoMemory> {
 }
 
 /// Writes three bytes from an offset on.
-pub fn write<S: Storage>(
+pub fn write<S: Free>(
     alloc: Global,
     store: &mut S,
     blob: &S::Blob,
@@ -83,18 +84,12 @@ pub fn write<S: Storage>(
     done(store.write_at(&mut NoEnv, blob, offset, bytes, options))
 }
 
-pub fn writes<S: Storage>(alloc: Global, store: &mut S, blob: &S::Blob, offset: u64) -> bool {
+pub fn writes<S: Free>(alloc: Global, store: &mut S, blob: &S::Blob, offset: u64) -> bool {
     went(write(alloc, store, blob, offset, WriteOptions::SYNC))
 }
 
 /// Whether a write there is refused so.
-fn refuses<S: Storage>(
-    alloc: Global,
-    store: &mut S,
-    blob: &S::Blob,
-    offset: u64,
-    why: Error,
-) -> bool {
+fn refuses<S: Free>(alloc: Global, store: &mut S, blob: &S::Blob, offset: u64, why: Error) -> bool {
     failed(write(alloc, store, blob, offset, WriteOptions::SYNC), why)
 }
 
@@ -114,7 +109,7 @@ fn are(answer: Result<IoBufsMut, Error>, expected: &[u8]) -> bool {
     }
 }
 
-pub fn reads<S: Storage>(
+pub fn reads<S: Free>(
     store: &mut S,
     blob: &S::Blob,
     offset: u64,
@@ -126,7 +121,7 @@ pub fn reads<S: Storage>(
 }
 
 /// Whether the last of four bytes are read into buffers that were made before.
-fn reads_in_room<S: Storage>(store: &mut S, blob: &S::Blob, room: IoBufsMut) -> bool {
+fn reads_in_room<S: Free>(store: &mut S, blob: &S::Blob, room: IoBufsMut) -> bool {
     if room.capacity() < 2 {
         return false;
     }
@@ -138,25 +133,25 @@ fn room(alloc: Global) -> Result<IoBufsMut, NoMemory> {
     IoBufsMut::from_mut(alloc, IoBufMut::with_capacity(alloc, 2)?)
 }
 
-fn reads_in_place<S: Storage>(alloc: Global, store: &mut S, blob: &S::Blob) -> bool {
+fn reads_in_place<S: Free>(alloc: Global, store: &mut S, blob: &S::Blob) -> bool {
     match room(alloc) {
         Ok(room) => reads_in_room(store, blob, room),
         Err(_) => false,
     }
 }
 
-pub fn syncs<S: Storage>(store: &mut S, blob: &S::Blob) -> bool {
+pub fn syncs<S: Free>(store: &mut S, blob: &S::Blob) -> bool {
     went(done(store.sync(&mut NoEnv, blob)))
 }
 
 /// Whether a started sync is done. It is given up then.
-fn polls<S: Storage>(store: &mut S, mut ticket: Ticket) -> bool {
+fn polls<S: Free>(store: &mut S, mut ticket: Ticket) -> bool {
     let answer = store.poll_sync(&mut NoEnv, &mut ticket, 0);
     store.give_up_sync(ticket);
     same(answer, Poll::Ready(Ok(())))
 }
 
-fn syncs_later<S: Storage>(store: &mut S, blob: &S::Blob) -> bool {
+fn syncs_later<S: Free>(store: &mut S, blob: &S::Blob) -> bool {
     match store.start_sync(&mut NoEnv, blob) {
         Ok(ticket) => polls(store, ticket),
         Err(_) => false,
@@ -167,14 +162,14 @@ fn syncs_later<S: Storage>(store: &mut S, blob: &S::Blob) -> bool {
 const LAST: &[(u64, usize)] = &[(2, 2)];
 
 /// Reads them in each way.
-fn reads_last<S: Storage>(alloc: Global, store: &mut S, blob: &S::Blob) -> bool {
+fn reads_last<S: Free>(alloc: Global, store: &mut S, blob: &S::Blob) -> bool {
     let placed = reads_placed(store, blob, LAST, &[b"ab"]);
     let each = reads_each(store, blob, LAST, &[b"ab"]);
     placed & each & reads_in_place(alloc, store, blob)
 }
 
 /// Writes, reads, cuts and syncs a blob.
-fn changes<S: Storage>(alloc: Global, store: &mut S, blob: &S::Blob) -> bool {
+fn changes<S: Free>(alloc: Global, store: &mut S, blob: &S::Blob) -> bool {
     let written = writes(alloc, store, blob, 2) & reads(store, blob, 0, 5, b"\0\0abc");
     let cut = went(store.resize(&mut NoEnv, blob, 4));
     let synced = syncs(store, blob) & syncs_later(store, blob);
@@ -182,7 +177,7 @@ fn changes<S: Storage>(alloc: Global, store: &mut S, blob: &S::Blob) -> bool {
 }
 
 /// Writes and lengths past the end of numbers, and past what there is memory for.
-fn refuses_ends<S: Storage>(alloc: Global, store: &mut S, blob: &S::Blob) -> bool {
+fn refuses_ends<S: Free>(alloc: Global, store: &mut S, blob: &S::Blob) -> bool {
     let past = refuses(alloc, store, blob, u64::MAX, Error::OffsetOverflow);
     let large = refuses(alloc, store, blob, u64::MAX - 3, Error::NoMemory);
     let long = failed(store.resize(&mut NoEnv, blob, u64::MAX), Error::NoMemory);
@@ -190,7 +185,7 @@ fn refuses_ends<S: Storage>(alloc: Global, store: &mut S, blob: &S::Blob) -> boo
     past & large & long & !all
 }
 
-fn opens_first<S: Storage<Blob = Blob>>(alloc: Global, store: &mut S) -> Result<bool, Error> {
+fn opens_first<S: Free<Blob = Blob>>(alloc: Global, store: &mut S) -> Result<bool, Error> {
     S::take_room(&mut NoEnv, 16, 2, 0)?;
     let (blob, len) = store.open(&mut NoEnv, "p", b"a")?;
     let is_first = (blob.number() == 0) & (len == 0);
@@ -200,7 +195,7 @@ fn opens_first<S: Storage<Blob = Blob>>(alloc: Global, store: &mut S) -> Result<
     Ok(is_first & changed & refused)
 }
 
-fn opens_again<S: Storage<Blob = Blob>>(store: &mut S) -> Result<bool, Error> {
+fn opens_again<S: Free<Blob = Blob>>(store: &mut S) -> Result<bool, Error> {
     let versions = (BlobVersion::new(0), BlobVersion::new(7));
     let (blob, len, version) = store.open_versioned(&mut NoEnv, "p", b"a", versions)?;
     let is_second = (blob.number() == 1) & (len == 4) & (version.get() == 0);
@@ -209,7 +204,7 @@ fn opens_again<S: Storage<Blob = Blob>>(store: &mut S) -> Result<bool, Error> {
 }
 
 /// Lists the one blob, and removes it.
-fn removes_listed<S: Storage>(store: &mut S) -> bool {
+fn removes_listed<S: Free>(store: &mut S) -> bool {
     let listed = names_are(store, "p", &[b"a"]);
     listed & removes(store, "p", Some(b"a")) & names_are(store, "p", &[])
 }
@@ -257,7 +252,7 @@ pub fn store_of(alloc: Global, write: WriteConfig) -> Result<MemStore, NoMemory>
     MemStore::new(alloc, faults)
 }
 
-fn write_faults<S: Storage>(alloc: Global, store: &mut S) -> Result<bool, Error> {
+fn write_faults<S: Free>(alloc: Global, store: &mut S) -> Result<bool, Error> {
     let (blob, _) = store.open(&mut NoEnv, "p", b"a")?;
     let fault = Error::Io(IoKind::InjectedStorageFault);
     let seen = refuses(alloc, store, &blob, 0, fault);
@@ -297,7 +292,7 @@ fn are_names(found: Vec<Vec<u8>>, names: &[&[u8]]) -> bool {
 }
 
 /// Whether the partition has exactly these names.
-fn names_are<S: Storage>(store: &mut S, partition: &str, names: &[&[u8]]) -> bool {
+fn names_are<S: Free>(store: &mut S, partition: &str, names: &[&[u8]]) -> bool {
     match store.scan(&mut NoEnv, partition).ok() {
         Some(found) => are_names(found, names),
         None => false,
@@ -305,34 +300,34 @@ fn names_are<S: Storage>(store: &mut S, partition: &str, names: &[&[u8]]) -> boo
 }
 
 /// Opens and closes a blob, and answers its length.
-fn make<S: Storage>(store: &mut S, partition: &str, name: &[u8]) -> Result<u64, Error> {
+fn make<S: Free>(store: &mut S, partition: &str, name: &[u8]) -> Result<u64, Error> {
     let (blob, len) = store.open(&mut NoEnv, partition, name)?;
     store.close(blob);
     Ok(len)
 }
 
 /// Whether there is a blob of that name, of that length.
-pub fn has<S: Storage>(store: &mut S, partition: &str, name: &[u8], len: u64) -> bool {
+pub fn has<S: Free>(store: &mut S, partition: &str, name: &[u8], len: u64) -> bool {
     came(make(store, partition, name), len)
 }
 
-fn removes<S: Storage>(store: &mut S, partition: &str, name: Option<&[u8]>) -> bool {
+fn removes<S: Free>(store: &mut S, partition: &str, name: Option<&[u8]>) -> bool {
     went(store.remove(&mut NoEnv, partition, name))
 }
 
-fn lists_names<S: Storage>(store: &mut S) -> bool {
+fn lists_names<S: Free>(store: &mut S) -> bool {
     let made = has(store, "q", b"b", 0) & has(store, "q", b"a\0", 0) & has(store, "q", b"a", 0);
     let all = names_are(store, "q", &[b"a", b"a\0", b"b"]);
     made & all
 }
 
-fn removes_names<S: Storage>(store: &mut S) -> bool {
+fn removes_names<S: Free>(store: &mut S) -> bool {
     let first = removes(store, "q", Some(b"a\0")) & names_are(store, "q", &[b"a", b"b"]);
     let others = removes(store, "q", Some(b"a")) & removes(store, "q", Some(b"b"));
     first & others & names_are(store, "q", &[])
 }
 
-fn removes_partition<S: Storage>(store: &mut S) -> bool {
+fn removes_partition<S: Free>(store: &mut S) -> bool {
     let removed = removes(store, "q", None);
     let more = went(store.scan(&mut NoEnv, "q"));
     removed & !more
@@ -348,13 +343,13 @@ fn names_are_listed_and_removed(rt: HostRuntime) {
 }
 
 /// Removes the partition of a blob that goes on.
-fn goes_on<S: Storage>(alloc: Global, store: &mut S, blob: &S::Blob) -> bool {
+fn goes_on<S: Free>(alloc: Global, store: &mut S, blob: &S::Blob) -> bool {
     let removed = writes(alloc, store, blob, 0) & removes(store, "p", None);
     let before = writes(alloc, store, blob, 3) & reads(store, blob, 1, 5, b"bcabc");
     removed & before & has(store, "p", b"a", 0) & reads(store, blob, 1, 5, b"bcabc")
 }
 
-fn lives_on<S: Storage>(alloc: Global, store: &mut S) -> Result<bool, Error> {
+fn lives_on<S: Free>(alloc: Global, store: &mut S) -> Result<bool, Error> {
     let (blob, _) = store.open(&mut NoEnv, "p", b"a")?;
     let seen = goes_on(alloc, store, &blob);
     store.close(blob);
@@ -408,7 +403,7 @@ const RANGES: &[(u64, usize)] = &[(2, 1), (0, 0), (0, 2)];
 const PIECES: &[&[u8]] = &[b"c", b"", b"ab"];
 
 /// Whether the ranges are read with their places, and collected.
-pub fn reads_placed<S: Storage>(
+pub fn reads_placed<S: Free>(
     store: &mut S,
     blob: &S::Blob,
     ranges: &[(u64, usize)],
@@ -419,7 +414,7 @@ pub fn reads_placed<S: Storage>(
 }
 
 /// Whether they are read in their order.
-pub fn reads_each<S: Storage>(
+pub fn reads_each<S: Free>(
     store: &mut S,
     blob: &S::Blob,
     ranges: &[(u64, usize)],
@@ -431,12 +426,12 @@ pub fn reads_each<S: Storage>(
 
 const TOO_LONG: &[(u64, usize)] = &[(0, 3), (0, 4), (u64::MAX, 1)];
 
-fn refuses_ranges<S: Storage>(store: &mut S, blob: &S::Blob) -> bool {
+fn refuses_ranges<S: Free>(store: &mut S, blob: &S::Blob) -> bool {
     let answer = store.read_many(&mut NoEnv, blob, TOO_LONG, ReadOptions::default());
     failed(answer, Error::BlobInsufficientLength)
 }
 
-fn reads_ranges<S: Storage>(alloc: Global, store: &mut S) -> Result<bool, Error> {
+fn reads_ranges<S: Free>(alloc: Global, store: &mut S) -> Result<bool, Error> {
     let (blob, _) = store.open(&mut NoEnv, "p", b"a")?;
     let placed = writes(alloc, store, &blob, 0) & reads_placed(store, &blob, RANGES, PIECES);
     let each = reads_each(store, &blob, RANGES, PIECES) & reads_each(store, &blob, &[], &[]);
@@ -514,7 +509,7 @@ pub fn set(store: &mut MemStore, faults: FaultConfig) {
 }
 
 /// Reads that may fault.
-fn read_each<S: Storage>(alloc: Global, store: &mut S, blob: &S::Blob) {
+fn read_each<S: Free>(alloc: Global, store: &mut S, blob: &S::Blob) {
     drop(store.read_at(&mut NoEnv, blob, 0, 0, ReadOptions::default()));
     drop(store.read_many(&mut NoEnv, blob, &[], ReadOptions::default()));
     drop(store.start_read_many(&mut NoEnv, blob, &[], ReadOptions::default()));
@@ -524,7 +519,7 @@ fn read_each<S: Storage>(alloc: Global, store: &mut S, blob: &S::Blob) {
 }
 
 /// Changes that may fault.
-fn change_each<S: Storage>(alloc: Global, store: &mut S, blob: &S::Blob) {
+fn change_each<S: Free>(alloc: Global, store: &mut S, blob: &S::Blob) {
     let _ = writes(alloc, store, blob, 0);
     drop(store.resize(&mut NoEnv, blob, 3));
     let _ = syncs(store, blob);
@@ -532,21 +527,21 @@ fn change_each<S: Storage>(alloc: Global, store: &mut S, blob: &S::Blob) {
 }
 
 /// Calls by name that may fault.
-fn name_each<S: Storage>(store: &mut S) {
+fn name_each<S: Free>(store: &mut S) {
     drop(store.scan(&mut NoEnv, "p"));
     drop(make(store, "p", b"b"));
     drop(store.remove(&mut NoEnv, "p", Some(b"b")));
 }
 
 /// Makes a blob, and opens another.
-fn opened<S: Storage>(store: &mut S) -> Result<S::Blob, Error> {
+fn opened<S: Free>(store: &mut S) -> Result<S::Blob, Error> {
     make(store, "p", b"b")?;
     let (blob, _) = store.open(&mut NoEnv, "p", b"a")?;
     Ok(blob)
 }
 
 /// Makes each of these calls, and closes the blob.
-fn call_each<S: Storage>(alloc: Global, store: &mut S, blob: S::Blob) {
+fn call_each<S: Free>(alloc: Global, store: &mut S, blob: S::Blob) {
     read_each(alloc, store, &blob);
     change_each(alloc, store, &blob);
     name_each(store);

@@ -1,5 +1,4 @@
-use Rattle.std.proofs.Common.{◌≡◌, take, drop}
-use Rattle.rt_buffer.specs.Pending.{all_released, outcome}
+use Rattle.rt_buffer.proofs.Prelude.{◌≡◌, take, drop, all_released, outcome}
 use Rattle.rt_buffer.proofs.pending_syncs.release_each.Given as goal
 
 abbrev pub invariant-loop-left : goal.invariant-loop-left

@@ -1,4 +1,4 @@
-use Rattle.std.proofs.Common.{◌≡◌, length, map, take}
+use Rattle.rt_buffer.proofs.Prelude.{◌≡◌, length, map, take}
 use Rattle.rt_buffer.proofs.pieces.lengths.Given as goal
 
 abbrev pub invariant-loop-index : goal.invariant-loop-index

@@ -1,5 +1,4 @@
-use Rattle.std.proofs.Common.{◌≡◌, ◌++◌, length, map}
-use Rattle.rt_buffer.specs.Pieces.{cut}
+use Rattle.rt_buffer.proofs.Prelude.{◌≡◌, ◌++◌, length, map, cut}
 use Rattle.rt_buffer.proofs.pieces.taken_apart.Given as goal
 
 abbrev pub invariant-loop-length : goal.invariant-loop-length

@@ -1,7 +1,6 @@
-use Rattle.std.proofs.Common.{ℕ, List, Option, slice_get, subst}
+use Rattle.rt_store.proofs.Prelude.{ℕ, List, subst, TakesFields, names_fields, shelf_fields, Names}
+use Rattle.std.proofs.Common.{Option, slice_get}
 use Rattle.rt_store.proofs.Audited.{takes_all, takes_more, takes_none}
-use Rattle.rt_store.specs.Audit.{TakesFields, names_fields, shelf_fields}
-use Rattle.rt_store.specs.Directory.{Names}
 use Rattle.rt_store.proofs.auditing.audit_all.Goals as goal
 
 pub loop-partition-preserved-in-Some-shelf : goal.loop-partition-preserved-in-Some-shelf

@@ -1,6 +1,5 @@
-use Rattle.std.proofs.Common.{ℕ}
+use Rattle.rt_store.proofs.Prelude.{ℕ, TakesFields, partitions_fields}
 use Rattle.rt_store.proofs.Named.{shown}
-use Rattle.rt_store.specs.Audit.{TakesFields, partitions_fields}
 use Rattle.rt_store.proofs.auditing.audit_all.Given as goal
 
 abbrev pub invariant-loop-partition : goal.invariant-loop-partition

@@ -1,6 +1,6 @@
-use Rattle.std.proofs.Common.{ℕ, List, slice_get, subst}
+use Rattle.rt_store.proofs.Prelude.{ℕ, List, subst, TakesFields, blob_fields}
+use Rattle.std.proofs.Common.{slice_get}
 use Rattle.rt_store.proofs.Audited.{takes_all, takes_more}
-use Rattle.rt_store.specs.Audit.{TakesFields, blob_fields}
 use Rattle.rt_store.proofs.auditing.audit_names.Goals as goal
 
 pub loop-name-preserved : goal.loop-name-preserved

@@ -1,6 +1,5 @@
-use Rattle.std.proofs.Common.{ℕ}
+use Rattle.rt_store.proofs.Prelude.{ℕ, TakesFields, names_fields}
 use Rattle.rt_store.proofs.Named.{shown}
-use Rattle.rt_store.specs.Audit.{TakesFields, names_fields}
 use Rattle.rt_store.proofs.auditing.audit_names.Given as goal
 
 abbrev pub invariant-loop-name : goal.invariant-loop-name

@@ -1,5 +1,4 @@
-use Rattle.std.proofs.Common.{◌≡◌, ◌++◌, map, Some}
-use Rattle.std.specs.Vec.Iter.{into_iter_items}
+use Rattle.rt_store.proofs.Prelude.{◌≡◌, ◌++◌, map, Some, into_iter_items}
 use Rattle.rt_store.proofs.collecting.all_there.Given as goal
 
 abbrev pub invariant-loop-slot : goal.invariant-loop-slot

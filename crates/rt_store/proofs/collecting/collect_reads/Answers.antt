@@ -1,4 +1,4 @@
-use Rattle.std.proofs.Common.{inr, refl, arith}
+use Rattle.rt_store.proofs.Prelude.{inr, refl, arith}
 use Rattle.rt_store.proofs.Collected.{AreSlots, fits_whole, collected, not_collected}
 use Rattle.rt_store.proofs.collecting.collect_reads.Goals as goal
 

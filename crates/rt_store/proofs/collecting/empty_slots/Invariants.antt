@@ -1,4 +1,4 @@
-use Rattle.std.proofs.Common.{◌≡◌, ◌≤◌, None, replicate}
+use Rattle.rt_store.proofs.Prelude.{◌≡◌, ◌≤◌, None, replicate}
 use Rattle.rt_store.proofs.collecting.empty_slots.Given as goal
 
 abbrev pub invariant-loop : goal.invariant-loop

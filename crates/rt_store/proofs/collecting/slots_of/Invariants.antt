@@ -1,6 +1,4 @@
-use Rattle.std.proofs.Common.{◌≡◌, ◌<◌, ℕ, None, length, get_or}
-use Rattle.std.specs.Vec.Iter.{into_iter_items}
-use Rattle.rt_store.specs.Reading.{are_below, last_at, last_or}
+use Rattle.rt_store.proofs.Prelude.{◌≡◌, ◌<◌, ℕ, None, length, get_or, into_iter_items, are_below, last_at, last_or}
 use Rattle.rt_store.proofs.collecting.slots_of.Given as goal
 
 abbrev pub invariant-loop-place : goal.invariant-loop-place

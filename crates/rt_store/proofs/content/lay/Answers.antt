@@ -1,5 +1,4 @@
-use Rattle.std.proofs.Common.{rules, ◌≡◌, ◌∙◌, ap, ℕ, List, take}
-use Rattle.rt_store.specs.Changes.{laid, len_after}
+use Rattle.rt_store.proofs.Prelude.{rules, ◌≡◌, ◌∙◌, ap, ℕ, List, take, laid, len_after}
 use Rattle.rt_store.proofs.Undone.{laid_is}
 use Rattle.rt_store.proofs.content.lay.Goals as goal
 

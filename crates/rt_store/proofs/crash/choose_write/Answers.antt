@@ -1,4 +1,4 @@
-use Rattle.std.proofs.Common.{rules}
+use Rattle.rt_store.proofs.Prelude.{rules}
 use Rattle.rt_store.proofs.Drawn.{cuts}
 use Rattle.rt_store.proofs.crash.choose_write.Goals as goal
 

@@ -1,11 +1,4 @@
-use Rattle.std.proofs.Common.{rules, ◌≡◌, ◌++◌, ℕ, List, vec_capacity}
-use Rattle.std.proofs.lemmas.List.Elements.{All-rest}
-use Rattle.std.specs.Prelude.{Option}
-use Rattle.rt_base.specs.declared.choice.Choice.{Choice}
-use Rattle.rt_base.specs.Noted.{Noted}
-use Rattle.rt_store.specs.Changes.{mutations, HasRoom}
-use Rattle.rt_store.specs.Crash.{Chooses}
-use Rattle.rt_store.specs.File.{replay}
+use Rattle.rt_store.proofs.Prelude.{rules, ◌≡◌, ◌++◌, ℕ, List, vec_capacity, All-rest, Option, Choice, Noted, mutations, HasRoom, Chooses, replay}
 use Rattle.rt_store.proofs.Redone.{redo_step, redo_end}
 use Rattle.rt_store.proofs.crash.redo.Goals as goal
 

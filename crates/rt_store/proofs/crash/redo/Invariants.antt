@@ -1,10 +1,4 @@
-use Rattle.std.proofs.Common.{◌≡◌, ◌+◌, ◌*◌, ◌≤◌, ◌++◌, List, length, All, vec_len, vec_capacity}
-use Rattle.std.specs.Prelude.{Option}
-use Rattle.rt_base.specs.declared.choice.Choice.{Choice}
-use Rattle.rt_base.specs.Noted.{Noted}
-use Rattle.rt_store.specs.Changes.{mutations, HasRoom}
-use Rattle.rt_store.specs.Crash.{Chooses}
-use Rattle.rt_store.specs.File.{replay}
+use Rattle.rt_store.proofs.Prelude.{◌≡◌, ◌+◌, ◌*◌, ◌≤◌, ◌++◌, List, length, All, vec_len, vec_capacity, Option, Choice, Noted, mutations, HasRoom, Chooses, replay}
 use Rattle.rt_store.proofs.crash.redo.Given as goal
 
 abbrev pub invariant-loop-change : goal.invariant-loop-change

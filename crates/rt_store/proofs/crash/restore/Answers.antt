@@ -1,7 +1,5 @@
-use Rattle.std.proofs.Common.{rules, vec_capacity}
-use Rattle.std.proofs.lemmas.List.Elements.{All-pop}
+use Rattle.rt_store.proofs.Prelude.{rules, vec_capacity, All-pop, HasRoom}
 use Rattle.std.specs.Prelude.{Some}
-use Rattle.rt_store.specs.Changes.{HasRoom}
 use Rattle.rt_store.proofs.Redone.{restore_step}
 use Rattle.rt_store.proofs.crash.restore.Goals as goal
 

@@ -1,5 +1,4 @@
-use Rattle.std.proofs.Common.{◌≡◌, ◌≤◌, length, All, vec_capacity}
-use Rattle.rt_store.specs.Changes.{all_undone, HasRoom}
+use Rattle.rt_store.proofs.Prelude.{◌≡◌, ◌≤◌, length, All, vec_capacity, all_undone, HasRoom}
 use Rattle.rt_store.proofs.crash.restore.Given as goal
 
 abbrev pub invariant-loop-last : goal.invariant-loop-last

@@ -1,7 +1,6 @@
-use Rattle.std.proofs.Common.{◌<◌, List, length, get_or, ap, ◌∙◌, rules}
+use Rattle.rt_store.proofs.Prelude.{◌<◌, List, length, get_or, ap, ◌∙◌, rules, FileState, closed}
 use Rattle.std.specs.Prelude.{slice_set}
 use Rattle.rt_store.proofs.Counting.{close_step}
-use Rattle.rt_store.specs.File.{FileState, closed}
 use Rattle.rt_store.proofs.files.close_each.Goals as goal
 
 pub loop-file-preserved : goal.loop-file-preserved

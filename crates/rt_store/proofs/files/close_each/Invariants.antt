@@ -1,5 +1,4 @@
-use Rattle.std.proofs.Common.{◌≡◌, ◌++◌, map, take, drop}
-use Rattle.rt_store.specs.File.{closed}
+use Rattle.rt_store.proofs.Prelude.{◌≡◌, ◌++◌, map, take, drop, closed}
 use Rattle.rt_store.proofs.files.close_each.Given as goal
 
 abbrev pub invariant-loop-file : goal.invariant-loop-file

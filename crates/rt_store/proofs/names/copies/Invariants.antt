@@ -1,5 +1,4 @@
-use Rattle.std.proofs.Common.{◌≡◌, ◌++◌, ℕ, map, Vec, Global}
-use Rattle.std.specs.BTreeMap.{keys}
+use Rattle.rt_store.proofs.Prelude.{◌≡◌, ◌++◌, ℕ, map, Vec, Global, keys}
 use Rattle.rt_store.proofs.names.copies.Given as goal
 
 abbrev pub invariant-loop-name : goal.invariant-loop-name

@@ -1,6 +1,4 @@
-use Rattle.std.proofs.Common.{◌≡◌, ◌++◌, length, map}
-use Rattle.rt_bufs.specs.WritableChunks.{WritableChunks}
-use Rattle.rt_store.specs.Reading.{bytes_of, lengths_of, ranges_of, ranges_refusal}
+use Rattle.rt_store.proofs.Prelude.{◌≡◌, ◌++◌, length, map, WritableChunks, bytes_of, lengths_of, ranges_of, ranges_refusal}
 use Rattle.rt_store.proofs.reading.read_ranges.Given as goal
 
 abbrev pub invariant-loop-offset : goal.invariant-loop-offset

@@ -1,7 +1,5 @@
-use Rattle.std.proofs.Common.{◌≡◌, arith}
-use Rattle.std.proofs.lemmas.Grind.{common_steps}
+use Rattle.rt_store.proofs.Prelude.{◌≡◌, arith, common_steps, bytes_of, placed, placed_bytes}
 use Rattle.rt_store.proofs.Placed.{lengths_placed, number_placed, whole_placed}
-use Rattle.rt_store.specs.Reading.{bytes_of, placed, placed_bytes}
 use Rattle.rt_store.proofs.reading.with_places.Goals as goal
 
 pub returns-clause-whole : goal.returns-clause-whole

@@ -1,6 +1,4 @@
-use Rattle.std.proofs.Common.{◌≡◌, ◌++◌, length}
-use Rattle.std.specs.Vec.Iter.{into_iter_items}
-use Rattle.rt_store.specs.Reading.{bytes_of, placed, placed_bytes}
+use Rattle.rt_store.proofs.Prelude.{◌≡◌, ◌++◌, length, into_iter_items, bytes_of, placed, placed_bytes}
 use Rattle.rt_store.proofs.reading.with_places.Given as goal
 
 abbrev pub invariant-loop-buf : goal.invariant-loop-buf

@@ -1,4 +1,4 @@
-use Rattle.std.proofs.Common.{◌+◌}
+use Rattle.rt_buffer.proofs.Prelude.{◌+◌}
 use Rattle.rt_buffer.proofs.Mocks.{counts_done_more}
 use Rattle.rt_buffer.proofs.delayed_sync.DelayedSyncContext.sync_open.Goals as goal
 

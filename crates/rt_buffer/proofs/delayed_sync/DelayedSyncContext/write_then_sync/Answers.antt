@@ -1,19 +1,12 @@
-use Rattle.std.proofs.Common.{◌+◌, ◌≤◌, List, Option, Ok, true, arith, refl, sym, subst}
-use Rattle.std.specs.Prelude.{IfSome}
-use Rattle.rt_base.specs.Counted.{Notes}
-use Rattle.rt_base.specs.Noted.{Noted}
-use Rattle.rt_buffer.specs.Calls.{calls}
-use Rattle.rt_buffer.specs.Delayed.{SyncsAt, blob_at, delayed, moved}
-use Rattle.rt_buffer.specs.Pending.{gate_of}
+use Rattle.rt_buffer.proofs.Prelude.{◌+◌, ◌≤◌, List, Option, Ok, true, arith, refl, sym, subst, IfSome, Notes, Noted, SyncsAt, blob_at, delayed, moved, gate_of, Now, Gated}
 use Rattle.rt_buffer.proofs.Holding.{counts_done_behind, gated_then, written_then}
 use Rattle.rt_buffer.proofs.Mocks.{counts_done_up}
-use Rattle.rt_store.specs.declared.ticket.Done.TheVariants.{Now, Gated}
 use Rattle.rt_buffer.proofs.delayed_sync.DelayedSyncContext.write_then_sync.Goals as goal
 
 pub returns-in-Ok-Now-clause-writes : goal.returns-in-Ok-Now-clause-writes
 returns-in-Ok-Now-clause-writes g c =
-    let s = g.S.Storage in
-    let k = calls s.refusals s.polls_sync s.gives_sync_up s.writes s.resizes s.syncs s.starts_sync s.closes in
+    let gives = rw (c.in-Ok-Now.field-0-is, c.without-plain.ensures) at c.in-Ok-Now.ensures.gives in
+    let k = g.S.Storage in
     let Blob : Type 0 = g.row.S-Blob.Denot in
     let o = c.args.self.now in
     let n = c.sync_open.new.self in
@@ -23,13 +16,13 @@ returns-in-Ok-Now-clause-writes g c =
     let behind = g.E.Env.noted c.sync_open.new.env in
     written_then k c.args.number c.in-Some.inner.now (blob_at o.blobs.items c.args.number) true c.args.offset c.args.bufs c.args.options old c.sync_open.result new
     (Ok Now) c.write_at.new.self (g.E.Env.noted c.args.env.now) between behind (sym (rw c.as_slice.ensures.value at c.in-Some.ensures)) refl
-    (rw (c.in-Ok-Now.field-0-is, c.without-plain.ensures) at c.in-Ok-Now.ensures.gives)
+    (gives.0, gives.1, (gives.2, (rw (c.in-Ok-Now.field-0-is, c.without-plain.ensures) at c.in-Ok-Now.ensures.durable), (rw (c.in-Ok-Now.field-0-is, c.without-plain.ensures) at c.in-Ok-Now.ensures.given_up), c.in-Ok-Now.ensures.others))
     (subst (λ (b : Option Blob). Notes between (λ (z : List Noted). IfSome b (λ b. SyncsAt k c.args.number b (gate_of o.pending) (moved old c.write_at.new.self) c.sync_open.result new z)) behind) (sym (rw c.as_slice.ensures.value at c.in-Some.ensures)) c.sync_open.ensures.syncs)
 
 pub returns-in-Ok-Gated-clause-writes : goal.returns-in-Ok-Gated-clause-writes
 returns-in-Ok-Gated-clause-writes g c =
-    let s = g.S.Storage in
-    let k = calls s.refusals s.polls_sync s.gives_sync_up s.writes s.resizes s.syncs s.starts_sync s.closes in
+    let gives = rw (c.in-Ok-Gated.field-0-is, c.without-plain.ensures) at c.in-Ok-Gated.ensures.gives in
+    let k = g.S.Storage in
     let Blob : Type 0 = g.row.S-Blob.Denot in
     let o = c.args.self.now in
     let r = c.sync_open-in-Ok-Gated.result in
@@ -40,8 +33,8 @@ returns-in-Ok-Gated-clause-writes g c =
     let behind = g.E.Env.noted c.sync_open-in-Ok-Gated.new.env in
     written_then k c.args.number c.in-Some.inner.now (blob_at o.blobs.items c.args.number) true c.args.offset c.args.bufs c.args.options old r new
     (Ok (Gated c.in-Ok-Gated.ticket)) c.write_at.new.self (g.E.Env.noted c.args.env.now) between behind (sym (rw c.as_slice.ensures.value at c.in-Some.ensures)) refl
-    (rw (c.in-Ok-Gated.field-0-is, c.without-plain.ensures) at c.in-Ok-Gated.ensures.gives)
-    (gated_then k c.args.number c.in-Some.inner.now c.in-Ok-Gated.ticket (moved old c.write_at.new.self) c.give_up_sync.new.self r new between behind c.give_up_sync.ensures.gives
+    (gives.0, gives.1, (gives.2, (rw (c.in-Ok-Gated.field-0-is, c.without-plain.ensures) at c.in-Ok-Gated.ensures.durable), (rw (c.in-Ok-Gated.field-0-is, c.without-plain.ensures) at c.in-Ok-Gated.ensures.given_up), c.in-Ok-Gated.ensures.others))
+    (gated_then k c.args.number c.in-Some.inner.now c.in-Ok-Gated.ticket (moved old c.write_at.new.self) c.give_up_sync.new.self r new between behind (c.give_up_sync.ensures.gives, c.give_up_sync.ensures.one, c.give_up_sync.ensures.others)
     (subst (λ (b : Option Blob). Notes between (λ (z : List Noted). IfSome b (λ b. SyncsAt k c.args.number b (gate_of o.pending) (moved old c.give_up_sync.new.self) r new z)) behind) (sym (rw c.as_slice.ensures.value at c.in-Some.ensures)) c.sync_open-in-Ok-Gated.ensures.syncs))
 
 pub returns-in-Ok-Now-clause-counts : goal.returns-in-Ok-Now-clause-counts

@@ -1,4 +1,4 @@
-use Rattle.std.proofs.Common.{[], rules}
+use Rattle.rt_buffer.proofs.Prelude.{[], rules}
 use Rattle.rt_buffer.proofs.Noting.{adds_none}
 use Rattle.rt_buffer.proofs.delayed_sync.DelayedSyncContextStorage.read_at_buf.Goals as goal
 

@@ -1,8 +1,13 @@
-use Rattle.std.proofs.Common.{ap}
+use Rattle.rt_buffer.proofs.Prelude.{ap}
 use Rattle.rt_buffer.proofs.Mocks.{rises}
+use Rattle.rt_buffer.proofs.Seen.{seen_sync}
 use Rattle.rt_buffer.proofs.sync_fault.SyncFaultContextStorage.sync.Goals as goal
 
 pub returns-then-blob-clause-counts : goal.returns-then-blob-clause-counts
 returns-then-blob-clause-counts g c =
     rw c.refuse.ensures.error (rises (g.S.Storage.refusals c.args.self.now.inner) (g.S.Storage.refusals c.refuse.new.self.inner) c.args.self.now.refusals c.refuse.new.self.refusals
     (ap g.S.Storage.refusals c.refuse.ensures.inner) c.refuse.ensures.counted c.refuse.ensures.fits)
+
+pub returns-clause-durable : goal.returns-clause-durable
+returns-clause-durable g c =
+    seen_sync (λ s. s.inner) (λ k. k.inner) g.S.Storage.bytes g.S.Storage.left g.S.Storage.promised c.args.self.now (record c.args.self.now { inner = c.sync.new.self }) c.args.blob.now c.sync.result c.sync.ensures.durable

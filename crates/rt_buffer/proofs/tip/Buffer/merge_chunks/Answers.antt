@@ -1,5 +1,4 @@
-use Rattle.std.proofs.Common.{◌≡◌, false, length, sym, ◌∙◌}
-use Rattle.rt_buffer.specs.Tip.{is_within}
+use Rattle.rt_buffer.proofs.Prelude.{◌≡◌, false, length, sym, ◌∙◌, is_within}
 use Rattle.rt_buffer.proofs.Merging.{merged_stops, stays}
 use Rattle.rt_buffer.proofs.tip.Buffer.merge_chunks.Goals as goal
 

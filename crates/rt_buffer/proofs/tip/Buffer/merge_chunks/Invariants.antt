@@ -1,5 +1,4 @@
-use Rattle.std.proofs.Common.{◌≡◌, length}
-use Rattle.rt_buffer.specs.Pieces.{merged_chunks}
+use Rattle.rt_buffer.proofs.Prelude.{◌≡◌, length, merged_chunks}
 use Rattle.rt_buffer.proofs.tip.Buffer.merge_chunks.Given as goal
 
 abbrev pub invariant-loop-self : goal.invariant-loop-self

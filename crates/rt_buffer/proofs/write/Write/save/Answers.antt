@@ -1,12 +1,10 @@
-use Rattle.std.proofs.Common.{rules}
-use Rattle.rt_buffer.specs.Calls.{calls}
-use Rattle.rt_buffer.specs.Steps.{writer}
+use Rattle.rt_buffer.proofs.Prelude.{rules, writer}
 use Rattle.rt_buffer.proofs.Steps.{saves_all, saves_durably, saves_written}
 use Rattle.rt_buffer.proofs.write.Write.save.Goals as goal
 
 pub returns-in-Ok-Some-clause-saves : goal.returns-in-Ok-Some-clause-saves
 returns-in-Ok-Some-clause-saves g c =
-    saves_durably (calls g.S.Storage.refusals g.S.Storage.polls_sync g.S.Storage.gives_sync_up g.S.Storage.writes g.S.Storage.resizes g.S.Storage.syncs g.S.Storage.starts_sync g.S.Storage.closes) c.args.self.now.blob c.args.task
+    saves_durably g.S.Storage c.args.self.now.blob c.args.task
     c.take_tip-taken.result c.in-Ok-Some.bufs c.in-Ok-Some.offset c.args.store.now c.args.self.now.held c.take_tip-taken.new.self.held
     c.write_durably.result (writer c.write_durably.new.store c.write_durably.new.self.held) (g.E.Env.noted c.args.env.now) (g.E.Env.noted c.write_durably.new.env)
     (search rules) c.take_tip-taken.ensures.buffers (search rules) (search rules)
@@ -14,7 +12,7 @@ returns-in-Ok-Some-clause-saves g c =
 
 pub returns-in-Ok-Some-2-clause-saves : goal.returns-in-Ok-Some-2-clause-saves
 returns-in-Ok-Some-2-clause-saves g c =
-    saves_written (calls g.S.Storage.refusals g.S.Storage.polls_sync g.S.Storage.gives_sync_up g.S.Storage.writes g.S.Storage.resizes g.S.Storage.syncs g.S.Storage.starts_sync g.S.Storage.closes) c.args.self.now.blob c.args.task
+    saves_written g.S.Storage c.args.self.now.blob c.args.task
     c.take_tip-taken.result c.in-Ok-Some.bufs c.in-Ok-Some.offset c.args.store.now c.args.self.now.held c.take_tip-taken.new.self.held
     c.write_and_sync.result (writer c.write_and_sync.new.store c.write_and_sync.new.self.held) (g.E.Env.noted c.args.env.now) (g.E.Env.noted c.write_and_sync.new.env)
     (search rules) c.take_tip-taken.ensures.buffers (search rules) (search rules)
@@ -22,7 +20,7 @@ returns-in-Ok-Some-2-clause-saves g c =
 
 pub returns-in-Ok-None-2-clause-saves : goal.returns-in-Ok-None-2-clause-saves
 returns-in-Ok-None-2-clause-saves g c =
-    saves_all (calls g.S.Storage.refusals g.S.Storage.polls_sync g.S.Storage.gives_sync_up g.S.Storage.writes g.S.Storage.resizes g.S.Storage.syncs g.S.Storage.starts_sync g.S.Storage.closes) c.args.self.now.blob c.args.task
+    saves_all g.S.Storage c.args.self.now.blob c.args.task
     c.take_tip-taken.result c.args.store.now c.args.self.now.held c.take_tip-taken.new.self.held
     c.sync_blob.result (writer c.sync_blob.new.store c.sync_blob.new.self.held) (g.E.Env.noted c.args.env.now) (g.E.Env.noted c.sync_blob.new.env)
     (search rules) c.take_tip-taken.ensures.buffers (search rules) (search rules)

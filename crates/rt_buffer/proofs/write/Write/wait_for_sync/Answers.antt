@@ -1,19 +1,17 @@
-use Rattle.std.proofs.Common.{refl}
-use Rattle.rt_buffer.specs.Calls.{calls}
+use Rattle.rt_buffer.proofs.Prelude.{refl, writer}
 use Rattle.rt_buffer.specs.declared.write_op.Rest.TheVariants as work
-use Rattle.rt_buffer.specs.Steps.{writer}
 use Rattle.rt_buffer.proofs.Durable.{call_keeps, unseen}
 use Rattle.rt_buffer.proofs.Framed.{runs}
 use Rattle.rt_buffer.proofs.write.Write.wait_for_sync.Goals as goal
 
 pub returns-clause-durable : goal.returns-clause-durable
-returns-clause-durable g c = λ bytes left promised keeps holds.
+returns-clause-durable g c = λ holds.
     let runs = c.run.ensures.runs in
-    unseen _ _ c.run.result _ _ (call_keeps (calls g.S.Storage.refusals g.S.Storage.polls_sync g.S.Storage.gives_sync_up g.S.Storage.writes g.S.Storage.resizes g.S.Storage.syncs g.S.Storage.starts_sync g.S.Storage.closes) bytes left promised keeps c.args.self.blob c.args.task (bytes c.args.store.now c.args.self.blob) work.Nothing
+    unseen _ _ c.run.result _ _ (call_keeps g.S.Storage c.args.self.blob c.args.task (g.S.Storage.bytes c.args.store.now c.args.self.blob) work.Nothing
     (writer c.args.store.now c.args.self.held) c.run.new.store _ runs.0 (refl, holds) runs.2)
 
 pub returns-clause-others : goal.returns-clause-others
-returns-clause-others g c = λ bytes left promised apart opened keeps others knows.
+returns-clause-others g c = λ knows.
     let ran = c.run.ensures.runs in
-    let came = runs (calls g.S.Storage.refusals g.S.Storage.polls_sync g.S.Storage.gives_sync_up g.S.Storage.writes g.S.Storage.resizes g.S.Storage.syncs g.S.Storage.starts_sync g.S.Storage.closes) bytes left promised apart opened keeps others c.args.self.blob work.Nothing c.args.task (writer c.args.store.now c.args.self.held) c.run.new.store _ ran.0 knows ran.2 in
+    let came = runs g.S.Storage c.args.self.blob work.Nothing c.args.task (writer c.args.store.now c.args.self.held) c.run.new.store _ ran.0 knows ran.2 in
     (came.0, unseen _ _ c.run.result _ _ came.1)

@@ -1,11 +1,5 @@
-use Rattle.std.proofs.Common.{◌≡◌, ◌++◌, ℕ, [], List, ap, refl, subst, arith, rules}
-use Rattle.std.specs.Prelude.{Option, slice_get}
-use Rattle.rt_base.specs.declared.choice.Choice.{Choice}
-use Rattle.rt_base.specs.Noted.{Noted}
+use Rattle.rt_store.proofs.Prelude.{◌≡◌, ◌++◌, ℕ, [], List, ap, refl, subst, arith, rules, Option, slice_get, Choice, Noted, ChoosesAll, all_crashed, all_numbers, named_numbers, numbers, numbers_of, FileState}
 use Rattle.rt_store.proofs.Crashing.{shelf_step, crash_end}
-use Rattle.rt_store.specs.Crash.{ChoosesAll, all_crashed}
-use Rattle.rt_store.specs.Directory.{all_numbers, named_numbers, numbers, numbers_of}
-use Rattle.rt_store.specs.File.{FileState}
 use Rattle.rt_store.proofs.directory.Directory.crash.Goals as goal
 
 pub loop-shelf-init : goal.loop-shelf-init

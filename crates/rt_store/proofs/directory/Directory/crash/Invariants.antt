@@ -1,10 +1,4 @@
-use Rattle.std.proofs.Common.{◌≡◌, ◌+◌, ◌*◌, ◌≤◌, ◌++◌, List, vec_len, vec_capacity}
-use Rattle.std.specs.Prelude.{Option}
-use Rattle.rt_base.specs.declared.choice.Choice.{Choice}
-use Rattle.rt_base.specs.Noted.{Noted}
-use Rattle.rt_store.specs.Crash.{ChoosesAll, all_crashed}
-use Rattle.rt_store.specs.Directory.{all_numbers, named_numbers}
-use Rattle.rt_store.specs.Store.{count_later}
+use Rattle.rt_store.proofs.Prelude.{◌≡◌, ◌+◌, ◌*◌, ◌≤◌, ◌++◌, List, vec_len, vec_capacity, Option, Choice, Noted, ChoosesAll, all_crashed, all_numbers, named_numbers, count_later}
 use Rattle.rt_store.proofs.directory.Directory.crash.Given as goal
 
 abbrev pub invariant-loop-shelf : goal.invariant-loop-shelf

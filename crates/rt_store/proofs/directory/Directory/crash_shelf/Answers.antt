@@ -1,8 +1,4 @@
-use Rattle.std.proofs.Common.{◌≡◌, [], List, None, append-nil, ap, refl, sym, subst, rules}
-use Rattle.std.specs.Prelude.{Option, slice_get}
-use Rattle.rt_base.specs.declared.choice.Choice.{Choice}
-use Rattle.rt_store.specs.Crash.{ChoosesAll, all_crashed}
-use Rattle.rt_store.specs.Directory.{Names, numbers_of}
+use Rattle.rt_store.proofs.Prelude.{◌≡◌, [], List, None, append-nil, ap, refl, sym, subst, rules, Option, slice_get, Choice, ChoosesAll, all_crashed, Names, numbers_of}
 use Rattle.rt_store.proofs.directory.Directory.crash_shelf.Goals as goal
 
 pub returns-in-None-clause-gives : goal.returns-in-None-clause-gives

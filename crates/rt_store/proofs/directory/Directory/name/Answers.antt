@@ -1,7 +1,5 @@
-use Rattle.std.proofs.Common.{◌≡◌, ◌<◌, Some, length, rules}
-use Rattle.std.specs.Prelude.{slice_get}
+use Rattle.rt_store.proofs.Prelude.{◌≡◌, ◌<◌, Some, length, rules, slice_get, Partitions, at_name}
 use Rattle.rt_store.proofs.Leading.{push_length, shelf_there, shelf_within, shelves_with, named_is}
-use Rattle.rt_store.specs.Directory.{Partitions, at_name}
 use Rattle.rt_store.proofs.directory.Directory.name.Goals as goal
 
 pub returns-in-Some-clause-after : goal.returns-in-Some-clause-after

@@ -1,11 +1,5 @@
-use Rattle.std.proofs.Common.{◌≡◌, ◌++◌, List, arith, rules}
-use Rattle.std.specs.Prelude.{Option}
-use Rattle.rt_base.specs.declared.choice.Choice.{Choice}
-use Rattle.rt_base.specs.Noted.{Noted}
+use Rattle.rt_store.proofs.Prelude.{◌≡◌, ◌++◌, List, arith, rules, Option, Choice, Noted, ChoosesAll, all_crashed, numbers, FileState}
 use Rattle.rt_store.proofs.Crashing.{crash_step, crash_end}
-use Rattle.rt_store.specs.Crash.{ChoosesAll, all_crashed}
-use Rattle.rt_store.specs.Directory.{numbers}
-use Rattle.rt_store.specs.File.{FileState}
 use Rattle.rt_store.proofs.files.Files.crash.Goals as goal
 
 pub loop-place-preserved : goal.loop-place-preserved

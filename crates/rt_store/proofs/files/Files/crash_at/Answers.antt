@@ -1,10 +1,6 @@
-use Rattle.std.proofs.Common.{◌≡◌, ◌≤◌, ◌<◌, [], List, None, Some, length, append-nil, ap, refl, sym, subst, ◌∙◌, arith, rules}
-use Rattle.std.specs.Prelude.{Option, slice_get, slice_set}
-use Rattle.rt_base.specs.declared.choice.Choice.{Choice}
+use Rattle.rt_store.proofs.Prelude.{◌≡◌, ◌≤◌, ◌<◌, [], List, None, Some, length, append-nil, ap, refl, sym, subst, ◌∙◌, arith, rules, Option, slice_get, Choice, Chooses, later_of, FileState, crashed, at_blob, count_later}
+use Rattle.std.specs.Prelude.{slice_set}
 use Rattle.rt_store.proofs.Counting.{count_set, count_at, past_all, there}
-use Rattle.rt_store.specs.Crash.{Chooses, later_of}
-use Rattle.rt_store.specs.File.{FileState, crashed}
-use Rattle.rt_store.specs.Store.{at_blob, count_later}
 use Rattle.rt_store.proofs.files.Files.crash_at.Goals as goal
 
 pub returns-then-place-len-clause-gives : goal.returns-then-place-len-clause-gives

@@ -1,6 +1,4 @@
-use Rattle.std.proofs.Common.{◌≡◌, ◌+◌}
-use Rattle.rt_store.specs.Directory.{numbers}
-use Rattle.rt_store.specs.Store.{all_detached, count_later}
+use Rattle.rt_store.proofs.Prelude.{◌≡◌, ◌+◌, numbers, all_detached, count_later}
 use Rattle.rt_store.proofs.files.Files.detach_all.Given as goal
 
 abbrev pub invariant-loop-place : goal.invariant-loop-place

@@ -1,8 +1,6 @@
-use Rattle.std.proofs.Common.{◌≡◌, List, Some, true, ap, sym, ◌∙◌, arith, rules}
-use Rattle.std.specs.Prelude.{Option, is_some, slice_get, slice_set}
+use Rattle.rt_store.proofs.Prelude.{◌≡◌, List, Some, true, ap, sym, ◌∙◌, arith, rules, Option, is_some, slice_get, FileState, mutated, at_blob, count_later, live}
+use Rattle.std.specs.Prelude.{slice_set}
 use Rattle.rt_store.proofs.Counting.{count_set, there, live_within, live_is}
-use Rattle.rt_store.specs.File.{FileState, mutated}
-use Rattle.rt_store.specs.Store.{at_blob, count_later, live}
 use Rattle.rt_store.proofs.files.Files.mutate.Goals as goal
 
 pub returns-clause-later : goal.returns-clause-later

@@ -1,8 +1,5 @@
-use Rattle.std.proofs.Common.{◌≡◌, ◌<◌, Some, length, ap, arith, rules}
-use Rattle.std.specs.Prelude.{slice_get}
+use Rattle.rt_store.proofs.Prelude.{◌≡◌, ◌<◌, Some, length, ap, arith, rules, slice_get, FileState, count_later}
 use Rattle.rt_store.proofs.Counting.{count_set, there, some_within}
-use Rattle.rt_store.specs.File.{FileState}
-use Rattle.rt_store.specs.Store.{count_later}
 use Rattle.rt_store.proofs.files.Files.set_token.Goals as goal
 
 pub returns-clause-later : goal.returns-clause-later

@@ -1,7 +1,4 @@
-use Rattle.std.proofs.Common.{◌≡◌, [], subst}
-use Rattle.rt_hasher.specs.Digest.{fields_digest}
-use Rattle.rt_store.specs.Audit.{audit_fields, partitions_fields}
-use Rattle.rt_store.specs.Kept.{Kept}
+use Rattle.rt_store.proofs.Prelude.{◌≡◌, [], subst, fields_digest, audit_fields, partitions_fields, Kept}
 use Rattle.rt_store.proofs.mem_store.MemStore.audit.Goals as goal
 
 pub returns-clause-digest : goal.returns-clause-digest

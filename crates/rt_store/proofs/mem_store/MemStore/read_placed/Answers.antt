@@ -1,9 +1,5 @@
-use Rattle.std.proofs.Common.{rules}
-use Rattle.rt_base.specs.Counted.{Notes}
+use Rattle.rt_store.proofs.Prelude.{rules, Notes, blob_of, many_refusal, Refused, refusal_at}
 use Rattle.rt_store.proofs.Refusing.{noted_refusal}
-use Rattle.rt_store.specs.Calls.{blob_of, many_refusal}
-use Rattle.rt_store.specs.Draws.{Refused}
-use Rattle.rt_store.specs.Store.{refusal_at}
 use Rattle.rt_store.proofs.mem_store.MemStore.read_placed.Goals as goal
 
 pub returns-in_err-bufs-clause-gives : goal.returns-in_err-bufs-clause-gives

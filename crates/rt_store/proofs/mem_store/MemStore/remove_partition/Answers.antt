@@ -1,4 +1,4 @@
-use Rattle.std.proofs.Common.{rules}
+use Rattle.rt_store.proofs.Prelude.{rules}
 use Rattle.rt_store.proofs.Leading.{keeps_without}
 use Rattle.rt_store.proofs.mem_store.MemStore.remove_partition.Goals as goal
 use Rattle.rt_store.proofs.mem_store.MemStore.remove_partition.Goals.{in-Some, in_default}

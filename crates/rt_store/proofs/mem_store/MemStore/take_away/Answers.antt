@@ -1,4 +1,4 @@
-use Rattle.std.proofs.Common.{rules}
+use Rattle.rt_store.proofs.Prelude.{rules}
 use Rattle.rt_store.proofs.mem_store.MemStore.take_away.Goals as goal
 
 pub returns-in_err-find-clause-gives : goal.returns-in_err-find-clause-gives

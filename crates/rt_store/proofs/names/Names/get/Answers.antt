@@ -1,6 +1,5 @@
-use Rattle.std.proofs.Common.{ap, ◌∙◌, ℕ, List}
+use Rattle.rt_store.proofs.Prelude.{ap, ◌∙◌, ℕ, List, at_name}
 use Rattle.rt_store.proofs.Named.{lookup_shown}
-use Rattle.rt_store.specs.Directory.{at_name}
 use Rattle.rt_store.proofs.names.Names.get.Goals as goal
 
 pub returns : goal.returns

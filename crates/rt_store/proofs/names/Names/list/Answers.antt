@@ -1,7 +1,6 @@
-use Rattle.std.proofs.Common.{◌≡◌, ap, sym, subst, ◌∙◌, ℕ, List, map, IfOk, Vec, Global}
-use Rattle.std.specs.BTreeMap.{keys}
+use Rattle.rt_store.proofs.Prelude.{◌≡◌, ap, sym, subst, ◌∙◌, ℕ, List, map, Vec, Global, keys, Ascend}
+use Rattle.std.proofs.Common.{IfOk}
 use Rattle.rt_store.proofs.Named.{names_ascend, names_shown}
-use Rattle.rt_store.specs.Directory.{Ascend}
 use Rattle.rt_store.proofs.names.Names.list.Goals as goal
 
 pub returns-clause-ascend : goal.returns-clause-ascend

@@ -1,6 +1,5 @@
-use Rattle.std.proofs.Common.{ap, sym, ◌∙◌, ℕ, List}
+use Rattle.rt_store.proofs.Prelude.{ap, sym, ◌∙◌, ℕ, List, numbers}
 use Rattle.rt_store.proofs.Named.{numbers_shown}
-use Rattle.rt_store.specs.Directory.{numbers}
 use Rattle.rt_store.proofs.names.Names.numbers.Goals as goal
 
 pub returns : goal.returns

@@ -1,6 +1,5 @@
-use Rattle.std.proofs.Common.{ap, ◌∙◌, ℕ, List}
+use Rattle.rt_store.proofs.Prelude.{ap, ◌∙◌, ℕ, List, put_name}
 use Rattle.rt_store.proofs.Named.{Owned, shown, put_shown}
-use Rattle.rt_store.specs.Directory.{put_name}
 use Rattle.rt_store.proofs.names.Names.put.Goals as goal
 
 pub returns-clause-after : goal.returns-clause-after

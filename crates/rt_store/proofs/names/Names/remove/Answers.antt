@@ -1,6 +1,5 @@
-use Rattle.std.proofs.Common.{ap, ◌∙◌, ℕ, List}
+use Rattle.rt_store.proofs.Prelude.{ap, ◌∙◌, ℕ, List, without_name}
 use Rattle.rt_store.proofs.Named.{Owned, shown, remove_shown}
-use Rattle.rt_store.specs.Directory.{without_name}
 use Rattle.rt_store.proofs.names.Names.remove.Goals as goal
 
 pub returns : goal.returns
