@@ -1,5 +1,5 @@
 -- A group of handles walks them in order, and after a failure those that are left, one round of them a poll.
-use Rattle.rt_core.proofs.Prelude.{◌≡◌, ◌≤◌, ◌<◌, ◌-◌, ◌∷◌, ◌++◌, [], ℕ, zero, suc, true, false, List, Option, Some, None, Result, Ok, Err, refl, arith, take, drop, map, length, length-append, take-append-le, drop-append-le, take-append-drop, Error, NoMemory, Poll, Ready, Pending, Turn, Last, World, Walked, Goes, Spends, SaysLack, walked-then, walked-gives, walked-followed, goes-on, Polls, handle_polls, handle_aborts, handle_spends, aborted, each, Joins, answered, is_lack, lacks, turned, told, waits, gives_up, unless_lacking, drains, fails, joins, join_all_polls, Kind}
+use Rattle.rt_core.proofs.Prelude.{◌≡◌, ◌≤◌, ◌<◌, ◌-◌, ◌∷◌, ◌++◌, [], ℕ, zero, suc, true, false, List, Option, Some, None, Result, Ok, Err, refl, arith, take, drop, map, length, take-append-le, drop-append-le, take-append-drop, Error, NoMemory, Poll, Ready, Pending, Turn, Last, World, Walked, Goes, Spends, SaysLack, walked-then, walked-gives, walked-followed, goes-on, Polls, handle_polls, handle_aborts, handle_spends, aborted, each, Joins, answered, is_lack, lacks, turned, told, waits, gives_up, unless_lacking, drains, fails, joins, join_all_polls, Kind}
 use Rattle.rt_core.proofs.Choosing.{long-unless}
 
 -- a handle that answered something else lacked no memory
@@ -71,9 +71,6 @@ module _ {A O P V F G : Type 0} (polls : Polls A O P O) (spends : P → Last A O
 
       first : (end : World A O G) (answer : Poll (Result (List V) Error)) (left : Joins O P V F) → Walked (drains polls spends convert failure (drop (n - 1) rest) (h ∷ take (n - 1) rest)) old end answer left → Walked (drains polls spends convert failure [] all) start end answer left
       first end answer left two = goes end answer left (rw (is, take-first n h rest some, drop-first n h rest some) two)
-
-      pub round-short : n - 1 ≤ length (rest ++ after ∷ [])
-      round-short = rw (length-append rest (after ∷ [])) (omega (arith, short))
 
       pub round-pending : Goes (handle_polls polls h) old mid Pending after → (end : World A O G) (answer : Poll (Result (List V) Error)) (left : Joins O P V F) → Walked (drains polls spends convert failure (drop (n - 1) (rest ++ after ∷ [])) (take (n - 1) (rest ++ after ∷ []))) mid end answer left → Walked (drains polls spends convert failure [] all) start end answer left
       round-pending one end answer left two =

@@ -1,5 +1,5 @@
 -- How a run has come to its outcome.
-use Rattle.rt_core.proofs.Prelude.{◌≡◌, ◌⊎◌, ◌≢◌, ◌++◌, inl, inr, ℕ, List, [], refl, ap, ◌∙◌, sym, subst, Bool, true, Option, Some, None, is_some, IfSome, Result, Ok, Err, Stream, Entry, Root, digest_of, FinishCause, Completed, Stalled, TaskPanicked, TimeOverflow, TooManyTasks, Begin, State, Clock, Finished, begun, stood_in, after, after_all, AreDigested, IsLawful, AreDrawn, Walks, Fronts, Breaks, reached, Steps, Value, IsRun, IsCutOff, IsValidInput, Held, Gave, Told, AreCalls, own, pushed, finish_of, text_of, RunError, IsTimeout, IsStalled, HasPanicked, IsTimeOverflow, AreTooManyTasks, IsNoMemory, World, Drew, Kept, Follows, Agrees, IsMade, IsUnmade, unmade_of, value_of, EndAgrees, Runs, EndsFor, IsFinal, Seals, drawn-of, drew-behind, drew-drew, drew-of, ends-with-text, Ended, Completes, Facts, FailedFor, IsValid, Leaves, Starting}
+use Rattle.rt_core.proofs.Prelude.{◌≡◌, ◌⊎◌, ◌≢◌, ◌++◌, inl, inr, ℕ, List, [], refl, ap, ◌∙◌, sym, subst, Bool, true, Option, Some, None, is_some, IfSome, Result, Ok, Err, Stream, Entry, Root, digest_of, FinishCause, Completed, Stalled, TaskPanicked, TimeOverflow, TooManyTasks, Begin, State, Clock, Finished, begun, stood_in, after, after_all, AreDigested, IsLawful, AreDrawn, Walks, Fronts, Breaks, reached, Steps, Value, IsRun, IsCutOff, Held, Gave, Told, own, pushed, finish_of, text_of, RunError, IsTimeout, IsStalled, HasPanicked, IsTimeOverflow, AreTooManyTasks, IsNoMemory, World, Drew, Kept, Follows, Agrees, IsMade, IsUnmade, unmade_of, value_of, EndAgrees, Runs, EndsFor, IsFinal, Seals, drawn-of, drew-behind, drew-drew, drew-of, ends-with-text, Ended, Completes, Facts, FailedFor, IsValid, Leaves, Starting}
 use Rattle.rt_audit.specs.declared.finish.FinishCause.TheVariants.{Timeout, NoMemory}
 
 module _ {A O G : Type 0} (p : Steps A O) (w : World A O G) where
@@ -190,7 +190,3 @@ module _ {A O G : Type 0} (stream : G → Stream) (p : Steps A O) (s : Starting 
   only_memory IsStalled f = let e = valid Stalled f in absurd (cc)
   only_memory IsTimeOverflow f = let e = valid TimeOverflow f in absurd (cc)
   only_memory AreTooManyTasks f = let e = valid TooManyTasks f in absurd (cc)
-
--- input that is valid whatever is drawn is valid for each generator
-pub valid-always : {A O G : Type 0} (stream : G → Stream) (p : Steps A O) (s : Starting G) → IsValidInput p s.begin → IsValid stream p s
-valid-always stream p s v x cause end value left run facts = v x cause end value run

@@ -27,31 +27,24 @@ pub use Rattle.rt_core.specs.Pollers.{closes}
 pub use Rattle.rt_core.specs.Sleeper.{Sleeper}
 pub use Rattle.rt_core.specs.Pollers.{until, unqueued}
 unfoldable pub use Rattle.rt_core.specs.Pollers.{sleep_for, sleep_until, sleep_polls, sleep_spends, reschedule_polls, reschedule_spends}
-pub use Rattle.rt_core.specs.declared.yields.Reschedule.{Reschedule}
 pub use Rattle.rt_core.specs.Pauses.{pause_for}
 unfoldable pub use Rattle.rt_core.specs.Pauses.{pause_polls, pause_spends}
-pub use Rattle.rt_core.specs.declared.pause.Pause.{Pause}
 -- handles
 pub use Rattle.rt_core.specs.Handles.{TaskHandle, held_handle, received_handle, polled_handle, task_polls, task_spends, guard_spends, aborted}
 unfoldable pub use Rattle.rt_core.specs.Handles.{handle_polls, handle_spends, handle_aborts, no_polls, no_spends}
 -- the ends of slots
 unfoldable pub use Rattle.rt_world.specs.Receiving.{receiver_polls, receiver_spends}
 -- what is made of other pollers
-pub use Rattle.rt_core.specs.declared.timeout.Timeout.{Timeout}
 unfoldable pub use Rattle.rt_core.specs.Timeouts.{timeout_polls, timeout_spends}
 pub use Rattle.rt_core.specs.Select.{select_polls}
 unfoldable pub use Rattle.rt_core.specs.Select.{each, lets_go}
 pub use Rattle.rt_core.specs.Joins.{Joins, joining, join_all_spends}
 unfoldable pub use Rattle.rt_core.specs.Joins.{join_all_polls}
-pub use Rattle.rt_core.specs.declared.either_of.EitherOf.{EitherOf}
 pub use Rattle.either.specs.declared.Either.TheVariants.{Left, Right}
 pub use Rattle.rt_core.specs.Eithers.{FirstOf, both, neither}
 unfoldable pub use Rattle.rt_core.specs.Eithers.{either_polls, either_spends}
 -- signals, and the end of the run
-pub use Rattle.rt_core.specs.declared.signals.SignalKind.{SignalKind}
-unfoldable pub use Rattle.rt_core.specs.Signals.{signal_polls, signal_spends}
-pub use Rattle.rt_core.specs.declared.stop.Stop.{Stop}
-pub use Rattle.rt_core.specs.declared.stop.Stopping.TheVariants.{Begins}
+unfoldable pub use Rattle.rt_core.specs.Signals.{clones, completion_polls, completion_spends, makes_group, signal_polls, signal_spends}
 unfoldable pub use Rattle.rt_core.specs.Stopping.{stop_polls, stop_spends}
 -- what a helper requires and ensures
 pub use Rattle.rt_model.specs.Rules.{MayCall}

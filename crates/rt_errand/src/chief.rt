@@ -291,7 +291,7 @@ pub struct RootChief {
     pub alloc: Global,
 }
 
-#[tactic(auto, using(rt_core::proofs::Tasks::task_laws))]
+#[tactic(auto, using(rt_core::proofs::Tasks::maker_laws))]
 impl RootMaker<Chief> for RootChief {
     ghost use Rattle.rt_errand.specs.Chief.{chief_made};
 

@@ -202,7 +202,7 @@ pub struct RootClient {
     pub number: u64,
 }
 
-#[tactic(auto, using(rt_core::proofs::Tasks::task_laws))]
+#[tactic(auto, using(rt_core::proofs::Tasks::maker_laws))]
 impl RootMaker<Client> for RootClient {
     ghost use Rattle.rt_errand.specs.Client.{client_made};
 

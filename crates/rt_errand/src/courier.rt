@@ -282,7 +282,7 @@ pub struct RootCourier {
     pub parcel: Parcel,
 }
 
-#[tactic(auto, using(rt_core::proofs::Tasks::task_laws))]
+#[tactic(auto, using(rt_core::proofs::Tasks::maker_laws))]
 impl RootMaker<Courier> for RootCourier {
     ghost use Rattle.rt_errand.specs.Courier.{courier_made};
 

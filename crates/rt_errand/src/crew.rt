@@ -147,7 +147,7 @@ pub struct RootCrew {
     pub number: u64,
 }
 
-#[tactic(auto, using(rt_core::proofs::Tasks::task_laws))]
+#[tactic(auto, using(rt_core::proofs::Tasks::maker_laws))]
 impl RootMaker<Crew> for RootCrew {
     ghost use Rattle.rt_errand.specs.Crew.{crew_made};
 
@@ -171,7 +171,7 @@ pub struct RootPair {
     pub number: u64,
 }
 
-#[tactic(auto, using(rt_core::proofs::Tasks::task_laws))]
+#[tactic(auto, using(rt_core::proofs::Tasks::maker_laws))]
 impl RootMaker<Crew> for RootPair {
     ghost use Rattle.rt_errand.specs.Crew.{pair_made};
 

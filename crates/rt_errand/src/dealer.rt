@@ -13,7 +13,7 @@ impl Outcome for Dealer {
     type Output = u64;
 }
 
-#[tactic(auto, using(rt_world::proofs::Walked::task_laws), unfolding(crate::specs::Deals::deals))]
+#[tactic(auto, using(rt_core::proofs::Tasks::task_laws), unfolding(crate::specs::Deals::deals))]
 impl Task for Dealer {
     ghost use Rattle.rt_core.specs.Tasks.{closes};
 

@@ -226,7 +226,7 @@ impl Task for Heir {
 #[derive(Clone, Copy, Debug)]
 pub struct RootHeir;
 
-#[tactic(auto, using(rt_core::proofs::Tasks::task_laws))]
+#[tactic(auto, using(rt_core::proofs::Tasks::maker_laws))]
 impl RootMaker<Heir> for RootHeir {
     ghost use Rattle.rt_errand.specs.Heir.{heir_made};
 

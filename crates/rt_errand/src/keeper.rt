@@ -179,7 +179,7 @@ impl Task for Keeper {
 #[derive(Clone, Copy, Debug)]
 pub struct RootKeeper;
 
-#[tactic(auto, using(rt_core::proofs::Tasks::task_laws))]
+#[tactic(auto, using(rt_core::proofs::Tasks::maker_laws))]
 impl RootMaker<Keeper> for RootKeeper {
     ghost use Rattle.rt_core.specs.Tasks.{Gives};
     ghost use Rattle.rt_errand.specs.Keeper.{keeper_made};

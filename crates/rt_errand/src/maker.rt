@@ -10,7 +10,7 @@ pub struct RootErrand {
     pub number: u64,
 }
 
-#[tactic(auto, using(rt_core::proofs::Tasks::task_laws))]
+#[tactic(auto, using(rt_core::proofs::Tasks::maker_laws))]
 impl RootMaker<Errand> for RootErrand {
     ghost use Rattle.rt_errand.specs.Errand.{errand_made};
 

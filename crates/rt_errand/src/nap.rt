@@ -12,7 +12,7 @@ pub struct Nap {
     pub turn: Reschedule,
 }
 
-#[tactic(auto, using(rt_core::proofs::Tasks::task_laws), unfolding(crate::specs::Naps::nap_polls))]
+#[tactic(auto, using(rt_core::proofs::Tasks::poller_laws), unfolding(crate::specs::Naps::nap_polls))]
 impl<T: Outcome> Poller<T, ()> for Nap {
     ghost polls = { λ nap now task. nap_polls nap task };
 

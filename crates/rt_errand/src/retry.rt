@@ -134,7 +134,7 @@ impl Task for Retry {
 #[derive(Clone, Copy, Debug)]
 pub struct RootRetry;
 
-#[tactic(auto, using(rt_core::proofs::Tasks::task_laws))]
+#[tactic(auto, using(rt_core::proofs::Tasks::maker_laws))]
 impl RootMaker<Retry> for RootRetry {
     ghost use Rattle.rt_errand.specs.Retry.{retry_made};
 
