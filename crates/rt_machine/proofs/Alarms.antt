@@ -1,7 +1,5 @@
 -- A sleep's alarm: its own, or a further one.
-use Rattle.std.proofs.Common.{◌≡◌, ◌<◌, ◌+◌, ℕ, List, [], ◌∷◌, refl, length, arith, Option, Some, eq-eqb}
-use Rattle.rt_super.specs.Alarms.{Alarm, AlarmList, AreSet, alarm_set, alarm_rewoken, due_at, with_alarm}
-use Rattle.rt_model.specs.Alarms.{slept}
+use Rattle.rt_machine.proofs.Prelude.{◌≡◌, ◌<◌, ◌+◌, ℕ, List, [], ◌∷◌, refl, length, arith, Option, Some, eq-eqb, Alarm, AlarmList, AreSet, alarm_set, alarm_rewoken, due_at, with_alarm, slept}
 
 -- the number of a live alarm was given
 pub set-given : (list : AlarmList) (number due : ℕ) → AreSet list → due_at list.alarms number ≡ Some due → number < list.count

@@ -1,51 +1,19 @@
 -- An event where calls are made.
-use Rattle.std.proofs.Common.{◌≡◌, ℕ, ℤ, List, [], ◌∷◌, ◌++◌, codes, refl, ap, Option}
-use Rattle.std.specs.Int.{w32, cast_unsigned, to_be_bytes}
-use Rattle.rt_audit.specs.declared.entry.Entry.TheVariants.{Call as CallEntry, Event}
-use Rattle.rt_audit.specs.declared.call.Call.{Call}
-use Rattle.rt_audit.specs.declared.call.Call.TheVariants.{Stop, Stopped}
-use Rattle.rt_audit.specs.declared.reply.CallReply.TheVariants.{CompletionAt, Done}
-use Rattle.rt_super.specs.Signals.{stop_after, with_stop}
-use Rattle.rt_model.specs.State.{State, Phase, Blank, Making, Between, Visiting, Entered, Polling, Halted, Ending, Leaving, Turning, Over, Cleaning, Closing, Crashed, Finished, Announced, stood_in}
-use Rattle.rt_model.specs.Causes.{ends_next}
-use Rattle.rt_model.specs.Effects.{after, announces, due_called, entered, is_closing}
-use Rattle.rt_model.specs.Events.{IsOfCall, announced_by, drawing}
-use Rattle.rt_model.specs.Rules.{CallsAt, May, MayCall, MayEvent}
-use Rattle.rt_machine.specs.Calls.{turn_in}
+use Rattle.rt_machine.proofs.Prelude.{◌≡◌, ℕ, ℤ, List, [], ◌∷◌, ◌++◌, codes, refl, ap, Option, w32, cast_unsigned, to_be_bytes, CallEntry, Event, Call, Stop, Stopped, CompletionAt, Done, stop_after, with_stop, State, Phase, Making, Entered, Polling, Ending, Closing, Announced, stood_in, ends_next, after, announces, due_called, entered, is_closing, IsOfCall, announced_by, drawing, CallsAt, May, MayCall, MayEvent, turn_in}
 
 entered-same : (s : State) (p : Phase) (root next by : Option ℕ) → CallsAt p root next by → entered s p ≡ p
 entered-same s Making root next by may = refl
 entered-same s (Polling task left) root next by may = refl
 entered-same s (Ending task result left) root next by may = refl
 entered-same s (Closing cause) root next by may = refl
-entered-same s Blank root next by may = absurd may
-entered-same s Between root next by may = absurd may
-entered-same s (Visiting left) root next by may = absurd may
-entered-same s (Entered task left) root next by may = absurd may
-entered-same s (Halted task) root next by may = absurd may
-entered-same s (Leaving task result left) root next by may = absurd may
-entered-same s Turning root next by may = absurd may
-entered-same s (Over cause) root next by may = absurd may
-entered-same s (Cleaning cause) root next by may = absurd may
-entered-same s (Crashed cause) root next by may = absurd may
-entered-same s (Finished cause) root next by may = absurd may
+entered-same s _ root next by may = absurd may
 
 announces-one : (p : Phase) (root next by : Option ℕ) (events : List Announced) (label : List ℕ) (fields : List (List ℕ)) → CallsAt p root next by → announces p events label fields ≡ events ++ record { label = label; fields = fields } ∷ []
 announces-one Making root next by events label fields may = refl
 announces-one (Polling task left) root next by events label fields may = refl
 announces-one (Ending task result left) root next by events label fields may = refl
 announces-one (Closing cause) root next by events label fields may = refl
-announces-one Blank root next by events label fields may = absurd may
-announces-one Between root next by events label fields may = absurd may
-announces-one (Visiting left) root next by events label fields may = absurd may
-announces-one (Entered task left) root next by events label fields may = absurd may
-announces-one (Halted task) root next by events label fields may = absurd may
-announces-one (Leaving task result left) root next by events label fields may = absurd may
-announces-one Turning root next by events label fields may = absurd may
-announces-one (Over cause) root next by events label fields may = absurd may
-announces-one (Cleaning cause) root next by events label fields may = absurd may
-announces-one (Crashed cause) root next by events label fields may = absurd may
-announces-one (Finished cause) root next by events label fields may = absurd may
+announces-one _ root next by events label fields may = absurd may
 
 -- it joins those of the call that comes next, and that is all
 pub after-event : (s : State) (by : Option ℕ) (label : List ℕ) (fields : List (List ℕ)) → MayCall s by → after s (Event label fields) ≡ record s { announced = s.announced ++ record { label = label; fields = fields } ∷ []; owed = [] }

@@ -1,7 +1,6 @@
 -- The room of a call that is noted: with the room that it took, or by the place of its token, its entry and its wakes fit, and so does
 -- what is promised then.
-use Rattle.std.proofs.Common.{◌≡◌, ◌≤◌, ◌<◌, ◌+◌, ◌-◌, ℕ, refl, true, false, arith, Bool}
-use Rattle.rt_machine.specs.Places.{ones}
+use Rattle.rt_machine.proofs.Prelude.{◌≡◌, ◌≤◌, ◌<◌, ◌+◌, ◌-◌, ℕ, refl, true, false, arith, Bool, ones}
 
 module _ (spends : Bool) (promised cost freed waits : ℕ) (free : spends ≡ true → cost ≡ 0) (enough : waits + ones spends ≤ freed) (owed : freed ≤ promised + cost) where
   module _ (places old taken : ℕ) (most : places ≤ 6) (room : promised + places ≤ old) (kept : old ≤ taken) (took : spends ≡ false → promised + 7 + cost ≤ taken) where

@@ -1,8 +1,5 @@
 -- Wakes, one after another.
-use Rattle.std.proofs.Common.{◌≡◌, ℕ, List, [], ◌∷◌, ◌++◌, refl, true, slice_get, Some, drop}
-use Rattle.rt_audit.specs.declared.entry.Entry.{Entry}
-use Rattle.rt_machine.specs.Told.{Told, pushed, pushed_all}
-use Rattle.rt_machine.specs.Ends.{is_calm, AreCalm, Calmly}
+use Rattle.rt_machine.proofs.Prelude.{◌≡◌, ℕ, List, [], ◌∷◌, ◌++◌, refl, true, slice_get, Some, drop, Entry, Told, pushed, pushed_all, is_calm, AreCalm, Calmly}
 
 pushed-append : (t : Told) (xs ys : List Entry) → pushed_all (pushed_all t xs) ys ≡ pushed_all t (xs ++ ys)
 pushed-append t [] ys = refl

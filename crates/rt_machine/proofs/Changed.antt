@@ -1,11 +1,5 @@
 -- What a number has, changed.
-use Rattle.std.proofs.Common.{◌≡◌, ℕ, List, refl, true, false, Some, None}
-use Rattle.rt_model.specs.declared.mark.Mark.{Mark}
-use Rattle.rt_model.specs.declared.result.TaskResult.{TaskResult}
-use Rattle.rt_model.specs.Lists.{find, replaced}
-use Rattle.rt_model.specs.Marks.{flag, flagged, leave}
-use Rattle.rt_model.specs.Results.{with_abort}
-use Rattle.rt_parts.proofs.Changed.{replaced-as, replaced-none}
+use Rattle.rt_machine.proofs.Prelude.{◌≡◌, ℕ, List, refl, true, false, Some, None, Mark, TaskResult, find, replaced, flag, flagged, leave, with_abort, replaced-as, replaced-none}
 
 pub flag-some : (k : ℕ) (ms : List (ℕ × Mark)) (m : Mark) → find k ms ≡ Some m → replaced (λ x. record { node = m.node; left = false; flagged = true }) k ms ≡ flag k ms
 flag-some k ms m h = replaced-as flagged k ms m (record { node = m.node; left = false; flagged = true }) h refl

@@ -1,10 +1,5 @@
 -- How many tasks run, and which of them a cleanup ends next.
-use Rattle.std.proofs.Common.{◌≡◌, ◌+◌, ℕ, List, [], ◌∷◌, refl, true, Option, Some, None, length, arith, ◌<◌, IfSome}
-use Rattle.rt_super.specs.Alarms.{Alarm}
-use Rattle.rt_model.specs.Lists.{has_number, with_number, without_number}
-use Rattle.rt_model.specs.Alarms.{fires}
-use Rattle.rt_machine.specs.Places.{AreBelow}
-use Rattle.rt_model.specs.Causes.{ends_next}
+use Rattle.rt_machine.proofs.Prelude.{◌≡◌, ◌+◌, ℕ, List, [], ◌∷◌, refl, true, Option, Some, None, length, arith, ◌<◌, IfSome, Alarm, has_number, with_number, without_number, fires, AreBelow, ends_next}
 
 pub length-with : (k : ℕ) (ns : List ℕ) → length (with_number k ns) ≡ length ns + 1
 length-with k [] = refl

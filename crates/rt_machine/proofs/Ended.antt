@@ -1,20 +1,5 @@
 -- What the end of a task leaves of a state, with the phase known.
-use Rattle.std.proofs.Common.{◌≡◌, ℕ, List, [], ◌++◌, refl, Bool, true, false, not, ◌&&◌, ◌||◌, if◌then◌else◌, Option, Some, None, is_none}
-use Rattle.rt_audit.specs.declared.answer.AnswerKind.TheVariants.{Ended}
-use Rattle.rt_audit.specs.declared.finish.FinishCause.{FinishCause}
-use Rattle.rt_audit.specs.declared.entry.Entry.TheVariants.{Answer, NodeEnd}
-use Rattle.rt_super.specs.Ancestry.{with_end}
-use Rattle.rt_model.specs.declared.result.Outcome.{Outcome}
-use Rattle.rt_model.specs.declared.result.Outcome.TheVariants.{Closed}
-use Rattle.rt_model.specs.declared.result.TaskResult.{TaskResult}
-use Rattle.rt_model.specs.State.{State, Ending, Leaving, Visiting, Closing}
-use Rattle.rt_model.specs.Lists.{find, without, without_number, those}
-use Rattle.rt_model.specs.Marks.{flag_all, due_all, is_ended_at}
-use Rattle.rt_model.specs.Results.{with_outcome}
-use Rattle.rt_model.specs.Effects.{after, released, unflagged, leaves, marks_ended, flagged_by, is_panic, results_ended, results_left, due_ended, due_left}
-use Rattle.rt_model.specs.Effects.{is_closing}
-use Rattle.rt_machine.specs.Places.{places, visit_places}
-use Rattle.rt_machine.specs.Ends.{ended_results, ended_waiting, panic_wakes}
+use Rattle.rt_machine.proofs.Prelude.{◌≡◌, ℕ, List, [], ◌++◌, refl, Bool, true, false, not, ◌&&◌, ◌||◌, if◌then◌else◌, Option, Some, None, is_none, Ended, FinishCause, Answer, NodeEnd, with_end, Outcome, Closed, TaskResult, State, Ending, Leaving, Visiting, Closing, find, without, without_number, those, flag_all, due_all, is_ended_at, with_outcome, after, released, unflagged, leaves, marks_ended, flagged_by, is_panic, results_ended, results_left, due_ended, due_left, is_closing, places, visit_places, ended_results, ended_waiting, panic_wakes}
 
 no-panic : (a b c : Bool) (xs : List ℕ) → (if a && b && false && c then xs else []) ≡ []
 no-panic true true true xs = refl

@@ -1,17 +1,5 @@
 -- The entries of a journal when one is added.
-use Rattle.std.proofs.Common.{◌≡◌, ◌≤◌, ℕ, List, [], ◌∷◌, ◌++◌, refl, ap, sym, ◌∙◌, true, length, take, drop, arith, length-append, Option, Some, None}
-use Rattle.std.proofs.lemmas.List.{take-append-le, drop-append-le, take-append-drop, length-take-le, drop_all, take_all}
-use Rattle.rt_audit.specs.declared.entry.Entry.{Entry}
-use Rattle.rt_audit.specs.declared.entry.Entry.TheVariants.{Call, Event, Wake}
-use Rattle.rt_model.specs.declared.begin.Begin.{Begin}
-use Rattle.rt_model.specs.State.{State, begun}
-use Rattle.rt_model.specs.Effects.{after, after_all}
-use Rattle.rt_model.specs.Rules.{May, IsDrawn, IsLawful, AreDrawn}
-use Rattle.rt_audit.specs.Journal.{digest_of, digest_from}
-use Rattle.rt_audit.specs.Digest.{first_digest}
-use Rattle.rt_model.specs.Digests.{IsDigested, AreDigested}
-use Rattle.rt_model.proofs.Append.{after_all-append, IsLawful-append, AreDrawn-append, AreDigested-append, digest_from-append}
-use Rattle.rt_machine.specs.Told.{told_from, lacked_at, IsKept, IsWithin, AreCalls, is_call, pushed, noted}
+use Rattle.rt_machine.proofs.Prelude.{◌≡◌, ◌≤◌, ℕ, List, [], ◌∷◌, ◌++◌, refl, ap, sym, ◌∙◌, true, length, take, drop, arith, length-append, Option, Some, None, take-append-le, drop-append-le, take-append-drop, length-take-le, drop_all, take_all, Entry, Begin, State, begun, after, after_all, May, IsDrawn, IsLawful, AreDrawn, digest_of, digest_from, first_digest, IsDigested, AreDigested, after_all-append, IsLawful-append, AreDrawn-append, AreDigested-append, digest_from-append, told_from, lacked_at, IsKept, IsWithin, AreCalls, is_call, pushed, noted}
 
 -- the parts on both sides of the mark
 pub joined : (xs : List Entry) (start mark : ℕ) → start ≤ mark → mark ≤ length xs → drop start (take mark xs) ++ drop mark xs ≡ drop start xs
@@ -46,10 +34,6 @@ within-more (Some n) xs e h = omega (arith, length-append xs (e ∷ []))
 lacked-more : (b : Begin) (xs : List Entry) (e : Entry) (start : ℕ) (at : Option ℕ) → IsWithin at (length xs) → lacked_at b (xs ++ e ∷ []) start at ≡ lacked_at b xs start at
 lacked-more b xs e start None h = refl
 lacked-more b xs e start (Some n) h = ap (λ ys. Some ((after_all (begun b) (drop start ys)).turns)) (take-append-le n xs (e ∷ []) h)
-
--- a mark at the end
-pub lacked-here : (b : Begin) (xs : List Entry) (start len : ℕ) → len ≡ length xs → lacked_at b xs start (Some len) ≡ Some ((after_all (begun b) (drop start xs)).turns)
-lacked-here b xs start len is = ap (λ ys. Some ((after_all (begun b) (drop start ys)).turns)) (take_all len xs (omega arith))
 
 module _ (b : Begin) (xs : List Entry) (start mark : ℕ) (lacked : Option ℕ) (e : Entry) (kept : IsKept b xs start mark lacked) where
   start_within : start ≤ length xs

@@ -1,13 +1,6 @@
 -- A slot whose receiver was spent has nothing any more.
-use Rattle.std.proofs.Common.{◌≡◌, ◌≤◌, ℕ, List, [], ◌∷◌, refl, ap, true, false, Bool, arith, Option, Some, None, is_some, eqb}
-use Rattle.rt_audit.specs.declared.call.Call.TheVariants.{Slots}
+use Rattle.rt_machine.proofs.Prelude.{◌≡◌, ℕ, List, [], ◌∷◌, refl, ap, true, false, Bool, arith, Option, Some, None, is_some, Slots, AreRising, find, without, Stood, Spent, Seen}
 use Rattle.rt_audit.specs.declared.slot_call.SlotCall.TheVariants.{GiveUp}
-use Rattle.rt_super.specs.Rows.{AreRising}
-use Rattle.rt_model.specs.Lists.{find, without}
-use Rattle.rt_model.specs.Slots.{Slotted}
-use Rattle.rt_model.specs.State.{Stood}
-use Rattle.rt_machine.specs.Calls.{Spent}
-use Rattle.rt_machine.specs.Places.{Seen}
 
 gone-at : {V : Type 0} (k : ℕ) (xs : List (ℕ × V)) → AreRising xs → find k (without k xs) ≡ None
 gone-at k [] r = refl

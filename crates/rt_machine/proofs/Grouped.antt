@@ -1,17 +1,6 @@
 -- For how many entries groups of signals ask, when a call changes them.
-use Rattle.std.proofs.Common.{◌≡◌, ◌≤◌, ◌+◌, ◌&&◌, ◌==◌, ℕ, ℤ, List, [], ◌∷◌, ◌++◌, refl, true, false, Bool, arith, Option, Some, None, is_some, length, not, length-append, if◌then◌else◌, ap, Result, Ok, Err, IfErr}
-use Rattle.std.specs.Option.{option_map_or}
-use Rattle.rt_base.specs.declared.poll.Poll.TheVariants.{Pending}
+use Rattle.rt_machine.proofs.Prelude.{◌≡◌, ◌≤◌, ◌+◌, ◌==◌, ℕ, ℤ, List, [], ◌∷◌, ◌++◌, refl, true, false, Bool, arith, Option, Some, None, is_some, length, not, length-append, if◌then◌else◌, Ok, IfErr, option_map_or, Pending, SignalGroup, SignalToken, SignalRecord, StopRecord, group_for, group_of, new_group, new_token, is_alive, is_open, is_waited, waits_in, unwaited, met_at, woken_at, signaled, signaler_closed, signal_closed, signal_polled, signal_answer, shown, completes, completed, completion_answer, completion_closed, completion_polled, without_signal, with_group, with_clone, with_completion, stop_after, stopped_after, stopped_answer, waiting_as, woken_by_closing, woken_by_last, woken_by_stop, woken_by_value, find, without, replaced, those, total, has_signaler, ones, group_places, token_places, signal_places, stopped_places, more-places, without-places}
 use Rattle.rt_base.specs.declared.error.Error.TheVariants.{Closed}
-use Rattle.rt_super.specs.declared.signal_group.SignalGroup.{SignalGroup}
-use Rattle.rt_super.specs.declared.signal_token.SignalToken.{SignalToken}
-use Rattle.rt_super.specs.declared.stopper.Stopped.TheVariants.{Waiting, Resolved}
-use Rattle.rt_super.specs.Signals.{SignalRecord, StopRecord, group_for, group_of, new_group, new_token, is_alive, is_open, is_waited, waits_in, unwaited, met_at, woken_at, signaled, signaler_closed, signal_closed, signal_polled, signal_answer, shown, completes, completed, completion_answer, completion_closed, completion_polled, without_signal, with_group, with_clone, with_completion, with_signal, stopped_first, stop_after, stopped_after, stopped_answer, waiting_as, woken_by_closing, woken_by_last, woken_by_stop, woken_by_value}
-use Rattle.rt_model.specs.Lists.{find, without, replaced, those}
-use Rattle.rt_model.specs.Rows.{total}
-use Rattle.rt_model.specs.Signals.{has_signaler}
-use Rattle.rt_machine.specs.Places.{ones, group_places, token_places, signal_places, stopped_places}
-use Rattle.rt_parts.proofs.Totals.{more-places, replaced-places, without-places}
 use Rattle.rt_machine.proofs.Totals.{without-fewer}
 
 ones-waits : (waits : Option ℕ) → length (those waits) ≡ ones (is_some waits)

@@ -20,3 +20,4 @@ pub mod Ended
 pub mod Visits
 pub mod Over
 pub mod Replays
+pub mod Prelude

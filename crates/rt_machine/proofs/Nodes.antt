@@ -1,9 +1,5 @@
 -- How many nodes of a tree are live.
-use Rattle.std.proofs.Common.{◌≡◌, ◌≤◌, ◌+◌, ℕ, List, [], ◌∷◌, ◌++◌, refl, Bool, true, false, arith, Option, Some, None, length, length-append, map, ◌==◌, if◌then◌else◌}
-use Rattle.rt_super.specs.Ancestry.{NodeState, TreeRecord, is_live, is_known, with_end, with_release, with_task, with_child}
-use Rattle.rt_model.specs.declared.mark.Mark.{Mark}
-use Rattle.rt_model.specs.Effects.{released}
-use Rattle.rt_machine.specs.Places.{live_count, ones}
+use Rattle.rt_machine.proofs.Prelude.{◌≡◌, ◌≤◌, ◌+◌, ℕ, List, [], ◌∷◌, ◌++◌, refl, Bool, true, false, arith, Option, Some, None, length, length-append, map, ◌==◌, if◌then◌else◌, NodeState, TreeRecord, is_live, is_known, with_end, with_release, with_task, with_child, Mark, released, live_count, ones}
 
 live-fewer : (n : ℕ) (xs : List NodeState) → live_count (map {A = NodeState} {B = NodeState} (λ x. if x.number == n then record x { live = false } else x) xs) ≤ live_count xs
 live-fewer n [] = omega arith

@@ -1,16 +1,7 @@
 -- The labels of nodes.
-use Rattle.std.proofs.Common.{◌≡◌, ◌<◌, ◌≤◌, ◌+◌, ℕ, zero, suc, List, [], ◌∷◌, ◌++◌, refl, ap, false, arith, get_or, length, eqb, Some, sym, subst, ◌∙◌}
-use Rattle.std.specs.List.{slice_get, All}
+use Rattle.rt_machine.proofs.Prelude.{◌≡◌, ◌<◌, ◌≤◌, ◌+◌, ℕ, zero, suc, List, [], ◌∷◌, ◌++◌, refl, ap, false, arith, get_or, length, eqb, Some, sym, subst, ◌∙◌, All, find, slice_get-map, slice_get_past, slice_get-get_or, label_at, IsThere, label_in, labelled, numbered, NodeLabel, Short, Long, get_or_append_left, map-append, length-map, get_or-append_seam, All-head, All-tail}
+use Rattle.std.specs.List.{slice_get}
 use Rattle.std.specs.Option.{unwrap_or}
-use Rattle.rt_model.specs.Lists.{find}
-use Rattle.std.proofs.lemmas.Option.{slice_get-map, slice_get_past, slice_get-get_or}
-use Rattle.rt_model.specs.Effects.{label_at}
-use Rattle.rt_machine.specs.Labels.{IsThere, label_in, labelled, numbered}
-use Rattle.rt_machine.specs.declared.labels.NodeLabel.{NodeLabel}
-use Rattle.rt_machine.specs.declared.labels.NodeLabel.TheVariants.{Short, Long}
-use Rattle.std.proofs.lemmas.List.{get_or_append_left, map-append, length-map}
-use Rattle.std.proofs.Math.Seq.{get_or-append_seam}
-use Rattle.std.proofs.lemmas.List.Elements.{All-head, All-tail}
 
 find-at : {V : Type 0} (k n t : ℕ) (xs : List V) → t ≡ k + n → find t (numbered k xs) ≡ slice_get xs n
 find-at k n t [] e = refl

@@ -1,9 +1,6 @@
 -- Where every node is ended, none of the calls makes one that isn't.
-use Rattle.std.proofs.Common.{◌≡◌, ◌∙◌, sym, ℕ, List, [], ◌∷◌, ◌++◌, refl, Bool, true, false, ◌||◌, ◌&&◌, ◌==◌, if◌then◌else◌, Option, Some, None, is_some, map, find, arith}
-use Rattle.std.specs.Option.{option_map_or}
-use Rattle.rt_super.specs.Ancestry.{NodeState, TreeRecord, AreEnded, is_known, is_live, is_ended, node_at, with_release, with_task, with_child}
-use Rattle.rt_model.specs.declared.mark.Mark.{Mark}
-use Rattle.rt_model.specs.Effects.{released, unflagged}
+use Rattle.rt_machine.proofs.Prelude.{◌≡◌, ◌∙◌, sym, ℕ, List, [], ◌∷◌, ◌++◌, refl, Bool, true, false, ◌||◌, ◌&&◌, ◌==◌, if◌then◌else◌, Option, Some, None, is_some, map, arith, option_map_or, NodeState, TreeRecord, AreEnded, is_known, is_live, is_ended, node_at, with_release, with_task, with_child, Mark, released, unflagged}
+use Rattle.std.proofs.Common.{find}
 
 abbrev given_up : NodeState → NodeState
 given_up x = record x { live = false }

@@ -1,16 +1,5 @@
 -- Calls that wake nobody.
-use Rattle.std.proofs.Common.{◌≡◌, ℕ, ℤ, List, [], refl, true, false, Bool, not, ◌&&◌, if◌then◌else◌}
-use Rattle.rt_audit.specs.declared.call.Call.TheVariants.{Child, CloseNode, Spawn, Abort, AbortTask, Join, GiveUp, Slots, Stop}
-use Rattle.rt_audit.specs.declared.slot_call.SlotCall.{SlotCall}
-use Rattle.rt_audit.specs.declared.reply.CallReply.{CallReply}
-use Rattle.rt_audit.specs.declared.reply.CallReply.TheVariants.{Done, NodeAt, CompletionAt}
-use Rattle.rt_model.specs.declared.mark.Mark.{Mark}
-use Rattle.rt_model.specs.Lists.{find}
-use Rattle.rt_model.specs.State.{Stood}
-use Rattle.rt_model.specs.Marks.{due_if, is_left}
-use Rattle.rt_model.specs.Slots.{slots_wake}
-use Rattle.rt_super.specs.Signals.{woken_by_stop}
-use Rattle.rt_model.specs.Effects.{due_called}
+use Rattle.rt_machine.proofs.Prelude.{◌≡◌, ℕ, ℤ, List, [], refl, true, false, Bool, not, ◌&&◌, if◌then◌else◌, Child, CloseNode, Spawn, Abort, AbortTask, Join, GiveUp, Slots, Stop, SlotCall, CallReply, Done, NodeAt, CompletionAt, Mark, find, Stood, due_if, is_left, slots_wake, woken_by_stop, due_called}
 
 pub due-close : (closing : Bool) (ms : List (ℕ × Mark)) (st : Stood) (node : ℕ) → due_called closing ms st (CloseNode node) Done ≡ []
 due-close true ms st node = refl

@@ -1,23 +1,5 @@
 -- What stays as it is while the parts of a run make their calls.
-use Rattle.std.proofs.Common.{◌≡◌, ◌⊎◌, inl, inr, ◌∙◌, sym, ap, ℕ, List, [], ◌∷◌, refl, true, false, Option, Some, None, IfSome, Bool, arith, nat_eq}
-use Rattle.std.specs.List.{list_any}
-use Rattle.rt_base.specs.declared.error.Error.{Error}
-use Rattle.rt_audit.specs.declared.call.Call.{Call}
-use Rattle.rt_audit.specs.declared.call.Call.TheVariants.{Child, CloseNode, Spawn, Abort, AbortTask, Wake, Join, GiveUp, SleepPoll, Slots, Signaler, CloneSignal, Signal, SignalPoll, SignalClose, SignalerClose, CompletionPoll, CompletionClose, Stop, Stopped, NextU32, NextU64, FillBytes, Auditor}
-use Rattle.rt_audit.specs.declared.reply.CallReply.TheVariants.{Refused}
-use Rattle.rt_audit.specs.declared.finish.FinishCause.{FinishCause}
-use Rattle.rt_audit.specs.declared.finish.FinishCause.TheVariants.{NoMemory, Completed, Timeout, Stalled, TaskPanicked, TimeOverflow, TooManyTasks}
-use Rattle.rt_model.specs.Lists.{has_number, with_number}
-use Rattle.rt_model.specs.State.{State, Phase, Blank, Making, Between, Visiting, Entered, Polling, Halted, Ending, Leaving, Turning, Over, Cleaning, Closing, Crashed, Finished}
-use Rattle.rt_model.specs.Causes.{reached}
-use Rattle.rt_model.specs.Effects.{after, is_closing, running_called, cause_of}
-use Rattle.rt_model.specs.Rules.{CallsAt, MayCall, MayClose, IsEndedNext}
-use Rattle.rt_machine.specs.Places.{Seen}
-use Rattle.rt_machine.specs.Calls.{IsRefused}
-use Rattle.rt_machine.specs.Steps.{StandsFor}
-use Rattle.rt_machine.specs.Told.{Told, pushed_all}
-use Rattle.rt_machine.specs.Ends.{cleanup_by, cleanup_entries}
-use Rattle.rt_super.specs.Ancestry.{is_ended}
+use Rattle.rt_machine.proofs.Prelude.{◌≡◌, ◌⊎◌, inl, inr, ◌∙◌, sym, ap, ℕ, List, [], ◌∷◌, refl, true, false, Option, Some, None, IfSome, Bool, arith, nat_eq, list_any, Error, Call, Child, Refused, FinishCause, NoMemory, Completed, has_number, with_number, State, Phase, Over, Closing, reached, after, is_closing, running_called, cause_of, CallsAt, MayCall, MayClose, IsEndedNext, Seen, IsRefused, StandsFor, Told, pushed_all, cleanup_by, cleanup_entries, is_ended}
 
 pub list_any-number : (k : ℕ) (xs : List ℕ) → list_any (λ y. nat_eq y k) xs ≡ has_number k xs
 list_any-number k [] = refl
@@ -38,21 +20,8 @@ pub calls-same : (s t : State) (by : Option ℕ) → t.phase ≡ s.phase → t.r
 calls-same s t by p r n may = rw (p, r, n) may
 
 calls-at : (p : Phase) (root next other by : Option ℕ) → is_closing p ≡ false → CallsAt p root next by → CallsAt p root other by
-calls-at Making root next other by before may = may
-calls-at (Polling task left) root next other by before may = may
-calls-at (Ending task result left) root next other by before may = may
 calls-at (Closing cause) root next other by before may = absurd (cc)
-calls-at Blank root next other by before may = may
-calls-at Between root next other by before may = may
-calls-at (Visiting left) root next other by before may = may
-calls-at (Entered task left) root next other by before may = may
-calls-at (Halted task) root next other by before may = may
-calls-at (Leaving task result left) root next other by before may = may
-calls-at Turning root next other by before may = may
-calls-at (Over cause) root next other by before may = may
-calls-at (Cleaning cause) root next other by before may = may
-calls-at (Crashed cause) root next other by before may = may
-calls-at (Finished cause) root next other by before may = may
+calls-at _ root next other by before may = may
 
 -- or where no cleanup has begun
 pub calls-open : (s t : State) (by : Option ℕ) → t.phase ≡ s.phase → t.root ≡ s.root → is_closing s.phase ≡ false → MayCall s by → MayCall t by
@@ -60,29 +29,7 @@ calls-open s t by p r before may = rw (p, r) (calls-at s.phase s.root _ _ by bef
 
 running-refused : (ns : List ℕ) (call : Call) (error : Error) → running_called ns call (Refused error) ≡ ns
 running-refused ns (Child node label) error = refl
-running-refused ns (CloseNode node) error = refl
-running-refused ns (Spawn node) error = refl
-running-refused ns (Abort task) error = refl
-running-refused ns (AbortTask task) error = refl
-running-refused ns (Wake task) error = refl
-running-refused ns (Join task) error = refl
-running-refused ns (GiveUp task) error = refl
-running-refused ns (SleepPoll due) error = refl
-running-refused ns (Slots call) error = refl
-running-refused ns Signaler error = refl
-running-refused ns (CloneSignal signal) error = refl
-running-refused ns (Signal signaler value) error = refl
-running-refused ns (SignalPoll signal) error = refl
-running-refused ns (SignalClose signal) error = refl
-running-refused ns (SignalerClose signaler) error = refl
-running-refused ns (CompletionPoll completion) error = refl
-running-refused ns (CompletionClose completion) error = refl
-running-refused ns (Stop value) error = refl
-running-refused ns Stopped error = refl
-running-refused ns NextU32 error = refl
-running-refused ns NextU64 error = refl
-running-refused ns (FillBytes len) error = refl
-running-refused ns Auditor error = refl
+running-refused ns _ error = refl
 
 module _ (by : Option ℕ) (old new : Seen) (call : Call) (error : Error) where
   pub refused-phase : IsRefused by old new call error → new.told.state.phase ≡ old.told.state.phase
@@ -111,20 +58,12 @@ over-reached s cause e = rw e refl
 pub stands-closes : (s : State) (cause : FinishCause) → StandsFor s cause → MayClose s.phase
 stands-closes s NoMemory c = c.closes
 stands-closes s Completed c = absurd c
-stands-closes s Timeout c = c.0.closes
-stands-closes s Stalled c = c.0.closes
-stands-closes s TaskPanicked c = c.0.closes
-stands-closes s TimeOverflow c = c.0.closes
-stands-closes s TooManyTasks c = c.0.closes
+stands-closes s _ c = c.0.closes
 
 pub stands-reached : (s : State) (cause : FinishCause) → StandsFor s cause → (cause ≡ NoMemory) ⊎ (reached s ≡ Some cause)
 stands-reached s NoMemory c = inl refl
 stands-reached s Completed c = absurd c
-stands-reached s Timeout c = inr c.1
-stands-reached s Stalled c = inr c.1
-stands-reached s TaskPanicked c = inr c.1
-stands-reached s TimeOverflow c = inr c.1
-stands-reached s TooManyTasks c = inr c.1
+stands-reached s _ c = inr c.1
 
 -- nobody is ended next where nobody may call
 pub ended-none : (root next : Option ℕ) → IsEndedNext root next None → next ≡ None

@@ -1,7 +1,6 @@
 -- A node that is free stays so when a child of it is made.
-use Rattle.std.proofs.Common.{◌≡◌, ℕ, List, [], ◌∷◌, ◌++◌, refl, true, Bool, Option, Some, None, arith, find}
-use Rattle.rt_super.specs.Ancestry.{NodeState, TreeRecord, is_live, live_task, node_at, with_child}
-use Rattle.rt_model.specs.Rules.{is_free}
+use Rattle.rt_machine.proofs.Prelude.{◌≡◌, ℕ, List, [], ◌∷◌, ◌++◌, refl, true, Bool, Option, Some, None, arith, NodeState, TreeRecord, is_live, live_task, node_at, with_child, is_free}
+use Rattle.std.proofs.Common.{find}
 
 find-more : {V : Type 0} (p : V → Bool) (xs ys : List V) (x : V) → find p xs ≡ Some x → find p (xs ++ ys) ≡ Some x
 find-more p [] ys x h = cc

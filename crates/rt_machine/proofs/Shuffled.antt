@@ -1,29 +1,8 @@
 -- A shuffle, draw by draw.
-use Rattle.std.proofs.Common.{◌≡◌, ◌<◌, ◌≤◌, ◌+◌, ◌-◌, ◌%◌, ℕ, zero, suc, List, [], ◌∷◌, ◌++◌, refl, sym, ap, ◌∙◌, map, length, arith, append_assoc, length-append, Bool, false, Option, Result, Ok, Err, OnOk}
-use Rattle.std.proofs.lemmas.List.{append-nil, map-append}
-use Rattle.std.specs.List.{swap}
-use Rattle.std.proofs.lemmas.List.Edits.{length-swap}
-use Rattle.std.proofs.lemmas.List.Sorted.{length_permutation}
-use Rattle.rand_core.specs.Stream.{Stream, next_u32, next_u64, fill_bytes}
-use Rattle.rt_audit.specs.declared.entry.Entry.{Entry}
-use Rattle.rt_audit.specs.declared.entry.Entry.TheVariants.{Draw, Round}
+use Rattle.rt_machine.proofs.Prelude.{◌≡◌, ◌<◌, ◌≤◌, ◌+◌, ◌-◌, ◌%◌, ℕ, zero, suc, List, [], ◌∷◌, ◌++◌, refl, sym, ap, ◌∙◌, map, length, arith, append_assoc, length-append, Bool, false, Option, Result, Ok, Err, OnOk, map-append, swap, length-swap, length_permutation, Stream, next_u32, next_u64, fill_bytes, Draw, Round, AlarmList, TreeRecord, Begin, Mark, TaskResult, Rows, Drawn, Filled, shuffled_from, shuffled, State, Phase, Between, Turning, after, is_closing, May, MayRound, MayDraw, RoundNeeds, IsDrawn, shuffled-permutes, round-draws, Told, Journaled, pushed, pushed_all, Gave, Shuffles, Drains, Grouped, Labelled, Seen, Stands, visit_places}
+use Rattle.std.proofs.lemmas.List.{append-nil}
 use Rattle.rt_base.specs.declared.no_memory.NoMemory.{NoMemory}
-use Rattle.rt_super.specs.Alarms.{AlarmList}
-use Rattle.rt_super.specs.Ancestry.{TreeRecord}
-use Rattle.rt_model.specs.declared.begin.Begin.{Begin}
-use Rattle.rt_model.specs.declared.mark.Mark.{Mark}
-use Rattle.rt_model.specs.declared.result.TaskResult.{TaskResult}
-use Rattle.rt_model.specs.Rows.{Rows}
-use Rattle.rt_model.specs.Draws.{Drawn, Short, Long, Filled, shuffled_from, shuffled}
-use Rattle.rt_model.specs.State.{State, Phase, Between, Turning}
-use Rattle.rt_model.specs.Effects.{after, is_closing}
-use Rattle.rt_model.specs.Rules.{May, MayRound, MayDraw, RoundNeeds, IsDrawn}
-use Rattle.rt_model.proofs.Draws.{shuffled-permutes, round-draws}
-use Rattle.rt_machine.specs.Told.{Told, Journaled, pushed, pushed_all}
-use Rattle.rt_machine.specs.Draws.{Gave, Shuffles, Drains}
-use Rattle.rt_machine.specs.Groups.{Grouped}
-use Rattle.rt_machine.specs.Labels.{Labelled}
-use Rattle.rt_machine.specs.Places.{Seen, Stands, promised_by, visit_places}
+use Rattle.rt_model.specs.Draws.{Short, Long}
 use Rattle.rt_machine.proofs.Turning.{pushed-append, all-begin}
 
 pub gave-gave : (from mid left : Stream) (xs ys : List Drawn) → Gave from xs mid → Gave mid ys left → Gave from (xs ++ ys) left
@@ -142,9 +121,6 @@ module _ (from left : Stream) (j mid end : Journaled) (order : List ℕ) (same :
   shuffled-may kept e unowed may =
       rw (shuffled_state, e, sh.orders.is)
       (unowed, (round-drawn j.told.state.phase j.told.state sh.orders.draws _ may, shuffled-permutes j.told.state.ready sh.orders.draws))
-
-  pub shuffled-drawn : (kept : List ℕ) → kept ≡ order → IsDrawn end.told.state (Round kept)
-  shuffled-drawn kept e = rw (shuffled_state, e) (sh.orders.is, sh.orders.count)
 
   pub shuffled-drains : (new : Journaled) (kept : List ℕ) → kept ≡ order → new.told ≡ pushed end.told (Round kept) → Drains from left j.told new.told order
   shuffled-drains new kept e is =

@@ -1,15 +1,5 @@
 -- The places that marks and results hold, when one is changed.
-use Rattle.std.proofs.Common.{◌≡◌, ◌≤◌, ◌+◌, ℕ, List, [], ◌∷◌, refl, true, false, Bool, arith, is_some, length, if◌then◌else◌}
-use Rattle.rt_model.specs.declared.mark.Mark.{Mark}
-use Rattle.rt_model.specs.declared.result.TaskResult.{TaskResult}
-use Rattle.rt_model.specs.Lists.{find, without}
-use Rattle.rt_model.specs.Rows.{total}
-use Rattle.rt_model.specs.Marks.{flag, flag_all, leave, is_left}
-use Rattle.rt_model.specs.Results.{may_abort, with_abort}
-use Rattle.rt_machine.specs.Places.{ones, mark_places, result_places}
-use Rattle.rt_model.specs.Effects.{marks_ended}
-use Rattle.rt_parts.proofs.Totals.{settle-places, waits-places, join-places, more-places}
-use Rattle.rt_machine.specs.News.{is_new}
+use Rattle.rt_machine.proofs.Prelude.{◌≡◌, ◌≤◌, ◌+◌, ℕ, List, [], ◌∷◌, refl, true, false, Bool, arith, is_some, length, if◌then◌else◌, Mark, TaskResult, find, without, total, flag, flag_all, leave, is_left, may_abort, with_abort, ones, mark_places, result_places, marks_ended, settle-places, waits-places, join-places, more-places, is_new}
 
 pub flag-places : (k : ℕ) (ms : List (ℕ × Mark)) → total mark_places (flag k ms) + ones (is_left (find k ms)) ≡ total mark_places ms
 flag-places k [] = refl

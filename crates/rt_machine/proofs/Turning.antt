@@ -1,11 +1,5 @@
 -- Clock steps, one after another.
-use Rattle.std.proofs.Common.{◌≡◌, ◌<◌, ℕ, List, [], ◌∷◌, ◌++◌, refl, ◌∙◌, true, false, Some, None, arith, IsSome}
-use Rattle.rt_audit.specs.declared.entry.Entry.{Entry}
-use Rattle.rt_super.specs.Alarms.{Alarm}
-use Rattle.rt_model.specs.Lists.{is_nil}
-use Rattle.rt_model.specs.Alarms.{fires, ahead, skip_to}
-use Rattle.rt_machine.specs.Told.{Told, pushed, pushed_all, is_quiet, AreQuiet, Quietly}
-use Rattle.rt_machine.specs.Steps.{Turns}
+use Rattle.rt_machine.proofs.Prelude.{◌≡◌, ◌<◌, ℕ, List, [], ◌∷◌, ◌++◌, refl, ◌∙◌, true, false, Some, None, arith, IsSome, Entry, Alarm, is_nil, fires, ahead, skip_to, Told, pushed, pushed_all, is_quiet, AreQuiet, Quietly, Turns}
 
 pub pushed-append : (t : Told) (xs ys : List Entry) → pushed_all (pushed_all t xs) ys ≡ pushed_all t (xs ++ ys)
 pushed-append t [] ys = refl

@@ -1,17 +1,5 @@
 -- The end of a visit in its two parts.
-use Rattle.std.proofs.Common.{◌≡◌, ◌∙◌, ℕ, List, refl, ap, true, false, Option, Some, None, is_some, is_none, unwrap_or}
-use Rattle.rt_model.specs.declared.mark.Mark.{Mark}
-use Rattle.rt_model.specs.declared.result.Outcome.{Outcome}
-use Rattle.rt_model.specs.declared.result.Outcome.TheVariants.{Closed}
-use Rattle.rt_model.specs.declared.result.TaskResult.{TaskResult}
-use Rattle.rt_model.specs.Lists.{find}
-use Rattle.rt_model.specs.State.{Leaving}
-use Rattle.rt_model.specs.Marks.{is_ended_at}
-use Rattle.rt_model.specs.Results.{with_outcome}
-use Rattle.rt_model.specs.Effects.{left_of}
-use Rattle.rt_super.specs.Ancestry.{TreeRecord}
-use Rattle.rt_machine.specs.Places.{Seen}
-use Rattle.rt_machine.specs.Ends.{Left, Gone, Visited, ended_results}
+use Rattle.rt_machine.proofs.Prelude.{◌≡◌, ◌∙◌, ℕ, List, refl, ap, true, false, Option, Some, None, is_some, is_none, unwrap_or, Mark, Outcome, Closed, TaskResult, find, Leaving, is_ended_at, with_outcome, left_of, TreeRecord, Seen, Left, Gone, Visited, ended_results}
 use Rattle.rt_machine.proofs.Calm.{calmly-calmly}
 
 -- a task whose node hasn't ended has a mark

@@ -1,15 +1,7 @@
 -- What keeps a registry coherent.
-use Rattle.std.proofs.Common.{◌≡◌, ◌↔◌, ℕ, ◌+◌, ◌<◌, Bool, true, false, cond, ◌&&◌, List, [], ◌∷◌, Option, Some, None, is_some, refl, sym, ap, ◌∙◌, ◌⊎◌, inl, inr, arith}
-use Rattle.std.proofs.lemmas.Bool.{cases_Bool, and_parts, and_from, both_ways}
-use Rattle.std.specs.Prelude.{nat_eq}
-use Rattle.std.specs.Map.{lookup, set_value}
-use Rattle.std.specs.Option.{option_map_or}
+use Rattle.rt_metrics.proofs.Prelude.{◌≡◌, ◌↔◌, ℕ, ◌+◌, ◌<◌, Bool, true, false, cond, ◌&&◌, List, [], ◌∷◌, Option, Some, None, is_some, refl, sym, ap, ◌∙◌, ◌⊎◌, inl, inr, arith, cases_Bool, and_parts, and_from, both_ways, nat_eq, lookup, set_value, option_map_or, text_cmp, Kind, Pairs, same_pairs, FamilyState, MetricState, member_in, with_member, fresh_metric, Agree, IsMetricOf, is_key, ChangesOne}
 use Rattle.std.specs.BTreeMap as tree
-use Rattle.rt_base.specs.Attributes.{text_cmp}
 use Rattle.indexmap.specs.IndexMap as ordered
-use Rattle.rt_metrics.specs.declared.kind.Kind.{Kind}
-use Rattle.rt_metrics.specs.Registry.{Pairs, same_pairs, FamilyState, MetricState, member_in, with_member, fresh_metric}
-use Rattle.rt_metrics.specs.Coherence.{Agree, IsMetricOf, is_key, ChangesOne}
 use Rattle.rt_metrics.proofs.Lookups.{exact_texts, exact_numbers, exact_pairs, same_text, lookup_set, lookup_push, lookup_put}
 
 key_same : (name : List ℕ) (attributes : Pairs) → is_key name attributes name attributes ≡ true

@@ -1,8 +1,5 @@
 -- Characters that are written as they are.
-use Rattle.std.proofs.Common.{◌≡◌, ◌≢◌, ℕ, ◌≤◌, List, [], ◌∷◌, arith, refl, ◌+◌, ◌/◌, ◌%◌, Bool, true, false, cond}
-use lib.Utf8.{encode}
-use Rattle.std.proofs.lemmas.Bool.Decides.{nat_tests}
-use Rattle.rt_metrics.specs.MetricText.{escape, escaped}
+use Rattle.rt_metrics.proofs.Prelude.{◌≡◌, ◌≢◌, ℕ, ◌≤◌, List, [], ◌∷◌, arith, refl, ◌+◌, ◌/◌, ◌%◌, Bool, true, false, cond, encode, nat_tests, escape, escaped}
 
 escape_plain : (b : ℕ) → b ≢ 92 → b ≢ 34 → b ≢ 10 → escape b ≡ b ∷ []
 escape_plain b p q r = grind (arith, nat_tests, p, q, r)

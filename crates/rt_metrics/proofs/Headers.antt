@@ -1,8 +1,5 @@
 -- A header without a line under it.
-use Rattle.std.proofs.Common.{◌≡◌, ℕ, suc, ◌+◌, List, [], ◌∷◌, ◌++◌, length, take, refl, ap, ◌∙◌, arith}
-use Rattle.std.proofs.Math.Seq.{take-append_seam}
-use Rattle.std.proofs.lemmas.List.{length-append, append-nil}
-use Rattle.rt_metrics.specs.MetricText.{headed}
+use Rattle.rt_metrics.proofs.Prelude.{◌≡◌, ℕ, suc, ◌+◌, List, [], ◌∷◌, ◌++◌, length, take, refl, ap, ◌∙◌, arith, take-append_seam, length-append, append-nil, headed}
 
 -- a text that is no longer than with its header alone has no line after it, and is cut to what was before
 pub taken_back : (old head lines now : List ℕ) → now ≡ (old ++ head) ++ lines → length now ≡ length (old ++ head) → take (length old) now ≡ old ++ headed head lines

@@ -3,3 +3,4 @@ pub mod Escapes
 pub mod Headers
 pub mod Lookups
 pub mod Maps
+pub mod Prelude

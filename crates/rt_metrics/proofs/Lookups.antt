@@ -1,20 +1,7 @@
 -- What is found in a list of entries after a change, where the test of keys decides that they are equal.
-use Rattle.std.proofs.Common.{◌≡◌, ℕ, Bool, true, false, cond, ◌&&◌, List, [], ◌∷◌, Option, Some, is_some, refl, sym, ap, ◌∙◌, ◌⊎◌, inl, inr}
-use Rattle.std.proofs.lemmas.Bool.{cases_Bool, and_parts, and_from, both_ways, eqb-true, eq-eqb}
-use Rattle.std.proofs.lemmas.Slice.Eq.{slice_eq-Decides, bytes_eq-Decides}
-use Rattle.std.proofs.lemmas.Map.Text.{is_eq-slice_cmp}
-use Rattle.std.specs.Bool.{Decides}
-use Rattle.std.specs.Prelude.{nat_eq}
-use Rattle.std.specs.Cmp.Lexicographic.{pointwise}
-use Rattle.std.specs.Map.{lookup, set_value}
-use Rattle.std.specs.Ordering.{is_eq}
-use Rattle.std.specs.declared.cmp.Ordering.{Ordering}
-use Rattle.std.specs.declared.cmp.Ordering.TheVariants.{Less, Equal, Greater}
-use Rattle.std.specs.BTreeMap.{is_at}
+use Rattle.rt_metrics.proofs.Prelude.{◌≡◌, ℕ, Bool, true, false, cond, ◌&&◌, List, [], ◌∷◌, Option, Some, is_some, refl, sym, ap, ◌∙◌, ◌⊎◌, inl, inr, cases_Bool, and_parts, and_from, both_ways, eqb-true, eq-eqb, slice_eq-Decides, bytes_eq-Decides, is_eq-slice_cmp, Decides, nat_eq, pointwise, lookup, set_value, is_eq, Ordering, Less, Equal, Greater, is_at, text_cmp, same_pairs}
 use Rattle.std.specs.BTreeMap as tree
 use Rattle.indexmap.specs.IndexMap as ordered
-use Rattle.rt_base.specs.Attributes.{text_cmp}
-use Rattle.rt_metrics.specs.Registry.{same_pairs}
 
 -- a test of keys that decides whether they are equal
 pub record IsExact {K : Type 0} (eq : K → K → Bool) : Type 0 where

@@ -1,7 +1,5 @@
 -- Entries of a map.
-use Rattle.std.proofs.Common.{◌≡◌, Bool, List, [], ◌∷◌, arith, refl}
-use Rattle.std.proofs.lemmas.Grind.{common_steps}
-use Rattle.std.specs.Map.{set_value, remove_entry}
+use Rattle.rt_metrics.proofs.Prelude.{◌≡◌, Bool, List, [], ◌∷◌, arith, refl, common_steps, set_value, remove_entry}
 
 -- what is removed may have been written before
 pub remove_entry-set_value : {K X : Type 0} (test : K → Bool) (es : List (K × X)) (w : X) → remove_entry test (set_value test es w) ≡ remove_entry test es

@@ -8,7 +8,7 @@ use Rattle.rt_audit.specs.declared.reply.CallReply.{CallReply}
 use Rattle.rt_audit.specs.declared.slot_call.SlotCall.TheVariants.{Send, Poll}
 use Rattle.rt_audit.specs.declared.reply.CallReply.TheVariants.{Done, TaskAt}
 use Rattle.rt_model.specs.State.{Stood, Turn}
-use Rattle.rt_model.specs.Turns.{Ask, Plainly, Sleeping, Sending, Spawning, Held, Change, IsCounted, counted, Asks, IsPlain, IsPlainly, call_of, Frees, FreesOne, freed_by, heard_of, moved, moved_by}
+use Rattle.rt_model.specs.Turns.{Ask, Plainly, Sleeping, Sending, Spawning, Held, IsCounted, counted, Asks, IsPlain, IsPlainly, call_of, Frees, FreesOne, freed_by, heard_of, moved, moved_by}
 use Rattle.rt_model.specs.Walk.{Step, Does, Spends, Counts, Gives, Gave, Goes, Walks, Fronts, Lacks, Stops, then, stood_before}
 
 -- a call that spends a token, of which nothing is told
@@ -70,12 +70,6 @@ module _ {A L O R M Q : Type 0} (more : R → L → Step A M O Q) (s1 : Stood) (
   fronts-then s2 end [] (u ∷ us) held step e w k = gave-goes (λ held step. Fronts step held us end) u held step e w k
   fronts-then s2 end (t ∷ ts) us held step e w k =
       goes-then more (λ held step. Walks step held ts s1 r a mid) (λ held step. Fronts step held (ts ++ us) end) (λ held step w. fronts-then s2 end ts us held step e w k) held step t w
-
--- and so is a front of the first
-pub fronts-first : {A L O R M Q : Type 0} (more : R → L → Step A M O Q) (end : Held A O) (ts : List Turn) (held : Held A O) (step : Step A L O R) → Fronts step held ts end → Fronts (then step more) held ts end
-fronts-first more end [] held step w = w
-fronts-first more end (t ∷ ts) held step w =
-    goes-then more (λ held step. Fronts step held ts end) (λ held step. Fronts step held ts end) (λ held step w. fronts-first more end ts held step w) held step t w
 
 -- what follows from a step that lacks memory isn't reached
 lacks-then : {A L O R M Q : Type 0} (more : R → L → Step A M O Q) (stood : Stood) (step : Step A L O R) → Lacks stood step → Lacks stood (then step more)

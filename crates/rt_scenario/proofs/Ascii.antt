@@ -1,12 +1,4 @@
-use Rattle.std.proofs.Common.{◌≡◌, ℕ, zero, suc, ◌<◌, true, List, [], ◌∷◌, get_or, arith}
-use Rattle.std.proofs.lemmas.Bool.{and_parts}
-use Rattle.std.proofs.lemmas.Bool.Decides.{nat_tests}
-use Rattle.std.proofs.lemmas.Str.{IsUtf8-from_ascii}
-use Rattle.std.specs.Char.{is_ascii_alphabetic}
-use Rattle.std.specs.List.{list_all}
-use Rattle.std.specs.Str.{IsUtf8}
-use Rattle.rt_base.specs.Label.{is_label, is_word_byte}
-use Rattle.rt_scenario.specs.Scenario.{is_printable}
+use Rattle.rt_scenario.proofs.Prelude.{◌≡◌, ℕ, zero, suc, ◌<◌, true, List, [], ◌∷◌, get_or, arith, and_parts, nat_tests, IsUtf8-from_ascii, is_ascii_alphabetic, list_all, IsUtf8, is_label, is_word_byte, is_printable}
 
 word_byte_small : (b : ℕ) → is_word_byte b ≡ true → b < 128
 word_byte_small b h = grind (arith, nat_tests)

@@ -1,21 +1,6 @@
 -- Lines that are told by their bytes at once.
-use Rattle.std.proofs.Common.{◌≡◌, ℕ, ◌==◌, ◌≤◌, ◌++◌, true, false, List, [], ◌∷◌, length, drop, codes, refl, arith, nat_lt, Some, is_some, Bool, if◌then◌else◌, None, ◌^◌, Option, ℤ, sym, nat_le, suc, ap, ◌∙◌}
-use Rattle.std.specs.Borrow.{Bor}
-use Rattle.std.specs.Option.{IfSome, MatchOption}
-use Rattle.std.proofs.lemmas.Bool.{and_parts}
-use Rattle.std.proofs.lemmas.Bool.Decides.{nat_tests}
-use Rattle.std.proofs.lemmas.Slice.Eq.{HasBytesAt}
-use Rattle.std.specs.Char.{is_ascii_alphabetic, is_ascii_digit}
-use Rattle.std.specs.List.{list_all}
-use Rattle.std.specs.Str.Parse.{digits_value}
-use Rattle.std.specs.Cmp.Lexicographic.{same_text}
-use Rattle.rt_base.specs.Label.{is_label, is_word_byte}
-use Rattle.rt_scenario.specs.Lines.{onto_first, words_of}
-use Rattle.rt_scenario.specs.Numbers.{below, is_decimal, minus, number_of, plus, value_of}
-use Rattle.rt_scenario.specs.Scenario.{Draft, after_text, is_between, is_name, is_printable, script_at, script_row, spawned_row, step_row}
-use Rattle.rt_scenario.specs.Words.{is_text}
+use Rattle.rt_scenario.proofs.Prelude.{◌≡◌, ℕ, ◌==◌, ◌≤◌, ◌++◌, true, false, List, [], ◌∷◌, length, drop, codes, refl, arith, nat_lt, Some, is_some, Bool, if◌then◌else◌, None, ◌^◌, Option, ℤ, sym, nat_le, suc, ap, ◌∙◌, Bor, IfSome, MatchOption, and_parts, nat_tests, HasBytesAt, is_ascii_alphabetic, is_ascii_digit, list_all, digits_value, same_text, is_label, is_word_byte, onto_first, words_of, below, is_decimal, minus, number_of, plus, value_of, Draft, after_text, is_between, is_name, is_printable, script_at, script_row, spawned_row, step_row, is_text, Plain, Join}
 use Rattle.rt_scenario.specs.declared.line.Line.TheVariants as step
-use Rattle.rt_scenario.specs.declared.named_line.NamedLine.TheVariants.{Plain, Join}
 
 digit_printable : (d : ℕ) → is_ascii_digit d ≡ true → is_printable d ≡ true
 digit_printable d h = grind (arith, nat_tests)

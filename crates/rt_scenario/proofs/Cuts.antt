@@ -1,12 +1,4 @@
-use Rattle.std.proofs.Common.{◌≡◌, ℕ, zero, suc, ◌+◌, ◌<◌, List, [], ◌∷◌, true, false, ◌==◌, length, take, drop, get_or, refl, arith, add-one, ◌-◌, ◌≤◌, length-drop, if◌then◌else◌, Option, Some, None, is_some, codes, nat_lt}
-use Rattle.std.specs.Borrow.{Bor}
-use Rattle.std.proofs.lemmas.List.{take_all, drop_all}
-use Rattle.std.proofs.lemmas.Bool.Decides.{nat_tests}
-use Rattle.std.proofs.lemmas.Bool.{and_parts}
-use Rattle.std.specs.List.{list_all}
-use Rattle.rt_scenario.specs.Scenario.{is_printable, names_run}
-use Rattle.rt_scenario.specs.Words.{is_text}
-use Rattle.rt_scenario.specs.Lines.{lines_of, words_of, words_in, onto_first}
+use Rattle.rt_scenario.proofs.Prelude.{◌≡◌, ℕ, zero, suc, ◌+◌, ◌<◌, List, [], ◌∷◌, true, false, ◌==◌, length, take, drop, get_or, refl, arith, add-one, ◌-◌, ◌≤◌, length-drop, if◌then◌else◌, Option, Some, None, is_some, codes, nat_lt, Bor, take_all, drop_all, nat_tests, and_parts, list_all, is_printable, names_run, is_text, lines_of, words_of, words_in, onto_first}
 
 -- none of the first n bytes of the text is this one
 abbrev pub LacksByte : ℕ → List ℕ → ℕ → Type 0

@@ -1,26 +1,5 @@
 -- Names in the order of their first use, and in byte order.
-use Rattle.std.proofs.Common.{◌≡◌, ℕ, zero, suc, ◌+◌, ◌≤◌, ◌<◌, ◌==◌, Bool, true, false, ◌||◌, if◌then◌else◌, List, [], ◌∷◌, ◌++◌, length, map, drop, get_or, fold, refl, sym, ap, subst, ◌∙◌, true≢false, arith, slice_set, ◌≢◌}
-use Rattle.std.specs.declared.cmp.Ordering.{Ordering}
-use Rattle.std.specs.declared.cmp.Ordering.TheVariants.{Less, Equal, Greater}
-use Rattle.std.specs.BTreeSet.{BTreeSet, insert_key}
-use Rattle.std.specs.List.{All, AllByRecursion, IsDistinct, list_any}
-use Rattle.std.specs.List.Sorted.{IsPermutation, IsSorted, IsStrictlySortedBy}
-use Rattle.std.specs.Ordering.{is_eq, is_lt, nat_cmp, eq_by_cmp, ordering_then, match_ordering}
-use Rattle.std.specs.Str.{bytes_eq}
-use Rattle.std.specs.Cmp.Lexicographic.{nat_list_cmp_total, nat_list_eq_equiv, same_text}
-use Rattle.std.proofs.lemmas.Bool.Decides.{nat_tests}
-use Rattle.std.proofs.Math.Seq.{get_or-append_seam}
-use Rattle.std.proofs.lemmas.List.{append-nil, drop_all, ext_get_or, get_or-map, get_or-set_same, get_or-set_other, length-append, length-map}
-use Rattle.std.proofs.lemmas.List.Elements.{All-cons, All-tail}
-use Rattle.std.proofs.lemmas.List.Sorted.{All-permutation, IsPermutation-map, length_permutation, list_any-IsPermutation}
-use Rattle.std.proofs.lemmas.List.Sums.{fold_push}
-use Rattle.std.proofs.lemmas.Map.Keys.{IsDistinct-IsPermutation, apart_from_distinct, sorted_from_all_adjacent}
-use Rattle.std.proofs.lemmas.Map.Lookups.{btree_set_from_contains, exact_bytes}
-use Rattle.std.proofs.lemmas.Map.Text.{is_eq-slice_cmp}
-use Rattle.indexmap.specs.IndexSet.{insert_key as insert_last}
-use Rattle.rt_base.specs.Attributes.{text_cmp}
-use Rattle.rt_scenario.specs.Indexed.{in_order, numbered_from}
-use Rattle.rt_scenario.specs.Scripts.{place_of}
+use Rattle.rt_scenario.proofs.Prelude.{◌≡◌, ℕ, zero, suc, ◌+◌, ◌≤◌, ◌<◌, ◌==◌, Bool, true, false, ◌||◌, if◌then◌else◌, List, [], ◌∷◌, ◌++◌, length, map, drop, get_or, fold, refl, sym, ap, subst, ◌∙◌, true≢false, arith, slice_set, ◌≢◌, Ordering, Less, Equal, Greater, BTreeSet, insert_key, All, AllByRecursion, IsDistinct, list_any, IsPermutation, IsSorted, IsStrictlySortedBy, is_eq, is_lt, nat_cmp, eq_by_cmp, ordering_then, match_ordering, bytes_eq, nat_list_cmp_total, nat_list_eq_equiv, same_text, nat_tests, get_or-append_seam, append-nil, drop_all, ext_get_or, get_or-map, get_or-set_same, get_or-set_other, length-append, length-map, All-cons, All-tail, All-permutation, IsPermutation-map, length_permutation, list_any-IsPermutation, fold_push, IsDistinct-IsPermutation, apart_from_distinct, sorted_from_all_adjacent, btree_set_from_contains, exact_bytes, is_eq-slice_cmp, insert_last, text_cmp, in_order, numbered_from, place_of}
 use Rattle.rt_scenario.proofs.InOrder.{own_place}
 use Rattle.rt_scenario.proofs.Seen.{Has, has_own, has_kept, turned, same}
 

@@ -1,19 +1,6 @@
 -- Lines by the indices of their handles.
-use Rattle.std.proofs.Common.{◌≡◌, ℕ, ◌≤◌, ◌<◌, Bool, true, false, if◌then◌else◌, List, [], ◌∷◌, ◌++◌, length, fold, map, get_or, slice_index, Option, Some, None, refl, sym, ap, subst, ◌∙◌, arith}
-use Rattle.std.specs.List.{All, list_any}
-use Rattle.std.specs.Str.{bytes_eq}
-use Rattle.std.proofs.lemmas.List.{get_or_append_left, get_or-map, length_push, map_push}
-use Rattle.std.proofs.lemmas.List.Elements.{All-push, All-tail}
-use Rattle.std.proofs.lemmas.List.Sums.{fold_push}
-use Rattle.std.specs.BTreeSet.{insert_key}
-use Rattle.std.specs.List.Sorted.{IsStrictlySortedBy}
-use Rattle.rt_base.specs.Attributes.{text_cmp}
-use Rattle.rt_scenario.specs.Indexed.{HasIndex, in_order, name_at, named_by, placed_at, with_name}
-use Rattle.rt_scenario.specs.Scripts.{all_names, handle_of, handles_of, place_of, placed, with_handle, with_handles}
-use Rattle.rt_scenario.specs.declared.line.Line.{Line}
+use Rattle.rt_scenario.proofs.Prelude.{◌≡◌, ℕ, ◌≤◌, ◌<◌, Bool, true, false, if◌then◌else◌, List, [], ◌∷◌, ◌++◌, length, fold, map, get_or, slice_index, Option, Some, None, refl, sym, ap, subst, ◌∙◌, arith, All, list_any, bytes_eq, get_or_append_left, get_or-map, length_push, map_push, All-push, All-tail, fold_push, insert_key, IsStrictlySortedBy, text_cmp, HasIndex, in_order, name_at, named_by, placed_at, with_name, all_names, handle_of, handles_of, place_of, placed, with_handle, with_handles, Line, NamedLine, Spawn, Abort, Drop, Join, Within, Stopped, Wait}
 use Rattle.rt_scenario.specs.declared.line.Line.TheVariants as step
-use Rattle.rt_scenario.specs.declared.named_line.NamedLine.{NamedLine}
-use Rattle.rt_scenario.specs.declared.named_line.NamedLine.TheVariants.{Spawn, Abort, Drop, Join, Within, Stopped, Wait}
 use Rattle.rt_scenario.proofs.FirstUse.{in_order_more, key_first, none_sorted, sorted_with}
 
 -- the names that were there keep their indices
@@ -41,18 +28,7 @@ named_same names more h (step.Join index) inside = ap Join (h index inside)
 named_same names more h (step.Within index limit) inside = ap (λ n. Within n limit) (h index inside)
 named_same names more h (step.Stopped index) inside = ap Stopped (h index inside)
 named_same names more h (step.Wait index) inside = ap Wait (h index inside)
-named_same names more h (step.Panic word) inside = refl
-named_same names more h (step.Sleep time) inside = refl
-named_same names more h (step.Until time) inside = refl
-named_same names more h step.Yield inside = refl
-named_same names more h step.Draw inside = refl
-named_same names more h step.Pend inside = refl
-named_same names more h (step.End v) inside = refl
-named_same names more h step.EndLast inside = refl
-named_same names more h step.AbortSelf inside = refl
-named_same names more h (step.Select start past) inside = refl
-named_same names more h (step.Stop v) inside = refl
-named_same names more h (step.StopWithin v limit) inside = refl
+named_same names more h _ inside = refl
 
 -- the lines so far stay where a name more is taken in
 named_kept : (names : List (List ℕ)) (o : Option (List ℕ)) (lines : List Line) → All (HasIndex (length names)) lines → map (named_by (with_name names o)) lines ≡ map (named_by names) lines
@@ -70,18 +46,7 @@ index_more n m (step.Join index) h inside = omega (arith, h, inside)
 index_more n m (step.Within index limit) h inside = omega (arith, h, inside)
 index_more n m (step.Stopped index) h inside = omega (arith, h, inside)
 index_more n m (step.Wait index) h inside = omega (arith, h, inside)
-index_more n m (step.Panic word) h inside = tt
-index_more n m (step.Sleep time) h inside = tt
-index_more n m (step.Until time) h inside = tt
-index_more n m step.Yield h inside = tt
-index_more n m step.Draw h inside = tt
-index_more n m step.Pend h inside = tt
-index_more n m (step.End v) h inside = tt
-index_more n m step.EndLast h inside = tt
-index_more n m step.AbortSelf h inside = tt
-index_more n m (step.Select start past) h inside = tt
-index_more n m (step.Stop v) h inside = tt
-index_more n m (step.StopWithin v limit) h inside = tt
+index_more n m _ h inside = tt
 
 indices_more : (n m : ℕ) (lines : List Line) → n ≤ m → All (HasIndex n) lines → All (HasIndex m) lines
 indices_more n m lines h inside = λ k d low. index_more n m (get_or lines k d) h (inside k d low)
@@ -188,18 +153,7 @@ placed_one names order (step.Join index) inside = ap step.Join (get_or-map (plac
 placed_one names order (step.Within index limit) inside = ap (λ p. step.Within p limit) (get_or-map (place_of order) names index [] 0 inside)
 placed_one names order (step.Stopped index) inside = ap step.Stopped (get_or-map (place_of order) names index [] 0 inside)
 placed_one names order (step.Wait index) inside = ap step.Wait (get_or-map (place_of order) names index [] 0 inside)
-placed_one names order (step.Panic word) inside = refl
-placed_one names order (step.Sleep time) inside = refl
-placed_one names order (step.Until time) inside = refl
-placed_one names order step.Yield inside = refl
-placed_one names order step.Draw inside = refl
-placed_one names order step.Pend inside = refl
-placed_one names order (step.End v) inside = refl
-placed_one names order step.EndLast inside = refl
-placed_one names order step.AbortSelf inside = refl
-placed_one names order (step.Select start past) inside = refl
-placed_one names order (step.Stop v) inside = refl
-placed_one names order (step.StopWithin v limit) inside = refl
+placed_one names order _ inside = refl
 
 -- the places of the names give the lines their places
 pub placed_named : (names order : List (List ℕ)) (lines : List Line) → All (HasIndex (length names)) lines → map (placed_at (map (place_of order) names)) lines ≡ map (placed order) (map (named_by names) lines)
@@ -225,18 +179,7 @@ unplaced_line places (step.Join index) none inside = absurd (omega (arith, none,
 unplaced_line places (step.Within index limit) none inside = absurd (omega (arith, none, inside))
 unplaced_line places (step.Stopped index) none inside = absurd (omega (arith, none, inside))
 unplaced_line places (step.Wait index) none inside = absurd (omega (arith, none, inside))
-unplaced_line places (step.Panic word) none inside = refl
-unplaced_line places (step.Sleep time) none inside = refl
-unplaced_line places (step.Until time) none inside = refl
-unplaced_line places step.Yield none inside = refl
-unplaced_line places step.Draw none inside = refl
-unplaced_line places step.Pend none inside = refl
-unplaced_line places (step.End v) none inside = refl
-unplaced_line places step.EndLast none inside = refl
-unplaced_line places step.AbortSelf none inside = refl
-unplaced_line places (step.Select start past) none inside = refl
-unplaced_line places (step.Stop v) none inside = refl
-unplaced_line places (step.StopWithin v limit) none inside = refl
+unplaced_line places _ none inside = refl
 
 pub unplaced : (places : List ℕ) (lines : List Line) → length places ≡ 0 → All (HasIndex (length places)) lines → map (placed_at places) lines ≡ lines
 unplaced places [] none inside = refl

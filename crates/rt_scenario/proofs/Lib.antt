@@ -12,3 +12,4 @@ pub mod Spaces
 pub mod Spans
 pub mod Texts
 pub mod Totals
+pub mod Prelude

@@ -1,23 +1,6 @@
 -- A handle in the lines of a script has a place among its handles.
-use Rattle.std.proofs.Common.{◌≡◌, ℕ, suc, ◌+◌, ◌≤◌, ◌<◌, Bool, true, false, cond, List, [], ◌∷◌, ◌++◌, length, fold, map, get_or, Option, Some, None, refl, sym, subst, arith}
-use Rattle.std.specs.List.{All, filter}
-use Rattle.std.specs.Option.{IfSome}
-use Rattle.std.specs.Ordering.{is_lt, ordering_reverse, match_ordering}
-use Rattle.std.specs.declared.cmp.Ordering.{Ordering}
-use Rattle.std.specs.declared.cmp.Ordering.TheVariants.{Less, Equal, Greater}
-use Rattle.std.specs.BTreeSet.{insert_key}
-use Rattle.std.specs.Cmp.Lexicographic.{nat_list_cmp_total}
-use Rattle.std.proofs.lemmas.List.{length_push, length-append, length-map}
-use Rattle.std.proofs.lemmas.List.Elements.{All-cons, All-map, All-push}
-use Rattle.rt_base.specs.Attributes.{text_cmp}
-use Rattle.rt_scenario.specs.Scenario.{with_line, with_panic, with_select}
-use Rattle.rt_scenario.specs.Scripts.{Begun, closed_script, handle_of, handles_of, names_of, place_of, placed, with_handle, with_handles}
-use Rattle.rt_scenario.specs.Within.{IsWithin, HasPlaces, HavePlaces, IsClear, IsFree, IsNamed, IsBegun}
-use Rattle.rt_scenario.specs.declared.line.Line.{Line}
+use Rattle.rt_scenario.proofs.Prelude.{◌≡◌, ℕ, suc, ◌+◌, ◌≤◌, ◌<◌, Bool, true, false, cond, List, [], ◌∷◌, ◌++◌, length, fold, map, get_or, Option, Some, None, refl, sym, subst, arith, All, filter, IfSome, is_lt, ordering_reverse, match_ordering, Ordering, Less, Equal, Greater, insert_key, nat_list_cmp_total, length_push, length-append, length-map, All-cons, All-map, All-push, text_cmp, with_line, with_panic, with_select, Begun, closed_script, handle_of, handles_of, names_of, place_of, placed, with_handle, with_handles, IsWithin, HasPlaces, HavePlaces, IsClear, IsFree, IsNamed, IsBegun, Line, NamedLine, Plain, Spawn, Abort, Drop, Join, Within, Stopped, Wait, ScriptText}
 use Rattle.rt_scenario.specs.declared.line.Line.TheVariants as step
-use Rattle.rt_scenario.specs.declared.named_line.NamedLine.{NamedLine}
-use Rattle.rt_scenario.specs.declared.named_line.NamedLine.TheVariants.{Plain, Spawn, Abort, Drop, Join, Within, Stopped, Wait}
-use Rattle.rt_scenario.specs.declared.scenario.ScriptText.{ScriptText}
 
 abbrev Lies : List (List ℕ) → List ℕ → Type 0
 Lies names name = place_of names name < length names
@@ -119,16 +102,6 @@ placed_one scripts s (Plain (step.Within handle limit)) named lies chosen = absu
 placed_one scripts s (Plain (step.Select start past)) named lies chosen = (named.0, named.1, chosen)
 placed_one scripts s (Plain (step.Stopped signal)) named lies chosen = absurd named
 placed_one scripts s (Plain (step.Wait signal)) named lies chosen = absurd named
-placed_one scripts s (Plain (step.Sleep n)) named lies chosen = tt
-placed_one scripts s (Plain (step.Until n)) named lies chosen = tt
-placed_one scripts s (Plain step.Yield) named lies chosen = tt
-placed_one scripts s (Plain step.Draw) named lies chosen = tt
-placed_one scripts s (Plain step.Pend) named lies chosen = tt
-placed_one scripts s (Plain (step.End v)) named lies chosen = tt
-placed_one scripts s (Plain step.EndLast) named lies chosen = tt
-placed_one scripts s (Plain (step.Stop v)) named lies chosen = tt
-placed_one scripts s (Plain (step.StopWithin v limit)) named lies chosen = tt
-placed_one scripts s (Plain step.AbortSelf) named lies chosen = tt
 placed_one scripts s (Spawn handle script) named lies chosen = (lies, named)
 placed_one scripts s (Abort handle) named lies chosen = lies
 placed_one scripts s (Drop handle) named lies chosen = lies
@@ -136,6 +109,7 @@ placed_one scripts s (Join handle) named lies chosen = lies
 placed_one scripts s (Within handle limit) named lies chosen = lies
 placed_one scripts s (Stopped signal) named lies chosen = lies
 placed_one scripts s (Wait signal) named lies chosen = lies
+placed_one scripts s _ named lies chosen = tt
 
 -- a script that is closed has the places that its lines hold
 pub closed_has : (scripts : ℕ) (s : Begun) → IsBegun scripts s → HasPlaces scripts (closed_script s)
@@ -161,16 +135,7 @@ within_more n s (step.Within handle limit) h = h
 within_more n s (step.Select start past) h = h
 within_more n s (step.Stopped signal) h = h
 within_more n s (step.Wait signal) h = h
-within_more n s (step.Sleep d) h = tt
-within_more n s (step.Until d) h = tt
-within_more n s step.Yield h = tt
-within_more n s step.Draw h = tt
-within_more n s step.Pend h = tt
-within_more n s (step.End v) h = tt
-within_more n s step.EndLast h = tt
-within_more n s (step.Stop v) h = tt
-within_more n s (step.StopWithin v limit) h = tt
-within_more n s step.AbortSelf h = tt
+within_more n s _ h = tt
 
 has_more : (n : ℕ) (s : ScriptText) → HasPlaces n s → HasPlaces (n + 1) s
 has_more n s h k d inside = within_more n s (get_or s.lines k d) (h k d inside)
@@ -191,23 +156,8 @@ free_named scripts words choices (Plain (step.Within handle limit)) h = absurd h
 free_named scripts words choices (Plain (step.Select start past)) h = absurd h
 free_named scripts words choices (Plain (step.Stopped signal)) h = absurd h
 free_named scripts words choices (Plain (step.Wait signal)) h = absurd h
-free_named scripts words choices (Plain (step.Sleep n)) h = tt
-free_named scripts words choices (Plain (step.Until n)) h = tt
-free_named scripts words choices (Plain step.Yield) h = tt
-free_named scripts words choices (Plain step.Draw) h = tt
-free_named scripts words choices (Plain step.Pend) h = tt
-free_named scripts words choices (Plain (step.End v)) h = tt
-free_named scripts words choices (Plain step.EndLast) h = tt
-free_named scripts words choices (Plain (step.Stop v)) h = tt
-free_named scripts words choices (Plain (step.StopWithin v limit)) h = tt
-free_named scripts words choices (Plain step.AbortSelf) h = tt
 free_named scripts words choices (Spawn handle script) h = h
-free_named scripts words choices (Abort handle) h = tt
-free_named scripts words choices (Drop handle) h = tt
-free_named scripts words choices (Join handle) h = tt
-free_named scripts words choices (Within handle limit) h = tt
-free_named scripts words choices (Stopped signal) h = tt
-free_named scripts words choices (Wait signal) h = tt
+free_named scripts words choices _ h = tt
 
 -- a free line is clear
 pub free_clear : (scripts : ℕ) (line : NamedLine (List ℕ)) → IsFree scripts line → IsClear line
@@ -218,25 +168,7 @@ free_clear scripts (Plain (step.Join handle)) h = absurd h
 free_clear scripts (Plain (step.Within handle limit)) h = absurd h
 free_clear scripts (Plain (step.Stopped signal)) h = absurd h
 free_clear scripts (Plain (step.Wait signal)) h = absurd h
-free_clear scripts (Plain (step.Panic word)) h = tt
-free_clear scripts (Plain (step.Sleep n)) h = tt
-free_clear scripts (Plain (step.Until n)) h = tt
-free_clear scripts (Plain step.Yield) h = tt
-free_clear scripts (Plain step.Draw) h = tt
-free_clear scripts (Plain step.Pend) h = tt
-free_clear scripts (Plain (step.End v)) h = tt
-free_clear scripts (Plain step.EndLast) h = tt
-free_clear scripts (Plain step.AbortSelf) h = tt
-free_clear scripts (Plain (step.Select start past)) h = tt
-free_clear scripts (Plain (step.Stop v)) h = tt
-free_clear scripts (Plain (step.StopWithin v limit)) h = tt
-free_clear scripts (Spawn handle script) h = tt
-free_clear scripts (Abort handle) h = tt
-free_clear scripts (Drop handle) h = tt
-free_clear scripts (Join handle) h = tt
-free_clear scripts (Within handle limit) h = tt
-free_clear scripts (Stopped signal) h = tt
-free_clear scripts (Wait signal) h = tt
+free_clear scripts _ h = tt
 
 -- a line more
 pub begun_line : (scripts : ℕ) (s : Begun) (line : NamedLine (List ℕ)) → IsBegun scripts s → IsFree scripts line → IsBegun scripts (with_line line s)
@@ -252,23 +184,8 @@ named_more scripts words choices (Plain (step.Within handle limit)) h = absurd h
 named_more scripts words choices (Plain (step.Select start past)) h = h
 named_more scripts words choices (Plain (step.Stopped signal)) h = absurd h
 named_more scripts words choices (Plain (step.Wait signal)) h = absurd h
-named_more scripts words choices (Plain (step.Sleep n)) h = tt
-named_more scripts words choices (Plain (step.Until n)) h = tt
-named_more scripts words choices (Plain step.Yield) h = tt
-named_more scripts words choices (Plain step.Draw) h = tt
-named_more scripts words choices (Plain step.Pend) h = tt
-named_more scripts words choices (Plain (step.End v)) h = tt
-named_more scripts words choices (Plain step.EndLast) h = tt
-named_more scripts words choices (Plain (step.Stop v)) h = tt
-named_more scripts words choices (Plain (step.StopWithin v limit)) h = tt
-named_more scripts words choices (Plain step.AbortSelf) h = tt
 named_more scripts words choices (Spawn handle script) h = h
-named_more scripts words choices (Abort handle) h = tt
-named_more scripts words choices (Drop handle) h = tt
-named_more scripts words choices (Join handle) h = tt
-named_more scripts words choices (Within handle limit) h = tt
-named_more scripts words choices (Stopped signal) h = tt
-named_more scripts words choices (Wait signal) h = tt
+named_more scripts words choices _ h = tt
 
 -- a panic more, and its word
 pub begun_panic : (scripts : ℕ) (s : Begun) (word : List ℕ) → IsBegun scripts s → IsBegun scripts (with_panic word s)
@@ -286,23 +203,8 @@ chosen_more scripts words choices more (Plain (step.Within handle limit)) h = ab
 chosen_more scripts words choices more (Plain (step.Select start past)) h = (h.0, omega (arith, h.1))
 chosen_more scripts words choices more (Plain (step.Stopped signal)) h = absurd h
 chosen_more scripts words choices more (Plain (step.Wait signal)) h = absurd h
-chosen_more scripts words choices more (Plain (step.Sleep n)) h = tt
-chosen_more scripts words choices more (Plain (step.Until n)) h = tt
-chosen_more scripts words choices more (Plain step.Yield) h = tt
-chosen_more scripts words choices more (Plain step.Draw) h = tt
-chosen_more scripts words choices more (Plain step.Pend) h = tt
-chosen_more scripts words choices more (Plain (step.End v)) h = tt
-chosen_more scripts words choices more (Plain step.EndLast) h = tt
-chosen_more scripts words choices more (Plain (step.Stop v)) h = tt
-chosen_more scripts words choices more (Plain (step.StopWithin v limit)) h = tt
-chosen_more scripts words choices more (Plain step.AbortSelf) h = tt
 chosen_more scripts words choices more (Spawn handle script) h = h
-chosen_more scripts words choices more (Abort handle) h = tt
-chosen_more scripts words choices more (Drop handle) h = tt
-chosen_more scripts words choices more (Join handle) h = tt
-chosen_more scripts words choices more (Within handle limit) h = tt
-chosen_more scripts words choices more (Stopped signal) h = tt
-chosen_more scripts words choices more (Wait signal) h = tt
+chosen_more scripts words choices more _ h = tt
 
 -- a choice more, of one name at least
 pub begun_select : (scripts : ℕ) (s : Begun) (names : List (List ℕ)) → 0 < length names → IsBegun scripts s → IsBegun scripts (with_select names s)

@@ -1,20 +1,5 @@
-use Rattle.std.proofs.Common.{◌≡◌, ℕ, suc, ◌+◌, ◌<◌, Bool, true, false, not, ◌||◌, nat_lt, cond, if◌then◌else◌, List, [], ◌∷◌, ◌++◌, length, map, position, Option, Some, None, is_some, is_none, ◌&&◌, ◌==◌, Err, refl, sym, ap, subst, ◌∙◌, arith, add-one, one-add}
-use Rattle.std.specs.List.{All, list_any, position_or_len}
-use Rattle.std.proofs.lemmas.Bool.Decides.{nat_tests}
-use Rattle.std.proofs.lemmas.List.{length_push, map-append}
-use Rattle.std.proofs.lemmas.List.Elements.{All-cons, All-head}
-use Rattle.std.specs.Option.{option_map}
-use Rattle.rt_scenario.specs.Words.{is_text}
-use Rattle.rt_scenario.specs.Scenario.{Draft, CanRun, CanRunLine, is_placed, is_runnable, script_at, scripts_at, onto_places, row, select_row}
-use Rattle.std.specs.Cmp.Lexicographic.{nat_list_eq_equiv}
-use Rattle.indexmap.specs.IndexSet.{insert_key as insert_last}
-use Rattle.rt_scenario.specs.Answers.{IsBare, IsSetting}
+use Rattle.rt_scenario.proofs.Prelude.{◌≡◌, ℕ, suc, ◌+◌, ◌<◌, Bool, true, false, not, ◌||◌, nat_lt, cond, if◌then◌else◌, List, [], ◌∷◌, ◌++◌, length, map, position, Option, Some, None, is_some, is_none, ◌&&◌, ◌==◌, Err, refl, sym, ap, subst, ◌∙◌, arith, add-one, one-add, All, list_any, position_or_len, nat_tests, length_push, map-append, All-cons, All-head, option_map, is_text, Draft, CanRun, CanRunLine, is_placed, is_runnable, script_at, scripts_at, onto_places, row, select_row, nat_list_eq_equiv, insert_last, IsBare, IsSetting, RunLine, ScriptText, Settings, Word, Seed, Next, Cycle, Start, Timeout, Catch, Yield, Draw, Pend, Select, Done}
 use Rattle.rt_scenario.specs.declared.kind.Kind.TheVariants as kind
-use Rattle.rt_scenario.specs.declared.scenario.RunLine.{RunLine}
-use Rattle.rt_scenario.specs.declared.scenario.ScriptText.{ScriptText}
-use Rattle.rt_scenario.specs.declared.scenario.Settings.{Settings}
-use Rattle.rt_scenario.specs.declared.word.Word.{Word}
-use Rattle.rt_scenario.specs.declared.word.Word.TheVariants.{Seed, Next, Cycle, Start, Timeout, Catch, Script, Sleep, Until, Yield, Draw, Pend, End, Panic, Spawn, Abort, Drop, Join, Within, Select, Stopped, Wait, Stop, Done, Run}
 
 -- a word more than there may be
 pub bare_count : (d : Draft) (word : Word) (ws : List (List ℕ)) → IsBare word → 0 < length ws → row d word ws ≡ Err kind.Count
@@ -23,27 +8,7 @@ bare_count d Yield (w ∷ ws) bare some = refl
 bare_count d Draw (w ∷ ws) bare some = refl
 bare_count d Pend (w ∷ ws) bare some = refl
 bare_count d Done (w ∷ ws) bare some = refl
-bare_count d Seed (w ∷ ws) bare some = absurd bare
-bare_count d Next (w ∷ ws) bare some = absurd bare
-bare_count d Cycle (w ∷ ws) bare some = absurd bare
-bare_count d Start (w ∷ ws) bare some = absurd bare
-bare_count d Timeout (w ∷ ws) bare some = absurd bare
-bare_count d Script (w ∷ ws) bare some = absurd bare
-bare_count d Sleep (w ∷ ws) bare some = absurd bare
-bare_count d End (w ∷ ws) bare some = absurd bare
-bare_count d Catch (w ∷ ws) bare some = absurd bare
-bare_count d Until (w ∷ ws) bare some = absurd bare
-bare_count d Panic (w ∷ ws) bare some = absurd bare
-bare_count d Spawn (w ∷ ws) bare some = absurd bare
-bare_count d Abort (w ∷ ws) bare some = absurd bare
-bare_count d Drop (w ∷ ws) bare some = absurd bare
-bare_count d Join (w ∷ ws) bare some = absurd bare
-bare_count d Within (w ∷ ws) bare some = absurd bare
-bare_count d Select (w ∷ ws) bare some = absurd bare
-bare_count d Stopped (w ∷ ws) bare some = absurd bare
-bare_count d Wait (w ∷ ws) bare some = absurd bare
-bare_count d Stop (w ∷ ws) bare some = absurd bare
-bare_count d Run (w ∷ ws) bare some = absurd bare
+bare_count d _ (w ∷ ws) bare some = absurd bare
 
 -- a choice among some
 pub select_some : (d : Draft) (ws : List (List ℕ)) → 0 < length ws → row d Select ws ≡ select_row d ws

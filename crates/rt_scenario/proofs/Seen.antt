@@ -1,12 +1,5 @@
 -- Names that are taken in often.
-use Rattle.std.proofs.Common.{◌≡◌, ℕ, List, [], ◌∷◌, length, refl, sym, ap, ◌∙◌, arith}
-use Rattle.std.specs.declared.cmp.Ordering.{Ordering}
-use Rattle.std.specs.declared.cmp.Ordering.TheVariants.{Less, Equal, Greater}
-use Rattle.std.specs.BTreeSet.{insert_key}
-use Rattle.std.specs.Ordering.{is_eq, ordering_reverse, match_ordering}
-use Rattle.std.specs.Cmp.Lexicographic.{nat_list_cmp_total, same_text}
-use Rattle.std.proofs.lemmas.Map.Text.{is_eq-slice_cmp}
-use Rattle.rt_base.specs.Attributes.{text_cmp}
+use Rattle.rt_scenario.proofs.Prelude.{◌≡◌, ℕ, List, [], ◌∷◌, length, refl, sym, ap, ◌∙◌, arith, Ordering, Less, Equal, Greater, insert_key, is_eq, ordering_reverse, match_ordering, nat_list_cmp_total, same_text, is_eq-slice_cmp, text_cmp}
 
 -- the name is there: to take it in changes nothing
 abbrev pub Has : List (List ℕ) → List ℕ → Type 0

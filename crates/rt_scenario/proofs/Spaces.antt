@@ -1,8 +1,5 @@
 -- Stray spaces, by one pass over a text.
-use Rattle.std.proofs.Common.{◌≡◌, ℕ, ◌==◌, ◌||◌, ◌&&◌, ◌∙◌, Bool, true, false, List, [], ◌∷◌, length, refl, arith, if◌then◌else◌}
-use Rattle.std.proofs.lemmas.Bool.Decides.{nat_tests}
-use Rattle.std.specs.List.{list_any}
-use Rattle.rt_scenario.specs.Lines.{words_of, onto_first}
+use Rattle.rt_scenario.proofs.Prelude.{◌≡◌, ℕ, ◌==◌, ◌||◌, ◌&&◌, ◌∙◌, Bool, true, false, List, [], ◌∷◌, length, refl, arith, if◌then◌else◌, nat_tests, list_any, words_of, onto_first}
 
 -- a space stands where a word would begin, from here on, or the text ends there
 abbrev pub stray_from : Bool → List ℕ → Bool

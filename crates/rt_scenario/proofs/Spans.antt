@@ -1,9 +1,6 @@
 -- Lists that stand in one block keep their items as others come behind them.
-use Rattle.std.proofs.Common.{◌≡◌, ℕ, List, ◌++◌, ◌∷◌, [], ◌<◌, length, map, get_or, slice_range, refl, ap₂, arith}
-use Rattle.std.proofs.lemmas.List.{drop-append-le, drop_at, get_or-map, length-append, length-drop, map-append, take-append-le, take_all}
-use Rattle.std.proofs.lemmas.List.Elements.{All-get_or, All-head, All-push, All-tail, All-weaker}
-use Rattle.std.specs.List.{All}
-use Rattle.rt_scenario.specs.Lists.{IsSpan}
+use Rattle.rt_scenario.proofs.Prelude.{◌≡◌, ℕ, List, ◌++◌, ◌∷◌, [], ◌<◌, length, map, get_or, slice_range, refl, ap₂, arith, drop-append-le, drop_at, get_or-map, length-append, map-append, take-append-le, take_all, All-get_or, All-head, All-push, All-tail, All-weaker, All, IsSpan}
+use Rattle.std.proofs.lemmas.List.{length-drop}
 
 module _ {V : Type 0} where
   pub span_within : (items : List V) (spans : List (ℕ × ℕ)) (k : ℕ) (d : ℕ × ℕ) → All (IsSpan items) spans → k < length spans → IsSpan items (get_or spans k d)

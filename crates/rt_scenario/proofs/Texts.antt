@@ -1,8 +1,5 @@
 -- Scripts whose lines stand apart.
-use Rattle.std.proofs.Common.{◌≡◌, ℕ, zero, suc, List, [], ◌∷◌, ◌++◌, ◌<◌, length, slice_index_or, refl, ap, arith}
-use Rattle.rt_scenario.specs.Texts.{text_at, whole, wholes}
-use Rattle.rt_scenario.specs.declared.line.Line.{Line}
-use Rattle.rt_scenario.specs.declared.script_texts.Parts.{Parts}
+use Rattle.rt_scenario.proofs.Prelude.{◌≡◌, ℕ, zero, suc, List, [], ◌∷◌, ◌++◌, ◌<◌, length, slice_index_or, refl, ap, arith, text_at, whole, wholes, Line, Parts}
 
 pub length-wholes : (parts : List Parts) (lines : List (List Line)) → length (wholes parts lines) ≡ length parts
 length-wholes [] lines = refl

@@ -1,10 +1,5 @@
 -- Numbers of tasks, where those past 64 bits are all kept as one.
-use Rattle.std.proofs.Common.{◌≡◌, ℕ, zero, suc, ◌+◌, ◌-◌, ◌^◌, ◌<◌, List, [], ◌∷◌, ◌++◌, map, min, slice_index, nat_lt, refl, sym, ap, ◌∙◌, arith}
-use Rattle.std.proofs.lemmas.Bool.Decides.{nat_tests}
-use Rattle.std.proofs.lemmas.List.{map_push}
-use Rattle.rt_scenario.specs.Scripts.{tasks_at, tasks_after, tasks_of, spawned_in}
-use Rattle.rt_scenario.specs.Capped.{capped, capped_tasks}
-use Rattle.rt_scenario.specs.declared.scenario.ScriptText.{ScriptText}
+use Rattle.rt_scenario.proofs.Prelude.{◌≡◌, ℕ, zero, suc, ◌+◌, ◌-◌, ◌^◌, ◌<◌, List, [], ◌∷◌, ◌++◌, map, min, slice_index, nat_lt, refl, sym, ap, ◌∙◌, arith, nat_tests, map_push, tasks_at, tasks_after, tasks_of, spawned_in, capped, capped_tasks, ScriptText}
 
 pub capped_small : (n : ℕ) → n < 2 ^ 64 → capped n ≡ n
 capped_small n h = grind (arith, nat_tests)

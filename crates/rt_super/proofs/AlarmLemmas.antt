@@ -1,19 +1,5 @@
 -- Alarms in the order of (due, number).
-use Rattle.std.proofs.Common.{◌≡◌, ℕ, zero, suc, ◌<◌, Bool, true, false, cond, ◌||◌, ◌&&◌, eqb, ltb, leb, List, [], ◌∷◌, ◌++◌, length, map, refl, sym, ap, ◌∙◌, arith, Option, Some, None}
-use Rattle.std.specs.List.{AllByRecursion, All, slice_get}
-use Rattle.std.specs.List.Sorted.{IsStrictlySortedBy}
-use Rattle.std.specs.Option.{option_map, is_some}
-use Rattle.std.specs.Ordering.{nat_cmp, ordering_then, match_ordering, is_eq}
-use Rattle.std.specs.Cmp.{nat_cmp_is}
-use Rattle.std.specs.declared.cmp.Ordering.{Ordering}
-use Rattle.std.specs.declared.cmp.Ordering.TheVariants.{Less, Equal, Greater}
-use Rattle.std.specs.BTreeMap.{insert_entry, is_at}
-use Rattle.std.specs.Map.{set_value, keys_of, lookup}
-use Rattle.std.proofs.lemmas.Bool.Decides.{nat_tests}
-use Rattle.rt_super.specs.Wakers.{waker_of}
-use Rattle.rt_super.specs.Alarms.{Alarm, is_before, AreInOrder, AreOnce, with_alarm, alarm_at, first_due, due_first, waking}
-use Rattle.rt_super.specs.AlarmsInside.{alarm_of, alarms_of}
-use Rattle.rt_super.specs.AlarmQueue.{key_cmp}
+use Rattle.rt_super.proofs.Prelude.{◌≡◌, ℕ, zero, suc, ◌<◌, Bool, true, false, cond, ◌||◌, ◌&&◌, eqb, ltb, leb, List, [], ◌∷◌, ◌++◌, length, map, refl, sym, ap, ◌∙◌, arith, Option, Some, None, AllByRecursion, All, slice_get, IsStrictlySortedBy, option_map, is_some, nat_cmp, ordering_then, match_ordering, is_eq, nat_cmp_is, Ordering, Less, Equal, Greater, insert_entry, is_at, set_value, keys_of, lookup, nat_tests, waker_of, Alarm, is_before, AreInOrder, AreOnce, with_alarm, alarm_at, first_due, due_first, waking, alarm_of, alarms_of, key_cmp}
 
 -- order
 

@@ -1,11 +1,5 @@
 -- What stands below a place.
-use Rattle.std.proofs.Common.{◌≡◌, ◌≢◌, ℕ, zero, suc, ◌+◌, ◌<◌, ◌≤◌, Bool, true, false, cond, ◌||◌, eqb, List, [], ◌∷◌, ◌++◌, length, drop, refl, sym, ◌∙◌, subst, arith, Option, Some, None}
-use Rattle.std.specs.List.{flat_map, slice_get, AllByRecursion}
-use Rattle.std.proofs.lemmas.List.Folds.{list_any-append}
-use Rattle.std.proofs.lemmas.Bool.Decides.{nat_tests}
-use Rattle.rt_super.specs.Ancestry.{is_child, nodes_below, stands_in}
-use Rattle.rt_super.specs.Inside.{placed}
-use Rattle.rt_super.specs.Inside.{children_from, IsOlder, AreOlder, IsClosed}
+use Rattle.rt_super.proofs.Prelude.{◌≡◌, ◌≢◌, ℕ, zero, suc, ◌+◌, ◌<◌, ◌≤◌, Bool, true, false, cond, ◌||◌, eqb, List, [], ◌∷◌, ◌++◌, length, drop, refl, sym, ◌∙◌, subst, arith, Option, Some, None, flat_map, slice_get, AllByRecursion, list_any-append, nat_tests, is_child, nodes_below, stands_in, placed, children_from, IsOlder, AreOlder, IsClosed}
 
 -- what stands below a, among the places from i on
 abbrev pub below : ℕ → ℕ → List (Option ℕ) → List ℕ

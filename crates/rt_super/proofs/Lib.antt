@@ -8,3 +8,4 @@ pub mod Rows
 pub mod TokenLemmas
 pub mod Shutdowns
 pub mod Waits
+pub mod Prelude

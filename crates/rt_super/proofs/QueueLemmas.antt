@@ -1,15 +1,6 @@
 -- Alarms of which the first stands beside the others.
-use Rattle.std.proofs.Common.{◌≡◌, ℕ, ◌<◌, Bool, true, false, List, [], ◌∷◌, length, refl, ap, ◌∙◌, arith, Option, Some, None, IfSome, IfNone, IsSome}
-use Rattle.std.specs.BTreeMap.{insert_entry}
-use Rattle.std.specs.Cmp.{IsTotalOrder}
-use Rattle.std.specs.List.{AllByRecursion}
-use Rattle.std.specs.List.Sorted.{IsStrictlySortedBy}
-use Rattle.std.specs.Map.{keys_of, set_value}
-use Rattle.std.specs.Ordering.{match_ordering, ordering_reverse}
-use Rattle.std.specs.declared.cmp.Ordering.{Ordering}
-use Rattle.std.specs.declared.cmp.Ordering.TheVariants.{Less, Equal, Greater}
-use Rattle.std.proofs.lemmas.Cmp.{nat_cmp_total, on_total, then_total}
-use Rattle.rt_super.specs.AlarmQueue.{key_cmp, queued}
+use Rattle.rt_super.proofs.Prelude.{◌≡◌, ℕ, ◌<◌, Bool, true, false, List, [], ◌∷◌, length, refl, ap, ◌∙◌, arith, Option, Some, None, IfSome, IfNone, insert_entry, IsTotalOrder, AllByRecursion, IsStrictlySortedBy, keys_of, set_value, match_ordering, ordering_reverse, Ordering, Less, Equal, Greater, nat_cmp_total, on_total, then_total, key_cmp, queued}
+use Rattle.std.proofs.Common.{IsSome}
 
 key_total : IsTotalOrder key_cmp
 key_total =

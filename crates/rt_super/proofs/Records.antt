@@ -1,13 +1,7 @@
 -- What the calls do to the record that is kept.
-use Rattle.std.proofs.Common.{◌≡◌, ℕ, zero, suc, ◌+◌, ◌<◌, ◌≤◌, Bool, true, false, cond, not, ◌||◌, ◌&&◌, eqb, List, [], ◌∷◌, ◌++◌, length, map, set, refl, sym, ap, ◌∙◌, arith, Option, Some, None, filter, filter_map}
-use Rattle.std.specs.List.{list_any, find, slice_get}
-use Rattle.std.specs.Option.{option_map, option_map_or, option_or, option_and_then, is_some}
-use Rattle.std.proofs.lemmas.List.{map-append, length-map}
-use Rattle.std.proofs.lemmas.List.Folds.{list_any-append, find-append}
-use Rattle.std.proofs.lemmas.Option.{slice_get_past, slice_get_within}
-use Rattle.std.proofs.lemmas.Bool.Decides.{nat_tests}
-use Rattle.rt_super.specs.Ancestry.{NodeState, TreeRecord, node_at, is_known, is_live, live_task, task_on, links, is_child, nodes_below, subtree, stands_in, was_born_ended, is_ended, newly_ended, tasks_on, new_node, with_new, changed, with_end}
-use Rattle.rt_super.specs.Inside.{Matches, placed, is_marked, state_of}
+use Rattle.rt_super.proofs.Prelude.{◌≡◌, ℕ, zero, suc, ◌+◌, ◌<◌, ◌≤◌, Bool, true, false, cond, not, ◌||◌, ◌&&◌, eqb, List, [], ◌∷◌, ◌++◌, length, map, set, refl, sym, ap, ◌∙◌, arith, Option, Some, None, filter, filter_map, list_any, slice_get, option_map, option_map_or, option_or, option_and_then, is_some, map-append, length-map, list_any-append, find-append, slice_get_past, slice_get_within, nat_tests, NodeState, TreeRecord, node_at, is_known, is_live, live_task, task_on, links, is_child, nodes_below, subtree, stands_in, was_born_ended, is_ended, newly_ended, tasks_on, new_node, with_new, changed, with_end, Matches, placed, is_marked}
+use Rattle.std.specs.List.{find}
+use Rattle.rt_super.specs.Inside.{state_of}
 use Rattle.rt_super.proofs.Below.{stands-append, or_false}
 
 -- tests of places

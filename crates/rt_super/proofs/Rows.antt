@@ -1,10 +1,5 @@
 -- A list of places, and what the numbers have.
-use Rattle.std.proofs.Common.{◌≡◌, ◌<◌, ◌≤◌, ◌+◌, ◌-◌, ℕ, zero, suc, List, [], ◌∷◌, ◌++◌, refl, ap, ◌∙◌, false, arith, Option, Some, None, length, eqb}
-use Rattle.std.specs.List.{slice_get, slice_set}
-use Rattle.rt_super.specs.Rows.{find, without, replaced, rows, AreRising}
-use Rattle.std.proofs.lemmas.Bool.{cases_Bool}
-use Rattle.std.proofs.lemmas.Option.{slice_get_past}
-use Rattle.std.proofs.Common.{◌⊎◌, inl, inr}
+use Rattle.rt_super.proofs.Prelude.{◌≡◌, ◌<◌, ◌≤◌, ◌+◌, ◌-◌, ℕ, zero, suc, List, [], ◌∷◌, ◌++◌, refl, ap, ◌∙◌, false, arith, Option, Some, None, length, eqb, slice_get, slice_set, find, without, replaced, rows, AreRising, cases_Bool, slice_get_past, ◌⊎◌, inl, inr}
 
 -- nothing stands for a number before the first
 find-before : {V : Type 0} (k n : ℕ) (xs : List (Option V)) → n < k → find n (rows k xs) ≡ None

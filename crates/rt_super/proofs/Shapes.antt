@@ -1,16 +1,6 @@
 -- The parts of the nodes' list that a change leaves.
-use Rattle.std.proofs.Common.{filter, not, ◌≡◌, ◌≢◌, ℕ, zero, suc, ◌+◌, ◌<◌, ◌≤◌, Bool, true, false, cond, ◌||◌, ◌&&◌, eqb, List, [], ◌∷◌, ◌++◌, length, map, get_or, set, refl, sym, ap, ◌∙◌, arith, Option, Some, None, Result, Ok, Err, ◌⊎◌, inl, inr, ⊎_elim}
-use Rattle.std.specs.Result.{OnErr}
-use Rattle.std.proofs.Math.Seq.{map-set_same}
-use Rattle.std.specs.List.{slice_get}
-use Rattle.std.specs.Option.{option_map, option_and_then, option_or}
-use Rattle.std.proofs.lemmas.List.{map-append, length-map, get_or-set_same, get_or-set_other, append-nil, length-set, length_push, map-set, set-get_or}
-use Rattle.std.proofs.lemmas.Option.{slice_get-map, slice_get_within, slice_get_past, slice_get-get_or, get_or_from_slice_get}
-use Rattle.std.proofs.lemmas.Bool.Decides.{nat_tests}
-use Rattle.rt_super.specs.Ancestry.{NodeState, TreeRecord, is_ended, is_child, is_known, newly_ended, tasks_on, subtree, stands_in, with_new, with_end, changed}
-use Rattle.rt_super.specs.Ending.{task_at}
-use Rattle.rt_super.specs.Inside.{Matches, state_of, placed, is_marked, parents, states, children_lists, children_from, adopted, IsOlder, AreOlder, IsClosed, IsSound, marks_set}
-use Rattle.rt_super.specs.declared.node.Node.{Node}
+use Rattle.rt_super.proofs.Prelude.{filter, not, ◌≡◌, ◌≢◌, ℕ, zero, suc, ◌+◌, ◌<◌, ◌≤◌, Bool, true, false, cond, ◌||◌, ◌&&◌, eqb, List, [], ◌∷◌, ◌++◌, length, map, get_or, set, refl, sym, ap, ◌∙◌, arith, Option, Some, None, Result, Ok, Err, ◌⊎◌, inl, inr, ⊎_elim, OnErr, map-set_same, slice_get, option_map, option_and_then, option_or, map-append, length-map, get_or-set_same, get_or-set_other, append-nil, length-set, length_push, map-set, set-get_or, slice_get-map, slice_get_within, slice_get_past, slice_get-get_or, get_or_from_slice_get, nat_tests, NodeState, TreeRecord, is_ended, is_child, is_known, newly_ended, tasks_on, subtree, stands_in, with_new, with_end, changed, task_at, Matches, placed, is_marked, parents, states, children_lists, children_from, adopted, IsOlder, AreOlder, IsClosed, IsSound, marks_set, Node}
+use Rattle.rt_super.specs.Inside.{state_of}
 use Rattle.rt_super.proofs.Below.{below, below_closed, below_marked}
 use Rattle.rt_super.proofs.Walk.{no_fresh}
 use Rattle.rt_super.proofs.Records.{Lasts, Keeps, slice_push, marked_push, record_new, record_changed}

@@ -1,11 +1,5 @@
 -- What keeps a shutdown, and what its signals show.
-use Rattle.std.proofs.Common.{◌≡◌, ◌⊎◌, ◌++◌, ◌∷◌, [], ◌∙◌, ℕ, ℤ, List, sym, ap, refl, arith, eqb, Option, Some, None, true, false, inl, inr}
-use Rattle.std.specs.Option.{IsSome, option_map_or}
-use Rattle.std.proofs.lemmas.Bool.{cases_Bool}
-use Rattle.rt_super.specs.Rows.{find, replaced}
-use Rattle.rt_super.specs.Signals.{SignalRecord, StopRecord, group_of, is_alive, new_group, with_clone, signaled, signaler_closed, completes, completed, without_signal, signal_closed, signal_polled, completion_polled, with_completion, stopped_first, stopped_after, IsShutdown, KeepShutdowns, KeepOthers, ShowShutdown}
-use Rattle.rt_super.specs.declared.signal_group.SignalGroup.{SignalGroup}
-use Rattle.rt_super.specs.declared.signal_token.SignalToken.{SignalToken}
+use Rattle.rt_super.proofs.Prelude.{◌≡◌, ◌⊎◌, ◌++◌, ◌∷◌, [], ◌∙◌, ℕ, ℤ, List, sym, ap, refl, arith, eqb, Option, Some, None, true, false, inl, inr, IsSome, option_map_or, cases_Bool, find, replaced, SignalRecord, StopRecord, group_of, is_alive, new_group, with_clone, signaled, signaler_closed, completes, completed, without_signal, signal_closed, signal_polled, completion_polled, with_completion, stopped_first, stopped_after, IsShutdown, KeepShutdowns, KeepOthers, ShowShutdown, SignalGroup, SignalToken}
 use Rattle.rt_super.proofs.TokenLemmas.{find-push, find-replaced}
 
 pub new_there : (n m : ℕ) (v : SignalGroup) (gs : List (ℕ × SignalGroup)) → n ≡ m → find n gs ≡ None → find m (gs ++ (n, v) ∷ []) ≡ Some v

@@ -1,18 +1,6 @@
 -- Signals and completions in memory: lookups, lists and counts.
-use Rattle.std.proofs.Common.{◌≡◌, ◌<◌, ◌≤◌, ◌+◌, ◌-◌, ◌&&◌, ◌||◌, ◌==◌, ℕ, zero, suc, true, false, List, [], ◌∷◌, ◌++◌, refl, ap, sym, ◌∙◌, arith, Option, Some, None, length, length-append, eqb, set, get_or, inl, inr, if◌then◌else◌, nat_lt}
-use Rattle.std.specs.Option.{option_map, is_some}
-use Rattle.std.proofs.lemmas.Bool.{cases_Bool, cases_lt}
-use Rattle.std.proofs.lemmas.List.{map-append, length-map, length-set, length_push, get_or_past}
-use Rattle.std.proofs.lemmas.Option.{slice_get-map, slice_get-get_or, get_or_from_slice_get}
-use Rattle.std.specs.Prelude.{Vec, slice_get}
-use Rattle.std.specs.Global.{Global}
-use Rattle.std.proofs.lemmas.Grind.{common_steps}
-use Rattle.rt_super.specs.Ancestry.{stands_in}
-use Rattle.rt_super.specs.Rows.{find, without, replaced, those, AreRising}
-use Rattle.rt_super.specs.Signals.{new_token, is_open, waits_in, unwaited, waiting_as}
-use Rattle.rt_super.specs.Tokens.{lists_of, wait_of, with_met, Stand, AreAscending, IsLeft}
-use Rattle.rt_super.specs.TokensInside.{owners, count_of, numbers_at, AreTied}
-use Rattle.rt_super.specs.declared.signal_token.SignalToken.{SignalToken}
+use Rattle.rt_super.proofs.Prelude.{◌≡◌, ◌<◌, ◌≤◌, ◌+◌, ◌-◌, ◌&&◌, ◌||◌, ◌==◌, ℕ, zero, suc, true, false, List, [], ◌∷◌, ◌++◌, refl, ap, sym, ◌∙◌, arith, Option, Some, None, length, length-append, eqb, set, get_or, inl, inr, if◌then◌else◌, nat_lt, option_map, is_some, cases_Bool, cases_lt, map-append, length-map, length-set, length_push, get_or_past, slice_get-map, slice_get-get_or, get_or_from_slice_get, Vec, Global, common_steps, stands_in, find, without, replaced, those, AreRising, new_token, is_open, waits_in, unwaited, waiting_as, lists_of, wait_of, with_met, Stand, AreAscending, IsLeft, owners, count_of, numbers_at, AreTied, SignalToken}
+use Rattle.std.specs.Prelude.{slice_get}
 
 -- lookups
 

@@ -1,13 +1,5 @@
 -- Nobody waits for what is there: each call leaves it so.
-use Rattle.std.proofs.Common.{◌≡◌, ◌==◌, ◌||◌, ◌++◌, ◌∷◌, [], ℕ, ℤ, List, refl, arith, eqb, Option, Some, None, Ok, true, false, inl, inr}
-use Rattle.std.specs.Option.{IsSome}
-use Rattle.std.proofs.lemmas.Bool.{cases_Bool}
-use Rattle.rt_base.specs.declared.poll.Poll.TheVariants.{Pending}
-use Rattle.rt_super.specs.Rows.{find, without, replaced}
-use Rattle.rt_super.specs.Signals.{SignalRecord, new_token, new_group, group_of, is_open, unwaited, waiting_as, with_group, completes, without_signal, completion_closed, shown, signal_answer, completion_answer}
-use Rattle.rt_super.specs.SignalsInside.{WaitFor, ArePending}
-use Rattle.rt_super.specs.declared.signal_group.SignalGroup.{SignalGroup}
-use Rattle.rt_super.specs.declared.signal_token.SignalToken.{SignalToken}
+use Rattle.rt_super.proofs.Prelude.{◌≡◌, ◌==◌, ◌||◌, ◌++◌, ◌∷◌, [], ℕ, ℤ, List, refl, arith, eqb, Option, Some, None, Ok, true, false, inl, inr, IsSome, cases_Bool, Pending, find, without, replaced, SignalRecord, new_token, new_group, group_of, is_open, unwaited, waiting_as, with_group, completes, without_signal, completion_closed, shown, signal_answer, completion_answer, WaitFor, ArePending, SignalGroup, SignalToken}
 use Rattle.rt_super.proofs.TokenLemmas.{find-push, find-replaced}
 
 -- who waits

@@ -1,17 +1,5 @@
 -- The walk of an end: what it has passed, and what is still to come.
-use Rattle.std.proofs.Common.{◌≡◌, ◌≢◌, ℕ, zero, suc, ◌+◌, ◌<◌, ◌≤◌, Bool, true, false, not, ◌||◌, eqb, List, [], ◌∷◌, ◌++◌, length, reverse, get_or, set, refl, sym, ap, ◌∙◌, arith, Option, Some, None, filter, filter_map, append_assoc, length-append}
-use Rattle.std.specs.List.{slice_get, list_any, flat_map, AllByRecursion, IsDistinct, cons_option}
-use Rattle.std.specs.Option.{option_map, option_and_then, option_to_list}
-use Rattle.std.proofs.lemmas.List.{append-nil, reverse-append, reverse-reverse, get_or-set_same, get_or-set_other, length-set, length-map, length-reverse}
-use Rattle.std.proofs.lemmas.List.Elements.{filter-append, filter_map-append}
-use Rattle.std.proofs.lemmas.Grind.{flat_map-append}
-use Rattle.std.proofs.lemmas.Option.{slice_get-get_or, slice_get-map, get_or_from_slice_get}
-use Rattle.std.proofs.lemmas.Bool.Decides.{nat_tests}
-use Rattle.std.proofs.lemmas.Map.Steps.{length-le_from_distinct_below}
-use Rattle.rt_super.specs.Ancestry.{nodes_below, subtree, stands_in}
-use Rattle.rt_super.specs.Ending.{task_at}
-use Rattle.rt_super.specs.Inside.{IsSound, parents, children_lists, placed, is_marked, children_from, AreOlder, IsClosed, marks_set}
-use Rattle.rt_super.specs.declared.node.Node.{Node}
+use Rattle.rt_super.proofs.Prelude.{◌≡◌, ◌≢◌, ℕ, zero, suc, ◌+◌, ◌<◌, ◌≤◌, Bool, true, false, not, ◌||◌, eqb, List, [], ◌∷◌, ◌++◌, length, reverse, get_or, set, refl, sym, ap, ◌∙◌, arith, Option, Some, None, filter, filter_map, append_assoc, length-append, slice_get, list_any, flat_map, AllByRecursion, IsDistinct, cons_option, option_map, option_and_then, option_to_list, append-nil, reverse-append, reverse-reverse, get_or-set_same, get_or-set_other, length-set, length-map, length-reverse, filter-append, filter_map-append, flat_map-append, slice_get-get_or, slice_get-map, get_or_from_slice_get, nat_tests, length-le_from_distinct_below, nodes_below, subtree, stands_in, task_at, IsSound, parents, children_lists, placed, is_marked, children_from, AreOlder, IsClosed, marks_set, Node}
 use Rattle.rt_super.proofs.Below.{below, times, times-append, stands-times, stands-append, below_once_in, below_self, below_high, below_by_children, below_marked, or_false}
 
 -- the tasks of those that weren't marked

@@ -1,6 +1,5 @@
 -- Who makes calls in a cleanup.
-use Rattle.std.proofs.Common.{ℕ, Option, Some, None, refl}
-use Rattle.rt_model.specs.Rules.{IsEndedNext}
+use Rattle.rt_walk.proofs.Prelude.{ℕ, Option, Some, None, refl, IsEndedNext}
 
 -- only who is ended next does
 pub ended-next-self : (root next by : Option ℕ) → IsEndedNext root next by → IsEndedNext root next next

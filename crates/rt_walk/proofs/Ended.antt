@@ -1,13 +1,7 @@
 -- Which nodes have ended, as the nodes change.
-use Rattle.std.proofs.Common.{◌≡◌, ◌∙◌, ℕ, Bool, true, false, cond, not, ◌||◌, ◌&&◌, eqb, List, [], ◌∷◌, ◌++◌, map, filter, refl, sym, ap, arith, Option, Some, None}
-use Rattle.std.specs.List.{list_any, find}
-use Rattle.std.specs.Option.{option_map_or, option_or, is_some}
-use Rattle.std.proofs.lemmas.List.{map-append}
-use Rattle.std.proofs.lemmas.List.Folds.{list_any-append, find-append}
-use Rattle.std.proofs.lemmas.Bool.Decides.{nat_tests}
-use Rattle.rt_super.specs.Ancestry.{NodeState, TreeRecord, is_child, is_known, links, nodes_below, subtree, stands_in, was_born_ended, is_ended, newly_ended, new_node}
-use Rattle.rt_model.specs.Lists.{has_number}
-use Rattle.rt_walk.specs.Nodes.{AreEnded, told_by}
+use Rattle.rt_walk.proofs.Prelude.{◌≡◌, ◌∙◌, ℕ, Bool, true, false, cond, not, ◌||◌, ◌&&◌, eqb, List, [], ◌∷◌, ◌++◌, map, filter, refl, sym, ap, arith, Option, Some, None, list_any, option_map_or, option_or, map-append, list_any-append, find-append, nat_tests, NodeState, TreeRecord, is_child, is_known, links, nodes_below, subtree, stands_in, was_born_ended, is_ended, newly_ended, new_node, has_number, AreEnded, told_by}
+use Rattle.std.specs.List.{find}
+use Rattle.std.specs.Option.{is_some}
 use Rattle.rt_walk.proofs.Members.{list_any-number}
 
 -- this change of the nodes with this number

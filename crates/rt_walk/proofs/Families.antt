@@ -1,11 +1,5 @@
 -- The children of nodes, and what stands below them.
-use Rattle.std.proofs.Common.{◌≡◌, ◌∙◌, ◌<◌, sym, ap, subst, refl, arith, ℕ, Bool, true, false, cond, List, [], ◌∷◌, ◌++◌, length, reverse, Option, append_assoc}
-use Rattle.std.specs.List.{flat_map, list_any}
-use Rattle.std.proofs.lemmas.Grind.{flat_map-append}
-use Rattle.std.proofs.lemmas.List.{reverse-append, reverse-reverse, map-append}
-use Rattle.std.proofs.lemmas.List.Folds.{list_any-append}
-use Rattle.rt_super.specs.Ancestry.{NodeState, is_child, nodes_below, subtree}
-use Rattle.rt_walk.specs.Nodes.{children_of, links_of, AreElders}
+use Rattle.rt_walk.proofs.Prelude.{◌≡◌, ◌∙◌, ◌<◌, sym, ap, subst, refl, arith, ℕ, Bool, true, false, cond, List, [], ◌∷◌, ◌++◌, length, reverse, Option, append_assoc, flat_map, list_any, flat_map-append, reverse-append, reverse-reverse, map-append, list_any-append, NodeState, is_child, nodes_below, subtree, children_of, links_of, AreElders}
 use Rattle.rt_walk.proofs.Ended.{neither}
 
 -- nobody before a node stands below it

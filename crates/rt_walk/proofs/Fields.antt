@@ -1,9 +1,5 @@
 -- Lists of the fields of an event.
-use Rattle.std.proofs.Common.{◌≡◌, ◌≤◌, ◌<◌, ◌+◌, ◌∙◌, ap, sym, arith, length, List, ℕ, [], ◌∷◌, ◌++◌, take, Some}
-use Rattle.std.proofs.Common.{get_or}
-use Rattle.std.specs.List.{slice_get}
-use Rattle.std.proofs.lemmas.List.{take_more}
-use Rattle.std.proofs.lemmas.Option.{get_or_from_slice_get, slice_get_within}
+use Rattle.rt_walk.proofs.Prelude.{◌≡◌, ◌≤◌, ◌<◌, ◌+◌, ◌∙◌, ap, sym, arith, length, List, ℕ, [], ◌∷◌, ◌++◌, take, Some, get_or, slice_get, take_more, get_or_from_slice_get, slice_get_within}
 
 pub one-item : {A : Type 0} → (xs : List A) (x : A) → 1 ≤ length xs → length xs < 2 → x ≡ get_or xs 0 x → xs ≡ x ∷ []
 one-item [] x l b e = absurd (omega (arith, l))

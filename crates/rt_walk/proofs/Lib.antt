@@ -11,3 +11,4 @@ pub mod Placed
 pub mod Rows
 pub mod Rising
 pub mod OfCall
+pub mod Prelude

@@ -1,8 +1,5 @@
 -- Whether a number is in a list, and the front of a list.
-use Rattle.std.proofs.Common.{◌≡◌, ◌<◌, ◌≤◌, ◌+◌, ℕ, zero, suc, Some, None, List, [], ◌∷◌, refl, sym, arith, drop, take, length, get_or, nat_eq}
-use Rattle.std.specs.List.{list_any}
-use Rattle.std.proofs.lemmas.List.{drop-drop}
-use Rattle.rt_model.specs.Lists.{has_number, those}
+use Rattle.rt_walk.proofs.Prelude.{◌≡◌, ◌<◌, ◌≤◌, ◌+◌, ℕ, zero, suc, Some, None, List, [], ◌∷◌, refl, sym, arith, drop, take, length, get_or, nat_eq, list_any, drop-drop, has_number, those}
 
 pub list_any-number : (k : ℕ) (xs : List ℕ) → list_any (λ y. nat_eq y k) xs ≡ has_number k xs
 list_any-number k [] = refl

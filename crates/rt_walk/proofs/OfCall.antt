@@ -1,12 +1,7 @@
 -- An event is one of a call.
-use Rattle.std.proofs.Common.{◌≡◌, ◌≢◌, ◌↔◌, ◌⊎◌, inl, inr, ℕ, ℤ, List, [], ◌∷◌, Option, Some, None, Bool, IsTrue, is_some, IfSome, IfNone, codes, length, get_or, slice_get, refl, ap, sym, ◌∙◌, arith}
-use Rattle.std.specs.Int.{w32, cast_unsigned, to_be_bytes}
-use Rattle.rt_audit.specs.declared.call.Call.{Call}
-use Rattle.rt_audit.specs.declared.call.Call.TheVariants.{Stop, Stopped, NextU32, NextU64, FillBytes}
-use Rattle.rt_audit.specs.declared.reply.CallReply.{CallReply}
-use Rattle.rt_audit.specs.declared.reply.CallReply.TheVariants.{Done}
-use Rattle.rt_model.specs.State.{Announced, Stood}
-use Rattle.rt_model.specs.Events.{announced_by, IsOfCall}
+use Rattle.rt_walk.proofs.Prelude.{◌≡◌, ◌≢◌, ◌↔◌, ◌⊎◌, inl, inr, ℕ, ℤ, List, [], ◌∷◌, Option, Some, None, Bool, IsTrue, is_some, IfSome, IfNone, codes, length, get_or, refl, ap, sym, ◌∙◌, arith, w32, cast_unsigned, to_be_bytes, Call, Stop, NextU32, NextU64, FillBytes, CallReply, Done, Announced, Stood, announced_by, IsOfCall}
+use Rattle.std.proofs.Common.{slice_get}
+use Rattle.rt_audit.specs.declared.call.Call.TheVariants.{Stopped}
 
 -- the fields are this value
 abbrev Holds : List (List ℕ) → ℤ → Type 0

@@ -1,13 +1,5 @@
 -- A list in order is the only one of its permutations that is.
-use Rattle.std.proofs.Common.{◌≡◌, ◌≤◌, ◌<◌, ◌+◌, ℕ, suc, Bool, List, [], ◌∷◌, refl, ap, sym, length, get_or, arith, eqb, if◌then◌else◌, ◌↔◌, IsTrue}
-use Rattle.std.specs.Cmp.Lexicographic.{pointwise}
-use Rattle.std.specs.List.{sum_by}
-use Rattle.std.specs.List.Sorted.{IsPermutation, IsNonDecreasing, IsSorted}
-use Rattle.std.specs.Ordering.{nat_cmp}
-use Rattle.std.proofs.lemmas.Bool.Decides.{Decides-eqb}
-use Rattle.std.proofs.lemmas.List.Sums.{sum_by-cons}
-use Rattle.std.proofs.lemmas.List.Sorted.{sum_by-IsPermutation, IsPermutation-sym, IsPermutation-trans, IsNonDecreasingBy-from_sort}
-use Rattle.std.proofs.lemmas.Slice.Eq.{slice_eq-Decides}
+use Rattle.rt_walk.proofs.Prelude.{◌≡◌, ◌≤◌, ◌<◌, ◌+◌, ℕ, suc, Bool, List, [], ◌∷◌, refl, ap, sym, length, get_or, arith, eqb, if◌then◌else◌, ◌↔◌, IsTrue, pointwise, sum_by, IsPermutation, IsNonDecreasing, IsSorted, nat_cmp, Decides-eqb, sum_by-cons, sum_by-IsPermutation, IsPermutation-sym, IsPermutation-trans, IsNonDecreasingBy-from_sort, slice_eq-Decides}
 
 -- each element is at most those behind it
 abbrev AtMost : ℕ → List ℕ → Type 0

@@ -1,10 +1,5 @@
 -- Numbers and their places.
-use Rattle.std.proofs.Common.{◌≡◌, ◌<◌, ◌+◌, ◌∙◌, sym, ap, refl, arith, ℕ, zero, suc, Bool, true, false, cond, eqb, nat_eq, get_or, List, [], ◌∷◌, ◌++◌, length, Option, Some, None, option_map, is_some, inl, inr}
-use Rattle.std.proofs.lemmas.Bool.{cases_Bool}
-use Rattle.std.proofs.lemmas.Bool.Decides.{nat_tests}
-use Rattle.std.specs.List.{slice_get, slice_set}
-use Rattle.rt_model.specs.Lists.{has_number, find, without, replaced, or_else}
-use Rattle.rt_walk.specs.Places.{first_place, ArePlaced, AreDistinct, kept}
+use Rattle.rt_walk.proofs.Prelude.{◌≡◌, ◌<◌, ◌+◌, ◌∙◌, sym, ap, refl, arith, ℕ, zero, suc, Bool, true, false, cond, eqb, nat_eq, get_or, List, [], ◌∷◌, ◌++◌, length, Option, Some, None, option_map, is_some, inl, inr, cases_Bool, nat_tests, slice_get, slice_set, has_number, find, without, replaced, or_else, first_place, ArePlaced, AreDistinct, kept}
 
 pub has-place : (k : ℕ) (xs : List ℕ) → is_some (first_place k xs) ≡ has_number k xs
 has-place k [] = refl

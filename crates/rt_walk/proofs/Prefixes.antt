@@ -1,13 +1,5 @@
 -- A walk over the front of a list of entries.
-use Rattle.std.proofs.Common.{◌≡◌, ◌<◌, ◌+◌, ℕ, zero, suc, Some, List, [], ◌∷◌, ◌++◌, refl, ap, sym, arith, take, length, get_or, ◌∙◌}
-use Rattle.std.proofs.lemmas.List.{take_more}
-use Rattle.std.proofs.lemmas.Option.{slice_get-get_or, slice_get_within, get_or_from_slice_get}
-use Rattle.rt_audit.specs.declared.entry.Entry.{Entry}
-use Rattle.rt_model.specs.State.{State}
-use Rattle.rt_model.specs.Rules.{May}
-use Rattle.rt_model.specs.Runs.{renewed, run_after, runs_after, AreLawful}
-use Rattle.rt_model.proofs.Append.{runs_after-append, AreLawful-append}
-use Rattle.rt_walk.specs.First.{BreaksAt}
+use Rattle.rt_walk.proofs.Prelude.{◌≡◌, ◌<◌, ◌+◌, ℕ, zero, suc, Some, List, [], ◌∷◌, ◌++◌, refl, ap, sym, arith, take, length, get_or, ◌∙◌, take_more, slice_get-get_or, slice_get_within, get_or_from_slice_get, Entry, State, May, renewed, run_after, runs_after, AreLawful, runs_after-append, AreLawful-append, BreaksAt}
 
 -- one entry further
 

@@ -1,23 +1,5 @@
 -- The calls under way, and what was drawn, make no difference to what may come, and none to what is kept.
-use Rattle.std.proofs.Common.{◌≡◌, ◌↔◌, ℕ, List, Bool, true, false, IsTrue, refl, ap, not, leb, ◌-◌, ◌^◌}
-use Rattle.rt_base.specs.declared.error.Error.{Error}
-use Rattle.rt_base.specs.declared.no_memory.NoMemory.{NoMemory as OutOfMemory}
-use Rattle.std.proofs.Common.{Result, Ok, Err, IfOk}
-use Rattle.rt_audit.specs.declared.answer.AnswerKind.{AnswerKind}
-use Rattle.rt_audit.specs.declared.answer.AnswerKind.TheVariants.{Pending, Ready, Panicked, Stopped, NoMemory, Ended}
-use Rattle.rt_audit.specs.declared.call.Call.{Call}
-use Rattle.rt_audit.specs.declared.call.Call.TheVariants.{Abort, AbortTask, Child, CloseNode, GiveUp, Join, Spawn, Wake as WakeCall, SleepPoll, Slots}
-use Rattle.rt_audit.specs.declared.reply.CallReply.{CallReply}
-use Rattle.rt_audit.specs.declared.reply.CallReply.TheVariants.{Closed, Done, NodeAt, PendingAt, Ready as IsReady, Refused, SlotAt, TaskAt}
-use Rattle.rt_audit.specs.declared.entry.Entry.{Entry}
-use Rattle.rt_audit.specs.declared.entry.Entry.TheVariants.{Call as CallEntry, Event, Wake, Draw, NodeEnd, Round, Answer, Cleanup}
-use Rattle.rt_super.specs.Ancestry.{is_ended, is_live}
-use Rattle.rt_model.specs.declared.begin.Begin.{Begin}
-use Rattle.rt_model.specs.State.{State, Phase, begun, Making, Between, Entered, Visiting, Turning, Closing}
-use Rattle.rt_model.specs.Causes.{cause_at}
-use Rattle.rt_model.specs.Effects.{after, cleans, due_node, entered, is_closing, marks_after, nodes_after, owed_after, panicked_after, phase_after, results_after}
-use Rattle.rt_model.specs.Rules.{Answers, ChildAnswers, May, MayAnswer, MayEvent, MayRound, MayDraw, SpawnAnswers, Unless, is_free}
-use Rattle.rt_walk.specs.Quiet.{quiet}
+use Rattle.rt_walk.proofs.Prelude.{◌≡◌, ◌↔◌, ℕ, List, Bool, true, false, IsTrue, refl, ap, not, leb, ◌-◌, ◌^◌, Error, OutOfMemory, Result, Ok, Err, IfOk, AnswerKind, Pending, Ended, Call, Abort, AbortTask, Child, CloseNode, GiveUp, Join, Spawn, WakeCall, SleepPoll, Slots, CallReply, Closed, Done, NodeAt, PendingAt, IsReady, Refused, TaskAt, Entry, CallEntry, Event, Wake, Draw, NodeEnd, Round, Answer, Cleanup, is_ended, is_live, Begin, State, Phase, begun, Making, Between, Entered, Turning, cause_at, after, cleans, due_node, entered, is_closing, marks_after, nodes_after, owed_after, panicked_after, phase_after, results_after, Answers, ChildAnswers, May, MayAnswer, MayEvent, MayRound, MayDraw, SpawnAnswers, Unless, is_free, quiet}
 
 unless-same : (b : Bool) (e : Error) (f g : CallReply → Type 0) (r : CallReply) → f r ≡ g r → Unless b e f r ≡ Unless b e g r
 unless-same true e f g r h = refl
@@ -54,11 +36,7 @@ answers-quiet s _ _ = refl
 
 answer-quiet : (s : State) (task : ℕ) (kind : AnswerKind) → MayAnswer s task kind ≡ MayAnswer (quiet s) task kind
 answer-quiet s task Pending = refl
-answer-quiet s task Ready = refl
-answer-quiet s task Panicked = refl
-answer-quiet s task Stopped = refl
-answer-quiet s task NoMemory = refl
-answer-quiet s task Ended = refl
+answer-quiet s task _ = refl
 
 round-quiet : (p : Phase) (s : State) → MayRound p s ≡ MayRound p (quiet s)
 round-quiet Between s = refl
@@ -67,8 +45,6 @@ round-quiet _ s = refl
 
 draw-quiet : (p : Phase) (s : State) (value : ℕ) → MayDraw p s value ≡ MayDraw p (quiet s) value
 draw-quiet Between s value = refl
-draw-quiet Turning s value = refl
-draw-quiet (Closing cause) s value = refl
 draw-quiet _ s value = refl
 
 event-quiet : (p : Phase) (s : State) (label : List ℕ) (fields : List (List ℕ)) → MayEvent p s label fields ≡ MayEvent p (quiet s) label fields
@@ -86,9 +62,6 @@ may-quiet s _ = refl
 
 cause-quiet : (p : Phase) (s : State) → cause_at p s ≡ cause_at p (quiet s)
 cause-quiet Making s = refl
-cause-quiet Between s = refl
-cause-quiet (Visiting left) s = refl
-cause-quiet Turning s = refl
 cause-quiet _ s = refl
 
 entered-quiet : (p : Phase) (s : State) → entered s p ≡ entered (quiet s) p
@@ -98,12 +71,6 @@ entered-quiet _ s = refl
 phase-quiet : (s : State) (e : Entry) → phase_after s e ≡ phase_after (quiet s) e
 phase-quiet s Cleanup = ap (cleans (is_ended s.nodes 0)) (cause-quiet s.phase s)
 phase-quiet s (Event label fields) = entered-quiet s.phase s
-phase-quiet s (Answer task Pending) = refl
-phase-quiet s (Answer task Ready) = refl
-phase-quiet s (Answer task Panicked) = refl
-phase-quiet s (Answer task Stopped) = refl
-phase-quiet s (Answer task NoMemory) = refl
-phase-quiet s (Answer task Ended) = refl
 phase-quiet s _ = refl
 
 panicked-quiet : (s : State) (e : Entry) → panicked_after s e ≡ panicked_after (quiet s) e
@@ -116,8 +83,6 @@ nodes-quiet s _ = refl
 
 marks-quiet : (s : State) (e : Entry) → marks_after s e ≡ marks_after (quiet s) e
 marks-quiet s (Answer task Pending) = refl
-marks-quiet s (Answer task Ended) = refl
-marks-quiet s (Answer task _) = refl
 marks-quiet s _ = refl
 
 results-quiet : (s : State) (e : Entry) → results_after s e ≡ results_after (quiet s) e

@@ -1,13 +1,5 @@
 -- Rising numbers: where one stands, comes in or goes out.
-use Rattle.std.proofs.Common.{◌≡◌, ◌≢◌, ◌<◌, ◌≤◌, ◌+◌, ◌-◌, sym, ap, refl, arith, ℕ, zero, suc, true, false, eqb, ltb, List, [], ◌∷◌, length, get_or, Result, Ok, Err, is_ok, ◌⊎◌, inl, inr}
-use Rattle.std.specs.List.{insert, remove}
-use Rattle.std.specs.Ordering.{nat_cmp}
-use Rattle.std.specs.List.Sorted.{IsBinarySearchResult}
-use Rattle.std.proofs.lemmas.Bool.{cases_Bool}
-use Rattle.std.proofs.lemmas.Bool.Decides.{nat_tests}
-use Rattle.std.proofs.lemmas.List.Sorted.{searched}
-use Rattle.rt_model.specs.Lists.{has_number, with_number, without_number}
-use Rattle.rt_walk.specs.Rising.{AreFrom, AreRising}
+use Rattle.rt_walk.proofs.Prelude.{◌≡◌, ◌≢◌, ◌<◌, ◌≤◌, ◌+◌, ◌-◌, sym, ap, refl, arith, ℕ, zero, suc, true, false, eqb, ltb, List, [], ◌∷◌, length, get_or, Result, Ok, Err, is_ok, ◌⊎◌, inl, inr, insert, remove, nat_cmp, IsBinarySearchResult, cases_Bool, nat_tests, searched, has_number, with_number, without_number, AreFrom, AreRising}
 
 from-lower : (x y : ℕ) (xs : List ℕ) → x ≤ y → AreFrom y xs → AreFrom x xs
 from-lower x y [] h f = tt

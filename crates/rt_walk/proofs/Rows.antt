@@ -1,15 +1,6 @@
 -- Nodes at the places of their numbers.
-use Rattle.std.proofs.Common.{◌≡◌, inl, inr, is_some, ◌<◌, ◌∙◌, sym, ap, refl, arith, ℕ, zero, suc, true, false, cond, eqb, get_or, List, [], ◌∷◌, ◌++◌, length, map, Some, None}
-use Rattle.std.proofs.lemmas.Bool.{cases_Bool}
-use Rattle.std.proofs.lemmas.Bool.Decides.{nat_tests}
-use Rattle.std.proofs.lemmas.List.{map-append}
-use Rattle.std.specs.List.{find, slice_get, slice_set}
-use Rattle.rt_super.specs.Ancestry.{NodeState}
-use Rattle.rt_walk.specs.Places.{first_place, AreDistinct}
-use Rattle.rt_walk.specs.Nodes.{links_of, numbers_of}
-use Rattle.rt_model.specs.Lists.{has_number}
-use Rattle.rt_super.specs.Ancestry.{is_known, is_ended, new_node}
-use Rattle.rt_walk.specs.Nodes.{told_by, AreEnded}
+use Rattle.rt_walk.proofs.Prelude.{◌≡◌, inl, inr, is_some, ◌<◌, ◌∙◌, sym, ap, refl, arith, ℕ, zero, suc, true, false, cond, eqb, get_or, List, [], ◌∷◌, ◌++◌, length, map, Some, None, cases_Bool, nat_tests, map-append, slice_get, slice_set, NodeState, first_place, AreDistinct, links_of, numbers_of, has_number, is_known, is_ended, new_node, told_by, AreEnded}
+use Rattle.std.specs.List.{find}
 use Rattle.rt_walk.proofs.Ended.{on_number, ended-born, ended-child, links-kept, same-on}
 use Rattle.rt_walk.proofs.Placed.{none-suc, pred-of, has-none, distinct-more}
 

@@ -1,6 +1,6 @@
 -- A row that is changed is a row that is replaced by what it changes to.
-use Rattle.std.proofs.Common.{◌≡◌, ◌<◌, ◌++◌, ℕ, zero, suc, List, [], ◌∷◌, refl, ap, Some, None, arith, eq-eqb, length, take, drop, get_or, slice_set}
-use Rattle.rt_model.specs.Lists.{find, replaced}
+use Rattle.rt_walk.proofs.Prelude.{◌≡◌, ◌<◌, ◌++◌, ℕ, zero, suc, List, [], ◌∷◌, refl, ap, Some, None, arith, eq-eqb, length, take, drop, get_or, find, replaced}
+use Rattle.std.proofs.Common.{slice_set}
 
 pub replaced-found : {V : Type 0} → (change : V → V) (k : ℕ) (v : V) (xs : List (ℕ × V)) → find k xs ≡ Some v → replaced (λ _. change v) k xs ≡ replaced change k xs
 replaced-found change k v [] h = refl

@@ -28,8 +28,9 @@ use std::mem;
 #[tactic(auto, unfolding(rt_model::specs::Effects::after))]
 impl Walker {
     /// Takes in an entry, whether it may come or not. It is refused with `NoMemory` also where no number is left for
-    /// a further alarm, for a sleep of the task `u64::MAX`, which is no task's number, and for a task, a node or a
-    /// slot whose number was given before. After a refusal nothing is known of the walker any more.
+    /// a further alarm, for a sleep of the task `u64::MAX`, which is no task's number, for a task, a node or a slot
+    /// whose number was given before, and for a call on slots with a reply that it may not have. After a refusal
+    /// nothing is known of the walker any more.
     #[tactic(auto, using(crate::proofs::Quiet::quiet_laws), unfolding(rt_model::specs::Effects::after))]
     pub fn step(&mut self, entry: &Entry) -> Result<(), NoMemory>
         ensures here { OnOk result (self.new ≡ quiet (after self.old entry.now)) }

@@ -27,8 +27,9 @@ use rt_parts::WalkedSlots;
 use std::alloc::Global;
 use std::marker::Model;
 
-/// What the entries of a journal tell so far, walked entry by entry. It rests on the definitions and on the alarms,
-/// signals and shutdown of `rt_super`, and not on the machine. Contracts see the state of a run without its calls
+/// What the entries of a journal tell so far, walked entry by entry. It rests on the definitions, on the alarms,
+/// signals and shutdown of `rt_super` and on the slots of `rt_parts`, which a machine uses too, and not on the
+/// machine. Contracts see the state of a run without its calls
 /// under way and without all that was drawn, for which no rule asks.
 #[derive(Drop)]
 pub struct Walker {

@@ -1,5 +1,5 @@
 -- Steps are walked call by call, and poller by poller.
-use Rattle.rt_world.proofs.Prelude.{◌≡◌, ◌⊎◌, inl, inr, ℕ, Bool, List, [], ◌∷◌, ◌++◌, refl, sym, ap, ◌∙◌, Option, Some, None, Result, Ok, Err, true, false, append_assoc, arith, is_some, OnOk, OnErr, IfOk, IfErr, append-nil, Error, OutOf, OutOfMemory, Execution, Child, AbortTask, Wake, Join, Slots, Slot, SlotPoll, CallReply, Done, NodeAt, SlotAt, Pending, Ready, Refused, AlarmList, Phase, Making, Polling, Ending, Closing, Stood, Turn, stood_in, ends_next, CallsAt, MayCall, alarm_of, Frees, IsAnswerOf, Ask, Heard, Plainly, Sleeping, Spawning, Plain, Handed, Held, Change, IsCounted, counted, Asks, IsOwn, FreesOne, call_of, heard_of, moved, has_place, find, heard_result, polled, Step, Last, Does, Spends, Counts, Gives, Walks, Fronts, Lacks, Stops, Breaks, then, followed_by, stood_before, IsSpending, walks-then, fronts-then, stops-then, stops-first, frees-counted, frees-append, frees-moved, frees-spent, turn_in, marked, sleep_reply, slept_number, Stream, World, Drew, Stays, Grows, Kept, Made, IsUnreceived, IsUnsent, SpentBy, Joined, Received, Lasts, Broke, EndsWith, Turned, Walked, Polled, answered_by, Rooted, root_by, Goes, Called, tells, wake_told, sleep_told, slot_told, child_told, spawn_told, join_told, MaySpend, Closes, Counted, Leads}
+use Rattle.rt_world.proofs.Prelude.{◌≡◌, ◌⊎◌, inl, inr, ℕ, Bool, List, [], ◌∷◌, ◌++◌, refl, sym, ap, ◌∙◌, Option, Some, None, Result, Ok, Err, true, false, append_assoc, arith, is_some, OnOk, OnErr, IfOk, IfErr, append-nil, Error, OutOf, OutOfMemory, Execution, Child, AbortTask, Wake, Join, Slots, Slot, SlotPoll, CallReply, Done, NodeAt, SlotAt, Pending, Ready, Refused, AlarmList, Phase, Making, Polling, Ending, Closing, Stood, Turn, stood_in, ends_next, CallsAt, MayCall, alarm_of, IsAnswerOf, Ask, Heard, Plainly, Sleeping, Spawning, Plain, Handed, Held, Change, counted, Asks, IsOwn, FreesOne, call_of, heard_of, moved, has_place, find, heard_result, polled, Step, Last, Does, Spends, Counts, Gives, Walks, Fronts, Lacks, Stops, Breaks, then, followed_by, stood_before, IsSpending, walks-then, fronts-then, stops-then, stops-first, frees-counted, frees-append, frees-moved, frees-spent, turn_in, marked, sleep_reply, slept_number, Stream, World, Stays, Grows, Kept, Made, IsUnreceived, IsUnsent, SpentBy, Joined, Received, Lasts, Broke, EndsWith, Turned, Walked, Polled, answered_by, Rooted, root_by, Goes, Called, tells, wake_told, sleep_told, slot_told, child_told, spawn_told, join_told, MaySpend, Closes, Counted, Leads}
 use Rattle.rt_model.specs.declared.answer.Answer.{Answer}
 use Rattle.rt_model.specs.declared.answer.Answer.TheVariants.{NoMemory}
 use Rattle.rt_world.proofs.Drawn.{drew-same, drew-drew}
@@ -11,11 +11,6 @@ use Rattle.rt_world.specs.Walked.{Spent}
 stood-more : (ts us : List Turn) (n0 n1 n2 : Stood) → stood_before us n2 ≡ n1 → stood_before ts n1 ≡ n0 → stood_before (ts ++ us) n2 ≡ n0
 stood-more [] us n0 n1 n2 h k = h ∙ k
 stood-more (t ∷ ts) us n0 n1 n2 h k = k
-
--- what stood before a front is what stood before all
-front-stands : (front rest us : List Turn) (stood before : Stood) → us ≡ front ++ rest → stood_before us stood ≡ before → stood_before front before ≡ before
-front-stands [] rest us stood before e s = refl
-front-stands (t ∷ front) rest us stood before e s = rw e at s
 
 -- what stood before two lists of turns
 stood-both : (ts us : List Turn) (stood : Stood) → stood_before (ts ++ us) stood ≡ stood_before ts (stood_before us stood)

@@ -1,8 +1,4 @@
-use Rattle.std.proofs.Common.{◌≡◌, ◌≤◌, length}
-use Rattle.rt_model.specs.Marks.{flag_all}
-use Rattle.rt_model.specs.Effects.{unflagged}
-use Rattle.rt_model.specs.Rows.{total}
-use Rattle.rt_machine.specs.Places.{mark_places}
+use Rattle.rt_machine.proofs.Prelude.{◌≡◌, ◌≤◌, length, flag_all, unflagged, total, mark_places}
 use Rattle.rt_machine.proofs.marks.flag_all.Given as goal
 
 abbrev pub invariant-loop-task : goal.invariant-loop-task

@@ -1,5 +1,4 @@
-use Rattle.std.proofs.Common.{◌≡◌, ◌∙◌, Some}
-use Rattle.rt_model.specs.Lists.{find}
+use Rattle.rt_machine.proofs.Prelude.{◌≡◌, ◌∙◌, Some, find}
 use Rattle.rt_machine.proofs.Changed.{abort-some}
 use Rattle.rt_machine.proofs.results.note_abort.Goals as goal
 use Rattle.rt_machine.proofs.Totals.{abort-places}

@@ -1,4 +1,4 @@
-use Rattle.std.proofs.Common.{◌≡◌, ◌+◌, length}
+use Rattle.rt_machine.proofs.Prelude.{◌≡◌, ◌+◌, length}
 use Rattle.rt_machine.proofs.wakes.forget_met.Given as goal
 
 abbrev pub invariant-loop-task : goal.invariant-loop-task

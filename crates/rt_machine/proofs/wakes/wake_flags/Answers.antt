@@ -1,7 +1,4 @@
-use Rattle.std.proofs.Common.{◌≡◌, ◌∙◌, ◌++◌, ◌∷◌, sym, ap, arith, drop, append_assoc, length-append}
-use Rattle.rt_super.specs.Ancestry.{with_flag_taken}
-use Rattle.rt_model.specs.State.{State}
-use Rattle.rt_model.specs.Marks.{due_all, due_of, flag, flag_all}
+use Rattle.rt_machine.proofs.Prelude.{◌≡◌, ◌∙◌, ◌++◌, ◌∷◌, sym, ap, arith, drop, append_assoc, length-append, with_flag_taken, State, due_all, due_of, flag, flag_all}
 use Rattle.rt_machine.proofs.Calm.{calmly-calmly, first-flag}
 use Rattle.rt_machine.proofs.wakes.wake_flags.Goals as goal
 

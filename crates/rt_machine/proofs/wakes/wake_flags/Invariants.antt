@@ -1,9 +1,4 @@
-use Rattle.std.proofs.Common.{◌≡◌, ◌+◌, ◌++◌, length, List, ℕ, vec_capacity}
-use Rattle.rt_model.specs.Rows.{total}
-use Rattle.rt_model.specs.Marks.{due_all, flag_all}
-use Rattle.rt_model.specs.Effects.{unflagged}
-use Rattle.rt_machine.specs.Ends.{Calmly}
-use Rattle.rt_machine.specs.Places.{mark_places}
+use Rattle.rt_machine.proofs.Prelude.{◌≡◌, ◌+◌, ◌++◌, length, List, ℕ, vec_capacity, total, due_all, flag_all, unflagged, Calmly, mark_places}
 use Rattle.rt_machine.proofs.wakes.wake_flags.Given as goal
 
 abbrev pub invariant-loop-task : goal.invariant-loop-task

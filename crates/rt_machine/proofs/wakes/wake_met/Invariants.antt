@@ -1,4 +1,4 @@
-use Rattle.std.proofs.Common.{◌≡◌, ◌+◌, ◌++◌, length, List, ℕ, vec_capacity}
+use Rattle.rt_machine.proofs.Prelude.{◌≡◌, ◌+◌, ◌++◌, length, List, ℕ, vec_capacity}
 use Rattle.rt_machine.proofs.wakes.wake_met.Given as goal
 
 abbrev pub invariant-loop-task : goal.invariant-loop-task

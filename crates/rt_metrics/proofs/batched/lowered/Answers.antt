@@ -1,5 +1,4 @@
-use Rattle.std.proofs.Common.{rules}
-use Rattle.std.proofs.lemmas.Int.{wraps}
+use Rattle.rt_metrics.proofs.Prelude.{rules, wraps}
 use Rattle.rt_metrics.proofs.batched.lowered.Goals as goal
 
 pub returns : goal.returns

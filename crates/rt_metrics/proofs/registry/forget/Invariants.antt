@@ -1,7 +1,4 @@
-use Rattle.std.proofs.Common.{◌≡◌}
-use Rattle.std.specs.List.{fold}
-use Rattle.std.specs.Map.{values_of}
-use Rattle.rt_metrics.specs.Registry.{without_value}
+use Rattle.rt_metrics.proofs.Prelude.{◌≡◌, fold, values_of, without_value}
 use Rattle.rt_metrics.proofs.registry.forget.Given as goal
 
 -- what is still to be removed leads to the same values

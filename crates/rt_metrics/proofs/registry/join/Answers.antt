@@ -1,5 +1,4 @@
-use Rattle.std.proofs.Common.{rules}
-use Rattle.std.proofs.lemmas.Map.Steps.{set_value_same}
+use Rattle.rt_metrics.proofs.Prelude.{rules, set_value_same}
 use Rattle.rt_metrics.proofs.registry.join.Goals as goal
 
 pub returns-in_err-insert-in-Some-clause-refused :

@@ -1,6 +1,4 @@
-use Rattle.std.proofs.Common.{◌≡◌, rules, Some}
-use Rattle.std.specs.Map.{lookup}
-use Rattle.rt_metrics.specs.Registry.{FamilyState}
+use Rattle.rt_metrics.proofs.Prelude.{◌≡◌, rules, Some, lookup, FamilyState}
 use Rattle.rt_metrics.proofs.Lookups.{same_text}
 use Rattle.rt_metrics.proofs.Coherence.{left_nothing, left_written, left_removed}
 use Rattle.rt_metrics.proofs.Maps.{remove_entry-set_value}

@@ -1,5 +1,4 @@
-use Rattle.std.proofs.Common.{◌≡◌, take}
-use Rattle.rt_metrics.specs.Labels.{with_statuses}
+use Rattle.rt_metrics.proofs.Prelude.{◌≡◌, take, with_statuses}
 use Rattle.rt_metrics.proofs.status.make_children.Given as goal
 
 abbrev pub invariant-loop-status : goal.invariant-loop-status

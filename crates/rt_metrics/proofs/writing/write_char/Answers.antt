@@ -1,4 +1,4 @@
-use Rattle.std.proofs.Common.{rules}
+use Rattle.rt_metrics.proofs.Prelude.{rules}
 use Rattle.rt_metrics.proofs.Escapes.{escaped_char}
 use Rattle.rt_metrics.proofs.writing.write_char.Goals as goal
 

@@ -1,5 +1,4 @@
-use Rattle.std.proofs.Common.{◌≡◌, ◌++◌, string_bytes}
-use Rattle.rt_metrics.specs.MetricText.{escaped}
+use Rattle.rt_metrics.proofs.Prelude.{◌≡◌, ◌++◌, string_bytes, escaped}
 use Rattle.rt_metrics.proofs.writing.write_escaped.Given as goal
 
 abbrev pub invariant-loop-c : goal.invariant-loop-c

@@ -1,5 +1,4 @@
-use Rattle.std.proofs.Common.{◌≡◌, ◌++◌, string_bytes, length}
-use Rattle.rt_metrics.specs.MetricText.{more_labels}
+use Rattle.rt_metrics.proofs.Prelude.{◌≡◌, ◌++◌, string_bytes, length, more_labels}
 use Rattle.rt_metrics.proofs.writing.write_more_labels.Given as goal
 
 abbrev pub invariant-loop-label : goal.invariant-loop-label

@@ -1,6 +1,4 @@
-use Rattle.std.proofs.Common.{◌≤◌, ◌-◌, ◌∙◌, codes, drop, length, length-drop, arith, rules, sym}
-use Rattle.std.proofs.lemmas.List.{take_all}
-use Rattle.std.proofs.lemmas.Slice.Eq.{HasBytesAt}
+use Rattle.rt_scenario.proofs.Prelude.{◌≤◌, ◌-◌, ◌∙◌, codes, drop, length, length-drop, arith, rules, sym, take_all, HasBytesAt}
 use Rattle.rt_scenario.proofs.CommonLines.{sleeps_so}
 use Rattle.rt_scenario.proofs.common.common_line.Goals as goal
 

@@ -1,7 +1,4 @@
-use Rattle.std.proofs.Common.{◌≤◌, ◌-◌, ◌∙◌, codes, drop, length, length-drop, arith, rules, sym, SFits, w64}
-use Rattle.std.proofs.lemmas.Int.{to_z-of_z}
-use Rattle.std.proofs.lemmas.List.{take_all}
-use Rattle.std.proofs.lemmas.Slice.Eq.{HasBytesAt}
+use Rattle.rt_scenario.proofs.Prelude.{◌≤◌, ◌-◌, ◌∙◌, codes, drop, length, length-drop, arith, rules, sym, SFits, w64, to_z-of_z, take_all, HasBytesAt}
 use Rattle.rt_scenario.proofs.CommonLines.{ends_so}
 use Rattle.rt_scenario.proofs.common.end_line.Goals as goal
 

@@ -1,7 +1,4 @@
-use Rattle.std.proofs.Common.{◌≡◌, ◌≤◌, ◌-◌, ◌∙◌, codes, drop, length, length-drop, subst, sym, arith, rules, true}
-use Rattle.std.proofs.lemmas.List.{take_all}
-use Rattle.std.proofs.lemmas.Slice.Eq.{HasBytesAt}
-use Rattle.rt_scenario.specs.Scenario.{is_name}
+use Rattle.rt_scenario.proofs.Prelude.{◌≡◌, ◌≤◌, ◌-◌, ◌∙◌, codes, drop, length, length-drop, subst, sym, arith, rules, true, take_all, HasBytesAt, is_name}
 use Rattle.rt_scenario.proofs.CommonLines.{joins_so, where_some}
 use Rattle.rt_scenario.proofs.common.joined.Goals as goal
 

@@ -1,8 +1,4 @@
-use Rattle.std.proofs.Common.{◌≡◌, ◌≤◌, ◌-◌, ◌∷◌, [], true, codes, drop, take, length, length-drop, arith, rules}
-use Rattle.std.proofs.lemmas.List.{take_all}
-use Rattle.std.proofs.lemmas.Slice.Eq.{HasBytesAt}
-use Rattle.rt_scenario.specs.Lines.{words_of}
-use Rattle.rt_scenario.specs.Scenario.{is_name}
+use Rattle.rt_scenario.proofs.Prelude.{◌≡◌, ◌≤◌, ◌-◌, ◌∷◌, [], true, codes, drop, take, length, length-drop, arith, rules, take_all, HasBytesAt, words_of, is_name}
 use Rattle.rt_scenario.proofs.CommonLines.{spawns_so}
 use Rattle.rt_scenario.proofs.common.spawned.Goals as goal
 

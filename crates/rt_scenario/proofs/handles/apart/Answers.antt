@@ -1,9 +1,4 @@
-use Rattle.std.proofs.Common.{◌≡◌, ◌<◌, ◌+◌, ℕ, List, ◌∷◌, [], ◌++◌, drop, length, map, subst, ap, ◌∙◌, append_assoc, length-set, arith, rules}
-use Rattle.std.specs.List.{All}
-use Rattle.std.proofs.lemmas.List.Elements.{All-tail}
-use Rattle.std.proofs.lemmas.List.{drop_all, drop_more}
-use Rattle.std.proofs.lemmas.List.Sorted.{length_permutation}
-use Rattle.rt_scenario.specs.Indexed.{numbered_from}
+use Rattle.rt_scenario.proofs.Prelude.{◌≡◌, ◌<◌, ◌+◌, ℕ, List, ◌∷◌, [], ◌++◌, drop, length, map, subst, ap, ◌∙◌, append_assoc, length-set, arith, rules, All, All-tail, drop_all, drop_more, length_permutation, numbered_from}
 use Rattle.rt_scenario.proofs.FirstUse.{Filled, first, filled_first, filled_more, filled_last, here, inside, length_numbered}
 use Rattle.rt_scenario.proofs.handles.apart.Goals as goal
 

@@ -1,8 +1,4 @@
-use Rattle.std.proofs.Common.{◌≡◌, ◌++◌, ◌<◌, ℕ, List, drop, length, map}
-use Rattle.std.specs.List.{All}
-use Rattle.std.specs.List.Sorted.{IsPermutation, IsStrictlySortedBy}
-use Rattle.rt_base.specs.Attributes.{text_cmp}
-use Rattle.rt_scenario.specs.Indexed.{numbered_from}
+use Rattle.rt_scenario.proofs.Prelude.{◌≡◌, ◌++◌, ◌<◌, ℕ, List, drop, length, map, All, IsPermutation, IsStrictlySortedBy, text_cmp, numbered_from}
 use Rattle.rt_scenario.proofs.FirstUse.{Filled}
 use Rattle.rt_scenario.proofs.handles.apart.Given as goal
 

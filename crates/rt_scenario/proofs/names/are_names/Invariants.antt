@@ -1,7 +1,4 @@
-use Rattle.std.proofs.Common.{◌≡◌}
-use Rattle.std.specs.List.{list_all}
-use Rattle.rt_scenario.specs.Lines.{words_in}
-use Rattle.rt_scenario.specs.Scenario.{is_name}
+use Rattle.rt_scenario.proofs.Prelude.{◌≡◌, list_all, words_in, is_name}
 use Rattle.rt_scenario.proofs.Cuts.{left}
 use Rattle.rt_scenario.proofs.names.are_names.Given as goal
 

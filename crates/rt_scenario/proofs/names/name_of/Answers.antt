@@ -1,4 +1,4 @@
-use Rattle.std.proofs.Common.{sym, ◌∙◌}
+use Rattle.rt_scenario.proofs.Prelude.{sym, ◌∙◌}
 use Rattle.rt_scenario.proofs.Ascii.{label_is_utf8}
 use Rattle.rt_scenario.proofs.names.name_of.Goals as goal
 

@@ -1,7 +1,4 @@
-use Rattle.std.proofs.Common.{◌≡◌, true, length}
-use Rattle.std.specs.List.{list_all}
-use Rattle.std.specs.Char.{is_ascii_digit}
-use Rattle.std.specs.Str.Parse.{digits_value, digits_value_after}
+use Rattle.rt_scenario.proofs.Prelude.{◌≡◌, true, length, list_all, is_ascii_digit, digits_value, digits_value_after}
 use Rattle.rt_scenario.proofs.numbers.digits_number.Given as goal
 
 abbrev pub invariant-loop-digit : goal.invariant-loop-digit

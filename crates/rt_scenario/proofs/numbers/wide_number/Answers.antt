@@ -1,4 +1,4 @@
-use Rattle.std.proofs.Common.{◌≡◌, ◌∷◌, ◌∙◌, sym, arith, rules}
+use Rattle.rt_scenario.proofs.Prelude.{◌≡◌, ◌∷◌, ◌∙◌, sym, arith, rules}
 use Rattle.rt_scenario.proofs.Digits.{past_step, at_end}
 use Rattle.rt_scenario.proofs.numbers.wide_number.Goals as goal
 

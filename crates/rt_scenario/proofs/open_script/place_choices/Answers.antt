@@ -1,5 +1,4 @@
-use Rattle.std.proofs.Common.{slice_index, rules}
-use Rattle.std.proofs.lemmas.List.Edits.{map_over_more}
+use Rattle.rt_scenario.proofs.Prelude.{slice_index, rules, map_over_more}
 use Rattle.rt_scenario.proofs.open_script.place_choices.Goals as goal
 
 pub loop-choice-preserved : goal.loop-choice-preserved

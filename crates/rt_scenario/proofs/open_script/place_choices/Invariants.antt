@@ -1,4 +1,4 @@
-use Rattle.std.proofs.Common.{◌≡◌, ◌++◌, map, take, drop, slice_index}
+use Rattle.rt_scenario.proofs.Prelude.{◌≡◌, ◌++◌, map, take, drop, slice_index}
 use Rattle.rt_scenario.proofs.open_script.place_choices.Given as goal
 
 abbrev pub invariant-loop-choice : goal.invariant-loop-choice

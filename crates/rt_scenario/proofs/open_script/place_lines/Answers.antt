@@ -1,6 +1,4 @@
-use Rattle.std.proofs.Common.{rules, sym}
-use Rattle.std.proofs.lemmas.List.Edits.{map_over_more}
-use Rattle.rt_scenario.specs.Indexed.{placed_at}
+use Rattle.rt_scenario.proofs.Prelude.{rules, sym, map_over_more, placed_at}
 use Rattle.rt_scenario.proofs.Indexed.{unplaced}
 use Rattle.rt_scenario.proofs.open_script.place_lines.Goals as goal
 

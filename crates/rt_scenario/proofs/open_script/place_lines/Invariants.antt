@@ -1,5 +1,4 @@
-use Rattle.std.proofs.Common.{◌≡◌, ◌++◌, map, take, drop}
-use Rattle.rt_scenario.specs.Indexed.{placed_at}
+use Rattle.rt_scenario.proofs.Prelude.{◌≡◌, ◌++◌, map, take, drop, placed_at}
 use Rattle.rt_scenario.proofs.open_script.place_lines.Given as goal
 
 abbrev pub invariant-loop-line : goal.invariant-loop-line

@@ -1,6 +1,4 @@
-use Rattle.std.proofs.Common.{◌≡◌, ℕ, List, [], ◌∷◌, length, refl, sym, ap, ◌∙◌, arith, rules}
-use Rattle.rt_scenario.specs.Lines.{lines_of}
-use Rattle.rt_scenario.specs.Scenario.{reading}
+use Rattle.rt_scenario.proofs.Prelude.{◌≡◌, ℕ, List, [], ◌∷◌, length, refl, sym, ap, ◌∙◌, arith, rules, lines_of, reading}
 use Rattle.rt_scenario.proofs.reader.read_scenario.Goals as goal
 
 none_left : (text : List ℕ) → length text ≡ 0 → text ≡ []

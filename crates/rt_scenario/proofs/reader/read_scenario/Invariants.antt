@@ -1,6 +1,4 @@
-use Rattle.std.proofs.Common.{◌≡◌, ◌≤◌, ◌+◌, length}
-use Rattle.rt_scenario.specs.Lines.{lines_of}
-use Rattle.rt_scenario.specs.Scenario.{scenario_of, reading}
+use Rattle.rt_scenario.proofs.Prelude.{◌≡◌, ◌≤◌, ◌+◌, length, lines_of, scenario_of, reading}
 use Rattle.rt_scenario.proofs.reader.read_scenario.Given as goal
 
 -- what the lines to come say is what all of them say, and each line has a byte

@@ -1,4 +1,4 @@
-use Rattle.std.proofs.Common.{◌≡◌, ℕ, ◌<◌, get_or}
+use Rattle.rt_scenario.proofs.Prelude.{◌≡◌, ℕ, ◌<◌, get_or}
 use Rattle.rt_scenario.proofs.split.front_len.Given as goal
 
 abbrev pub invariant-loop-place : goal.invariant-loop-place

@@ -1,5 +1,4 @@
-use Rattle.std.proofs.Common.{◌≡◌, ◌∷◌, length, arith, ap, ◌∙◌}
-use Rattle.rt_scenario.specs.Lines.{words_in, words_of}
+use Rattle.rt_scenario.proofs.Prelude.{◌≡◌, ◌∷◌, length, arith, ap, ◌∙◌, words_in, words_of}
 use Rattle.rt_scenario.proofs.Cuts.{some_words}
 use Rattle.rt_scenario.proofs.split.only_word.Goals as goal
 

@@ -1,5 +1,4 @@
-use Rattle.std.proofs.Common.{◌≡◌, ◌∷◌, rules}
-use Rattle.rt_scenario.specs.Lines.{words_in}
+use Rattle.rt_scenario.proofs.Prelude.{◌≡◌, ◌∷◌, rules, words_in}
 use Rattle.rt_scenario.proofs.Cuts.{run_named, some_in}
 use Rattle.rt_scenario.proofs.split.run_words.Goals as goal
 

@@ -1,4 +1,4 @@
-use Rattle.std.proofs.Common.{add-one}
+use Rattle.rt_scenario.proofs.Prelude.{add-one}
 use Rattle.rt_scenario.proofs.Cuts.{cut_line, last_line}
 use Rattle.rt_scenario.proofs.split.split_line.Goals as goal
 

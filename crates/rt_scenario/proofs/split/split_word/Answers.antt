@@ -1,4 +1,4 @@
-use Rattle.std.proofs.Common.{arith}
+use Rattle.rt_scenario.proofs.Prelude.{arith}
 use Rattle.rt_scenario.proofs.Cuts.{word_before, whole_word}
 use Rattle.rt_scenario.proofs.split.split_word.Goals as goal
 

@@ -1,7 +1,4 @@
-use Rattle.std.proofs.Common.{◌≡◌, ◌&&◌, ◌||◌, drop}
-use Rattle.std.specs.List.{list_all}
-use Rattle.rt_scenario.specs.Lines.{words_of}
-use Rattle.rt_scenario.specs.Scenario.{is_printable}
+use Rattle.rt_scenario.proofs.Prelude.{◌≡◌, ◌&&◌, ◌||◌, drop, list_all, words_of, is_printable}
 use Rattle.rt_scenario.proofs.Spaces.{has_empty, stray_from}
 use Rattle.rt_scenario.proofs.split.test_text.Given as goal
 

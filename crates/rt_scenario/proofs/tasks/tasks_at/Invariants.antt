@@ -1,6 +1,4 @@
-use Rattle.std.proofs.Common.{◌≡◌, ◌+◌, ◌<◌, ◌^◌, length}
-use Rattle.rt_scenario.specs.Scripts.{tasks_at}
-use Rattle.rt_scenario.specs.Capped.{capped}
+use Rattle.rt_scenario.proofs.Prelude.{◌≡◌, ◌+◌, ◌<◌, ◌^◌, length, tasks_at, capped}
 use Rattle.rt_scenario.proofs.tasks.tasks_at.Given as goal
 
 abbrev pub invariant-loop-place : goal.invariant-loop-place

@@ -1,6 +1,4 @@
-use Rattle.std.proofs.Common.{◌≡◌, ◌+◌, ◌<◌, ◌^◌, length}
-use Rattle.rt_scenario.specs.Scripts.{tasks_at, spawned_in}
-use Rattle.rt_scenario.specs.Capped.{capped}
+use Rattle.rt_scenario.proofs.Prelude.{◌≡◌, ◌+◌, ◌<◌, ◌^◌, length, tasks_at, spawned_in, capped}
 use Rattle.rt_scenario.proofs.tasks.tasks_of.Given as goal
 
 abbrev pub invariant-loop-line : goal.invariant-loop-line

@@ -1,6 +1,4 @@
-use Rattle.std.proofs.Common.{length, reverse, true, arith, ap, ◌∙◌, set, length-append}
-use Rattle.std.proofs.lemmas.List.{length-reverse}
-use Rattle.rt_super.specs.Inside.{is_marked, parents, children_from}
+use Rattle.rt_super.proofs.Prelude.{length, reverse, true, arith, ap, ◌∙◌, set, length-append, length-reverse, is_marked, parents, children_from}
 use Rattle.rt_super.proofs.Walk.{popped_within, count_marks, children_at, task_here, walk_skip, walk_mark, walk_room, is_marked-set, marks_set-set, marks_set-lt, walk_shorter_by_one, few_flags}
 use Rattle.rt_super.proofs.ending.end_subtree.Goals as goal
 

@@ -1,10 +1,4 @@
-use Rattle.std.proofs.Common.{◌≡◌, ◌≤◌, length, reverse, vec_capacity}
-use Rattle.std.specs.List.{flat_map}
-use Rattle.std.specs.VecDeque.{deque_capacity}
-use Rattle.rt_super.specs.Ancestry.{subtree}
-use Rattle.rt_super.specs.Inside.{placed, is_marked}
-use Rattle.rt_super.specs.Inside.{parents, marks_set}
-use Rattle.rt_super.specs.Ending.{task_at}
+use Rattle.rt_super.proofs.Prelude.{◌≡◌, ◌≤◌, length, reverse, vec_capacity, flat_map, deque_capacity, subtree, placed, is_marked, parents, marks_set, task_at}
 use Rattle.rt_super.proofs.Walk.{IsWalk}
 use Rattle.rt_super.proofs.ending.end_subtree.Given as goal
 

@@ -1,4 +1,4 @@
-use Rattle.std.proofs.Common.{◌≡◌, ◌++◌, ◌≤◌, length, reverse, drop, vec_capacity}
+use Rattle.rt_super.proofs.Prelude.{◌≡◌, ◌++◌, ◌≤◌, length, reverse, drop, vec_capacity}
 use Rattle.rt_super.proofs.ending.push_children.Given as goal
 
 abbrev pub invariant-loop-left : goal.invariant-loop-left

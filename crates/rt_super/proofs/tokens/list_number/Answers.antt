@@ -1,9 +1,4 @@
-use Rattle.std.proofs.Common.{◌≡◌, ◌∷◌, ◌++◌, [], ◌∙◌, ◌<◌, ap, sym, ℕ, List, length, get_or, set}
-use Rattle.std.proofs.Math.Seq.{map-set_same}
-use Rattle.std.proofs.lemmas.List.{map-set}
-use Rattle.std.specs.Prelude.{Vec}
-use Rattle.std.specs.Global.{Global}
-use Rattle.rt_super.specs.Tokens.{lists_of}
+use Rattle.rt_super.proofs.Prelude.{◌≡◌, ◌∷◌, ◌++◌, [], ◌∙◌, ◌<◌, ap, sym, ℕ, List, length, get_or, set, map-set_same, map-set, Vec, Global, lists_of}
 use Rattle.rt_super.proofs.Shapes.{on_err}
 use Rattle.rt_super.proofs.TokenLemmas.{list-at}
 use Rattle.rt_super.proofs.tokens.list_number.Goals as goal

@@ -1,7 +1,4 @@
-use Rattle.std.proofs.Common.{◌≤◌, ◌∷◌, ◌++◌, [], ◌∙◌, sym, ap, arith, length, length-append, append_assoc}
-use Rattle.std.proofs.lemmas.List.{append-nil, nil_from_length}
-use Rattle.rt_super.specs.Tokens.{IsLeft, wait_of}
-use Rattle.rt_super.specs.Signals.{waits_in}
+use Rattle.rt_super.proofs.Prelude.{◌≤◌, ◌∷◌, ◌++◌, [], ◌∙◌, sym, ap, arith, length, length-append, append_assoc, append-nil, nil_from_length, IsLeft, wait_of, waits_in}
 use Rattle.rt_super.proofs.TokenLemmas.{all-met, left-step, waits-met, unwaited-met}
 use Rattle.rt_super.proofs.tokens.meet_each.Goals as goal
 

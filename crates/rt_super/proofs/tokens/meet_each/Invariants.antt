@@ -1,7 +1,4 @@
-use Rattle.std.proofs.Common.{◌≡◌, ◌++◌, length}
-use Rattle.std.specs.VecDeque.{deque_capacity}
-use Rattle.rt_super.specs.Signals.{waits_in, unwaited}
-use Rattle.rt_super.specs.Tokens.{IsLeft}
+use Rattle.rt_super.proofs.Prelude.{◌≡◌, ◌++◌, length, deque_capacity, waits_in, unwaited, IsLeft}
 use Rattle.rt_super.proofs.tokens.meet_each.Given as goal
 
 abbrev pub invariant-loop-number : goal.invariant-loop-number

@@ -1,4 +1,4 @@
-use Rattle.std.proofs.Common.{refl, Bool, Option, ℕ}
+use Rattle.rt_super.proofs.Prelude.{refl, Bool, Option, ℕ}
 use Rattle.rt_super.proofs.Shapes.{on_err, set_keeps, children_set}
 use Rattle.rt_super.proofs.tree.adopt.Goals as goal
 

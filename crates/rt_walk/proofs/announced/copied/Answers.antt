@@ -1,5 +1,4 @@
-use Rattle.std.proofs.Common.{◌≡◌, ◌∷◌, ◌++◌, [], sym, rules, Some}
-use Rattle.std.specs.List.{slice_get}
+use Rattle.rt_walk.proofs.Prelude.{◌≡◌, ◌∷◌, ◌++◌, [], sym, rules, Some, slice_get}
 use Rattle.rt_walk.proofs.Fields.{take-further}
 use Rattle.rt_walk.proofs.announced.copied.Goals as goal
 

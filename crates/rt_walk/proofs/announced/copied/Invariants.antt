@@ -1,4 +1,4 @@
-use Rattle.std.proofs.Common.{◌≡◌, take}
+use Rattle.rt_walk.proofs.Prelude.{◌≡◌, take}
 use Rattle.rt_walk.proofs.announced.copied.Given as goal
 
 abbrev pub invariant-loop-place : goal.invariant-loop-place

@@ -1,5 +1,4 @@
-use Rattle.std.proofs.Common.{◌≡◌, ◌∙◌, sym, arith, length}
-use Rattle.std.proofs.lemmas.List.{nil_from_length}
+use Rattle.rt_walk.proofs.Prelude.{◌≡◌, ◌∙◌, sym, arith, length, nil_from_length}
 use Rattle.rt_walk.proofs.OfCall.{draw-decides, stop-decides, stopped-decides}
 use Rattle.rt_walk.proofs.announced.is_of_call.Goals as goal
 

@@ -1,4 +1,4 @@
-use Rattle.std.proofs.Common.{◌≡◌, ◌∷◌, [], ◌∙◌, ap, sym, rules}
+use Rattle.rt_walk.proofs.Prelude.{◌≡◌, ◌∷◌, [], ◌∙◌, ap, sym, rules}
 use Rattle.rt_walk.proofs.Fields.{one-item}
 use Rattle.rt_walk.proofs.announced.is_only.Goals as goal
 

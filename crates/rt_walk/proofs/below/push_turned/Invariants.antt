@@ -1,4 +1,4 @@
-use Rattle.std.proofs.Common.{◌≡◌, ◌++◌, ◌≤◌, length, reverse, drop}
+use Rattle.rt_walk.proofs.Prelude.{◌≡◌, ◌++◌, ◌≤◌, length, reverse, drop}
 use Rattle.rt_walk.proofs.below.push_turned.Given as goal
 
 abbrev pub invariant-loop-left : goal.invariant-loop-left

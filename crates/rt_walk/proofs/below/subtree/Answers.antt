@@ -1,4 +1,4 @@
-use Rattle.rt_super.specs.Ancestry.{links}
+use Rattle.rt_walk.proofs.Prelude.{links}
 use Rattle.rt_walk.proofs.Families.{walk-step, walk-less}
 use Rattle.rt_walk.proofs.below.subtree.Goals as goal
 

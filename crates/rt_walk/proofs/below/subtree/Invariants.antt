@@ -1,6 +1,4 @@
-use Rattle.std.proofs.Common.{◌≡◌, ◌++◌, length, reverse}
-use Rattle.std.specs.List.{flat_map}
-use Rattle.rt_super.specs.Ancestry.{links, subtree}
+use Rattle.rt_walk.proofs.Prelude.{◌≡◌, ◌++◌, length, reverse, flat_map, links, subtree}
 use Rattle.rt_walk.proofs.below.subtree.Given as goal
 
 abbrev pub invariant-loop-next : goal.invariant-loop-next

@@ -1,7 +1,4 @@
-use Rattle.std.proofs.Common.{◌≡◌, ◌∙◌, ap, sym, true, false, if◌then◌else◌, rules}
-use Rattle.rt_model.specs.State.{State, begun}
-use Rattle.rt_model.specs.Runs.{next_begin, renewed, renews}
-use Rattle.rt_walk.specs.Quiet.{quiet}
+use Rattle.rt_walk.proofs.Prelude.{◌≡◌, ◌∙◌, ap, sym, true, State, begun, next_begin, renews}
 use Rattle.rt_walk.proofs.Quiet.{begun-quiet}
 use Rattle.rt_walk.proofs.first.begin_next.Goals as goal
 

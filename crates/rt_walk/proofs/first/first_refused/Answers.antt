@@ -1,6 +1,4 @@
-use Rattle.std.proofs.Common.{◌≡◌, ◌∙◌, ap, true, sym, rules}
-use Rattle.std.proofs.Common.{take}
-use Rattle.rt_model.specs.Runs.{runs_after, renewed}
+use Rattle.rt_walk.proofs.Prelude.{◌≡◌, true, sym, rules, take, runs_after, renewed}
 use Rattle.rt_walk.proofs.Prefixes.{after-further, breaks-here, broken-unlawful, lawful-further}
 use Rattle.rt_walk.proofs.first.first_refused.Goals as goal
 

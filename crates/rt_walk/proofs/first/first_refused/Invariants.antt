@@ -1,7 +1,4 @@
-use Rattle.std.proofs.Common.{◌≡◌, take}
-use Rattle.rt_model.specs.State.{State}
-use Rattle.rt_model.specs.Runs.{runs_after, AreLawful}
-use Rattle.rt_walk.specs.Quiet.{quiet}
+use Rattle.rt_walk.proofs.Prelude.{◌≡◌, take, State, runs_after, AreLawful, quiet}
 use Rattle.rt_walk.proofs.first.first_refused.Given as goal
 
 abbrev pub invariant-loop-place : goal.invariant-loop-place

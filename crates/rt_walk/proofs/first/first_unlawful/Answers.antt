@@ -1,5 +1,4 @@
-use Rattle.std.proofs.Common.{◌∙◌, sym}
-use Rattle.rt_model.specs.State.{begun}
+use Rattle.rt_walk.proofs.Prelude.{◌∙◌, sym, begun}
 use Rattle.rt_walk.proofs.Quiet.{begun-quiet}
 use Rattle.rt_walk.proofs.first.first_unlawful.Goals as goal
 

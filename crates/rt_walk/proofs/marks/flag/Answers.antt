@@ -1,5 +1,4 @@
-use Rattle.std.proofs.Common.{◌∙◌, sym}
-use Rattle.rt_model.specs.Marks.{flagged}
+use Rattle.rt_walk.proofs.Prelude.{◌∙◌, sym, flagged}
 use Rattle.rt_walk.proofs.Tables.{replaced-found}
 use Rattle.rt_walk.proofs.marks.flag.Goals as goal
 

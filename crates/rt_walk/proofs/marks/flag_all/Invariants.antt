@@ -1,5 +1,4 @@
-use Rattle.std.proofs.Common.{◌≡◌, ◌++◌, length}
-use Rattle.rt_model.specs.Marks.{flag_all, due_all}
+use Rattle.rt_walk.proofs.Prelude.{◌≡◌, ◌++◌, length, flag_all, due_all}
 use Rattle.rt_walk.proofs.marks.flag_all.Given as goal
 
 abbrev pub invariant-loop-task : goal.invariant-loop-task

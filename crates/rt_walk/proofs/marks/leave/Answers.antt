@@ -1,5 +1,4 @@
-use Rattle.std.proofs.Common.{◌∙◌, sym, true}
-use Rattle.rt_model.specs.declared.mark.Mark.{Mark}
+use Rattle.rt_walk.proofs.Prelude.{◌∙◌, sym, true, Mark}
 use Rattle.rt_walk.proofs.Tables.{replaced-found}
 use Rattle.rt_walk.proofs.marks.leave.Goals as goal
 

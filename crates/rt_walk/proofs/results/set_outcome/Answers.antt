@@ -1,5 +1,4 @@
-use Rattle.std.proofs.Common.{◌∙◌, sym}
-use Rattle.rt_model.specs.declared.result.TaskResult.{TaskResult}
+use Rattle.rt_walk.proofs.Prelude.{◌∙◌, sym, TaskResult}
 use Rattle.rt_walk.proofs.Tables.{replaced-found}
 use Rattle.rt_walk.proofs.results.set_outcome.Goals as goal
 

@@ -1,4 +1,4 @@
-use Rattle.std.proofs.Common.{◌≡◌, ◌++◌, length}
+use Rattle.rt_walk.proofs.Prelude.{◌≡◌, ◌++◌, length}
 use Rattle.rt_walk.proofs.told_signals.woken_of.Given as goal
 
 abbrev pub invariant-loop-task : goal.invariant-loop-task

@@ -1,4 +1,4 @@
-use Rattle.std.proofs.Common.{rules, refl}
+use Rattle.rt_machine.proofs.Prelude.{rules, refl}
 use Rattle.rt_machine.proofs.Numbered.{short-there, label-past}
 use Rattle.rt_machine.proofs.labels.Labels.get.Goals as goal
 

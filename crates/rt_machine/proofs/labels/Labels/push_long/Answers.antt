@@ -1,4 +1,4 @@
-use Rattle.std.proofs.Common.{rules}
+use Rattle.rt_machine.proofs.Prelude.{rules}
 use Rattle.rt_machine.proofs.Numbered.{labels-long}
 use Rattle.rt_machine.proofs.labels.Labels.push_long.Goals as goal
 

@@ -1,5 +1,4 @@
-use Rattle.std.proofs.Common.{rules}
-use Rattle.rt_machine.specs.declared.labels.NodeLabel.TheVariants.{Short}
+use Rattle.rt_machine.proofs.Prelude.{rules, Short}
 use Rattle.rt_machine.proofs.Numbered.{labels-push}
 use Rattle.rt_machine.proofs.labels.Labels.push_short.Goals as goal
 

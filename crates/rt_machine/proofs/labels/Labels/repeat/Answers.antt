@@ -1,6 +1,4 @@
-use Rattle.std.proofs.Common.{rules, ◌≡◌, ◌∙◌, [], get_or, sym}
-use Rattle.rt_model.specs.Effects.{label_at}
-use Rattle.rt_machine.specs.declared.labels.NodeLabel.TheVariants.{Long}
+use Rattle.rt_machine.proofs.Prelude.{rules, ◌≡◌, ◌∙◌, [], get_or, sym, label_at, Long}
 use Rattle.rt_machine.proofs.Numbered.{labels-push, short-there, long-there, label-past}
 use Rattle.rt_machine.proofs.labels.Labels.repeat.Goals as goal
 

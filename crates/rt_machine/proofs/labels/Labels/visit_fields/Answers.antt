@@ -1,4 +1,4 @@
-use Rattle.std.proofs.Common.{rules}
+use Rattle.rt_machine.proofs.Prelude.{rules}
 use Rattle.rt_machine.proofs.Numbered.{short-there, label-past}
 use Rattle.rt_machine.proofs.labels.Labels.visit_fields.Goals as goal
 

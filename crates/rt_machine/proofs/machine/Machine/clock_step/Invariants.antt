@@ -1,7 +1,4 @@
-use Rattle.std.proofs.Common.{◌≡◌, ◌≤◌, ◌+◌, length}
-use Rattle.rt_base.specs.declared.time.TheConstants.{MAX_TIME}
-use Rattle.rt_model.specs.State.{Turning}
-use Rattle.rt_machine.specs.Steps.{Turns}
+use Rattle.rt_machine.proofs.Prelude.{◌≡◌, ◌≤◌, ◌+◌, length, MAX_TIME, Turning, Turns}
 use Rattle.rt_machine.proofs.machine.Machine.clock_step.Given as goal
 
 abbrev pub invariant-loop : goal.invariant-loop

@@ -1,7 +1,4 @@
-use Rattle.std.proofs.Common.{◌≡◌, ◌∙◌, refl, sym, arith, true}
-use Rattle.rt_super.specs.Ancestry.{is_live}
-use Rattle.rt_model.specs.State.{stood_in}
-use Rattle.rt_model.specs.Effects.{after, is_closing}
+use Rattle.rt_machine.proofs.Prelude.{◌≡◌, ◌∙◌, refl, sym, arith, true, is_live, stood_in, after, is_closing}
 use Rattle.rt_machine.proofs.Nodes.{live-release, length-release}
 use Rattle.rt_machine.proofs.Owed.{due-close}
 use Rattle.rt_machine.proofs.Over.{over-release}

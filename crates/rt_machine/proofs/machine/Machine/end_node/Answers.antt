@@ -1,14 +1,4 @@
-use Rattle.std.proofs.Common.{◌≡◌, ◌≤◌, ◌+◌, ◌∙◌, ◌++◌, refl, sym, ap, arith, true, is_some, is_none, None, length, List, ℕ, [], append-nil, length-append}
-use Rattle.rt_super.specs.Ancestry.{with_end}
-use Rattle.rt_model.specs.State.{State, Leaving}
-use Rattle.rt_model.specs.Marks.{due_all, flag_all}
-use Rattle.rt_model.specs.Lists.{find, those}
-use Rattle.rt_model.specs.Rows.{total}
-use Rattle.rt_model.specs.Effects.{flagged_by, left_of, unflagged}
-use Rattle.rt_machine.specs.Ends.{ended_results, ended_waiting, open_in}
-use Rattle.rt_machine.specs.Places.{mark_places, result_places}
-use Rattle.rt_machine.specs.Told.{Told}
-use Rattle.rt_parts.proofs.Totals.{waits-places}
+use Rattle.rt_machine.proofs.Prelude.{◌≡◌, ◌≤◌, ◌+◌, ◌∙◌, ◌++◌, refl, sym, ap, arith, true, is_some, is_none, None, length, List, ℕ, [], append-nil, length-append, with_end, State, Leaving, due_all, flag_all, find, those, total, flagged_by, left_of, unflagged, ended_results, ended_waiting, open_in, mark_places, result_places, Told, waits-places}
 use Rattle.rt_machine.proofs.Totals.{without-one, has-flagged}
 use Rattle.rt_machine.proofs.Nodes.{length-end, live-end}
 use Rattle.rt_machine.proofs.Calm.{calmly-one, calmly-calmly}

@@ -1,5 +1,4 @@
-use Rattle.std.proofs.Common.{refl}
-use Rattle.rt_audit.specs.declared.call.Call.TheVariants.{FillBytes}
+use Rattle.rt_machine.proofs.Prelude.{refl, FillBytes}
 use Rattle.rt_machine.proofs.Announced.{may-drawing}
 use Rattle.rt_machine.proofs.machine.Machine.fill_bytes.Goals as goal
 

@@ -1,14 +1,5 @@
-use Rattle.std.proofs.Common.{◌≡◌, ◌≤◌, ◌+◌, ◌∙◌, ◌++◌, refl, sym, ap, arith, true, length, List, ℕ, [], append-nil, length-append}
-use Rattle.rt_model.specs.State.{State, Ending}
-use Rattle.rt_model.specs.Marks.{is_ended_at}
-use Rattle.rt_model.specs.Lists.{find, has_number, those}
-use Rattle.rt_model.specs.Rows.{total}
-use Rattle.rt_model.specs.Effects.{left_of}
-use Rattle.rt_machine.specs.Ends.{ended_results, ended_waiting, panic_wakes, open_in}
-use Rattle.rt_machine.specs.Places.{result_places}
-use Rattle.rt_machine.specs.Told.{Told}
+use Rattle.rt_machine.proofs.Prelude.{◌≡◌, ◌≤◌, ◌+◌, ◌∙◌, ◌++◌, refl, sym, ap, arith, true, length, List, ℕ, [], append-nil, length-append, State, Ending, is_ended_at, find, has_number, those, total, left_of, ended_results, ended_waiting, panic_wakes, open_in, result_places, Told, waits-places}
 use Rattle.rt_machine.proofs.Counts.{length-without, below-without}
-use Rattle.rt_parts.proofs.Totals.{waits-places}
 use Rattle.rt_machine.proofs.Totals.{ended-fewer}
 use Rattle.rt_machine.proofs.Nodes.{released-fewer, length-released}
 use Rattle.rt_machine.proofs.Calm.{calmly-calmly}

@@ -1,7 +1,4 @@
-use Rattle.std.proofs.Common.{◌≡◌, ◌<◌, ◌⊎◌, length, false}
-use Rattle.rt_model.specs.Lists.{is_nil}
-use Rattle.rt_model.specs.State.{Turning}
-use Rattle.rt_machine.specs.Steps.{Turns}
+use Rattle.rt_machine.proofs.Prelude.{◌≡◌, ◌<◌, ◌⊎◌, length, false, is_nil, Turning, Turns}
 use Rattle.rt_machine.proofs.machine.Machine.fire_all.Given as goal
 
 abbrev pub invariant-loop : goal.invariant-loop

@@ -1,9 +1,4 @@
-use Rattle.std.proofs.Common.{◌≡◌, ◌∙◌, refl, sym, arith, Some}
-use Rattle.rt_model.specs.Lists.{find}
-use Rattle.rt_model.specs.State.{stood_in}
-use Rattle.rt_model.specs.Effects.{after, is_closing}
-use Rattle.rt_machine.specs.Places.{result_places}
-use Rattle.rt_parts.proofs.Totals.{without-places}
+use Rattle.rt_machine.proofs.Prelude.{◌≡◌, ◌∙◌, refl, sym, arith, Some, find, stood_in, after, is_closing, result_places, without-places}
 use Rattle.rt_machine.proofs.Owed.{due-give-up}
 use Rattle.rt_machine.proofs.machine.Machine.give_up.Goals as goal
 

@@ -1,7 +1,4 @@
-use Rattle.std.proofs.Common.{◌≡◌, ◌∙◌, refl, sym, arith, true, length}
-use Rattle.rt_super.specs.Ancestry.{is_live, with_child}
-use Rattle.rt_model.specs.State.{stood_in}
-use Rattle.rt_model.specs.Effects.{after, is_closing}
+use Rattle.rt_machine.proofs.Prelude.{◌≡◌, ◌∙◌, refl, sym, arith, true, length, is_live, with_child, stood_in, after, is_closing}
 use Rattle.rt_machine.proofs.Nodes.{live-child, length-child}
 use Rattle.rt_machine.proofs.Fine.{on-ok, places-most}
 use Rattle.rt_machine.proofs.Owed.{due-child}

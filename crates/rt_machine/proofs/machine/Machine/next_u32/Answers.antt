@@ -1,5 +1,4 @@
-use Rattle.std.proofs.Common.{refl}
-use Rattle.rt_audit.specs.declared.call.Call.TheVariants.{NextU32}
+use Rattle.rt_machine.proofs.Prelude.{refl, NextU32}
 use Rattle.rt_machine.proofs.Announced.{may-drawing}
 use Rattle.rt_machine.proofs.machine.Machine.next_u32.Goals as goal
 

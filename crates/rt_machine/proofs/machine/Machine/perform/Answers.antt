@@ -1,14 +1,7 @@
-use Rattle.std.proofs.Common.{◌≡◌, ◌≤◌, ◌<◌, ◌+◌, ◌∙◌, ◌++◌, refl, sym, ap, arith, length, length-append, List, ℕ, [], if◌then◌else◌}
-use Rattle.rt_model.specs.Lists.{those}
-use Rattle.rt_model.specs.Slots.{Slotted, slots_by, slots_wake}
-use Rattle.rt_model.specs.State.{stood_in}
-use Rattle.rt_model.specs.Effects.{after, is_closing}
-use Rattle.rt_parts.specs.Slots.{is_spending, slot_cost, slots_owe, slotted}
-use Rattle.rt_machine.specs.Told.{Told}
+use Rattle.rt_machine.proofs.Prelude.{◌≡◌, ◌≤◌, ◌+◌, ◌∙◌, refl, sym, ap, arith, length, length-append, List, ℕ, [], if◌then◌else◌, those, Slotted, slots_by, slots_wake, stood_in, after, is_closing, is_spending, slot_cost, slots_owe, slotted, cost-spent}
 use Rattle.rt_machine.proofs.Fine.{places-most}
 use Rattle.rt_machine.proofs.Totals.{owed-fewer}
 use Rattle.rt_machine.proofs.Owed.{due-slots}
-use Rattle.rt_parts.proofs.SlotLaws.{cost-spent}
 use Rattle.rt_machine.proofs.CallRoom.{entry-fits, wakes-fit, room-after, seats-fit, seats-after}
 use Rattle.rt_machine.proofs.machine.Machine.perform.Goals as goal
 

@@ -1,4 +1,4 @@
-use Rattle.std.proofs.Common.{◌≡◌, ◌∙◌, ◌<◌, ◌++◌, [], ap, sym, List, ℕ, length, arith}
+use Rattle.rt_machine.proofs.Prelude.{◌≡◌, ◌∙◌, ◌<◌, ◌++◌, ap, sym, List, ℕ, length, arith}
 use Rattle.rt_machine.proofs.Shuffled.{plain-drains}
 use Rattle.rt_machine.proofs.machine.Machine.round.Goals as goal
 

@@ -1,4 +1,4 @@
-use Rattle.std.proofs.Common.{◌≡◌, ◌∙◌, ap, List, ℕ, length, arith}
+use Rattle.rt_machine.proofs.Prelude.{◌≡◌, ◌∙◌, ap, length, arith}
 use Rattle.rt_machine.proofs.Shuffled.{length-shuffled, shuffled-may, shuffled-drains, stands-drained}
 use Rattle.rt_machine.proofs.machine.Machine.shuffled_round.Goals as goal
 

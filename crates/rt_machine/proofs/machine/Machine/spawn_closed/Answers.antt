@@ -1,5 +1,4 @@
-use Rattle.std.proofs.Common.{◌≡◌, arith, true}
-use Rattle.rt_model.specs.Rules.{is_free}
+use Rattle.rt_machine.proofs.Prelude.{◌≡◌, arith, true, is_free}
 use Rattle.rt_machine.proofs.Nodes.{live-release}
 use Rattle.rt_machine.proofs.Seats.{free-live}
 use Rattle.rt_machine.proofs.machine.Machine.spawn_closed.Goals as goal

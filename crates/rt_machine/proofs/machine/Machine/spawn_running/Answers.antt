@@ -1,16 +1,6 @@
-use Rattle.std.proofs.Common.{◌≡◌, ◌<◌, ◌∙◌, refl, sym, arith, length, ◌^◌, ◌-◌, ap}
-use Rattle.std.proofs.Common.{true, false}
-use Rattle.rt_super.specs.Ancestry.{is_ended, with_child, with_task}
-use Rattle.rt_model.specs.Rules.{is_free}
+use Rattle.rt_machine.proofs.Prelude.{◌≡◌, ◌<◌, ◌∙◌, refl, sym, arith, length, ◌^◌, ◌-◌, ap, true, false, is_ended, with_child, with_task, is_free, Numbers, stood_in, after, is_closing, new_mark, new_result, mark_places, result_places, more-places}
 use Rattle.rt_machine.proofs.Seats.{free-live}
-use Rattle.rt_model.specs.State.{Numbers}
-use Rattle.rt_model.specs.State.{stood_in}
-use Rattle.rt_model.specs.Effects.{after, is_closing, label_at}
-use Rattle.rt_model.specs.Marks.{new_mark}
-use Rattle.rt_model.specs.Results.{new_result}
-use Rattle.rt_machine.specs.Places.{mark_places, result_places}
 use Rattle.rt_machine.proofs.Counts.{length-with, below-with}
-use Rattle.rt_parts.proofs.Totals.{more-places}
 use Rattle.rt_machine.proofs.Nodes.{live-child, live-task, length-child, length-task}
 use Rattle.rt_machine.proofs.Fine.{places-most}
 use Rattle.rt_machine.proofs.Owed.{due-spawn}

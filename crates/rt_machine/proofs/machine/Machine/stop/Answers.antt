@@ -1,15 +1,4 @@
-use Rattle.std.proofs.Common.{rules, ◌≡◌, ◌≤◌, ◌+◌, ◌-◌, vec_len, vec_capacity, ◌∙◌, ◌++◌, ◌∷◌, refl, ap, arith, length, length-append, List, ℕ, [], if◌then◌else◌}
-use Rattle.std.proofs.Math.Facts.{to_z-of_z}
-use Rattle.rt_super.specs.Signals.{stop_after, with_stop, woken_by_stop}
-use Rattle.rt_audit.specs.declared.call.Call.TheVariants.{Stop}
-use Rattle.rt_audit.specs.declared.reply.CallReply.TheVariants.{CompletionAt}
-use Rattle.rt_model.specs.State.{stood_in}
-use Rattle.rt_model.specs.Effects.{due_called, is_closing}
-use Rattle.rt_model.specs.Rules.{MayCall}
-use Rattle.rt_machine.specs.Calls.{turn_in}
-use Rattle.rt_machine.specs.Groups.{Grouped, grouped}
-use Rattle.rt_machine.specs.Places.{signal_places}
-use Rattle.rt_machine.specs.Told.{Told}
+use Rattle.rt_machine.proofs.Prelude.{rules, ◌≡◌, ◌≤◌, ◌+◌, ◌-◌, vec_len, vec_capacity, ◌∙◌, ◌++◌, ◌∷◌, refl, ap, arith, length, length-append, List, ℕ, [], if◌then◌else◌, to_z-of_z, stop_after, with_stop, woken_by_stop, Stop, CompletionAt, stood_in, due_called, is_closing, MayCall, turn_in, Grouped, grouped, signal_places, Told}
 use Rattle.rt_machine.proofs.Announced.{after-stop, may-stop}
 use Rattle.rt_machine.proofs.Totals.{owed-fewer}
 use Rattle.rt_machine.proofs.Owed.{due-stop}

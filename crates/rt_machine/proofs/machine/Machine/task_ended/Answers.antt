@@ -1,11 +1,4 @@
-use Rattle.std.proofs.Common.{◌≡◌, ◌≤◌, ◌∙◌, refl, ap, arith}
-use Rattle.rt_model.specs.Lists.{find}
-use Rattle.rt_model.specs.declared.result.Outcome.TheVariants.{Closed as IsClosed}
-use Rattle.rt_model.specs.Rows.{total}
-use Rattle.rt_model.specs.Results.{with_outcome}
-use Rattle.rt_model.specs.Effects.{after}
-use Rattle.rt_machine.specs.Places.{mark_places, result_places}
-use Rattle.rt_machine.specs.Told.{Told}
+use Rattle.rt_machine.proofs.Prelude.{◌≡◌, ◌≤◌, ◌∙◌, refl, ap, arith, find, IsClosed, total, with_outcome, after, mark_places, result_places, Told}
 use Rattle.rt_machine.proofs.Ended.{closing-ended}
 use Rattle.rt_machine.proofs.Counts.{ends-fewer, below-without}
 use Rattle.rt_machine.proofs.Totals.{without-fewer}

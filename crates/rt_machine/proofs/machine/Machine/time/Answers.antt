@@ -1,8 +1,4 @@
-use Rattle.std.proofs.Common.{◌≡◌, ◌∙◌, sym, ap}
-use Rattle.rt_model.specs.State.{Clock, State, begun}
-use Rattle.rt_model.specs.Effects.{after_all}
-use Rattle.rt_model.proofs.Time.{time-within}
-use Rattle.rt_machine.specs.Told.{own}
+use Rattle.rt_machine.proofs.Prelude.{◌≡◌, ◌∙◌, sym, ap, Clock, State, begun, after_all, time-within, own}
 use Rattle.rt_machine.proofs.machine.Machine.time.Goals as goal
 
 pub returns-clause-within : goal.returns-clause-within

@@ -1,4 +1,4 @@
-use Rattle.std.proofs.Common.{refl}
+use Rattle.rt_machine.proofs.Prelude.{refl}
 use Rattle.rt_machine.proofs.Entries.{joined}
 use Rattle.rt_machine.proofs.run_journal.RunJournal.facts.Goals as goal
 

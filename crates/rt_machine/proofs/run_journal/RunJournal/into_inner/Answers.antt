@@ -1,5 +1,4 @@
-use Rattle.std.proofs.Common.{refl}
-use Rattle.std.proofs.lemmas.List.{take-append-drop}
+use Rattle.rt_machine.proofs.Prelude.{refl, take-append-drop}
 use Rattle.rt_machine.proofs.Entries.{joined}
 use Rattle.rt_machine.proofs.run_journal.RunJournal.into_inner.Goals as goal
 

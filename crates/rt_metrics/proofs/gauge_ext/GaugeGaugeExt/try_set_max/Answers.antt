@@ -1,4 +1,4 @@
-use Rattle.std.proofs.Common.{rules}
+use Rattle.rt_metrics.proofs.Prelude.{rules}
 use Rattle.rt_metrics.proofs.gauge_ext.GaugeGaugeExt.try_set_max.Goals as goal
 
 pub returns-in_err-value : goal.returns-in_err-value

@@ -1,5 +1,5 @@
 use Rattle.rt_metrics.proofs.Coherence.{keeps_registered}
-use Rattle.std.proofs.Common.{rules}
+use Rattle.rt_metrics.proofs.Prelude.{rules}
 use Rattle.rt_metrics.proofs.registry.Registry.add.Goals as goal
 
 pub invariant_of-self-2 : goal.invariant_of-self-2

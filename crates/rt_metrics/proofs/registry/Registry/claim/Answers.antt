@@ -1,4 +1,4 @@
-use Rattle.std.proofs.Common.{rules}
+use Rattle.rt_metrics.proofs.Prelude.{rules}
 use Rattle.rt_metrics.proofs.Coherence.{keeps_written}
 use Rattle.rt_metrics.proofs.registry.Registry.claim.Goals as goal
 use Rattle.rt_metrics.proofs.registry.Registry.claim.Goals.{in-Some, in_default}

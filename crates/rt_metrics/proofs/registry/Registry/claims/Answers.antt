@@ -1,5 +1,5 @@
 use Rattle.rt_metrics.proofs.Coherence.{registered_claims}
-use Rattle.std.proofs.Common.{rules}
+use Rattle.rt_metrics.proofs.Prelude.{rules}
 use Rattle.rt_metrics.proofs.registry.Registry.claims.Goals as goal
 
 pub returns-in-Some-clause-registered : goal.returns-in-Some-clause-registered

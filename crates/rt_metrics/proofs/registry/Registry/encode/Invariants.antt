@@ -1,5 +1,4 @@
-use Rattle.std.proofs.Common.{◌≡◌, ◌++◌, string_bytes}
-use Rattle.rt_metrics.specs.MetricText.{families_text}
+use Rattle.rt_metrics.proofs.Prelude.{◌≡◌, ◌++◌, string_bytes, families_text}
 use Rattle.rt_metrics.proofs.registry.Registry.encode.Given as goal
 
 abbrev pub invariant-loop-name : goal.invariant-loop-name

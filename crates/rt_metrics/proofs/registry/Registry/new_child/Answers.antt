@@ -1,5 +1,4 @@
-use Rattle.std.proofs.Common.{rules}
-use Rattle.std.proofs.lemmas.Map.Steps.{set_value_same}
+use Rattle.rt_metrics.proofs.Prelude.{rules, set_value_same}
 use Rattle.rt_metrics.proofs.Coherence.{keeps_child, keeps_later}
 use Rattle.rt_metrics.proofs.registry.Registry.new_child.Goals as goal
 use Rattle.rt_metrics.proofs.registry.Registry.new_child.Goals.{in-Some-get_mut+in_ok-insert, in_default-get_mut}

@@ -1,7 +1,4 @@
-use Rattle.std.proofs.Common.{◌≡◌, rules, Some}
-use Rattle.std.specs.Prelude.{nat_eq}
-use Rattle.std.specs.Map.{lookup}
-use Rattle.rt_metrics.specs.Registry.{MetricState}
+use Rattle.rt_metrics.proofs.Prelude.{◌≡◌, rules, Some, nat_eq, lookup, MetricState}
 use Rattle.rt_metrics.proofs.Coherence.{keeps_removed}
 use Rattle.rt_metrics.proofs.registry.Registry.remove.Goals as goal
 

@@ -1,5 +1,4 @@
-use Rattle.std.proofs.Common.{rules}
-use Rattle.std.proofs.lemmas.Map.Steps.{set_value_same}
+use Rattle.rt_metrics.proofs.Prelude.{rules, set_value_same}
 use Rattle.rt_metrics.proofs.registry.Registry.remove_child.Goals as goal
 
 pub returns-in-None-clause-removed : goal.returns-in-None-clause-removed

@@ -1,5 +1,4 @@
-use Rattle.std.proofs.Common.{rules, string_bytes}
-use Rattle.rt_metrics.specs.MetricText.{members_lines, sample_name, header}
+use Rattle.rt_metrics.proofs.Prelude.{rules, string_bytes, members_lines, sample_name, header}
 use Rattle.rt_metrics.proofs.Headers.{taken_back}
 use Rattle.rt_metrics.proofs.registry.Registry.write_family.Goals as goal
 

@@ -1,5 +1,4 @@
-use Rattle.std.proofs.Common.{◌≡◌, ◌++◌, string_bytes}
-use Rattle.rt_metrics.specs.MetricText.{members_lines, sample_name}
+use Rattle.rt_metrics.proofs.Prelude.{◌≡◌, ◌++◌, string_bytes, members_lines, sample_name}
 use Rattle.rt_metrics.proofs.registry.Registry.write_family.Given as goal
 
 abbrev pub invariant-loop-id : goal.invariant-loop-id

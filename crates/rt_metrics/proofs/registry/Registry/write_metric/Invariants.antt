@@ -1,5 +1,4 @@
-use Rattle.std.proofs.Common.{◌≡◌, ◌++◌, string_bytes}
-use Rattle.rt_metrics.specs.MetricText.{children_lines, sample_name}
+use Rattle.rt_metrics.proofs.Prelude.{◌≡◌, ◌++◌, string_bytes, children_lines, sample_name}
 use Rattle.rt_metrics.proofs.registry.Registry.write_metric.Given as goal
 
 abbrev pub invariant-loop-labels : goal.invariant-loop-labels

@@ -1,5 +1,4 @@
-use Rattle.std.proofs.Common.{rules}
-use Rattle.std.proofs.lemmas.Int.{wraps}
+use Rattle.rt_metrics.proofs.Prelude.{rules, wraps}
 use Rattle.rt_metrics.proofs.sample.Sample.levelled.Goals as goal
 
 pub returns-in-Level : goal.returns-in-Level

@@ -1,5 +1,4 @@
-use Rattle.std.proofs.Common.{length, subst, sym, rules}
-use Rattle.rt_scenario.specs.Within.{HasPlaces, IsBegun}
+use Rattle.rt_scenario.proofs.Prelude.{length, subst, sym, rules, HasPlaces, IsBegun}
 use Rattle.rt_scenario.proofs.Placed.{closed_has}
 use Rattle.rt_scenario.proofs.draft.Draft.close_script.Goals as goal
 

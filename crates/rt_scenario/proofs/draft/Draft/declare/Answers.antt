@@ -1,12 +1,4 @@
-use Rattle.std.proofs.Common.{◌≡◌, ◌+◌, None, ◌++◌, ◌∷◌, [], length, sym, ap, subst, ◌∙◌, rules}
-use Rattle.std.specs.List.{All}
-use Rattle.std.specs.Option.{IfSome}
-use Rattle.indexmap.specs.IndexSet.{insert_key as insert_last}
-use Rattle.rt_scenario.specs.Capped.{capped, capped_tasks}
-use Rattle.rt_scenario.specs.Scenario.{CanRunLine, script_at}
-use Rattle.rt_scenario.specs.Scripts.{Begun, tasks_at, spawned_in}
-use Rattle.rt_scenario.specs.Words.{is_text}
-use Rattle.rt_scenario.specs.Within.{HasPlaces, HavePlaces, IsBegun}
+use Rattle.rt_scenario.proofs.Prelude.{◌≡◌, ◌+◌, None, ◌++◌, ◌∷◌, [], length, sym, ap, subst, ◌∙◌, rules, All, IfSome, insert_last, capped, capped_tasks, CanRunLine, script_at, Begun, tasks_at, spawned_in, is_text, HasPlaces, HavePlaces, IsBegun}
 use Rattle.rt_scenario.proofs.Placed.{have_push}
 use Rattle.rt_scenario.proofs.Scripts.{can_run_lines, name_more}
 use Rattle.rt_scenario.proofs.Totals.{capped_push}

@@ -1,11 +1,5 @@
-use Rattle.std.proofs.Common.{◌≡◌, false, Some, codes, rules, SFits, w64}
-use Rattle.std.proofs.lemmas.Int.{to_z-of_z}
-use Rattle.rt_scenario.specs.Numbers.{value_of}
-use Rattle.rt_scenario.specs.Words.{is_text}
-use Rattle.rt_scenario.specs.Scenario.{step_row}
-use Rattle.rt_scenario.specs.Answers.{Answers}
+use Rattle.rt_scenario.proofs.Prelude.{◌≡◌, false, Some, codes, rules, SFits, w64, to_z-of_z, value_of, is_text, step_row, Answers, Plain}
 use Rattle.rt_scenario.specs.declared.line.Line.TheVariants.{End}
-use Rattle.rt_scenario.specs.declared.named_line.NamedLine.TheVariants.{Plain}
 use Rattle.rt_scenario.proofs.draft.Draft.end.Goals as goal
 
 pub returns-in-Some : goal.returns-in-Some

@@ -1,8 +1,4 @@
-use Rattle.std.proofs.Common.{◌≡◌, ◌++◌, true}
-use Rattle.std.specs.List.{list_all}
-use Rattle.std.specs.Option.{option_map}
-use Rattle.rt_scenario.specs.Lines.{words_in}
-use Rattle.rt_scenario.specs.Scenario.{is_name, scripts_at}
+use Rattle.rt_scenario.proofs.Prelude.{◌≡◌, ◌++◌, true, list_all, option_map, words_in, is_name, scripts_at}
 use Rattle.rt_scenario.proofs.Cuts.{left}
 use Rattle.rt_scenario.proofs.draft.Draft.find_all.Given as goal
 

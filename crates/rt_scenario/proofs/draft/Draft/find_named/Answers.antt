@@ -1,5 +1,4 @@
-use Rattle.std.proofs.Common.{◌≡◌, ◌∙◌, Some, None, refl, sym}
-use Rattle.rt_scenario.specs.Scenario.{script_at}
+use Rattle.rt_scenario.proofs.Prelude.{◌≡◌, ◌∙◌, Some, None, refl, sym, script_at}
 use Rattle.rt_scenario.proofs.Scripts.{place_found, script_at_bound}
 use Rattle.rt_scenario.proofs.draft.Draft.find_named.Goals as goal
 

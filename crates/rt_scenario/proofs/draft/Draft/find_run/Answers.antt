@@ -1,7 +1,4 @@
-use Rattle.std.proofs.Common.{◌≡◌, Some, ◌++◌, ◌∷◌, [], rules}
-use Rattle.std.specs.Option.{option_map}
-use Rattle.rt_scenario.specs.Lines.{words_in}
-use Rattle.rt_scenario.specs.Scenario.{script_at, scripts_at}
+use Rattle.rt_scenario.proofs.Prelude.{◌≡◌, Some, ◌++◌, ◌∷◌, [], rules, option_map, words_in, script_at, scripts_at}
 use Rattle.rt_scenario.proofs.Scripts.{run_found, scripts_at_bound, some_found}
 use Rattle.rt_scenario.proofs.draft.Draft.find_run.Goals as goal
 

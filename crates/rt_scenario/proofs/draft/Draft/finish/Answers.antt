@@ -1,5 +1,4 @@
-use Rattle.std.proofs.Common.{ap, length, arith}
-use Rattle.std.proofs.lemmas.Bool.Decides.{nat_tests}
+use Rattle.rt_scenario.proofs.Prelude.{ap, length, arith, nat_tests}
 use Rattle.rt_scenario.proofs.Scripts.{runnable_of}
 use Rattle.rt_scenario.proofs.draft.Draft.finish.Goals as goal
 

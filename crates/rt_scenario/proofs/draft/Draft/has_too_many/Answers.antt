@@ -1,6 +1,4 @@
-use Rattle.std.proofs.Common.{◌≡◌, nat_lt, ap, ◌∙◌}
-use Rattle.rt_scenario.specs.Scripts.{tasks_at, tasks_of}
-use Rattle.rt_scenario.specs.Capped.{capped, capped_tasks}
+use Rattle.rt_scenario.proofs.Prelude.{◌≡◌, nat_lt, ap, ◌∙◌, tasks_at, tasks_of, capped, capped_tasks}
 use Rattle.rt_scenario.proofs.Totals.{total_past}
 use Rattle.rt_scenario.proofs.draft.Draft.has_too_many.Goals as goal
 

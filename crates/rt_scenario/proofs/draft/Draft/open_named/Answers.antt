@@ -1,6 +1,4 @@
-use Rattle.std.proofs.Common.{◌≡◌, ◌∙◌, true, false, is_some, refl, ap, sym, length, rules}
-use Rattle.rt_scenario.specs.Scenario.{script_at}
-use Rattle.rt_scenario.specs.Within.{IsBegun}
+use Rattle.rt_scenario.proofs.Prelude.{◌≡◌, ◌∙◌, true, false, is_some, refl, ap, sym, length, rules, script_at, IsBegun}
 use Rattle.rt_scenario.proofs.Scripts.{known, none_some}
 use Rattle.rt_scenario.proofs.draft.Draft.open_named.Goals as goal
 

@@ -1,7 +1,4 @@
-use Rattle.std.proofs.Common.{◌≡◌, None, length, subst, sym, rules}
-use Rattle.rt_scenario.specs.Indexed.{read}
-use Rattle.rt_scenario.specs.Scenario.{script_at, with_line}
-use Rattle.rt_scenario.specs.Within.{IsBegun, IsFree}
+use Rattle.rt_scenario.proofs.Prelude.{◌≡◌, None, length, subst, sym, rules, read, script_at, with_line, IsBegun, IsFree}
 use Rattle.rt_scenario.proofs.Placed.{begun_line, free_clear}
 use Rattle.rt_scenario.proofs.draft.Draft.push.Goals as goal
 

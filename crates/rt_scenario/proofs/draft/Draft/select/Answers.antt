@@ -1,8 +1,4 @@
-use Rattle.std.proofs.Common.{◌≡◌, ◌∙◌, None, Some, true, is_some, length, refl, subst, sym, rules}
-use Rattle.std.specs.List.{list_all}
-use Rattle.rt_scenario.specs.Lines.{words_in}
-use Rattle.rt_scenario.specs.Scenario.{is_name, script_at, with_select}
-use Rattle.rt_scenario.specs.Within.{IsBegun}
+use Rattle.rt_scenario.proofs.Prelude.{◌≡◌, ◌∙◌, None, Some, true, is_some, length, refl, subst, sym, rules, list_all, words_in, is_name, script_at, with_select, IsBegun}
 use Rattle.rt_scenario.proofs.Cuts.{some_in}
 use Rattle.rt_scenario.proofs.Placed.{begun_select}
 use Rattle.rt_scenario.proofs.Scripts.{select_some}

@@ -1,4 +1,4 @@
-use Rattle.std.proofs.Common.{◌≡◌, ◌∙◌, [], ap, arith, length}
+use Rattle.rt_scenario.proofs.Prelude.{◌≡◌, ◌∙◌, [], ap, arith, length}
 use Rattle.rt_scenario.proofs.Scripts.{setting_none}
 use Rattle.rt_scenario.proofs.draft.Draft.set.Goals as goal
 use Rattle.rt_scenario.proofs.draft.Draft.set.Goals.{in-Seed+in_ok-put-in-Seed, in-Next+in_ok-put-in-Next, in-Cycle+in_ok-put-in-Cycle, in-Start+in_ok-put-in-Start, in-Timeout+in_ok-put-in-Timeout, in_default+in_ok-put-in_default}

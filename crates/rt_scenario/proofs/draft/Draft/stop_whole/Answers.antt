@@ -1,10 +1,5 @@
-use Rattle.std.proofs.Common.{◌≡◌, Some, rules, SFits, w32}
-use Rattle.std.proofs.lemmas.Int.{to_z-of_z}
-use Rattle.rt_scenario.specs.Numbers.{small_value_of}
-use Rattle.rt_scenario.specs.Scenario.{step_row}
-use Rattle.rt_scenario.specs.Answers.{Answers}
+use Rattle.rt_scenario.proofs.Prelude.{◌≡◌, Some, rules, SFits, w32, to_z-of_z, small_value_of, step_row, Answers, Plain}
 use Rattle.rt_scenario.specs.declared.line.Line.TheVariants.{Stop}
-use Rattle.rt_scenario.specs.declared.named_line.NamedLine.TheVariants.{Plain}
 use Rattle.rt_scenario.proofs.draft.Draft.stop_whole.Goals as goal
 
 pub returns-in-Some : goal.returns-in-Some

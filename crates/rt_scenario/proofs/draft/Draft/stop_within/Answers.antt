@@ -1,10 +1,4 @@
-use Rattle.std.proofs.Common.{◌≡◌, Some, rules, SFits, w32}
-use Rattle.std.proofs.lemmas.Int.{to_z-of_z}
-use Rattle.rt_scenario.specs.Numbers.{number_of, small_value_of}
-use Rattle.rt_scenario.specs.Scenario.{step_row}
-use Rattle.rt_scenario.specs.Answers.{Answers}
-use Rattle.rt_scenario.specs.declared.line.Line.TheVariants.{StopWithin}
-use Rattle.rt_scenario.specs.declared.named_line.NamedLine.TheVariants.{Plain}
+use Rattle.rt_scenario.proofs.Prelude.{◌≡◌, Some, rules, SFits, w32, to_z-of_z, number_of, small_value_of, step_row, Answers, StopWithin, Plain}
 use Rattle.rt_scenario.proofs.draft.Draft.stop_within.Goals as goal
 
 pub returns-in-Some-Some : goal.returns-in-Some-Some

@@ -1,4 +1,4 @@
-use Rattle.std.proofs.Common.{length}
+use Rattle.rt_scenario.proofs.Prelude.{length}
 use Rattle.rt_scenario.proofs.draft.Draft.take_text.Goals as goal
 
 pub push_plain-requires-clause-free : goal.push_plain-requires-clause-free

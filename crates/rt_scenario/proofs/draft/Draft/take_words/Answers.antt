@@ -1,7 +1,4 @@
-use Rattle.std.proofs.Common.{◌≡◌, true, subst}
-use Rattle.std.specs.List.{list_all}
-use Rattle.std.proofs.lemmas.Bool.{and_parts}
-use Rattle.rt_scenario.specs.Scenario.{is_printable}
+use Rattle.rt_scenario.proofs.Prelude.{◌≡◌, true, subst, list_all, and_parts, is_printable}
 use Rattle.rt_scenario.proofs.Cuts.{printable_words}
 use Rattle.rt_scenario.proofs.draft.Draft.take_words.Goals as goal
 

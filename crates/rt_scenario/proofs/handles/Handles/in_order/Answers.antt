@@ -1,6 +1,4 @@
-use Rattle.std.proofs.Common.{subst, sym}
-use Rattle.std.specs.List.Sorted.{IsPermutation}
-use Rattle.rt_scenario.specs.Indexed.{numbered_from}
+use Rattle.rt_scenario.proofs.Prelude.{subst, sym, IsPermutation, numbered_from}
 use Rattle.rt_scenario.proofs.FirstUse.{distinct_sorted, ordered, strictly, within_sorted}
 use Rattle.rt_scenario.proofs.handles.Handles.in_order.Goals as goal
 use Rattle.rt_scenario.proofs.handles.Handles.in_order.Goals.{After-as_slice}

@@ -1,6 +1,4 @@
-use Rattle.std.proofs.Common.{◌∙◌, [], sym}
-use Rattle.std.specs.Cmp.Lexicographic.{same_text}
-use Rattle.std.proofs.lemmas.Option.{get_or_from_slice_get}
+use Rattle.rt_scenario.proofs.Prelude.{◌∙◌, [], sym, same_text, get_or_from_slice_get}
 use Rattle.rt_scenario.proofs.handles.Handles.index_of.Goals as goal
 
 pub returns-clause-index : goal.returns-clause-index

@@ -1,6 +1,4 @@
-use Rattle.std.proofs.Common.{◌≡◌, ◌+◌, ◌++◌, ◌∷◌, [], ◌∙◌, append_assoc, ap, drop, rules}
-use Rattle.std.proofs.lemmas.List.{drop_more, length_push}
-use Rattle.rt_scenario.specs.Indexed.{numbered_from}
+use Rattle.rt_scenario.proofs.Prelude.{◌≡◌, ◌+◌, ◌++◌, ◌∷◌, [], ◌∙◌, append_assoc, ap, drop, rules, drop_more, length_push, numbered_from}
 use Rattle.rt_scenario.proofs.FirstUse.{all_numbered}
 use Rattle.rt_scenario.proofs.handles.Handles.numbered.Goals as goal
 

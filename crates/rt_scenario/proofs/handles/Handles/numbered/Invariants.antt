@@ -1,5 +1,4 @@
-use Rattle.std.proofs.Common.{◌≡◌, ◌++◌, drop, length}
-use Rattle.rt_scenario.specs.Indexed.{numbered_from}
+use Rattle.rt_scenario.proofs.Prelude.{◌≡◌, ◌++◌, drop, length, numbered_from}
 use Rattle.rt_scenario.proofs.handles.Handles.numbered.Given as goal
 
 abbrev pub invariant-loop-name : goal.invariant-loop-name

@@ -1,4 +1,4 @@
-use Rattle.std.proofs.Common.{◌≡◌, ◌++◌, ◌∷◌, [], length, rules}
+use Rattle.rt_scenario.proofs.Prelude.{◌≡◌, ◌++◌, ◌∷◌, [], length, rules}
 use Rattle.rt_scenario.proofs.Spans.{lists_pushed}
 use Rattle.rt_scenario.proofs.lists.Lists.push.Goals as goal
 

@@ -1,8 +1,4 @@
-use Rattle.std.proofs.Common.{◌≡◌, ℕ, ◌++◌, List, length, take, map, slice_index, refl, ap, ◌∙◌, rules}
-use Rattle.std.proofs.Math.Seq.{take-append_seam}
-use Rattle.std.proofs.lemmas.List.{length-map}
-use Rattle.rt_scenario.specs.Indexed.{in_order, name_at, named_by, placed_at}
-use Rattle.rt_scenario.specs.Scripts.{all_names, place_of, placed}
+use Rattle.rt_scenario.proofs.Prelude.{◌≡◌, ℕ, ◌++◌, List, length, take, map, slice_index, refl, ap, ◌∙◌, rules, take-append_seam, length-map, in_order, name_at, named_by, placed_at, all_names, place_of, placed}
 use Rattle.rt_scenario.proofs.Indexed.{placed_choices, placed_named}
 use Rattle.rt_scenario.proofs.open_script.OpenScript.close.Goals as goal
 

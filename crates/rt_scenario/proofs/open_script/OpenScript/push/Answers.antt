@@ -1,7 +1,4 @@
-use Rattle.std.proofs.Common.{◌≡◌, ◌∷◌, [], ◌++◌, length, map, refl, sym, ap, subst, ◌∙◌, rules}
-use Rattle.std.specs.List.{All}
-use Rattle.rt_scenario.specs.Indexed.{HasIndex, name_at, named_by, read, with_name}
-use Rattle.rt_scenario.specs.Scripts.{all_names, handle_of}
+use Rattle.rt_scenario.proofs.Prelude.{◌≡◌, ◌∷◌, [], ◌++◌, length, map, refl, sym, ap, subst, ◌∙◌, rules, All, HasIndex, name_at, named_by, read, with_name, all_names, handle_of}
 use Rattle.rt_scenario.proofs.Indexed.{choices_same, chosen_same, indices_push, lines_more, order_push}
 use Rattle.rt_scenario.proofs.open_script.OpenScript.push.Goals as goal
 

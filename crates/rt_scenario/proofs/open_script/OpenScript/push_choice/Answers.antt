@@ -1,7 +1,4 @@
-use Rattle.std.proofs.Common.{◌≡◌, ◌<◌, ◌∷◌, [], ◌++◌, Some, length, map, refl, sym, ap, subst, ◌∙◌, rules}
-use Rattle.std.specs.List.{All}
-use Rattle.rt_scenario.specs.Indexed.{name_at, named_by, with_name}
-use Rattle.rt_scenario.specs.Scripts.{all_names}
+use Rattle.rt_scenario.proofs.Prelude.{◌≡◌, ◌<◌, ◌∷◌, [], ◌++◌, Some, length, map, refl, sym, ap, subst, ◌∙◌, rules, All, name_at, named_by, with_name, all_names}
 use Rattle.rt_scenario.proofs.Indexed.{choices_more, chosen_push, indices_same, lines_same, order_choice}
 use Rattle.rt_scenario.proofs.open_script.OpenScript.push_choice.Goals as goal
 

@@ -1,11 +1,5 @@
-use Rattle.std.proofs.Common.{◌≡◌, ℕ, List, ◌∷◌, [], ◌++◌, length, map, refl, sym, ap, subst, ◌∙◌, rules}
-use Rattle.std.specs.List.{All}
-use Rattle.rt_scenario.specs.Indexed.{HasIndex, name_at, named_by}
-use Rattle.rt_scenario.specs.Scripts.{all_names}
-use Rattle.rt_scenario.specs.declared.line.Line.{Line}
+use Rattle.rt_scenario.proofs.Prelude.{◌≡◌, ℕ, List, ◌∷◌, [], ◌++◌, length, map, refl, sym, ap, subst, ◌∙◌, rules, All, HasIndex, name_at, named_by, all_names, Line, NamedLine, Plain}
 use Rattle.rt_scenario.specs.declared.line.Line.TheVariants.{Panic}
-use Rattle.rt_scenario.specs.declared.named_line.NamedLine.{NamedLine}
-use Rattle.rt_scenario.specs.declared.named_line.NamedLine.TheVariants.{Plain}
 use Rattle.rt_scenario.proofs.Indexed.{indices_push, order_push}
 use Rattle.rt_scenario.proofs.open_script.OpenScript.push_panic.Goals as goal
 

@@ -1,7 +1,4 @@
-use Rattle.std.proofs.Common.{◌≡◌, true}
-use Rattle.std.specs.List.{list_all}
-use Rattle.rt_scenario.specs.Lines.{words_in}
-use Rattle.rt_scenario.specs.Scenario.{is_name, with_choices}
+use Rattle.rt_scenario.proofs.Prelude.{◌≡◌, true, list_all, words_in, is_name, with_choices}
 use Rattle.rt_scenario.proofs.Cuts.{left}
 use Rattle.rt_scenario.proofs.open_script.OpenScript.with_select.Given as goal
 

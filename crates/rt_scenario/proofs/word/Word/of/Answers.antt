@@ -1,5 +1,4 @@
-use Rattle.std.proofs.Common.{rules, ◌≡◌, codes, refl, arith}
-use Rattle.std.proofs.lemmas.Slice.Eq.{text_from_reads}
+use Rattle.rt_scenario.proofs.Prelude.{rules, ◌≡◌, codes, refl, arith, text_from_reads}
 use Rattle.rt_scenario.proofs.word.Word.of.Goals as goal
 
 pub returns-in-script : goal.returns-in-script

@@ -1,5 +1,4 @@
-use Rattle.std.proofs.Common.{◌≡◌, leb, true, false, arith, refl}
-use Rattle.std.proofs.lemmas.Bool.Decides.{nat_tests}
+use Rattle.rt_super.proofs.Prelude.{◌≡◌, leb, true, false, arith, refl, nat_tests}
 use Rattle.rt_super.proofs.AlarmLemmas.{due_first_is}
 use Rattle.rt_super.proofs.alarms.Alarms.due.Goals as goal
 

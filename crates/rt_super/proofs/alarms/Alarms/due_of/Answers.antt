@@ -1,9 +1,4 @@
-use Rattle.std.proofs.Common.{◌≡◌, true, false, sym, ◌∙◌}
-use Rattle.std.proofs.lemmas.Option.{get_or_from_slice_get}
-use Rattle.std.specs.BTreeMap.{is_at}
-use Rattle.std.specs.Map.{lookup}
-use Rattle.std.specs.Option.{is_some}
-use Rattle.rt_super.specs.AlarmQueue.{key_cmp}
+use Rattle.rt_super.proofs.Prelude.{◌≡◌, true, false, sym, ◌∙◌, get_or_from_slice_get, is_at, lookup, is_some, key_cmp}
 use Rattle.rt_super.proofs.AlarmLemmas.{due_by_key, key_of_due, none_unless}
 use Rattle.rt_super.proofs.alarms.Alarms.due_of.Goals as goal
 

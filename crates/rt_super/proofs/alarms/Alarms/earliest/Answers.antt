@@ -1,4 +1,4 @@
-use Rattle.std.proofs.Common.{sym}
+use Rattle.rt_super.proofs.Prelude.{sym}
 use Rattle.rt_super.proofs.AlarmLemmas.{first_due_is}
 use Rattle.rt_super.proofs.alarms.Alarms.earliest.Goals as goal
 

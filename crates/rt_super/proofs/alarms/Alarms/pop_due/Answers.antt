@@ -1,5 +1,4 @@
-use Rattle.std.proofs.Common.{ap}
-use Rattle.rt_super.specs.AlarmsInside.{alarms_of}
+use Rattle.rt_super.proofs.Prelude.{ap, alarms_of}
 use Rattle.rt_super.proofs.AlarmLemmas.{tail_none, due_in_tail}
 use Rattle.rt_super.proofs.alarms.Alarms.pop_due.Goals as goal
 

@@ -1,8 +1,4 @@
-use Rattle.std.proofs.Common.{◌≡◌, sym, ap, ◌∙◌, None, map, refl}
-use Rattle.std.specs.Option.{option_map}
-use Rattle.rt_super.specs.Alarms.{alarm_at, waking}
-use Rattle.rt_super.specs.Wakers.{waker_of}
-use Rattle.rt_super.specs.AlarmsInside.{alarms_of}
+use Rattle.rt_super.proofs.Prelude.{◌≡◌, sym, ap, ◌∙◌, None, map, refl, option_map, alarm_at, waking, waker_of, alarms_of}
 use Rattle.rt_super.proofs.AlarmLemmas.{set_value_waking, waking_none, alarm_at-waking, dues-waking, AreOnce-waking, none_from_due, in_order}
 use Rattle.rt_super.proofs.alarms.Alarms.rewake.Goals as goal
 

@@ -1,8 +1,4 @@
-use Rattle.std.proofs.Common.{◌≡◌, ◌+◌, length, ap, sym, ◌∙◌, arith, refl}
-use Rattle.std.proofs.lemmas.List.{length_push}
-use Rattle.rt_super.specs.Alarms.{Alarm, with_alarm, due_at}
-use Rattle.rt_super.specs.Wakers.{waker_of}
-use Rattle.rt_super.specs.AlarmsInside.{alarms_of}
+use Rattle.rt_super.proofs.Prelude.{◌≡◌, ◌+◌, length, ap, sym, ◌∙◌, arith, refl, length_push, Alarm, with_alarm, due_at, waker_of, alarms_of}
 use Rattle.rt_super.proofs.AlarmLemmas.{set_in_place, AreOnce-with_alarm, dues_set, given_set, in_order, at_number}
 use Rattle.rt_super.proofs.alarms.Alarms.set.Goals as goal
 

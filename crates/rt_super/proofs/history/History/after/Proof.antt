@@ -1,21 +1,6 @@
+use Rattle.rt_super.proofs.Prelude.{named, vstruct, vnil, tables, ‵, raw, ◌⊛◌, ◌$◌, ◌∵◌, !, qed, move, keep, split, suffices, done, no_more, returns, enter, agg, alloc_all, pass_all, free_all, look_at, sets, yes, owns, shr_vals, shr_Tells, pure_i, plain, types_at, alive, says, stay_none_ref, Stays, walk_of, ends_at, Goes-none_ref, proved, after}
 use mathlib.Core.Path.{refl}
 use mathlib.Core.List.{[], ◌∷◌}
-use mir.Syntax.{named}
-use mir.Val.{vstruct, vnil}
-use contract.Running.{tables}
-use types.Kit.{‵, raw, ◌⊛◌, ◌$◌, ◌∵◌, !, qed, move, keep, split, suffices, done}
-use types.Run.{no_more, returns, enter}
-use types.Part.{agg}
-use types.ByLocal.{alloc_all, pass_all, free_all, look_at, sets}
-use denote.Exit.{yes}
-use denote.RattleType.{owns}
-use denote.Ref.{shr_vals, shr_Tells}
-use denote.Shadow.{pure_i}
-use denote.Signature.{plain, types_at}
-use denote.Triple.Entry.{alive}
-use denote.Triple.Walked.{says, stay_none_ref, Stays, walk_of, ends_at, Goes-none_ref}
-use Rattle.std.proofs.raw_atomic.Walks.{proved}
-use Rattle.rt_super.specs.History.{after}
 use Rattle.rt_super.specs.contracts.history.History as history
 use Rattle.rt_super.specs.contracts.history.Change as change
 use Rattle.rt_super.specs.contracts.history.History.after as f

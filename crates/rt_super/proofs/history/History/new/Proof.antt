@@ -1,17 +1,6 @@
+use Rattle.rt_super.proofs.Prelude.{vstruct, vnil, tables, ‵, raw, ◌⊛◌, ◌$◌, ◌∵◌, !, qed, move, keep, split, suffices, done, no_more, returns, enter, agg, alloc_all, pass_all, free_all, look_at, sets, owns, pure_i, alive, says, Stays, walk_of, ends_at, proved, no_history}
 use mathlib.Core.Path.{refl}
 use mathlib.Core.List.{[], ◌∷◌}
-use mir.Val.{vstruct, vnil}
-use contract.Running.{tables}
-use types.Kit.{‵, raw, ◌⊛◌, ◌$◌, ◌∵◌, !, qed, move, keep, split, suffices, done}
-use types.Run.{no_more, returns, enter}
-use types.Part.{agg}
-use types.ByLocal.{alloc_all, pass_all, free_all, look_at, sets}
-use denote.RattleType.{owns}
-use denote.Shadow.{pure_i}
-use denote.Triple.Entry.{alive}
-use denote.Triple.Walked.{says, Stays, walk_of, ends_at}
-use Rattle.std.proofs.raw_atomic.Walks.{proved}
-use Rattle.rt_super.specs.History.{no_history}
 use Rattle.rt_super.specs.contracts.history.History as history
 use Rattle.rt_super.specs.contracts.history.History.new as f
 use Rattle.rt_super.proofs.history.History.new.Statement.{statement}

@@ -1,5 +1,4 @@
-use Rattle.std.proofs.Common.{◌≡◌, arith}
-use Rattle.rt_super.specs.SignalsInside.{state_of}
+use Rattle.rt_super.proofs.Prelude.{◌≡◌, arith, state_of}
 use Rattle.rt_super.proofs.Waits.{added_waits}
 use Rattle.rt_super.proofs.Shutdowns.{new_there, others_there}
 use Rattle.rt_super.proofs.signals.Signals.add.Goals as goal

@@ -1,5 +1,4 @@
-use Rattle.std.proofs.Common.{◌∙◌, sym, arith}
-use Rattle.rt_super.specs.SignalsInside.{state_of}
+use Rattle.rt_super.proofs.Prelude.{◌∙◌, sym, arith, state_of}
 use Rattle.rt_super.proofs.Waits.{over_waits}
 use Rattle.rt_super.proofs.Shutdowns.{other_kept}
 use Rattle.rt_super.proofs.signals.Signals.close_signaler.Goals as goal

@@ -1,6 +1,4 @@
-use Rattle.std.proofs.Common.{◌≡◌, false, arith, sym}
-use Rattle.rt_super.specs.Signals.{completes, without_signal}
-use Rattle.rt_super.specs.SignalsInside.{state_of}
+use Rattle.rt_super.proofs.Prelude.{◌≡◌, false, arith, sym, completes, without_signal, state_of}
 use Rattle.rt_super.proofs.Waits.{last_waits, closed_waits}
 use Rattle.rt_super.proofs.signals.Signals.drop_signal.Goals as goal
 

@@ -1,4 +1,4 @@
-use Rattle.rt_super.specs.SignalsInside.{state_of}
+use Rattle.rt_super.proofs.Prelude.{state_of}
 use Rattle.rt_super.proofs.Waits.{signal_pends, completion_pends}
 use Rattle.rt_super.proofs.signals.Signals.facts.Goals as goal
 

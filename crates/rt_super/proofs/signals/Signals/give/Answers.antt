@@ -1,5 +1,4 @@
-use Rattle.std.proofs.Common.{arith, sym, ◌∙◌}
-use Rattle.rt_super.specs.SignalsInside.{state_of}
+use Rattle.rt_super.proofs.Prelude.{arith, sym, ◌∙◌, state_of}
 use Rattle.rt_super.proofs.Waits.{given_waits, met_waits}
 use Rattle.rt_super.proofs.signals.Signals.give.Goals as goal
 

@@ -1,5 +1,4 @@
-use Rattle.std.proofs.Common.{arith, sym, ◌∙◌}
-use Rattle.rt_super.specs.SignalsInside.{state_of}
+use Rattle.rt_super.proofs.Prelude.{arith, sym, ◌∙◌, state_of}
 use Rattle.rt_super.proofs.Waits.{asked_waits}
 use Rattle.rt_super.proofs.signals.Signals.poll_completion.Goals as goal
 

@@ -1,8 +1,4 @@
-use Rattle.std.proofs.Common.{◌≡◌, Ok, arith, sym}
-use Rattle.rt_super.specs.SignalsInside.{state_of}
-use Rattle.std.proofs.Common.{rules}
-use Rattle.rt_base.specs.declared.poll.Poll.TheVariants.{Pending}
-use Rattle.rt_super.specs.Signals.{group_of, shown}
+use Rattle.rt_super.proofs.Prelude.{◌≡◌, Ok, arith, sym, state_of, rules, Pending, group_of, shown}
 use Rattle.rt_super.proofs.Waits.{polled_waits}
 use Rattle.rt_super.proofs.signals.Signals.poll_signal.Goals as goal
 

@@ -1,4 +1,4 @@
-use Rattle.rt_super.specs.SignalsInside.{state_of}
+use Rattle.rt_super.proofs.Prelude.{state_of}
 use Rattle.rt_super.proofs.Shutdowns.{signal_keeps}
 use Rattle.rt_super.proofs.signals.Signals.signal.Goals as goal
 

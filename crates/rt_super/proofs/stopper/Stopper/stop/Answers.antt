@@ -1,8 +1,4 @@
-use Rattle.std.proofs.Common.{◌≡◌, ◌∙◌, ◌++◌, ◌∷◌, [], ℕ, ℤ, List, sym, ap, refl, arith, Option, Some, None, false}
-use Rattle.std.proofs.Math.Facts.{to_z-of_z}
-use Rattle.std.specs.Option.{is_some}
-use Rattle.rt_super.specs.declared.signal_token.SignalToken.{SignalToken}
-use Rattle.rt_super.specs.Signals.{SignalRecord, StopRecord, group_for, waits_in, new_token, woken_by_value, woken_by_last, woken_by_stop, signaled, with_completion}
+use Rattle.rt_super.proofs.Prelude.{◌≡◌, ◌∙◌, ◌++◌, ◌∷◌, [], ℕ, ℤ, List, sym, ap, refl, arith, Option, Some, None, false, to_z-of_z, is_some, SignalToken, SignalRecord, StopRecord, group_for, waits_in, new_token, woken_by_value, woken_by_last, woken_by_stop, signaled, with_completion}
 use Rattle.rt_super.proofs.Shutdowns.{first_is, first_keeps, shows}
 use Rattle.rt_super.proofs.stopper.Stopper.stop.Goals as goal
 

@@ -1,5 +1,4 @@
-use Rattle.std.proofs.Common.{◌≤◌, ◌<◌, ◌-◌, sym, refl, arith, length}
-use Rattle.std.proofs.lemmas.Option.{slice_get_read}
+use Rattle.rt_super.proofs.Prelude.{◌≤◌, ◌<◌, ◌-◌, sym, refl, arith, length, slice_get_read}
 use Rattle.rt_super.proofs.Rows.{get-some}
 use Rattle.rt_super.proofs.table.Table.get.Goals as goal
 

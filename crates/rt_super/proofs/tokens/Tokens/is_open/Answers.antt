@@ -1,6 +1,4 @@
-use Rattle.std.proofs.Common.{◌≡◌, ◌≤◌, ◌<◌, ◌∙◌, sym, ap, refl, arith, get_or, length, nat_lt}
-use Rattle.std.proofs.lemmas.List.{get_or_past}
-use Rattle.std.proofs.lemmas.Option.{get_or_from_slice_get, slice_get_read}
+use Rattle.rt_super.proofs.Prelude.{◌≡◌, ◌≤◌, ◌<◌, ◌∙◌, sym, ap, refl, arith, get_or, length, nat_lt, get_or_past, get_or_from_slice_get, slice_get_read}
 use Rattle.rt_super.proofs.TokenLemmas.{open-counted}
 use Rattle.rt_super.proofs.tokens.Tokens.is_open.Goals as goal
 

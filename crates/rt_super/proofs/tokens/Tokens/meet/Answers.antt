@@ -1,6 +1,4 @@
-use Rattle.std.proofs.Common.{◌≡◌, ◌∙◌, sym, refl, arith, append_assoc}
-use Rattle.std.proofs.lemmas.List.{append-nil, get_or_past}
-use Rattle.rt_super.specs.TokensInside.{owners}
+use Rattle.rt_super.proofs.Prelude.{◌≡◌, ◌∙◌, sym, refl, arith, append_assoc, append-nil, get_or_past, owners}
 use Rattle.rt_super.proofs.TokenLemmas.{left-first, left-step, waits-met, unwaited-met, owners-unwaited, met-few, none-met, list-at, count-lists}
 use Rattle.rt_super.proofs.tokens.Tokens.meet.Goals as goal
 

@@ -1,6 +1,4 @@
-use Rattle.std.proofs.Common.{◌≡◌, ◌∷◌, ◌++◌, [], refl, arith}
-use Rattle.rt_super.specs.Tokens.{lists_of}
-use Rattle.rt_super.specs.TokensInside.{owners}
+use Rattle.rt_super.proofs.Prelude.{◌≡◌, ◌∷◌, ◌++◌, [], refl, arith, lists_of, owners}
 use Rattle.rt_super.proofs.TokenLemmas.{tied-first, owners-push, lists-push}
 use Rattle.rt_super.proofs.tokens.Tokens.push.Goals as goal
 

@@ -1,7 +1,4 @@
-use Rattle.std.proofs.Common.{◌≡◌, ◌<◌, ◌∙◌, ◌∷◌, ◌++◌, [], ap, refl, arith, get_or, set}
-use Rattle.std.proofs.lemmas.Grind.{get_or_default_zero}
-use Rattle.rt_super.specs.Tokens.{lists_of}
-use Rattle.rt_super.specs.TokensInside.{owners}
+use Rattle.rt_super.proofs.Prelude.{◌≡◌, ◌<◌, ◌∙◌, ◌∷◌, ◌++◌, [], ap, refl, arith, get_or, set, get_or_default_zero, lists_of, owners}
 use Rattle.rt_super.proofs.TokenLemmas.{tied-push, owners-push, lists-push, count-few, count-owners}
 use Rattle.rt_super.proofs.tokens.Tokens.push_to.Goals as goal
 

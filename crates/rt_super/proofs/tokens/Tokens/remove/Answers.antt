@@ -1,8 +1,5 @@
-use Rattle.std.proofs.Common.{◌≡◌, ◌∙◌, sym, ap, arith}
-use Rattle.std.proofs.lemmas.Grind.{get_or_default_zero}
+use Rattle.rt_super.proofs.Prelude.{◌≡◌, ◌∙◌, sym, ap, arith, get_or_default_zero, find, without, owners}
 use Rattle.std.specs.Prelude.{None, option_map}
-use Rattle.rt_super.specs.Rows.{find, without}
-use Rattle.rt_super.specs.TokensInside.{owners}
 use Rattle.rt_super.proofs.Rows.{without-none}
 use Rattle.rt_super.proofs.TokenLemmas.{find-owners, owners-without, counted-some, group-within, tied-without}
 use Rattle.rt_super.proofs.tokens.Tokens.remove.Goals as goal

@@ -1,5 +1,4 @@
-use Rattle.std.proofs.Common.{◌≡◌, ◌∙◌, sym, refl}
-use Rattle.rt_super.specs.TokensInside.{owners}
+use Rattle.rt_super.proofs.Prelude.{◌≡◌, ◌∙◌, sym, refl, owners}
 use Rattle.rt_super.proofs.Rows.{replaced-none}
 use Rattle.rt_super.proofs.TokenLemmas.{owners-replaced, replaced-waiting}
 use Rattle.rt_super.proofs.tokens.Tokens.wait.Goals as goal

@@ -1,9 +1,4 @@
-use Rattle.std.proofs.Common.{◌≡◌, false, arith, length, refl, ap, sym, ◌∙◌, inl, inr, ⊎_elim}
-use Rattle.std.specs.Option.{is_some}
-use Rattle.std.proofs.lemmas.List.{length-map, length_push}
-use Rattle.std.proofs.lemmas.Option.{slice_get_past}
-use Rattle.rt_super.specs.Ancestry.{is_known}
-use Rattle.rt_super.specs.Inside.{parents, states, children_lists, adopted}
+use Rattle.rt_super.proofs.Prelude.{◌≡◌, false, arith, length, refl, ap, sym, ◌∙◌, inl, inr, ⊎_elim, is_some, length-map, length_push, slice_get_past, is_known, parents, states, children_lists, adopted}
 use Rattle.rt_super.proofs.Walk.{marks_set-le}
 use Rattle.rt_super.proofs.Records.{count_kept, known_kept, live_within, free_new, ended_new}
 use Rattle.rt_super.proofs.Shapes.{count_states, marks_set-push, sound_added, right_added, older_of, lasts_of, unmarked_of}

@@ -1,9 +1,4 @@
-use Rattle.std.proofs.Common.{◌≡◌, ◌<◌, ◌++◌, ◌∙◌, List, Bool, true, refl, subst, length, arith}
-use Rattle.std.specs.Vec.{with_items}
-use Rattle.std.proofs.lemmas.List.{with_items_is, length-map}
-use Rattle.rt_super.specs.Ancestry.{subtree, stands_in, AreEnded}
-use Rattle.rt_super.specs.Ending.{fresh_tasks}
-use Rattle.rt_super.specs.Inside.{parents, placed, is_marked}
+use Rattle.rt_super.proofs.Prelude.{◌≡◌, ◌<◌, ◌++◌, ◌∙◌, List, Bool, true, refl, subst, length, arith, with_items, with_items_is, length-map, subtree, stands_in, AreEnded, fresh_tasks, parents, placed, is_marked}
 use Rattle.rt_super.proofs.Records.{record_end, record_end_past, known_within}
 use Rattle.rt_super.proofs.Shapes.{count_states, sound_end, task_state, or_right, end_again, all_marked}
 use Rattle.rt_super.proofs.tree.Tree.end.Goals as goal

@@ -1,7 +1,4 @@
-use Rattle.std.proofs.Common.{◌≡◌, ◌<◌, ◌∙◌, sym, true, length, arith}
-use Rattle.std.proofs.lemmas.List.{length-map}
-use Rattle.rt_super.specs.Ancestry.{AreEnded}
-use Rattle.rt_super.specs.Inside.{parents, is_marked}
+use Rattle.rt_super.proofs.Prelude.{◌≡◌, ◌<◌, ◌∙◌, sym, true, length, arith, length-map, AreEnded, parents, is_marked}
 use Rattle.rt_super.proofs.Records.{known_within}
 use Rattle.rt_super.proofs.Shapes.{count_states, all_marked}
 use Rattle.rt_super.proofs.tree.Tree.is_over.Goals as goal

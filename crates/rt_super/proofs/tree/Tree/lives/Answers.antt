@@ -1,7 +1,4 @@
-use Rattle.std.proofs.Common.{◌≡◌, ◌≤◌, refl, None, length, arith}
-use Rattle.std.specs.List.{slice_get}
-use Rattle.std.proofs.lemmas.Option.{slice_get_past}
-use Rattle.std.proofs.lemmas.Bool.Decides.{nat_tests}
+use Rattle.rt_super.proofs.Prelude.{◌≡◌, ◌≤◌, refl, None, length, arith, slice_get, slice_get_past, nat_tests}
 use Rattle.rt_super.proofs.Records.{live_kept}
 use Rattle.rt_super.proofs.Shapes.{state_at}
 use Rattle.rt_super.proofs.tree.Tree.lives.Goals as goal

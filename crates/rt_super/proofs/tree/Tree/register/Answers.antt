@@ -1,6 +1,4 @@
-use Rattle.std.proofs.Common.{refl, sym, ◌∙◌, Some, length, ◌<◌, arith}
-use Rattle.std.proofs.lemmas.List.{length-set}
-use Rattle.rt_super.specs.declared.node.Node.{Node}
+use Rattle.rt_super.proofs.Prelude.{refl, sym, ◌∙◌, Some, length, ◌<◌, arith, length-set, Node}
 use Rattle.rt_super.proofs.Records.{live_within}
 use Rattle.rt_super.proofs.Shapes.{count_states, set_keeps, right_changed}
 use Rattle.rt_super.proofs.tree.Tree.register.Goals as goal

@@ -1,6 +1,4 @@
-use Rattle.std.proofs.Common.{refl, false, arith}
-use Rattle.std.proofs.lemmas.List.{length-set}
-use Rattle.rt_super.specs.declared.node.Node.{Node}
+use Rattle.rt_super.proofs.Prelude.{refl, false, arith, length-set, Node}
 use Rattle.rt_super.proofs.Shapes.{set_keeps, right_changed, right_unchanged}
 use Rattle.rt_super.proofs.tree.Tree.release.Goals as goal
 

@@ -1,9 +1,4 @@
-use Rattle.std.proofs.Common.{rules, ◌≡◌, ◌∙◌, sym, refl, true, false, ◌++◌, ◌∷◌, [], Some, None}
-use Rattle.std.proofs.lemmas.List.{append-nil}
-use Rattle.rt_super.specs.Ancestry.{is_child, is_ended, new_node}
-use Rattle.rt_model.specs.Lists.{has_number}
-use Rattle.rt_walk.specs.Family.{children_in}
-use Rattle.rt_walk.specs.Nodes.{told_by}
+use Rattle.rt_walk.proofs.Prelude.{rules, ◌≡◌, ◌∙◌, sym, refl, true, false, ◌++◌, ◌∷◌, [], Some, None, append-nil, is_child, is_ended, new_node, has_number, children_in, told_by}
 use Rattle.rt_walk.proofs.Families.{family-more, elders-right}
 use Rattle.rt_walk.proofs.Rows.{unknown, born-right, child-right, placed-right, distinct-right}
 use Rattle.rt_walk.proofs.nodes.Nodes.add_child.Goals as goal

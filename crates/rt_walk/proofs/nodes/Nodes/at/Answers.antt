@@ -1,7 +1,4 @@
-use Rattle.std.proofs.Common.{◌≡◌, ◌∙◌, ap, sym, Some, None}
-use Rattle.rt_super.specs.Ancestry.{NodeState}
-use Rattle.rt_walk.specs.Places.{first_place}
-use Rattle.rt_walk.specs.Nodes.{numbers_of}
+use Rattle.rt_walk.proofs.Prelude.{◌≡◌, ◌∙◌, ap, sym, Some, None, NodeState, first_place, numbers_of}
 use Rattle.rt_walk.proofs.Rows.{row-here, row-none}
 use Rattle.rt_walk.proofs.nodes.Nodes.at.Goals as goal
 

@@ -1,7 +1,4 @@
-use Rattle.std.proofs.Common.{◌∙◌, ap, sym}
-use Rattle.std.specs.List.{flat_map}
-use Rattle.rt_super.specs.Ancestry.{subtree}
-use Rattle.rt_walk.specs.Nodes.{links_of}
+use Rattle.rt_walk.proofs.Prelude.{◌∙◌, ap, sym, flat_map, subtree, links_of}
 use Rattle.rt_walk.proofs.Families.{below-children}
 use Rattle.rt_walk.proofs.nodes.Nodes.children.Goals as goal
 

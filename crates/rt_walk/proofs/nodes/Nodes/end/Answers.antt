@@ -1,4 +1,4 @@
-use Rattle.std.proofs.Common.{◌≡◌, ◌++◌, ◌∷◌, [], rules}
+use Rattle.rt_walk.proofs.Prelude.{◌≡◌, ◌++◌, ◌∷◌, [], rules}
 use Rattle.rt_walk.proofs.Ended.{ended-by}
 use Rattle.rt_walk.proofs.nodes.Nodes.end.Goals as goal
 

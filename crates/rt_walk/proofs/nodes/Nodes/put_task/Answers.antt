@@ -1,6 +1,4 @@
-use Rattle.std.proofs.Common.{◌≡◌, ◌∙◌, ap, sym, refl, Some, None}
-use Rattle.rt_walk.specs.Places.{first_place}
-use Rattle.rt_walk.specs.Nodes.{children_of, links_of, numbers_of, told_by}
+use Rattle.rt_walk.proofs.Prelude.{◌≡◌, ◌∙◌, ap, sym, refl, Some, None, first_place, children_of, links_of, numbers_of, told_by}
 use Rattle.rt_walk.proofs.Ended.{ended-put_on, put_on}
 use Rattle.rt_walk.proofs.Families.{elders-same}
 use Rattle.rt_walk.proofs.Rows.{put-at, change-none, numbers-changed, links-changed}

@@ -1,5 +1,4 @@
-use Rattle.std.proofs.Common.{◌≡◌, ◌++◌, drop}
-use Rattle.rt_super.specs.Ancestry.{tasks_on}
+use Rattle.rt_walk.proofs.Prelude.{◌≡◌, ◌++◌, drop, tasks_on}
 use Rattle.rt_walk.proofs.nodes.Nodes.tasks_on.Given as goal
 
 abbrev pub invariant-loop-node : goal.invariant-loop-node

@@ -1,5 +1,4 @@
-use Rattle.std.proofs.Common.{◌≡◌, ◌++◌, drop, filter, not}
-use Rattle.rt_super.specs.Ancestry.{is_ended}
+use Rattle.rt_walk.proofs.Prelude.{◌≡◌, ◌++◌, drop, filter, not, is_ended}
 use Rattle.rt_walk.proofs.nodes.Nodes.without_ended.Given as goal
 
 abbrev pub invariant-loop-node : goal.invariant-loop-node

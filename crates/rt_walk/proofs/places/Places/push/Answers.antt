@@ -1,6 +1,4 @@
-use Rattle.std.proofs.Common.{rules, ◌≡◌, ◌∙◌, ap, true, false, nat_eq, cond, length, ℕ, Some, Option}
-use Rattle.std.specs.HashMap.{get}
-use Rattle.rt_model.specs.Lists.{has_number}
+use Rattle.rt_walk.proofs.Prelude.{rules, ◌≡◌, ◌∙◌, ap, true, false, nat_eq, cond, length, ℕ, Some, Option, get, has_number}
 use Rattle.rt_walk.proofs.Placed.{placed-again, placed-new}
 use Rattle.rt_walk.proofs.places.Places.push.Goals as goal
 

@@ -1,4 +1,4 @@
-use Rattle.std.proofs.Common.{◌≡◌, ◌≤◌, ◌++◌, length}
+use Rattle.rt_walk.proofs.Prelude.{◌≡◌, ◌≤◌, ◌++◌, length}
 use Rattle.rt_walk.proofs.places.Places.push_all.Given as goal
 
 abbrev pub invariant-loop-number : goal.invariant-loop-number

@@ -1,6 +1,4 @@
-use Rattle.std.proofs.Common.{◌≡◌, ◌∙◌, ap}
-use Rattle.std.specs.List.{insert}
-use Rattle.rt_model.specs.Lists.{with_number}
+use Rattle.rt_walk.proofs.Prelude.{◌≡◌, ◌∙◌, ap, insert, with_number}
 use Rattle.rt_walk.proofs.Rising.{with-at, rising-with}
 use Rattle.rt_walk.proofs.running.Running.add.Goals as goal
 

@@ -1,6 +1,4 @@
-use Rattle.std.proofs.Common.{length, ◌≡◌}
-use Rattle.rt_model.specs.Lists.{or_else}
-use Rattle.rt_model.specs.Causes.{ends_next}
+use Rattle.rt_walk.proofs.Prelude.{length, ◌≡◌, or_else, ends_next}
 use Rattle.rt_walk.proofs.running.Running.ends_next.Given as goal
 
 abbrev pub invariant-loop-first : goal.invariant-loop-first

@@ -1,4 +1,4 @@
-use Rattle.std.proofs.Common.{◌∙◌}
+use Rattle.rt_walk.proofs.Prelude.{◌∙◌}
 use Rattle.rt_walk.proofs.Rising.{search-finds}
 use Rattle.rt_walk.proofs.running.Running.has.Goals as goal
 

@@ -1,5 +1,4 @@
-use Rattle.std.proofs.Common.{length, ◌-◌, ◌≡◌, ◌≤◌, drop}
-use Rattle.rt_model.specs.Causes.{from_running}
+use Rattle.rt_walk.proofs.Prelude.{length, ◌-◌, ◌≡◌, ◌≤◌, drop, from_running}
 use Rattle.rt_walk.proofs.running.Running.idle_front.Given as goal
 
 abbrev pub invariant-loop-index : goal.invariant-loop-index

@@ -1,4 +1,4 @@
-use Rattle.std.proofs.Common.{◌<◌, ◌≤◌, arith}
+use Rattle.rt_walk.proofs.Prelude.{◌<◌, ◌≤◌, arith}
 use Rattle.rt_walk.proofs.Rising.{behind-read}
 use Rattle.rt_walk.proofs.running.Running.place_of.Goals as goal
 

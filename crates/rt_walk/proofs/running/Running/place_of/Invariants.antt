@@ -1,4 +1,4 @@
-use Rattle.std.proofs.Common.{ℕ, length, ◌≤◌, ◌<◌, get_or}
+use Rattle.rt_walk.proofs.Prelude.{ℕ, length, ◌≤◌, ◌<◌, get_or}
 use Rattle.rt_walk.proofs.running.Running.place_of.Given as goal
 
 abbrev pub invariant-loop-place : goal.invariant-loop-place

@@ -1,6 +1,4 @@
-use Rattle.std.proofs.Common.{◌≡◌, sym}
-use Rattle.std.specs.List.{remove}
-use Rattle.rt_model.specs.Lists.{without_number}
+use Rattle.rt_walk.proofs.Prelude.{◌≡◌, sym, remove, without_number}
 use Rattle.rt_walk.proofs.Rising.{rising-without, remove-found, without-missed}
 use Rattle.rt_walk.proofs.running.Running.remove.Goals as goal
 

@@ -1,5 +1,4 @@
-use Rattle.std.proofs.Common.{rules, ◌≡◌, ◌∙◌, ap, false, ◌++◌, ◌∷◌, [], Some}
-use Rattle.rt_model.specs.Lists.{has_number}
+use Rattle.rt_walk.proofs.Prelude.{rules, ◌≡◌, ◌∙◌, ap, false, ◌++◌, ◌∷◌, [], Some, has_number}
 use Rattle.rt_walk.proofs.Placed.{distinct-more, same-more}
 use Rattle.rt_walk.proofs.table.Table.push.Goals as goal
 

@@ -1,4 +1,4 @@
-use Rattle.std.proofs.Common.{rules, ◌≡◌, ◌∙◌, ap, true, get_or, is_some, sym}
+use Rattle.rt_walk.proofs.Prelude.{rules, ◌≡◌, ◌∙◌, ap, true, get_or, is_some, sym}
 use Rattle.rt_walk.proofs.Placed.{set-here}
 use Rattle.rt_walk.proofs.table.Table.replace.Goals as goal
 

@@ -1,4 +1,4 @@
-use Rattle.std.proofs.Common.{refl}
+use Rattle.rt_walk.proofs.Prelude.{refl}
 use Rattle.rt_walk.proofs.walker.Walker.answers.Goals as goal
 
 pub returns-in-NextU32 : goal.returns-in-NextU32

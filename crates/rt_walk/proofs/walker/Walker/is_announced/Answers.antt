@@ -1,5 +1,4 @@
-use Rattle.std.proofs.Common.{rules, ◌≡◌}
-use Rattle.rt_model.specs.State.{stood_in}
+use Rattle.rt_walk.proofs.Prelude.{rules, ◌≡◌, stood_in}
 use Rattle.rt_walk.proofs.walker.Walker.is_announced.Goals as goal
 
 pub returns : goal.returns

@@ -1,4 +1,4 @@
-use Rattle.std.proofs.Common.{rules}
+use Rattle.rt_walk.proofs.Prelude.{rules}
 use Rattle.rt_walk.proofs.Quiet.{may-alike}
 use Rattle.rt_walk.proofs.walker.Walker.may.Goals as goal
 

@@ -1,4 +1,4 @@
-use Rattle.rt_model.proofs.Draws.{only-rounds, round-draws}
+use Rattle.rt_walk.proofs.Prelude.{only-rounds, round-draws}
 use Rattle.rt_walk.proofs.walker.Walker.may_draw.Goals as goal
 
 pub returns : goal.returns

@@ -1,4 +1,4 @@
-use Rattle.std.proofs.Common.{sym, ◌∙◌}
+use Rattle.rt_super.proofs.Prelude.{sym, ◌∙◌}
 use Rattle.rt_super.proofs.QueueLemmas.{ordered_with, put_alone, put_before, put_behind}
 use Rattle.rt_super.proofs.alarms.queue.Queue.insert.Goals as goal
 

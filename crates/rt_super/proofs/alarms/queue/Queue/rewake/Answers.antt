@@ -1,7 +1,4 @@
-use Rattle.std.proofs.Common.{◌≡◌, false, None, rules, sym}
-use Rattle.std.specs.BTreeMap.{is_at}
-use Rattle.std.specs.Map.{lookup, set_value}
-use Rattle.rt_super.specs.AlarmQueue.{key_cmp}
+use Rattle.rt_super.proofs.Prelude.{◌≡◌, false, None, rules, sym, is_at, lookup, set_value, key_cmp}
 use Rattle.rt_super.proofs.AlarmLemmas.{set_value_none}
 use Rattle.rt_super.proofs.QueueLemmas.{set_later}
 use Rattle.rt_super.proofs.alarms.queue.Queue.rewake.Goals.{in-Some-get_mut, in_default-get_mut}
