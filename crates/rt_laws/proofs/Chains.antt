@@ -1,5 +1,5 @@
 -- The times that a journal of several runs tells.
-use Rattle.rt_laws.proofs.Prelude.{◌≡◌, ◌≤◌, ◌&&◌, inl, inr, ℕ, List, [], ◌∷◌, ◌++◌, Option, Bool, true, false, refl, rules, arith, cases_Bool, time_after, last_time, last_time_from, AnswerKind, Pending, Ready, Panicked, Stopped, NoMemory, Ended, FinishCause, Completed, TaskPanicked, Entry, Start, Event, Root, Round, Visit, Answer, NodeEnd, Advance, Skip, Cleanup, Crash, Finish, is_ended, Begin, Outcome, There, Exited, find, is_some_number, is_flagged, State, Phase, Blank, Entered, Ending, Leaving, Cleaning, begun, reached, after, entered_by, entered, leaves, ended, finished, left_pending, answered, node_ended, cleans, left_of, is_settled, May, next_begin, renews, renewed, run_after, runs_after, AreLawful, small_begin, skipped_journal, ready_from, chain_journal}
+use Rattle.rt_laws.proofs.Prelude.{None, ◌≡◌, ◌≤◌, ◌&&◌, inl, inr, ℕ, List, [], ◌∷◌, ◌++◌, Option, Bool, true, false, refl, rules, arith, cases_Bool, time_after, last_time, last_time_from, AnswerKind, Pending, Ready, Panicked, Stopped, NoMemory, Ended, FinishCause, Completed, TaskPanicked, Entry, Start, Event, Root, Round, Visit, Answer, NodeEnd, Advance, Skip, Cleanup, Crash, Finish, is_ended, Begin, Outcome, There, Exited, find, is_some_number, is_flagged, State, Phase, Blank, Entered, Ending, Leaving, Cleaning, begun, reached, after, entered_by, entered, leaves, ended, finished, left_pending, answered, node_ended, cleans, left_of, is_settled, May, next_begin, renews, renewed, run_after, runs_after, AreLawful, small_begin, skipped_journal, ready_from, chain_journal}
 use Rattle.rt_laws.proofs.Clock.{later-entry}
 use Rattle.rt_laws.proofs.Runs.{skipped_run}
 use Rattle.rt_laws.proofs.Several.{blank-same, join_runs, run_alone}
@@ -159,3 +159,10 @@ chain_lawful =
     let next : Begin = record small_begin { start = 2000000 } in
     let first = skipped_run 2000000 (omega arith) (omega arith) in
     join_runs small_begin (skipped_journal 2000000) (ready_from 2000000) first.lawful refl (run_alone next (ready_from 2000000) (search rules))
+
+-- the second of them begins where the first has ended
+pub chain_starts : (start : ℕ) → AreLawful (begun small_begin) (chain_journal start) → start ≡ 2000000
+unfolding begun after
+chain_starts start l =
+    let may : May (renewed (runs_after (begun small_begin) (skipped_journal 2000000)) (Start 0 start None 1000000)) (Start 0 start None 1000000) = (runs-tail (begun small_begin) (skipped_journal 2000000) (ready_from start) l).0 in
+    may.1.2

@@ -1,6 +1,12 @@
 -- The journals of the examples are runs.
-use Rattle.rt_laws.proofs.Prelude.{◌≡◌, pos, ◌≤◌, ◌<◌, ◌+◌, inl, ℕ, true, false, leb, ltb, List, [], ◌∷◌, ◌++◌, Some, None, refl, arith, rules, IsPermutation-refl, MAX_TIME, AnswersReady, LacksMemory, FinishCause, Completed, Entry, Wake, Answered, Advance, Skip, Fire, Cleanup, is_live, with_end, State, begun, after, after_all, IsLawful, find, Held, put, Steps, Value, nothing, MovesCleanup, IsTied, taken, IsRun, IsCutOff, IsLawful-append, IsTied-append, small_begin, gave, closes_node, ready_root, counting_root, Sleeper, sleeping_root, opening, visiting_root, still_asleep, awake, alarm_fires, root_ends, finishing, ready_journal, skipped_journal, short_journal, cut_journal, fires_with, early_fire}
+use Rattle.rt_laws.proofs.Prelude.{sym, ◌≡◌, pos, ◌≤◌, ◌<◌, ◌+◌, inl, ℕ, true, false, leb, ltb, List, [], ◌∷◌, ◌++◌, Some, None, refl, arith, rules, IsPermutation-refl, MAX_TIME, AnswersReady, LacksMemory, FinishCause, Completed, Entry, Wake, Answered, Advance, Skip, Fire, Cleanup, is_live, with_end, State, begun, after, after_all, IsLawful, find, Held, put, Steps, Value, nothing, MovesCleanup, IsTied, taken, IsRun, IsCutOff, IsLawful-append, IsTied-append, small_begin, gave, closes_node, ready_root, counting_root, Sleeper, sleeping_root, opening, visiting_root, still_asleep, awake, alarm_fires, root_ends, finishing, ready_journal, skipped_journal, short_journal, cut_journal, fires_with, early_fire}
 use Rattle.rt_audit.specs.declared.finish.FinishCause.TheVariants.{NoMemory}
+use Rattle.rt_model.specs.State.{Turn, Stood}
+use Rattle.rt_model.specs.Turns.{with_change}
+use Rattle.rt_model.specs.Walk.{Walks}
+use Rattle.rt_model.specs.declared.answer.Answer.{Answer}
+use Rattle.rt_model.specs.declared.answer.Answer.TheVariants.{Ready}
+use Rattle.rt_laws.specs.Examples.{counting}
 use Rattle.rt_laws.proofs.Followed.{tied}
 use Rattle.rt_laws.proofs.Valid.{asleep, with_root, no_values}
 
@@ -33,6 +39,10 @@ counting_run number =
     let r = ready_run number in
     let w : Value (Unit {0}) ℕ = record nothing { held = record nothing.held { counts = (0, pos 1) ∷ [] }; output = Some number } in
     record { lawful = r.lawful; reaches = refl; ends = refl; caused = λ e. cc; tied = tied (counting_root number) (begun small_begin) nothing w ready_journal refl; whole = refl }
+
+pub counting_polls : (number : ℕ) (held end : Held (Unit {0}) ℕ) (turns : List Turn) (stood : Stood) (answer : Answer ℕ) → Walks (counting number) held turns stood answer tt end → (turns ≡ []) × (answer ≡ Ready number) × (end ≡ record held { counts = with_change 0 (pos 1) held.counts })
+counting_polls number held end [] stood answer w = (refl, sym w.0, w.2)
+counting_polls number held end (t ∷ turns) stood answer w = absurd w
 
 -- a root that sleeps, up to its clock step
 

@@ -16,7 +16,8 @@ pub fn time_never_goes_back_over_a_chain()
     ensures rises { (b : Begin) (x y : List Entry) → AreLawful (begun b) (x ++ y) → last_time x ≤ last_time (x ++ y) }
 {}
 
-/// A run begins at the moment at which the one ahead of it ended.
+/// A run may begin at the moment at which the one ahead of it ended (`here`), and at no other (`nowhere_else`).
 pub fn a_run_goes_on_where_another_ended()
-    ensures { AreLawful (begun small_begin) (chain_journal 2000000) }
+    ensures here { AreLawful (begun small_begin) (chain_journal 2000000) }
+    ensures nowhere_else { (start : ℕ) → AreLawful (begun small_begin) (chain_journal start) → start ≡ 2000000 }
 {}

@@ -44,9 +44,9 @@ pub fn a_root_that_pends_by_what_is_drawn_is_not_valid()
     ensures invalid { IsValidInput moody_root small_begin → ⊥ }
 {}
 
-/// For a generator that never gives 1 that root is valid, though it isn't for all draws: each of its runs in which that
-/// generator gave what was drawn completes. There are such generators (`there`).
-pub fn a_root_is_valid_for_its_generator()
+/// For a generator that never gives 1 each run of that root completes in which that generator gave what was drawn (`valid`), though
+/// not for all draws. There are such generators (`there`).
+pub fn a_root_completes_for_its_generator()
     ensures valid { (stream left : Stream) → NeverGives 1 stream → (x : List Entry) (cause : FinishCause) (end : State) (value : Value (Unit {0}) ℕ) → IsRun moody_root small_begin x cause end value → Gave stream (after_all (begun small_begin) x).drawn left → cause ≡ Completed }
     ensures there { (number : ℕ) → number ≢ 1 → NeverGives 1 (always number) }
 {}

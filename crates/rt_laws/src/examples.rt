@@ -14,7 +14,7 @@ ghost use Rattle.rt_audit.specs.declared.finish.FinishCause.{FinishCause};
 ghost use Rattle.rt_audit.specs.declared.finish.FinishCause.TheVariants.{Completed, Timeout, Stalled, TimeOverflow, TooManyTasks, NoMemory};
 ghost use Rattle.rt_model.specs.declared.answer.Answer.{Answer};
 ghost use Rattle.rt_model.specs.declared.answer.Answer.TheVariants.{Pending, Ready};
-ghost use Rattle.rt_model.specs.State.{State, Stood, begun, stood_in};
+ghost use Rattle.rt_model.specs.State.{State, Stood, Turn, begun, stood_in};
 ghost use Rattle.rt_model.specs.Effects.{after_all};
 ghost use Rattle.rt_model.specs.Rules.{IsLawful, AreDrawn};
 ghost use Rattle.rt_model.specs.Turns.{IsCounted, Held, with_change, with_spawned};
@@ -32,11 +32,11 @@ pub fn a_ready_root_has_its_run()
     ensures time { (after_all (begun small_begin) ready_journal).clock.time ≡ 0 }
 {}
 
-/// A root that counts and is ready has the journal of one that only is ready, and what it counted is held (`run`). No poll of it
-/// counts otherwise (`poll`).
+/// A root that counts and is ready has the journal of one that only is ready, and what it counted is held (`run`). Each poll of it
+/// makes no call, and counts so (`poll`).
 pub fn a_root_that_counts_has_its_run()
     ensures run { (number : ℕ) → IsRun (counting_root number) small_begin ready_journal Completed (after_all (begun small_begin) ready_journal) (record nothing { held = record nothing.held { counts = (0, pos 1) ∷ [] }; output = Some number }) }
-    ensures poll { (number : ℕ) (held end : Held (Unit {0}) ℕ) (stood : Stood) (answer : Answer ℕ) → Walks (counting number) held [] stood answer tt end → (answer ≡ Ready number) × (end ≡ record held { counts = with_change 0 (pos 1) held.counts }) }
+    ensures poll { (number : ℕ) (held end : Held (Unit {0}) ℕ) (turns : List Turn) (stood : Stood) (answer : Answer ℕ) → Walks (counting number) held turns stood answer tt end → (turns ≡ []) × (answer ≡ Ready number) × (end ≡ record held { counts = with_change 0 (pos 1) held.counts }) }
 {}
 
 /// A root that sleeps for more than a cycle gives 0 when its sleep is due: the clock skips to that moment. One that

@@ -58,10 +58,11 @@ pub use auditing::{
 pub use chained::{a_run_goes_on_where_another_ended, time_never_goes_back_over_a_chain};
 pub use drawing::{
     a_call_comes_behind_its_own_event, a_draw_is_answered_by_what_it_asks_for,
-    a_root_is_valid_for_its_generator, a_root_that_asks_has_its_run, a_root_that_draws_has_its_run,
-    a_root_that_pends_by_what_is_drawn_is_not_valid, inputs_that_draw_are_valid,
-    near_misses_of_drawing_are_lawful_but_for_one_place, near_misses_of_drawing_are_not_lawful,
-    other_answers_of_draws_are_refused, what_was_drawn_stays,
+    a_root_completes_for_its_generator, a_root_that_asks_has_its_run,
+    a_root_that_draws_has_its_run, a_root_that_pends_by_what_is_drawn_is_not_valid,
+    inputs_that_draw_are_valid, near_misses_of_drawing_are_lawful_but_for_one_place,
+    near_misses_of_drawing_are_not_lawful, other_answers_of_draws_are_refused,
+    what_was_drawn_stays,
 };
 pub use examples::{
     a_ready_root_has_its_run, a_root_that_counts_has_its_run, a_run_that_lacked_memory_is_cut_off,

@@ -1,16 +1,11 @@
 -- A maker goes on script by script.
-use Rattle.rt_scripts.proofs.Prelude.{◌≡◌, ◌≢◌, ℕ, ℤ, List, [], ◌∷◌, length, Result, Ok, Err, refl, arith, Error, LacksMemory, World, Rooted, rooted-gives, Gives, Context, root_context, ScriptText, Making, Prepares, beside, besides, passed_over, Script}
+use Rattle.rt_scripts.proofs.Prelude.{◌≡◌, ℕ, ℤ, List, [], ◌∷◌, length, Result, Ok, Err, arith, World, Rooted, rooted-gives, Gives, Context, root_context, ScriptText, Making, Prepares, beside, besides, Script}
 use Rattle.rt_base.specs.declared.no_memory.NoMemory.{NoMemory}
 
 -- steps that lead to others, and these go on so
 pub prepares-after : {G : Type 0} (step other next : Making) (old mid new : World Script ℤ G) (result : Result Context NoMemory) → ((end : World Script ℤ G) (root : Result Script NoMemory) → Rooted other mid end root → Rooted step old end root) → Prepares other next mid new result → Prepares step next old new result
 prepares-after step other next old mid new (Ok context) first second = λ end root rooted. first end root (second end root rooted)
 prepares-after step other next old mid new (Err lack) first second = first new (Err lack) second
-
--- a refusal that is passed over
-pub passed-other : (context : Context) (next : Making) (error : Error) → error ≢ LacksMemory → passed_over context next error ≡ next
-passed-other context next LacksMemory other = absurd (other refl)
-passed-other context next _ other = refl
 
 -- whoever goes on from here has walked these steps
 abbrev pub Leads : {G : Type 0} → Making → Making → World Script ℤ G → World Script ℤ G → Type 0

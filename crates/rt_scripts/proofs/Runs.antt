@@ -1,5 +1,5 @@
 -- Runs as a simulation reports them.
-use Rattle.rt_scripts.proofs.Prelude.{subst, inl, ◌≡◌, ◌∙◌, ◌++◌, ◌∷◌, ◌≢◌, ℕ, ◌+◌, ◌≤◌, List, [], refl, sym, ap, ℤ, Bool, true, false, Option, Some, None, IsOk, ◌<◌, length, take, drop, All, arith, append_assoc, length-append, ltb, eqb, append-nil, take-append-drop, length-take-le, All-nil, All-cons, All-weaker, slice_get-get_or, take-append_seam, drop-append_seam, MAX_TIME, ChaCha, digest_of, last_time, rounds_in, rounds-append, Journal, Entry, Completes, Fails, RunError, Starting, Kept, resumed, chacha_stream, assert_of, deadline_of, is_too_late, CanRun, CanRunLine, RunLine, Settings, ScriptText, RunReport, RunResult, Gave, Failed, Maker, no_text, text_at, HasFailed, Lacked, CameOf, HasScripts, root_steps, Comes, Makes, IsReported, Halts, Chain, report_of, maker_of, status_of, last_status, StandsIn}
+use Rattle.rt_scripts.proofs.Prelude.{subst, inl, ◌≡◌, ◌∙◌, ◌++◌, ◌∷◌, ◌≢◌, ℕ, ◌+◌, ◌≤◌, List, [], refl, sym, ap, ℤ, Bool, true, false, Some, None, ◌<◌, length, take, drop, All, arith, append_assoc, length-append, append-nil, take-append-drop, length-take-le, All-nil, All-cons, slice_get-get_or, take-append_seam, drop-append_seam, ChaCha, digest_of, last_time, rounds_in, rounds-append, Journal, Entry, Completes, Fails, RunError, Starting, Kept, resumed, chacha_stream, RunLine, ScriptText, RunReport, RunResult, Gave, Failed, Maker, no_text, text_at, HasFailed, Lacked, CameOf, root_steps, Comes, Makes, IsReported, Halts, Chain, report_of, maker_of, status_of, last_status, StandsIn}
 use Rattle.rt_model.specs.State.{begun}
 use Rattle.rt_core.specs.declared.run_error.RunError.TheVariants.{NoMemory}
 use Rattle.rt_scripts.specs.declared.simulate.Came.TheVariants.{Completed}
@@ -65,11 +65,6 @@ next-place scripts next from line own run kept is journal reported =
 -- the same runs, of what is known to be the same
 pub chain-is : (flag whole : Bool) (program scripts : List ScriptText) (first from : Starting ChaCha) (lines all : List RunLine) (runs : List RunReport) (entries : List Entry) → flag ≡ whole → program ≡ scripts → first ≡ from → lines ≡ all → Chain flag program first lines runs entries → Chain whole scripts from all runs entries
 chain-is flag whole program scripts first from lines all runs entries f p s l chain = rw (f, p, s, l) at chain
-
--- what can be run has its scripts
-pub has-scripts : (scripts : List ScriptText) (settings : Settings) (lines : List RunLine) → All (CanRunLine scripts settings) lines → All (HasScripts scripts) lines
-has-scripts scripts settings lines can =
-    All-weaker (CanRunLine scripts settings) (HasScripts scripts) (λ (line : RunLine) may. (may.0.0, All-weaker (CanRun scripts settings) (λ place. place < length scripts) (λ place inner. inner.0) line.with may.1)) lines can
 
 -- a line that can be run names a script
 pub makes-at : (scripts : List ScriptText) (line : RunLine) → line.root < length scripts → Makes scripts line (text_at scripts line.root) (maker_of scripts line)
@@ -168,7 +163,3 @@ last-more status run [] = refl
 last-more status run (next ∷ runs) = refl
 
 pub ruleset last_laws = (last-begins, last-more)
-
--- the settings of a scenario can be those of a runner
-asserted : (cycle start : ℕ) (timeout : Option ℕ) → eqb cycle 0 ≡ false → ltb MAX_TIME start ≡ false → is_too_late (deadline_of start timeout) ≡ false → assert_of cycle start timeout ≡ IsOk tt
-asserted cycle start timeout one two three = rw (one, two, three) refl

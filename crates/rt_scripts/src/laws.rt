@@ -40,6 +40,11 @@ pub fn a_journal_decides_its_checkpoint<A, O, G>()
     ensures { (stream : G → Stream) (p : Steps A O) (s : Starting G) (one two : O) (kept other : Kept G) → Completes stream p s one kept → Completes stream p s two other → kept.journal ≡ other.journal → (other ≡ record kept { rng = other.rng }) × (stream other.rng ≡ stream kept.rng) }
 {}
 
+/// Input that is valid whatever is drawn is valid for each generator.
+pub fn input_that_is_always_valid_is_valid<A, O, G>()
+    ensures { (stream : G → Stream) (p : Steps A O) (s : Starting G) → IsValidInput p s.begin → IsValid stream p s }
+{}
+
 /// A root that draws a number, and pends where that is 1, is valid as the run contract asks it for each generator that never
 /// gives 1.
 pub fn a_root_is_valid_for_its_generator<G>()

@@ -18,8 +18,9 @@ mod waited;
 
 pub use laws::{
     a_journal_decides_its_checkpoint, a_root_is_valid_for_its_generator,
-    reports_tell_the_runs_of_all_lines, runs_of_a_scenario_begin_in_order,
-    scripts_with_tasks_are_valid, small_scripts_are_valid, small_scripts_have_their_runs,
+    input_that_is_always_valid_is_valid, reports_tell_the_runs_of_all_lines,
+    runs_of_a_scenario_begin_in_order, scripts_with_tasks_are_valid, small_scripts_are_valid,
+    small_scripts_have_their_runs,
 };
 pub use maker::RootScript;
 pub use outcome::{Outcome, RunReport, RunResult};

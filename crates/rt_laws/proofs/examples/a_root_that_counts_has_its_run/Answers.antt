@@ -1,9 +1,8 @@
-use Rattle.rt_laws.proofs.Prelude.{sym}
-use Rattle.rt_laws.proofs.Runs.{counting_run}
+use Rattle.rt_laws.proofs.Runs.{counting_polls, counting_run}
 use Rattle.rt_laws.proofs.examples.a_root_that_counts_has_its_run.Goals as goal
 
 pub returns-clause-run : goal.returns-clause-run
 returns-clause-run c = counting_run
 
 pub returns-clause-poll : goal.returns-clause-poll
-returns-clause-poll c = λ number held end stood answer w. (sym w.0, w.2)
+returns-clause-poll c = counting_polls

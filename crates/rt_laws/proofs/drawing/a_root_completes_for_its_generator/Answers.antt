@@ -1,5 +1,5 @@
 use Rattle.rt_laws.proofs.Moods.{valid_for}
-use Rattle.rt_laws.proofs.drawing.a_root_is_valid_for_its_generator.Goals as goal
+use Rattle.rt_laws.proofs.drawing.a_root_completes_for_its_generator.Goals as goal
 
 pub returns-clause-valid : goal.returns-clause-valid
 returns-clause-valid c = valid_for
