@@ -20,15 +20,23 @@ found lives xs n d (Some x) e read live =
     let same : x ≡ d = sym (read ∙ get_or_from_slice_get xs n x d e) in
     kept (lives x) x live ∙ ap Some same
 
--- what was read at the number of a live object is that object
-pub live-there : {X : Type 0} (lives : X → Bool) (xs : List X) (n : ℕ) (d : X) → d ≡ slice_index_or xs n d → is_some (if_lives lives (slice_get xs n)) ≡ true → if_lives lives (slice_get xs n) ≡ Some d
-live-there lives xs n d read live = found lives xs n d (slice_get xs n) refl read live
+-- what is read at the number of a live object
+abbrev pub IsRead : {X : Type 0} → (X → Bool) → List X → ℕ → X → Type 0
+IsRead lives xs n d = (d ≡ slice_index_or xs n d) × (is_some (if_lives lives (slice_get xs n)) ≡ true)
+
+-- is that object
+pub live-there : {X : Type 0} (lives : X → Bool) (xs : List X) (n : ℕ) (d : X) → IsRead lives xs n d → if_lives lives (slice_get xs n) ≡ Some d
+live-there lives xs n d read = found lives xs n d (slice_get xs n) refl read.0 read.1
+
+-- which stands there
+pub read-there : {X : Type 0} (lives : X → Bool) (xs : List X) (n : ℕ) (d : X) → IsRead lives xs n d → slice_get xs n ≡ Some d
+read-there lives xs n d read = stands lives (slice_get xs n) d (live-there lives xs n d read)
 
 pub after-at : {X : Type 0} (xs : List X) (n : ℕ) (d e : X) (f : X → X) (o : Option X) → o ≡ Some d → e ≡ f d → slice_set xs n e ≡ at xs n f o
 after-at xs n d e f o live made = ap (slice_set xs n) made ∙ sym (ap (at xs n f) live)
 
 -- a call on a live object answers by that, and leaves in its place what it makes of it
-pub called : {X : Type 0} (lives : X → Bool) (xs : List X) (n : ℕ) (d e : X) (f : X → X) (unknown : Type 0) (P : X → Type 0) → d ≡ slice_index_or xs n d → is_some (if_lives lives (slice_get xs n)) ≡ true → P d → e ≡ f d → MatchOption (if_lives lives (slice_get xs n)) unknown P × (slice_set xs n e ≡ at xs n f (if_lives lives (slice_get xs n)))
-called lives xs n d e f unknown P read live answer made =
-    let there = live-there lives xs n d read live in
+pub called : {X : Type 0} (lives : X → Bool) (xs : List X) (n : ℕ) (d e : X) (f : X → X) (unknown : Type 0) (P : X → Type 0) → IsRead lives xs n d → P d → e ≡ f d → MatchOption (if_lives lives (slice_get xs n)) unknown P × (slice_set xs n e ≡ at xs n f (if_lives lives (slice_get xs n)))
+called lives xs n d e f unknown P read answer made =
+    let there = live-there lives xs n d read in
     (subst (λ o. MatchOption o unknown P) (sym there) answer, after-at xs n d e f (if_lives lives (slice_get xs n)) there made)

@@ -1,5 +1,5 @@
 -- What the proofs of this crate cite of others and of the definitions, under one name.
-pub use Rattle.std.proofs.Common.{Bool, Err, List, None, Ok, Option, Result, Some, [], ap, append_assoc, arith, cond, false, length, max, min, refl, rules, subst, suc, sym, take, true, w64, zero, ℕ, ◌*◌, ◌++◌, ◌+◌, ◌-◌, ◌<◌, ◌||◌, ◌∙◌, ◌∷◌, ◌≡◌, ◌≢◌, ◌≤◌}
+pub use Rattle.std.proofs.Common.{Bool, Err, List, None, Ok, Option, Result, Some, [], ap, append_assoc, arith, cond, false, inl, inr, length, max, min, refl, rules, subst, suc, sym, take, true, w64, zero, ℕ, ◌*◌, ◌++◌, ◌+◌, ◌-◌, ◌<◌, ◌||◌, ◌∙◌, ◌∷◌, ◌≡◌, ◌≢◌, ◌≤◌, ◌⊎◌}
 pub use Rattle.std.proofs.lemmas.Grind.{common_steps}
 pub use Rattle.std.proofs.lemmas.Iterator.Adapters.{position_from-zero}
 pub use Rattle.std.proofs.lemmas.List.{length-append, length-take-le}
@@ -14,16 +14,16 @@ pub use Rattle.std.specs.VecDeque.{deque_capacity}
 pub use Rattle.indexmap.specs.IndexSet.{insert_key}
 pub use Rattle.rt_base.specs.declared.addr.Addr.{Addr}
 pub use Rattle.rt_base.specs.declared.error.Error.{Error}
-pub use Rattle.rt_base.specs.declared.error.Error.TheVariants.{ConnectionFailed, NoMemory, RecvFailed, UnknownToken}
+pub use Rattle.rt_base.specs.declared.error.Error.TheVariants.{NoMemory, RecvFailed, UnknownToken}
 pub use Rattle.rt_base.specs.declared.poll.Poll.{Poll}
 pub use Rattle.rt_base.specs.declared.poll.Poll.TheVariants.{Pending, Ready}
 pub use Rattle.rt_bufs.specs.Chunked.{Chunked}
 pub use Rattle.rt_net.specs.Asked.{AreThere, HasLength, asked_of, unread_of}
-pub use Rattle.rt_net.specs.Calls.{NetPeeks, NetPollsReceive, NetPollsSend, NetReceives, NetSends, connected, net_after_bind, net_after_dial, next_connection}
+pub use Rattle.rt_net.specs.Calls.{NetPeeks, NetPollsReceive, NetPollsSend, NetReceives, NetSends, connected, next_connection}
 pub use Rattle.rt_net.specs.Channel.{Answers, ChannelState, IsQuiet, Peeks, PollsReceive, PollsSend, Receives, Sends, after_answer, after_poll_recv, after_poll_send, after_recv, after_send, appended, closed_sink, closed_stream, fresh, handed, held, is_open, is_receivable, left, pulled, started_length, unread}
 pub use Rattle.rt_net.specs.Forgotten.{IsWhole, nothing_forgotten, with_answered, with_lost}
 pub use Rattle.rt_net.specs.Kept.{Kept, moved_to}
-pub use Rattle.rt_net.specs.Network.{NetworkState, addr_eq, after_closing, at, at_sink, at_stream, has_sink, has_stream, if_lives, is_alive, listener_at, live_listener, live_sink, live_stream, number_at, with_closed, with_closed_sink, with_connection, woken_by_closing}
+pub use Rattle.rt_net.specs.Network.{addr_eq, after_closing, at, at_sink, has_sink, has_stream, if_lives, is_alive, listener_at, live_listener, live_stream, number_at, with_closed, with_closed_sink, with_connection, woken_by_closing}
 pub use Rattle.rt_net.specs.Pipe.{channel_of}
 pub use Rattle.rt_net.specs.Waiting.{is_not_ready, still_waits, waits}
 pub use Rattle.rt_net.specs.contracts.byte_queue.ByteQueue.{the_row as Q}
@@ -33,9 +33,6 @@ pub use Rattle.rt_net.specs.declared.acceptor.Connection.{Connection}
 pub use Rattle.rt_net.specs.declared.half.Parked.{Parked}
 pub use Rattle.rt_net.specs.declared.pipe.Pipe.TheInside.{Inside}
 pub use Rattle.rt_net.specs.declared.reply.Reply.{Reply}
-pub use Rattle.rt_net.specs.declared.tokens.Listener.{Listener}
-pub use Rattle.rt_net.specs.declared.tokens.Sink.{Sink}
-pub use Rattle.rt_net.specs.declared.tokens.Stream.{Stream}
 pub use base.Fml.{flft, fsep, ftrue}
 pub use base.Logic.{emp, ent}
 pub use denote.Builtin.{RefOf, unit, usize}

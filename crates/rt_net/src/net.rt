@@ -1,6 +1,7 @@
 // The network in memory.
-ghost use Rattle.std.specs.Prelude.{◌≡◌, ◌↔◌, length, IsTrue, IfOk, IfSome, OnErr, OnOk, Ok, Some, true, false, is_some, slice_get, All, ◌||◌};
+ghost use Rattle.std.specs.Prelude.{◌≡◌, ◌↔◌, ℕ, length, IsTrue, IfOk, IfSome, OnErr, OnOk, Ok, Some, true, false, is_some, slice_get, All, ◌||◌};
 ghost use Rattle.std.specs.List.{list_any};
+ghost use Rattle.rt_net.specs.Asked.{asked_of};
 ghost use Rattle.rt_net.specs.Channel.{ChannelState, AreCounted, IsQuiet};
 ghost use Rattle.rt_net.specs.Network.{ListenerState, IsQuietListener, is_waited_at, has_acceptor, waiting_halves, waiting_task, number_at, listener_at, live_listener};
 ghost use Rattle.rt_net.specs.Calls.{IsDialerAddress, NetBinds, NetDials, NetAccepts, net_after_bind, net_after_dial, net_after_accept, opened, idle_sink, idle_stream};
@@ -177,6 +178,7 @@ impl Net {
     fn listen(&mut self, socket: Addr) -> Result<Listener, Error>
         ensures binds { NetBinds self.old.state socket result }
         ensures after { self.new ≡ moved_to self.old (net_after_bind self.old.state socket result) }
+        ensures kept { (self.new.state.channels ≡ self.old.state.channels) × (self.new.state.woken ≡ self.old.state.woken) }
     {
         if is_dialer_address(socket) || self.number_of(socket).is_some() {
             return Err(Error::BindFailed);
@@ -197,6 +199,8 @@ impl Net {
     fn connect(&mut self, socket: Addr) -> Result<Reply<(Sink, Stream)>, Error>
         ensures dials { NetDials self.old.state socket result }
         ensures after { self.new ≡ moved_to self.old (net_after_dial self.old.state socket result) }
+        ensures woken { self.new.state.woken ≡ self.old.state.woken }
+        ensures waiting { (n : ℕ) → asked_of (slice_get self.new.state.channels n) ≡ asked_of (slice_get self.old.state.channels n) }
     {
         if self.port == PORTS_END {
             return Err(Error::PortsExhausted);
