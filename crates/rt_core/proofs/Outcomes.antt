@@ -1,5 +1,5 @@
 -- How a run has come to its outcome.
-use Rattle.rt_core.proofs.Prelude.{◌≡◌, ◌⊎◌, ◌≢◌, ◌++◌, inl, inr, ℕ, List, [], refl, ap, ◌∙◌, sym, subst, Bool, true, Option, Some, None, is_some, IfSome, Result, Ok, Err, Stream, Entry, Root, digest_of, FinishCause, Completed, Stalled, TaskPanicked, TimeOverflow, TooManyTasks, Begin, State, Clock, Finished, begun, stood_in, after, after_all, AreDigested, IsLawful, AreDrawn, Walks, Fronts, Breaks, reached, Steps, Value, IsRun, IsCutOff, Held, Gave, Told, own, pushed, finish_of, text_of, RunError, IsTimeout, IsStalled, HasPanicked, IsTimeOverflow, AreTooManyTasks, IsNoMemory, World, Drew, Kept, Follows, Agrees, IsMade, IsUnmade, unmade_of, value_of, EndAgrees, Runs, EndsFor, IsFinal, Seals, drawn-of, drew-behind, drew-drew, drew-of, ends-with-text, Ended, Completes, Facts, FailedFor, IsValid, Leaves, Starting}
+use Rattle.rt_core.proofs.Prelude.{◌≡◌, ◌⊎◌, ◌≢◌, ◌++◌, inl, inr, ℕ, List, [], refl, ap, ◌∙◌, sym, subst, Bool, true, Option, Some, None, is_some, IfSome, Result, Ok, Err, Stream, Entry, Root, digest_of, FinishCause, Completed, Stalled, TaskPanicked, TimeOverflow, TooManyTasks, Begin, State, Clock, Finished, begun, after, after_all, AreDigested, IsLawful, AreDrawn, Walks, Fronts, Breaks, reached, Steps, Value, IsRun, IsCutOff, Held, Gave, Told, own, pushed, finish_of, text_of, RunError, IsTimeout, IsStalled, HasPanicked, IsTimeOverflow, AreTooManyTasks, IsNoMemory, World, Drew, Kept, Follows, Agrees, IsMade, IsUnmade, unmade_of, value_of, EndAgrees, Runs, EndsFor, IsFinal, Seals, drawn-of, drew-behind, drew-drew, drew-of, ends-with-text, Ended, Completes, Facts, FailedFor, IsValid, Leaves, Starting}
 use Rattle.rt_audit.specs.declared.finish.FinishCause.TheVariants.{Timeout, NoMemory}
 
 module _ {A O G : Type 0} (p : Steps A O) (w : World A O G) where
@@ -24,7 +24,7 @@ module _ {A O G : Type 0} (p : Steps A O) (w : World A O G) where
   ended-lacking before (Err cause) final a ends = ended-cut final None None true (ends true None a)
 
 -- a maker that lacked memory
-pub unmade : {A O G : Type 0} (p : Steps A O) (old new : World A O G) (root : Option A) → {stream : G → Stream} → Kept stream old new → Follows p new.told (unmade_of old.held) → (Breaks (p.first old.told.state.clock.time) old.held new.told.state.turns (stood_in new.told.state) new.held ⊎ (Fronts (p.first old.told.state.clock.time) old.held new.told.state.turns new.held × (root ≡ None))) → IsUnmade p new root
+pub unmade : {A O G : Type 0} (p : Steps A O) (old new : World A O G) (root : Option A) → {stream : G → Stream} → Kept stream old new → Follows p new.told (unmade_of old.held) → (Breaks (p.first old.told.state.clock.time) old.held new.told.state.turns new.told.state.stood new.held ⊎ (Fronts (p.first old.told.state.clock.time) old.held new.told.state.turns new.held × (root ≡ None))) → IsUnmade p new root
 unmade p old new root kept follows breaks = record {
   before = old.held;
   follows = follows;
@@ -37,7 +37,7 @@ none-made P Q root none (inl p) = inl p
 none-made P Q root none (inr q) = inr (q, none)
 
 -- a root that was made
-pub made : {A O G : Type 0} (p : Steps A O) (old new : World A O G) (root : A) {stream : G → Stream} → Kept stream old new → Follows p new.told (unmade_of old.held) → Walks (p.first old.told.state.clock.time) old.held new.told.state.turns (stood_in new.told.state) tt root new.held → IsMade p new root
+pub made : {A O G : Type 0} (p : Steps A O) (old new : World A O G) (root : A) {stream : G → Stream} → Kept stream old new → Follows p new.told (unmade_of old.held) → Walks (p.first old.told.state.clock.time) old.held new.told.state.turns new.told.state.stood tt root new.held → IsMade p new root
 made p old new root kept follows walks = record {
   before = old.held;
   follows = follows;

@@ -69,7 +69,7 @@ unfoldable pub use Rattle.rt_model.specs.Effects.{after}
 pub use Rattle.rt_model.specs.Rules.{AreDrawn, IsLawful, MayCall}
 pub use Rattle.rt_model.specs.Run.{IsCutOff, IsRun, IsValidInput}
 pub use Rattle.rt_model.specs.Signals.{met_reply, shown_reply}
-pub use Rattle.rt_model.specs.State.{Clock, Finished, State, Turn, stood_in}
+pub use Rattle.rt_model.specs.State.{Clock, Finished, State, Turn}
 unfoldable pub use Rattle.rt_model.specs.State.{begun}
 pub use Rattle.rt_model.specs.Tied.{Steps, Value, with_first}
 pub use Rattle.rt_model.specs.Turns.{Handed, Held, Plain, Plainly}

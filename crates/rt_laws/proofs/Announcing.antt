@@ -1,5 +1,5 @@
 -- The rule by which a poll completes whose next call comes behind an event of its own, and what is replied to calls that draw.
-use Rattle.rt_laws.proofs.Prelude.{◌≡◌, ◌<◌, ◌^◌, ℕ, List, [], ◌∷◌, length, Option, Some, refl, ap, Call, WakeCall, NextU64, FillBytes, Auditor, CallReply, Done, Number, Bytes, Refused, CallEntry, Event, State, Announced, Polling, stood_in, Stood, announced_by, IsOfCall, after, find, WasGiven, Answers, Held, Ask, Plainly, Heard, Fits, call_of, Step, Does, Steps, Value, taken}
+use Rattle.rt_laws.proofs.Prelude.{◌≡◌, ◌<◌, ◌^◌, ℕ, List, [], ◌∷◌, length, Option, Some, refl, ap, Call, WakeCall, NextU64, FillBytes, Auditor, CallReply, Done, Number, Bytes, Refused, CallEntry, Event, State, Announced, Polling, Stood, announced_by, IsOfCall, after, find, WasGiven, Answers, Held, Ask, Plainly, Heard, Fits, call_of, Step, Does, Value, taken}
 use Rattle.rt_model.specs.declared.answer.Answer.{Answer}
 use Rattle.rt_laws.proofs.Completing.{Course, Completes, polling_asks}
 use Rattle.rt_laws.proofs.Fronts.{LeadsTo}
@@ -20,24 +20,24 @@ module _ {A O : Type 0} (p : Course A O) where
     unfolding after
     polling_announces ask on label fields l says more = polling_asks p s v owes task left a is there now ask on l announced unannounced
       where
-        unannounced : (reply : CallReply) → s.announced ≡ announced_by (stood_in s) (call_of ask) reply → Answers s (call_of ask) reply → (held : Held A O) → Fits held ask (record { by = Some task; call = call_of ask; reply = reply; stood = stood_in s }) → Completes p (after s (CallEntry (Some task) (call_of ask) reply)) v
-        unannounced reply n m held f = let k = says (stood_in s) reply in absurd (cc)
+        unannounced : (reply : CallReply) → s.announced ≡ announced_by s.stood (call_of ask) reply → Answers s (call_of ask) reply → (held : Held A O) → Fits held ask (record { by = Some task; call = call_of ask; reply = reply; stood = s.stood }) → Completes p (after s (CallEntry (Some task) (call_of ask) reply)) v
+        unannounced reply n m held f = let k = says s.stood reply in absurd (cc)
 
-        told : (other : List ℕ) (others : List (List ℕ)) (reply : CallReply) → event other others ∷ [] ≡ announced_by (stood_in s) (call_of ask) reply → Replied p (after s (Event other others)) v (Some task) ask
+        told : (other : List ℕ) (others : List (List ℕ)) (reply : CallReply) → event other others ∷ [] ≡ announced_by s.stood (call_of ask) reply → Replied p (after s (Event other others)) v (Some task) ask
         told other others reply n =
-            let k = says (stood_in s) reply in
+            let k = says s.stood reply in
             let same : event other others ≡ event label fields = cc in
             let first : other ≡ label = ap (λ (e : Announced). e.label) same in
             let second : others ≡ fields = ap (λ (e : Announced). e.fields) same in
             rw (first, second) more
 
-        announced : (other : List ℕ) (others : List (List ℕ)) (u : Value A O) → IsOfCall (stood_in s) s.announced other others → u ≡ v → Completes p (after s (Event other others)) u
+        announced : (other : List ℕ) (others : List (List ℕ)) (u : Value A O) → IsOfCall s.stood s.announced other others → u ≡ v → Completes p (after s (Event other others)) u
         announced other others u m k =
             let t = after s (Event other others) in
             let one : t.announced ≡ event other others ∷ [] = rw (is, silent) refl in
             rw k
             (polling_asks p t v refl task left a (rw is refl) there now ask on l
-            (λ label fields u m. absurd (no-second (stood_in s) m.0 m.1 (event other others) (event label fields) (rw one at m.2)))
+            (λ label fields u m. absurd (no-second s.stood m.0 m.1 (event other others) (event label fields) (rw one at m.2)))
             (λ reply n. told other others reply (rw one at n) reply))
 
   -- what is replied to a wake, to calls that draw, and to an auditor's

@@ -22,8 +22,8 @@ module _ (drawn : List Drawn) (s : State) where
   spawn-so false false error other node _ a = a
 
   answers-so : (call : Call) (reply : CallReply) → Answers (as_if drawn s) call reply → Answers s call reply
-  answers-so (Child node label) reply a = child-so (not (is_live s.nodes node)) UnknownToken node label reply a
-  answers-so (Spawn node) reply a = spawn-so (not (is_free s.nodes node)) (leb (2 ^ 64 - 1) s.numbers.next) UnknownToken TooManyTasks node reply a
+  answers-so (Child node label) reply a = child-so (not (is_live s.stood.nodes node)) UnknownToken node label reply a
+  answers-so (Spawn node) reply a = spawn-so (not (is_free s.stood.nodes node)) (leb (2 ^ 64 - 1) s.numbers.next) UnknownToken TooManyTasks node reply a
   answers-so _ _ a = a
 
   event-so : (p : Phase) (label : List ℕ) (fields : List (List ℕ)) → MayEvent p (as_if drawn s) label fields → MayEvent p s label fields

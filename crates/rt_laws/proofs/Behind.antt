@@ -1,5 +1,5 @@
 -- Behind a part that lacked memory a run doesn't go on.
-use Rattle.rt_laws.proofs.Prelude.{◌≡◌, ◌∷◌, ◌++◌, ℕ, List, Some, true, false, refl, inl, inr, LacksMemory, Ended, Entry, Round, Visit, Answered, Advance, Skip, Fire, find, State, stood_in, after, after_all, Held, put, Walks, Steps, Value, Moves, IsTied, taken, IsOnward}
+use Rattle.rt_laws.proofs.Prelude.{◌≡◌, ◌∷◌, ◌++◌, ℕ, List, Some, true, false, refl, inl, inr, LacksMemory, Ended, Entry, Round, Visit, Answered, Advance, Skip, Fire, find, State, after, after_all, Held, put, Walks, Steps, Value, Moves, IsTied, taken, IsOnward}
 use Rattle.rt_laws.proofs.Values.{all-whole, not-whole}
 use Rattle.rt_laws.proofs.Misses.{tied-front, tied-tail}
 
@@ -23,7 +23,7 @@ poll_is_last A O p s v w task x y e o t =
     let whole = went-on p (after s (Answered task LacksMemory)) t.0 w x y e o t.2 in
     not-whole t.0 (record v { held = put task t.1.left t.1.moved; whole = false }) whole refl t.1.is
 
-pub end_is_whole : (A O : Type 0) (p : Steps A O) (s : State) (v w : Value A O) (task : ℕ) (x y : List Entry) (e : Entry) → IsOnward e → IsTied p s v (Answered task Ended ∷ x ++ e ∷ y) w → (a : A) × (find task v.held.tasks ≡ Some a) × ((end : Held A O) × Walks (p.task.last a s.clock.time task) (taken task v.held) s.turns (stood_in s) tt tt end)
+pub end_is_whole : (A O : Type 0) (p : Steps A O) (s : State) (v w : Value A O) (task : ℕ) (x y : List Entry) (e : Entry) → IsOnward e → IsTied p s v (Answered task Ended ∷ x ++ e ∷ y) w → (a : A) × (find task v.held.tasks ≡ Some a) × ((end : Held A O) × Walks (p.task.last a s.clock.time task) (taken task v.held) s.turns s.stood tt tt end)
 end_is_whole A O p s v w task x y e o t =
     let whole = went-on p (after s (Answered task Ended)) t.0 w x y e o t.2 in
     elim t.1.2 [

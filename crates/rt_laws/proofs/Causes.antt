@@ -84,7 +84,7 @@ sound-after s (Answer task kind) m k = sound-answered s task kind m.1.0 k
 sound-after s (NodeEnd node) m k = sound-node s.phase s.clock k
 sound-after s (Advance now) m k = tt
 sound-after s (Skip now) m k = rw m.1.0 tt
-sound-after s Cleanup m k = sound-cleans (is_ended s.nodes 0) (reached s) s.clock
+sound-after s Cleanup m k = sound-cleans (is_ended s.stood.nodes 0) (reached s) s.clock
 sound-after s (Crash choices) m k = tt
 sound-after s (Finish cause) m k = tt
 sound-after s _ m k = k
@@ -148,7 +148,7 @@ no-turning cause None false None (j ∷ ready) set n k h = cc
 
 -- what each cause needs
 abbrev Needs : FinishCause → Phase → State → Type 0
-Needs Stalled p s = (s.ready ≡ []) × (s.alarms.alarms ≡ [])
+Needs Stalled p s = (s.ready ≡ []) × (s.stood.alarms.alarms ≡ [])
 Needs Timeout p s = is_late s.clock ≡ true
 Needs TimeOverflow p s = overflows s.clock ≡ true
 Needs TooManyTasks p s = (p ≡ Making) × (leb (2 ^ 64 - 1) s.numbers.next ≡ true)
@@ -167,11 +167,11 @@ abbrev Turns : FinishCause → State → Type 0
 Turns cause s = cause_at Turning s ≡ Some cause
 
 turns-not : (cause : FinishCause) (s : State) → cause ≢ Stalled → cause ≢ Timeout → Turns cause s → ⊥
-turns-not cause s n k h = no-turning cause (skip_to s.ready s.alarms.alarms s.clock.time) (is_late s.clock) (fires s.alarms.alarms s.clock.time) s.ready s.alarms.alarms n k h
+turns-not cause s n k h = no-turning cause (skip_to s.ready s.stood.alarms.alarms s.clock.time) (is_late s.clock) (fires s.stood.alarms.alarms s.clock.time) s.ready s.stood.alarms.alarms n k h
 
 needs-turning : (cause : FinishCause) (s : State) → Turns cause s → Needs cause Turning s
-needs-turning Stalled s h = stalled-turning (skip_to s.ready s.alarms.alarms s.clock.time) (is_late s.clock) (fires s.alarms.alarms s.clock.time) s.ready s.alarms.alarms h
-needs-turning Timeout s h = late-turning (skip_to s.ready s.alarms.alarms s.clock.time) (is_late s.clock) (fires s.alarms.alarms s.clock.time) s.ready s.alarms.alarms h
+needs-turning Stalled s h = stalled-turning (skip_to s.ready s.stood.alarms.alarms s.clock.time) (is_late s.clock) (fires s.stood.alarms.alarms s.clock.time) s.ready s.stood.alarms.alarms h
+needs-turning Timeout s h = late-turning (skip_to s.ready s.stood.alarms.alarms s.clock.time) (is_late s.clock) (fires s.stood.alarms.alarms s.clock.time) s.ready s.stood.alarms.alarms h
 needs-turning TimeOverflow s h = absurd (turns-not TimeOverflow s (λ e. cc) (λ e. cc) h)
 needs-turning TooManyTasks s h = absurd (turns-not TooManyTasks s (λ e. cc) (λ e. cc) h)
 needs-turning TaskPanicked s h = absurd (turns-not TaskPanicked s (λ e. cc) (λ e. cc) h)
@@ -197,7 +197,7 @@ needs b x y cause l h n =
     needs-at s.phase cause s (run_sound b x (lawful-front (begun b) x (Cleanup ∷ y) l)) (lawful-tail (begun b) x (Cleanup ∷ y) l).0.1.0 (run_cause b x y cause l h n)
 
 module _ (b : Begin) (x y : List Entry) (l : IsLawful (begun b) (x ++ Cleanup ∷ y)) where
-  pub run_stalled : (after_all (begun b) (x ++ Cleanup ∷ y)).phase ≡ Finished Stalled → ((after_all (begun b) x).ready ≡ []) × ((after_all (begun b) x).alarms.alarms ≡ [])
+  pub run_stalled : (after_all (begun b) (x ++ Cleanup ∷ y)).phase ≡ Finished Stalled → ((after_all (begun b) x).ready ≡ []) × ((after_all (begun b) x).stood.alarms.alarms ≡ [])
   run_stalled h = needs b x y Stalled l h (λ e. cc)
 
   pub run_late : (after_all (begun b) (x ++ Cleanup ∷ y)).phase ≡ Finished Timeout → is_late (after_all (begun b) x).clock ≡ true

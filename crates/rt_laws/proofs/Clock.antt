@@ -21,7 +21,7 @@ skip-later (k ∷ ready) alarms time now h = cc
 pub later-entry : (s : State) (e : Entry) → May s e → s.clock.time ≤ (after s e).clock.time
 unfolding after
 later-entry s (Advance now) m = let a = m.1.2 in omega arith
-later-entry s (Skip now) m = let a = skip-later s.ready s.alarms.alarms s.clock.time now m.1.1 in omega arith
+later-entry s (Skip now) m = let a = skip-later s.ready s.stood.alarms.alarms s.clock.time now m.1.1 in omega arith
 later-entry s _ m = omega arith
 
 later-all : (s : State) (es : List Entry) → IsLawful s es → s.clock.time ≤ (after_all s es).clock.time

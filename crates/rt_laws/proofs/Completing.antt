@@ -1,5 +1,5 @@
 -- What is left of a run from a state on, and rules by which it completes, whatever the steps.
-use Rattle.rt_laws.proofs.Prelude.{◌≡◌, ◌≢◌, ◌≤◌, ◌<◌, ◌+◌, ◌⊎◌, inl, inr, ℕ, List, [], ◌∷◌, ◌++◌, drop, Option, Some, None, true, false, refl, sym, ap, ◌∙◌, arith, eq-eqb, IsPermutation, Call, SleepPoll, CallReply, PendingAt, IsOver, IsPending, IsPanicked, IsStopped, LacksMemory, IsEnded, FinishCause, Completed, Entry, Start, CallEntry, Event, Wake, Draw, Root, Round, Visit, AnswerEntry, Advance, Skip, Fire, Cleanup, only-rounds, Begin, Outcome, Drawn, Long, State, Phase, Making, Between, Visiting, Entered, Polling, Halted, Ending, Turning, Over, Finished, Announced, Clock, Stood, Turn, stood_in, begun, process_task, task_fields, announced_by, IsOfCall, alarm_of, skip_to, fires, cause_at, reached, from_running, after, after_all, entering, announces, task_label, Answers, May, MayEvent, MayRound, IsLawful, find, is_ended, Held, Ask, Sleeping, Heard, Asks, Fits, call_of, put, Step, Does, Gives, Gave, Walks, Steps, Value, nothing, MovesCleanup, Moves, Polls, IsTied, taken, given, IsRun, IsValidInput}
+use Rattle.rt_laws.proofs.Prelude.{◌≡◌, ◌≢◌, ◌≤◌, ◌<◌, ◌+◌, ◌⊎◌, inl, inr, ℕ, List, [], ◌∷◌, ◌++◌, drop, Option, Some, None, true, false, refl, sym, ap, ◌∙◌, arith, eq-eqb, IsPermutation, Call, SleepPoll, CallReply, PendingAt, IsOver, IsPending, IsPanicked, IsStopped, LacksMemory, IsEnded, FinishCause, Completed, Entry, Start, CallEntry, Event, Wake, Draw, Root, Round, Visit, AnswerEntry, Advance, Skip, Fire, Cleanup, only-rounds, Begin, Outcome, Drawn, Long, State, Phase, Making, Between, Visiting, Entered, Polling, Halted, Ending, Turning, Over, Finished, Announced, Clock, Stood, Turn, begun, process_task, task_fields, announced_by, IsOfCall, alarm_of, skip_to, fires, cause_at, reached, from_running, after, after_all, entering, announces, task_label, Answers, May, MayEvent, MayRound, IsLawful, find, is_ended, Held, Ask, Sleeping, Heard, Asks, Fits, call_of, put, Step, Does, Gives, Gave, Walks, Steps, Value, nothing, MovesCleanup, Moves, Polls, IsTied, taken, given, IsRun, IsValidInput}
 use Rattle.rt_audit.specs.declared.answer.AnswerKind.TheVariants.{Ready as IsReady}
 use Rattle.rt_audit.specs.declared.finish.FinishCause.TheVariants.{NoMemory}
 use Rattle.rt_model.specs.declared.answer.Answer.{Answer}
@@ -73,7 +73,7 @@ module _ {A O : Type 0} (p : Course A O) where
 
   pub cleanup : (s : State) (u : Value A O) → IsFine (reached s) → Completes p (after s Cleanup) u
   unfolding after
-  cleanup s u f x cause r = fine-ends (reached s) cause (after_all (after s Cleanup) x).phase f r.caused r.ends (ends-all (reached s) (after s Cleanup) x refl (cleans-for (is_ended s.nodes 0) (reached s)) r.lawful).1
+  cleanup s u f x cause r = fine-ends (reached s) cause (after_all (after s Cleanup) x).phase f r.caused r.ends (ends-all (reached s) (after s Cleanup) x refl (cleans-for (is_ended s.stood.nodes 0) (reached s)) r.lawful).1
 
   pub over : (s : State) (v : Value A O) → s.phase ≡ Over Completed → s.owed ≡ [] → Completes p s v
   over s v h o = continues s v (λ cause e. cc) c
@@ -93,7 +93,7 @@ module _ {A O : Type 0} (p : Course A O) where
   cleanup-front s v u q h m w =
       let k : MovesCleanup p.steps s v Making u = rw h at m in
       elim k [
-        | inl k ↦ walks-front (stood_in s) tt k.0 u.held s.turns v.held (p.steps.first s.clock.time) k.1
+        | inl k ↦ walks-front s.stood tt k.0 u.held s.turns v.held (p.steps.first s.clock.time) k.1
         | inr k ↦ absurd (elim k [
           | inl b ↦ not-whole u (record v { held = u.held; unmade = u.unmade; whole = false }) w refl b.1
           | inr b ↦ not-whole u (record v { held = u.held; unmade = None; whole = false }) w refl b.1
@@ -105,7 +105,7 @@ module _ {A O : Type 0} (p : Course A O) where
   making-front s v [] cause h r = let e = r.ends in absurd (cc)
   making-front s v (CallEntry by call reply ∷ x) cause h r =
       let m = further s v (CallEntry by call reply) x cause r in
-      let t : Turn = record { by = by; call = call; reply = reply; stood = stood_in s } in
+      let t : Turn = record { by = by; call = call; reply = reply; stood = s.stood } in
       let k = making-front (after s (CallEntry by call reply)) m.0 x cause h m.3 in
       front-front s.turns (t ∷ []) v.held (p.steps.first s.clock.time) (rw m.1 at k)
   making-front s v (Event label fields ∷ x) cause h r =
@@ -119,14 +119,14 @@ module _ {A O : Type 0} (p : Course A O) where
   making-front s v (Root task ∷ x) cause h r =
       let m = further s v (Root task) x cause r in
       let k = m.1 in
-      walks-front (stood_in s) tt k.0 k.1 s.turns v.held (p.steps.first s.clock.time) k.2
+      walks-front s.stood tt k.0 k.1 s.turns v.held (p.steps.first s.clock.time) k.2
   making-front s v (Cleanup ∷ x) cause h r =
       let m = further s v Cleanup x cause r in
       cleanup-front s v m.0 s.phase h m.1 m.2
   making-front s v (e ∷ x) cause h r = let z : stands Making e ≡ true = rw h at (may_stand s e r.lawful.0) in absurd (cc)
 
   -- the walk of a poll, from the state that the task is in
-  polls-walk : (s : State) (v : Value A O) (task other : ℕ) (a : A) (answer : Answer O) (end : Held A O) → other ≡ task → find task v.held.tasks ≡ Some a → (k : Polls p.steps s other v.held answer end) → Walks (p.steps.task.next a s.clock.time task) (taken task v.held) s.turns (stood_in s) answer k.left k.moved
+  polls-walk : (s : State) (v : Value A O) (task other : ℕ) (a : A) (answer : Answer O) (end : Held A O) → other ≡ task → find task v.held.tasks ≡ Some a → (k : Polls p.steps s other v.held answer end) → Walks (p.steps.task.next a s.clock.time task) (taken task v.held) s.turns s.stood answer k.left k.moved
   polls-walk s v task other a answer end e f k =
       let there : find task v.held.tasks ≡ Some k.before = rw e at k.there in
       let same : k.before ≡ a = cc in
@@ -138,7 +138,7 @@ module _ {A O : Type 0} (p : Course A O) where
   polling-front s v task left a [] cause h f r = let e = r.ends in absurd (cc)
   polling-front s v task left a (CallEntry by call reply ∷ x) cause h f r =
       let m = further s v (CallEntry by call reply) x cause r in
-      let t : Turn = record { by = by; call = call; reply = reply; stood = stood_in s } in
+      let t : Turn = record { by = by; call = call; reply = reply; stood = s.stood } in
       let k = polling-front (after s (CallEntry by call reply)) m.0 task left a x cause h (rw m.1 f) m.3 in
       front-front s.turns (t ∷ []) (taken task v.held) (p.steps.task.next a s.clock.time task) (rw m.1 at k)
   polling-front s v task left a (Event label fields ∷ x) cause h f r =
@@ -154,21 +154,21 @@ module _ {A O : Type 0} (p : Course A O) where
       let n = r.lawful.0.1.0 in
       let end : Held A O = m.1.0 in
       let k : Polls p.steps s other v.held Pending end = m.1.1 in
-      walks-front (stood_in s) Pending k.left k.moved s.turns (taken task v.held) (p.steps.task.next a s.clock.time task) (polls-walk s v task other a Pending end (cc) f k)
+      walks-front s.stood Pending k.left k.moved s.turns (taken task v.held) (p.steps.task.next a s.clock.time task) (polls-walk s v task other a Pending end (cc) f k)
   polling-front s v task left a (AnswerEntry other IsReady ∷ x) cause h f r =
       let m = further s v (AnswerEntry other IsReady) x cause r in
       let n = r.lawful.0.1.0 in
       let o : O = m.1.0 in
       let end : Held A O = m.1.1 in
       let k : Polls p.steps s other v.held (Ready o) end = m.1.2 in
-      walks-front (stood_in s) (Ready o) k.left k.moved s.turns (taken task v.held) (p.steps.task.next a s.clock.time task) (polls-walk s v task other a (Ready o) end (cc) f k)
+      walks-front s.stood (Ready o) k.left k.moved s.turns (taken task v.held) (p.steps.task.next a s.clock.time task) (polls-walk s v task other a (Ready o) end (cc) f k)
   polling-front s v task left a (AnswerEntry other IsPanicked ∷ x) cause h f r =
       let m = further s v (AnswerEntry other IsPanicked) x cause r in
       let n = r.lawful.0.1.0 in
       let text : List ℕ = m.1.0 in
       let end : Held A O = m.1.1 in
       let k : Polls p.steps s other v.held (Panicked text) end = m.1.2 in
-      walks-front (stood_in s) (Panicked text) k.left k.moved s.turns (taken task v.held) (p.steps.task.next a s.clock.time task) (polls-walk s v task other a (Panicked text) end (cc) f k)
+      walks-front s.stood (Panicked text) k.left k.moved s.turns (taken task v.held) (p.steps.task.next a s.clock.time task) (polls-walk s v task other a (Panicked text) end (cc) f k)
   polling-front s v task left a (AnswerEntry other LacksMemory ∷ x) cause h f r =
       let m = further s v (AnswerEntry other LacksMemory) x cause r in
       let k = m.1 in
@@ -212,7 +212,7 @@ module _ {A O : Type 0} (p : Course A O) where
 
   -- the steps of a part, whose turns so far lead to those whose next call announces nothing
   module _ {L R : Type 0} (step at : Step A L O R) (held now : Held A O) (turns : List Turn) (leads : LeadsTo step held turns at now) (q : Phase) (made : AreMade q) (clock : Clock) (stood : Stood) (v : Value A O) (quiet : (by : Option ℕ) (call : Call) (reply : CallReply) → IsFront at now (record { by = by; call = call; reply = reply; stood = stood } ∷ []) → announced_by stood call reply ≡ []) (front : (s : State) (x : List Entry) (cause : FinishCause) → s.phase ≡ q → s.clock ≡ clock → Rest p s v x cause → IsFront step held s.turns) where
-    stray : (s : State) (x : List Entry) (cause : FinishCause) → s.phase ≡ q → s.clock ≡ clock → stood_in s ≡ stood → s.turns ≡ turns → s.owed ≡ [] → s.announced ≢ [] → Rest p s v x cause → ⊥
+    stray : (s : State) (x : List Entry) (cause : FinishCause) → s.phase ≡ q → s.clock ≡ clock → s.stood ≡ stood → s.turns ≡ turns → s.owed ≡ [] → s.announced ≢ [] → Rest p s v x cause → ⊥
     unfolding after
     stray s [] cause h c is t o n r =
         let e : q ≡ Finished cause = sym h ∙ r.ends in
@@ -220,7 +220,7 @@ module _ {A O : Type 0} (p : Course A O) where
     stray s (CallEntry by call reply ∷ x) cause h c is t o n r =
         let m = further s v (CallEntry by call reply) x cause r in
         let rest : Rest p (after s (CallEntry by call reply)) v x cause = rw m.1 at m.3 in
-        let turn : Turn = record { by = by; call = call; reply = reply; stood = stood_in s } in
+        let turn : Turn = record { by = by; call = call; reply = reply; stood = s.stood } in
         let f : IsFront step held (s.turns ++ turn ∷ []) = front (after s (CallEntry by call reply)) x cause h c rest in
         let one : IsFront at now (turn ∷ []) = leads-fronts at now (turn ∷ []) turns held step leads (rw t at f) in
         n (r.lawful.0.1.2 ∙ quiet by call reply (rw is at one))
@@ -236,7 +236,7 @@ module _ {A O : Type 0} (p : Course A O) where
     stray s (Cleanup ∷ x) cause h c is t o n r = n r.lawful.0.1.1
     stray s (e ∷ x) cause h c is t o n r = made-none q e made refl (λ task left. refl) (λ task result left. refl) (rw h at (may_stand s e r.lawful.0))
 
-    pub strays : (s : State) → s.phase ≡ q → s.clock ≡ clock → stood_in s ≡ stood → s.turns ≡ turns → (label : List ℕ) (fields : List (List ℕ)) (u : Value A O) → u ≡ v → Completes p (after s (Event label fields)) u
+    pub strays : (s : State) → s.phase ≡ q → s.clock ≡ clock → s.stood ≡ stood → s.turns ≡ turns → (label : List ℕ) (fields : List (List ℕ)) (u : Value A O) → u ≡ v → Completes p (after s (Event label fields)) u
     unfolding after
     strays s h c is t label fields u e x cause r =
         let rest : Rest p (after s (Event label fields)) v x cause = rw e at r in
@@ -291,12 +291,12 @@ module _ {A O : Type 0} (p : Course A O) where
       Leads at = LeadsTo (p.steps.task.next a s.clock.time task) (taken task v.held) s.turns at now
 
       abbrev turned : Call → CallReply → Turn
-      turned call reply = record { by = Some task; call = call; reply = reply; stood = stood_in s }
+      turned call reply = record { by = Some task; call = call; reply = reply; stood = s.stood }
 
       -- no event comes before a call that announces none
-      pub silent : (at : Step A A O (Answer O)) → Leads at → ((by : Option ℕ) (call : Call) (reply : CallReply) → IsFront at now (record { by = by; call = call; reply = reply; stood = stood_in s } ∷ []) → announced_by (stood_in s) call reply ≡ []) → (label : List ℕ) (fields : List (List ℕ)) (u : Value A O) → u ≡ v → Completes p (after s (Event label fields)) u
+      pub silent : (at : Step A A O (Answer O)) → Leads at → ((by : Option ℕ) (call : Call) (reply : CallReply) → IsFront at now (record { by = by; call = call; reply = reply; stood = s.stood } ∷ []) → announced_by s.stood call reply ≡ []) → (label : List ℕ) (fields : List (List ℕ)) (u : Value A O) → u ≡ v → Completes p (after s (Event label fields)) u
       silent at l quiet =
-          strays (p.steps.task.next a s.clock.time task) at (taken task v.held) now s.turns l (Polling task left) (inr (inl (task, left, refl))) s.clock (stood_in s) v quiet
+          strays (p.steps.task.next a s.clock.time task) at (taken task v.held) now s.turns l (Polling task left) (inr (inl (task, left, refl))) s.clock s.stood v quiet
           (λ t x cause h c r. let f = polling-front t v task left a x cause h there r in rw c at f)
           s is refl refl refl
 
@@ -307,14 +307,14 @@ module _ {A O : Type 0} (p : Course A O) where
           let f = polling-front (after s (CallEntry (Some task) call reply)) u task left a x cause is (rw k there) r in
           leads-fronts at now (turned call reply ∷ []) s.turns (taken task v.held) (p.steps.task.next a s.clock.time task) l (rw k at f)
 
-      pub gave : (at : Step A A O (Answer O)) (answer : Answer O) (end : Held A O) (other : ℕ) → Leads at → other ≡ task → (k : Polls p.steps s other v.held answer end) → Gave (stood_in s) now at answer k.left k.moved
-      gave at answer end other l e k = leads-gave at now (stood_in s) answer k.left k.moved s.turns (taken task v.held) (p.steps.task.next a s.clock.time task) l (polls-walk s v task other a answer end e there k)
+      pub gave : (at : Step A A O (Answer O)) (answer : Answer O) (end : Held A O) (other : ℕ) → Leads at → other ≡ task → (k : Polls p.steps s other v.held answer end) → Gave s.stood now at answer k.left k.moved
+      gave at answer end other l e k = leads-gave at now s.stood answer k.left k.moved s.turns (taken task v.held) (p.steps.task.next a s.clock.time task) l (polls-walk s v task other a answer end e there k)
 
       -- the call that is asked for comes next, or an event before it
-      pub polling_asks : (ask : Ask A O) (on : Heard O → Step A A O (Answer O)) → Leads (Does ask on) → ((label : List ℕ) (fields : List (List ℕ)) (u : Value A O) → IsOfCall (stood_in s) s.announced label fields → u ≡ v → Completes p (after s (Event label fields)) u) → ((reply : CallReply) → s.announced ≡ announced_by (stood_in s) (call_of ask) reply → Answers s (call_of ask) reply → (held : Held A O) → Fits held ask (turned (call_of ask) reply) → Completes p (after s (CallEntry (Some task) (call_of ask) reply)) v) → Completes p s v
+      pub polling_asks : (ask : Ask A O) (on : Heard O → Step A A O (Answer O)) → Leads (Does ask on) → ((label : List ℕ) (fields : List (List ℕ)) (u : Value A O) → IsOfCall s.stood s.announced label fields → u ≡ v → Completes p (after s (Event label fields)) u) → ((reply : CallReply) → s.announced ≡ announced_by s.stood (call_of ask) reply → Answers s (call_of ask) reply → (held : Held A O) → Fits held ask (turned (call_of ask) reply) → Completes p (after s (CallEntry (Some task) (call_of ask) reply)) v) → Completes p s v
       polling_asks ask on l events more = continues s v (λ cause e. cc) c
         where
-          calls : (by : Option ℕ) (call : Call) (reply : CallReply) (u : Value A O) → by ≡ Some task → u ≡ v → Answers s call reply → s.announced ≡ announced_by (stood_in s) call reply → Completes p (after s (CallEntry by call reply)) u
+          calls : (by : Option ℕ) (call : Call) (reply : CallReply) (u : Value A O) → by ≡ Some task → u ≡ v → Answers s call reply → s.announced ≡ announced_by s.stood call reply → Completes p (after s (CallEntry by call reply)) u
           calls by call reply u e k m n x cause r =
               let rest : Rest p (after s (CallEntry (Some task) call reply)) u x cause = rw e at r in
               let asks : Asks now ask (turned call reply) = (called (Does ask on) call reply u x cause l k rest).1.0 in
@@ -340,11 +340,11 @@ module _ {A O : Type 0} (p : Course A O) where
       pub polling_does : (ask : Ask A O) (on : Heard O → Step A A O (Answer O)) → Leads (Does ask on) → IsQuiet ask → ((reply : CallReply) → Answers s (call_of ask) reply → (held : Held A O) → Fits held ask (turned (call_of ask) reply) → Completes p (after s (CallEntry (Some task) (call_of ask) reply)) v) → Completes p s v
       polling_does ask on l quiet more =
           polling_asks ask on l
-          (λ label fields u m. silent (Does ask on) l (λ by call reply f. rw f.1.0.0 (quiet (stood_in s) reply)) label fields u)
+          (λ label fields u m. silent (Does ask on) l (λ by call reply f. rw f.1.0.0 (quiet s.stood reply)) label fields u)
           (λ reply n. more reply)
 
       -- a sleep, by whether it is due
-      pub polling_sleeps : (due : ℕ) (alarm : Option ℕ) (on : Heard O → Step A A O (Answer O)) → Leads (Does (Sleeping due alarm) on) → s.clock.time < due → Completes p (after s (CallEntry (Some task) (SleepPoll due) (PendingAt (alarm_of s.alarms due alarm)))) v → Completes p s v
+      pub polling_sleeps : (due : ℕ) (alarm : Option ℕ) (on : Heard O → Step A A O (Answer O)) → Leads (Does (Sleeping due alarm) on) → s.clock.time < due → Completes p (after s (CallEntry (Some task) (SleepPoll due) (PendingAt (alarm_of s.stood.alarms due alarm)))) v → Completes p s v
       polling_sleeps due alarm on l later more = polling_does (Sleeping due alarm) on l (λ stood reply. refl) told
         where
           told : (reply : CallReply) → Answers s (SleepPoll due) reply → (held : Held A O) → Fits held (Sleeping due alarm) (turned (SleepPoll due) reply) → Completes p (after s (CallEntry (Some task) (SleepPoll due) reply)) v
@@ -401,15 +401,15 @@ module _ {A O : Type 0} (p : Course A O) where
 
     -- the maker
 
-    pub made : (at : Step A A O (Unit {0})) (now : Held A O) (by : Option ℕ) (call : Call) (reply : CallReply) (u : Value A O) (x : List Entry) (cause : FinishCause) → s.phase ≡ Making → LeadsTo (p.steps.first s.clock.time) v.held s.turns at now → u ≡ v → Rest p (after s (CallEntry by call reply)) u x cause → IsFront at now (record { by = by; call = call; reply = reply; stood = stood_in s } ∷ [])
+    pub made : (at : Step A A O (Unit {0})) (now : Held A O) (by : Option ℕ) (call : Call) (reply : CallReply) (u : Value A O) (x : List Entry) (cause : FinishCause) → s.phase ≡ Making → LeadsTo (p.steps.first s.clock.time) v.held s.turns at now → u ≡ v → Rest p (after s (CallEntry by call reply)) u x cause → IsFront at now (record { by = by; call = call; reply = reply; stood = s.stood } ∷ [])
     unfolding after
     made at now by call reply u x cause h l k r =
         let f = making-front (after s (CallEntry by call reply)) u x cause h r in
-        leads-fronts at now (record { by = by; call = call; reply = reply; stood = stood_in s } ∷ []) s.turns v.held (p.steps.first s.clock.time) l (rw k at f)
+        leads-fronts at now (record { by = by; call = call; reply = reply; stood = s.stood } ∷ []) s.turns v.held (p.steps.first s.clock.time) l (rw k at f)
 
-    pub making_silent : (at : Step A A O (Unit {0})) (now : Held A O) → s.phase ≡ Making → LeadsTo (p.steps.first s.clock.time) v.held s.turns at now → ((by : Option ℕ) (call : Call) (reply : CallReply) → IsFront at now (record { by = by; call = call; reply = reply; stood = stood_in s } ∷ []) → announced_by (stood_in s) call reply ≡ []) → (label : List ℕ) (fields : List (List ℕ)) (u : Value A O) → u ≡ v → Completes p (after s (Event label fields)) u
+    pub making_silent : (at : Step A A O (Unit {0})) (now : Held A O) → s.phase ≡ Making → LeadsTo (p.steps.first s.clock.time) v.held s.turns at now → ((by : Option ℕ) (call : Call) (reply : CallReply) → IsFront at now (record { by = by; call = call; reply = reply; stood = s.stood } ∷ []) → announced_by s.stood call reply ≡ []) → (label : List ℕ) (fields : List (List ℕ)) (u : Value A O) → u ≡ v → Completes p (after s (Event label fields)) u
     making_silent at now h l quiet =
-        strays (p.steps.first s.clock.time) at v.held now s.turns l Making (inl refl) s.clock (stood_in s) v quiet
+        strays (p.steps.first s.clock.time) at v.held now s.turns l Making (inl refl) s.clock s.stood v quiet
         (λ t x cause h c r. let f = making-front t v x cause h r in rw c at f)
         s h refl refl refl
 
@@ -418,7 +418,7 @@ module _ {A O : Type 0} (p : Course A O) where
       where
         takes : (task : ℕ) (u : Value A O) → task ≡ s.numbers.next → Moves p.steps s v (Root task) u → Completes p (after s (Root task)) u
         takes task u e k =
-            let g = leads-gave (Gives tt next) now (stood_in s) tt k.0 k.1 s.turns v.held (p.steps.first s.clock.time) l k.2 in
+            let g = leads-gave (Gives tt next) now s.stood tt k.0 k.1 s.turns v.held (p.steps.first s.clock.time) l k.2 in
             let same : u ≡ record v { held = put s.numbers.next next now } = k.3 ∙ rw (e, ← g.1, g.2) refl in
             rw (e, same) more
 
@@ -432,7 +432,7 @@ module _ {A O : Type 0} (p : Course A O) where
 
     -- clock steps
 
-    pub skips : (now : ℕ) → s.phase ≡ Turning → s.ready ≡ [] → fires s.alarms.alarms s.clock.time ≡ None → skip_to s.ready s.alarms.alarms s.clock.time ≡ Some now → IsFine (reached s) → Completes p (after s (Skip now)) v → Completes p s v
+    pub skips : (now : ℕ) → s.phase ≡ Turning → s.ready ≡ [] → fires s.stood.alarms.alarms s.clock.time ≡ None → skip_to s.ready s.stood.alarms.alarms s.clock.time ≡ Some now → IsFine (reached s) → Completes p (after s (Skip now)) v → Completes p s v
     skips now h idle quiet to f more = continues s v (λ cause e. cc) c
       where
         busy : (q : Phase) → q ≡ Turning → MayRound q s → ⊥
@@ -447,7 +447,7 @@ module _ {A O : Type 0} (p : Course A O) where
         c (Wake other) u m k w = absurd (cc)
         c e u m k w = let z : stands Turning e ≡ true = rw h at (may_stand s e m) in absurd (cc)
 
-    pub fired : (alarm : ℕ) → s.phase ≡ Turning → skip_to s.ready s.alarms.alarms s.clock.time ≡ None → fires s.alarms.alarms s.clock.time ≡ Some alarm → IsFine (reached s) → Completes p (after s (Fire alarm)) v → Completes p s v
+    pub fired : (alarm : ℕ) → s.phase ≡ Turning → skip_to s.ready s.stood.alarms.alarms s.clock.time ≡ None → fires s.stood.alarms.alarms s.clock.time ≡ Some alarm → IsFine (reached s) → Completes p (after s (Fire alarm)) v → Completes p s v
     fired alarm h none due f more = continues s v (λ cause e. cc) c
       where
         busy : (q : Phase) → q ≡ Turning → MayRound q s → ⊥
@@ -476,7 +476,7 @@ module _ {A O : Type 0} (p : Course A O) where
   abbrev pub MustRound : State → Type 0
   MustRound s =
       (s.phase ≡ Between)
-      ⊎ ((s.phase ≡ Turning) × (skip_to s.ready s.alarms.alarms s.clock.time ≡ None) × (fires s.alarms.alarms s.clock.time ≡ None))
+      ⊎ ((s.phase ≡ Turning) × (skip_to s.ready s.stood.alarms.alarms s.clock.time ≡ None) × (fires s.stood.alarms.alarms s.clock.time ≡ None))
 
   -- with these draws for its order, and this drawn so far
   abbrev drawing : State → List ℕ → List Drawn → State

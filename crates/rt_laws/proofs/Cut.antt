@@ -1,5 +1,5 @@
 -- What is no run that was cut off.
-use Rattle.rt_laws.proofs.Prelude.{◌≡◌, ℕ, inl, inr, true, false, List, [], ◌∷◌, ◌++◌, Some, None, refl, rules, arith, take, drop, Ok, IsPermutation-refl, Dedicated, AnswersReady, LacksMemory, Ended, Start, Answered, NodeEnd, Cleanup, CallOf, CloseNode, Spawn, SleepPoll, WakeCall, Slots, SlotSend, CallReply, Done, TaskAt, PendingAt, find, Turn, Stood, begun, stood_in, after, after_all, Held, put, with_spawned, with_sent, freed_by, FreesOne, has_place, IsLawful, Gives, Stops, stood_before, Value, nothing, taken, IsCutOff, small_begin, ready_root, busy_root, closes_node, opening, visiting_root, root_ends, finishing, silent_end, lacking_journal, invented_in_poll, invented_in_end, called_by_maker, asking_maker, maker_lacks}
+use Rattle.rt_laws.proofs.Prelude.{◌≡◌, ℕ, inl, inr, true, false, List, [], ◌∷◌, ◌++◌, Some, None, refl, rules, arith, take, drop, Ok, IsPermutation-refl, Dedicated, AnswersReady, LacksMemory, Ended, Start, Answered, NodeEnd, Cleanup, CallOf, CloseNode, Spawn, SleepPoll, WakeCall, Slots, SlotSend, CallReply, Done, TaskAt, PendingAt, find, Turn, Stood, begun, after, after_all, Held, put, with_spawned, with_sent, freed_by, FreesOne, has_place, IsLawful, Gives, Stops, stood_before, Value, nothing, taken, IsCutOff, small_begin, ready_root, busy_root, closes_node, opening, visiting_root, root_ends, finishing, silent_end, lacking_journal, invented_in_poll, invented_in_end, called_by_maker, asking_maker, maker_lacks}
 use Rattle.rt_audit.specs.declared.finish.FinishCause.TheVariants.{NoMemory}
 use Rattle.rt_audit.specs.declared.entry.Entry.TheVariants.{Call}
 use Rattle.rt_model.specs.Turns.{with_task}
@@ -73,7 +73,7 @@ unfolding begun after
 lacks_within call reply lawful =
     let v : Value (Unit {0}) ℕ = record nothing { held = put 0 tt nothing.held } in
     let before = after_all (begun small_begin) (opening ++ visiting_root ++ (Call (Some 0) (SleepPoll 5) (PendingAt 0) ∷ [])) in
-    let m = moves-some (stood_in before) nothing.held call reply in
+    let m = moves-some before.stood nothing.held call reply in
     let w : Value (Unit {0}) ℕ = record v { held = put 0 tt m.0; whole = false } in
     let end : Value (Unit {0}) ℕ = record w { held = taken 0 w.held } in
     let asked = after_all (begun small_begin) (opening ++ visiting_root ++ (Call (Some 0) (SleepPoll 5) (PendingAt 0) ∷ Call (Some 0) call reply ∷ [])) in
@@ -141,7 +141,7 @@ pub lacks_in_maker : (call : CallOf) (reply : CallReply) → IsLawful (begun sma
 unfolding begun after
 lacks_in_maker call reply lawful =
     let before = after_all (begun small_begin) (Start 0 0 None 1000000 ∷ []) in
-    let m = moves-some (stood_in before) nothing.held call reply in
+    let m = moves-some before.stood nothing.held call reply in
     let w : Value (Unit {0}) ℕ = record nothing { held = m.0; whole = false } in
     let asked = after_all (begun small_begin) (Start 0 0 None 1000000 ∷ Call None call reply ∷ []) in
     record {

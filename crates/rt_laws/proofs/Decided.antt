@@ -1,5 +1,5 @@
 -- That the entries of a run may come where they stand, found out by computing: a proof for an example, or none, which says nothing.
-use Rattle.rt_laws.proofs.Prelude.{◌≡◌, ◌≢◌, ◌⊎◌, inl, inr, ℕ, ℤ, pos, negsuc, ◌≤◌, ◌<◌, ◌+◌, ◌-◌, ◌^◌, List, [], ◌∷◌, ◌++◌, drop, get_or, length, Option, Some, None, Result, Ok, Err, is_some, option_map, Bool, true, false, not, eqb, ltb, leb, refl, arith, IsPermutation, w32, cast_signed, from_be_bytes, option_zip, option_or, eqb-true, ltb-true, leb-true, IsPermutation-refl, Error, UnknownToken, TooManyTasks, HasExited, ErrClosed, Aborted, Metric, BadLabel, Reserved, Poll, MAX_TIME, Call, Child, CloseNode, Spawn, Abort, AbortTask, WakeCall, Join, GiveUp, SleepPoll, Signaler, CloneSignal, Signal, SignalPoll, SignalClose, SignalerClose, CompletionPoll, CompletionClose, Stop, StoppedCall, NextU32, NextU64, FillBytes, Auditor, Slots, Slot, SlotSend, SlotClose, SlotPoll, SlotGiveUp, AbortWait, CallReply, Done, NodeAt, TaskAt, Closed, SlotAt, SignalAt, CompletionAt, ClosedWith, StillPending, PendingAt, IsReady, Number, Bytes, Refused, AnswerKind, Stopped, NoMemory, Ended, FinishCause, Entry, Start, CallEntry, Event, Wake, Draw, Root, Round, Visit, Answer, NodeEnd, Advance, Skip, Fire, Cleanup, Crash, Finish, is_live, is_known, is_ended, signal_answer, completion_answer, stopped_answer, round-draws, Begin, Mark, Outcome, Open, There, Exited, IsClosed, TaskResult, find, may_abort, has_signaler, shown_reply, met_reply, stopped_reply, Phase, Blank, Making, Between, Visiting, Entered, Polling, Halted, Ending, Leaving, Turning, Over, Cleaning, Closing, Crashed, Numbers, Announced, State, begun, Stood, stood_in, is_set, skip_to, fires, is_late, from_running, ends_next, left_of, label_at, task_label, after, process_task, task_fields, announced_by, IsOfCall, WasGiven, IsRefusal, OutcomeAnswers, is_free, label_refusal, ChildAnswers, SpawnAnswers, Unless, JoinAnswers, IsSent, SlotAnswers, ReceiveAnswers, ShownAs, Answers, IsEndedNext, CallsAt, MayEvent, MayEnd, MayAnswer, MayRound, MayClose, MayCrash, MayFinish, MayEndNode, MayFree, May, IsLawful}
+use Rattle.rt_laws.proofs.Prelude.{◌≡◌, ◌≢◌, ◌⊎◌, inl, inr, ℕ, ℤ, pos, negsuc, ◌≤◌, ◌<◌, ◌+◌, ◌-◌, ◌^◌, List, [], ◌∷◌, ◌++◌, drop, get_or, length, Option, Some, None, Result, Ok, Err, is_some, option_map, Bool, true, false, not, eqb, ltb, leb, refl, arith, IsPermutation, w32, cast_signed, from_be_bytes, option_zip, option_or, eqb-true, ltb-true, leb-true, IsPermutation-refl, Error, UnknownToken, TooManyTasks, HasExited, ErrClosed, Aborted, Metric, BadLabel, Reserved, Poll, MAX_TIME, Call, Child, CloseNode, Spawn, Abort, AbortTask, WakeCall, Join, GiveUp, SleepPoll, Signaler, CloneSignal, Signal, SignalPoll, SignalClose, SignalerClose, CompletionPoll, CompletionClose, Stop, StoppedCall, NextU32, NextU64, FillBytes, Auditor, Slots, Slot, SlotSend, SlotClose, SlotPoll, SlotGiveUp, AbortWait, CallReply, Done, NodeAt, TaskAt, Closed, SlotAt, SignalAt, CompletionAt, ClosedWith, StillPending, PendingAt, IsReady, Number, Bytes, Refused, AnswerKind, Stopped, NoMemory, Ended, FinishCause, Entry, Start, CallEntry, Event, Wake, Draw, Root, Round, Visit, Answer, NodeEnd, Advance, Skip, Fire, Cleanup, Crash, Finish, is_live, is_known, is_ended, signal_answer, completion_answer, stopped_answer, round-draws, Begin, Mark, Outcome, Open, There, Exited, IsClosed, TaskResult, find, may_abort, has_signaler, shown_reply, met_reply, stopped_reply, Phase, Blank, Making, Between, Visiting, Entered, Polling, Halted, Ending, Leaving, Turning, Over, Cleaning, Closing, Crashed, Numbers, Announced, State, begun, Stood, is_set, skip_to, fires, is_late, from_running, ends_next, left_of, label_at, task_label, after, process_task, task_fields, announced_by, IsOfCall, WasGiven, IsRefusal, OutcomeAnswers, is_free, label_refusal, ChildAnswers, SpawnAnswers, Unless, JoinAnswers, IsSent, SlotAnswers, ReceiveAnswers, ShownAs, Answers, IsEndedNext, CallsAt, MayEvent, MayEnd, MayAnswer, MayRound, MayClose, MayCrash, MayFinish, MayEndNode, MayFree, May, IsLawful}
 use Rattle.rt_base.specs.declared.error.Error.TheVariants.{Timeout}
 use Rattle.rt_audit.specs.declared.reply.CallReply.TheVariants.{Value}
 use Rattle.rt_audit.specs.declared.finish.FinishCause.TheVariants as cause
@@ -145,14 +145,14 @@ receive (Some r) reply = unless r.aborted Aborted (SlotAnswers r.outcome) (slot 
 
 abbrev child : (s : State) (node : ℕ) (label : List ℕ) (reply : CallReply) → Option (ChildAnswers s node label reply)
 child s node label (NodeAt number ended) =
-    three (same_option same_error (label_refusal (label_at s.labels node) label) None) (is_false (is_known s.nodes number)) (same_bool ended (is_ended s.nodes node))
+    three (same_option same_error (label_refusal (label_at s.labels node) label) None) (is_false (is_known s.stood.nodes number)) (same_bool ended (is_ended s.stood.nodes node))
 child s node label (Refused error) = same_option same_error (Some error) (label_refusal (label_at s.labels node) label)
 child s node label _ = None
 
 abbrev spawn : (s : State) (node : ℕ) (reply : CallReply) → Option (SpawnAnswers s node reply)
 spawn s node (TaskAt task number) =
-    three (same task s.numbers.next) (is_false (is_ended s.nodes node)) (is_false (is_known s.nodes number))
-spawn s node Closed = is_true (is_ended s.nodes node)
+    three (same task s.numbers.next) (is_false (is_ended s.stood.nodes node)) (is_false (is_known s.stood.nodes number))
+spawn s node Closed = is_true (is_ended s.stood.nodes node)
 spawn s node _ = None
 
 abbrev given : (n : Numbers) (task : ℕ) → Option (WasGiven n task)
@@ -214,40 +214,40 @@ shown reply_of eq (Ok value) reply = eq reply (reply_of value)
 shown reply_of eq (Err error) reply = refusal error reply
 
 abbrev answers : (s : State) (call : Call) (reply : CallReply) → Option (Answers s call reply)
-answers s (Child node label) reply = unless (not (is_live s.nodes node)) UnknownToken (ChildAnswers s node label) (child s node label) reply
-answers s (CloseNode node) Done = is_true (is_live s.nodes node)
+answers s (Child node label) reply = unless (not (is_live s.stood.nodes node)) UnknownToken (ChildAnswers s node label) (child s node label) reply
+answers s (CloseNode node) Done = is_true (is_live s.stood.nodes node)
 answers s (Spawn node) reply =
-    unless (not (is_free s.nodes node)) UnknownToken
+    unless (not (is_free s.stood.nodes node)) UnknownToken
     (λ reply. Unless (leb (2 ^ 64 - 1) s.numbers.next) TooManyTasks (SpawnAnswers s node) reply)
     (unless (leb (2 ^ 64 - 1) s.numbers.next) TooManyTasks (SpawnAnswers s node) (spawn s node))
     reply
-answers s (Abort task) Done = is_true (may_abort (find task s.results))
+answers s (Abort task) Done = is_true (may_abort (find task s.stood.results))
 answers s (AbortTask task) Done = is_true (is_some (find task s.marks))
 answers s (AbortTask task) (Refused error) = option_zip (same_error error UnknownToken) (is_false (is_some (find task s.marks)))
-answers s (Join task) reply = join (find task s.results) reply
-answers s (GiveUp task) Done = is_true (is_some (find task s.results))
+answers s (Join task) reply = join (find task s.stood.results) reply
+answers s (GiveUp task) Done = is_true (is_some (find task s.stood.results))
 answers s (WakeCall task) Done = given s.numbers task
 answers s (WakeCall task) (Refused error) = option_zip (same_error error UnknownToken) (not_given s.numbers task)
 answers s (SleepPoll due) IsReady = at_most due s.clock.time
 answers s (SleepPoll due) (PendingAt alarm) =
-    three (below s.clock.time due) (at_most due MAX_TIME) (either (same alarm s.alarms.count) (is_true (is_set s.alarms.alarms due alarm)))
-answers s (Slots Slot) reply = same_reply reply (SlotAt s.slots.count)
-answers s (Slots (SlotSend number)) Done = option_zip (Some refl) (is_true (is_some (find number s.slots.senders)))
-answers s (Slots (SlotClose number)) Done = option_zip (Some refl) (is_true (is_some (find number s.slots.senders)))
-answers s (Slots (SlotPoll number)) reply = receive (find number s.slots.results) reply
-answers s (Slots (SlotGiveUp number)) Done = option_zip (Some refl) (is_true (is_some (find number s.slots.results)))
-answers s (Slots (AbortWait number)) Done = option_zip (Some refl) (is_true (may_abort (find number s.slots.results)))
-answers s Signaler (SignalAt number) = same number s.signals.count
+    three (below s.clock.time due) (at_most due MAX_TIME) (either (same alarm s.stood.alarms.count) (is_true (is_set s.stood.alarms.alarms due alarm)))
+answers s (Slots Slot) reply = same_reply reply (SlotAt s.stood.slots.count)
+answers s (Slots (SlotSend number)) Done = option_zip (Some refl) (is_true (is_some (find number s.stood.slots.senders)))
+answers s (Slots (SlotClose number)) Done = option_zip (Some refl) (is_true (is_some (find number s.stood.slots.senders)))
+answers s (Slots (SlotPoll number)) reply = receive (find number s.stood.slots.results) reply
+answers s (Slots (SlotGiveUp number)) Done = option_zip (Some refl) (is_true (is_some (find number s.stood.slots.results)))
+answers s (Slots (AbortWait number)) Done = option_zip (Some refl) (is_true (may_abort (find number s.stood.slots.results)))
+answers s Signaler (SignalAt number) = same number s.stood.signals.count
 answers s (CloneSignal signal) reply =
-    unless (not (is_some (find signal s.signals.signals))) UnknownToken (λ reply. reply ≡ SignalAt s.signals.count) (is_signal s.signals.count) reply
-answers s (Signal signaler value) Done = is_true (has_signaler s.signals s.stop signaler)
-answers s (SignalPoll signal) reply = shown shown_reply same_reply (signal_answer s.signals signal) reply
-answers s (SignalClose signal) Done = is_true (is_some (find signal s.signals.signals))
-answers s (SignalerClose signaler) Done = is_true (has_signaler s.signals s.stop signaler)
-answers s (CompletionPoll completion) reply = shown met_reply same_reply (completion_answer s.signals completion) reply
-answers s (CompletionClose completion) Done = is_true (is_some (find completion s.signals.completions))
-answers s (Stop value) (CompletionAt number) = same number s.signals.count
-answers s StoppedCall reply = same_reply reply (stopped_reply (stopped_answer s.signals s.stop))
+    unless (not (is_some (find signal s.stood.signals.signals))) UnknownToken (λ reply. reply ≡ SignalAt s.stood.signals.count) (is_signal s.stood.signals.count) reply
+answers s (Signal signaler value) Done = is_true (has_signaler s.stood.signals s.stood.stop signaler)
+answers s (SignalPoll signal) reply = shown shown_reply same_reply (signal_answer s.stood.signals signal) reply
+answers s (SignalClose signal) Done = is_true (is_some (find signal s.stood.signals.signals))
+answers s (SignalerClose signaler) Done = is_true (has_signaler s.stood.signals s.stood.stop signaler)
+answers s (CompletionPoll completion) reply = shown met_reply same_reply (completion_answer s.stood.signals completion) reply
+answers s (CompletionClose completion) Done = is_true (is_some (find completion s.stood.signals.completions))
+answers s (Stop value) (CompletionAt number) = same number s.stood.signals.count
+answers s StoppedCall reply = same_reply reply (stopped_reply (stopped_answer s.stood.signals s.stood.stop))
 answers s NextU32 (Number number) = below number (2 ^ 32)
 answers s NextU64 (Number number) = below number (2 ^ 64)
 answers s (FillBytes len) (Bytes bytes) = same (length bytes) len
@@ -311,7 +311,7 @@ answered s task _ = is_polling s.phase task
 
 abbrev rounds : (p : Phase) (s : State) → Option (MayRound p s)
 rounds Between s = is_false (is_late s.clock)
-rounds Turning s = three (some_left s.ready) (is_false (is_late s.clock)) (same_option same (fires s.alarms.alarms s.clock.time) None)
+rounds Turning s = three (some_left s.ready) (is_false (is_late s.clock)) (same_option same (fires s.stood.alarms.alarms s.clock.time) None)
 rounds _ s = None
 
 abbrev closes : (p : Phase) → Option (MayClose p)
@@ -377,15 +377,15 @@ event_of stood announced label fields =
 abbrev event : (p : Phase) (s : State) (label : List ℕ) (fields : List (List ℕ)) → Option (MayEvent p s label fields)
 event (Entered task left) s label fields =
     option_zip (same_list same label process_task) (same_list (same_list same) fields (task_fields task (task_label s task)))
-event Making s label fields = option_map (λ (o : IsOfCall (stood_in s) s.announced label fields). (None, refl, o)) (event_of (stood_in s) s.announced label fields)
+event Making s label fields = option_map (λ (o : IsOfCall s.stood s.announced label fields). (None, refl, o)) (event_of s.stood s.announced label fields)
 event (Polling task left) s label fields =
-    option_map (λ (o : IsOfCall (stood_in s) s.announced label fields). (Some task, refl, o)) (event_of (stood_in s) s.announced label fields)
+    option_map (λ (o : IsOfCall s.stood s.announced label fields). (Some task, refl, o)) (event_of s.stood s.announced label fields)
 event (Ending task result left) s label fields =
-    option_map (λ (o : IsOfCall (stood_in s) s.announced label fields). (Some task, refl, o)) (event_of (stood_in s) s.announced label fields)
+    option_map (λ (o : IsOfCall s.stood s.announced label fields). (Some task, refl, o)) (event_of s.stood s.announced label fields)
 event (Closing of) s label fields =
     option_map
-    (λ (p : ((by : Option ℕ) × IsEndedNext s.root (ends_next s.running s.root) by) × IsOfCall (stood_in s) s.announced label fields). (p.0.0, p.0.1, p.1))
-    (option_zip (ends_by s.root (ends_next s.running s.root)) (event_of (stood_in s) s.announced label fields))
+    (λ (p : ((by : Option ℕ) × IsEndedNext s.root (ends_next s.running s.root) by) × IsOfCall s.stood s.announced label fields). (p.0.0, p.0.1, p.1))
+    (option_zip (ends_by s.root (ends_next s.running s.root)) (event_of s.stood s.announced label fields))
 event _ s label fields = None
 
 -- entries
@@ -393,7 +393,7 @@ event _ s label fields = None
 abbrev free : (s : State) (e : Entry) → Option (MayFree s e)
 free s (Start next now deadline cycle) =
     five (is_blank s.phase) (same next s.clock.fixed.first) (same now s.clock.fixed.start) (same_option same deadline s.clock.fixed.deadline) (same cycle s.clock.fixed.cycle)
-free s (CallEntry by call reply) = three (calls s.phase s.root (ends_next s.running s.root) by) (answers s call reply) (same_list same_event s.announced (announced_by (stood_in s) call reply))
+free s (CallEntry by call reply) = three (calls s.phase s.root (ends_next s.running s.root) by) (answers s call reply) (same_list same_event s.announced (announced_by s.stood call reply))
 free s (Event label fields) = event s.phase s label fields
 free s (Wake task) = None
 free s (Draw value) = option_map (round-draws s.phase s value) (rounds s.phase s)
@@ -405,9 +405,9 @@ free s (Answer task kind) = option_zip (answered s task kind) (none_left s.annou
 free s (NodeEnd node) = node_ends s.phase s.marks node
 free s (Advance now) =
     four (is_visiting s.phase) (none_left (from_running s.running (left_of s.phase))) (same now (s.clock.time + s.clock.fixed.cycle)) (at_most now MAX_TIME)
-free s (Skip now) = option_zip (is_turning s.phase) (same_option same (skip_to s.ready s.alarms.alarms s.clock.time) (Some now))
+free s (Skip now) = option_zip (is_turning s.phase) (same_option same (skip_to s.ready s.stood.alarms.alarms s.clock.time) (Some now))
 free s (Fire alarm) =
-    three (is_turning s.phase) (is_false (is_late s.clock)) (same_option same (fires s.alarms.alarms s.clock.time) (Some alarm))
+    three (is_turning s.phase) (is_false (is_late s.clock)) (same_option same (fires s.stood.alarms.alarms s.clock.time) (Some alarm))
 free s Cleanup = option_zip (closes s.phase) (none_left s.announced)
 free s (Crash choices) = three (crashes s.phase s.running) (none_left choices) (none_left s.announced)
 free s (Finish end) = finishes s.phase end

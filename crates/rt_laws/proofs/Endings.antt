@@ -1,5 +1,5 @@
 -- A cleanup only ends tasks, and a run ends for the cause that it had reached.
-use Rattle.rt_laws.proofs.Prelude.{◌≡◌, ◌≢◌, ◌⊎◌, inl, inr, ℕ, List, [], ◌∷◌, ◌++◌, Option, Some, Bool, true, false, not, ◌&&◌, if◌then◌else◌, arith, refl, sym, ap, ◌∙◌, All, AllByRecursion, All-from_recursion, Call, WakeCall, CallReply, AnswerKind, Ended, FinishCause, OutOfMemory, Entry, Start, CallEntry, Event, Wake, Draw, Round, Answer, NodeEnd, Advance, Skip, Cleanup, Crash, Finish, only-rounds, Begin, Mark, TaskResult, is_ended, find, those, State, Phase, Between, Turning, Entered, Ending, Leaving, Cleaning, Closing, Crashed, Finished, Stood, stood_in, begun, reached, ends_next, after, after_all, is_closing, is_settled, due_called, due_answered, due_node, due_panic, due_ended, ends_in_panic, cause_of, answered, node_ended, cleans, entered, ended, May, CallsAt, MayAnswer, MayEvent, MayEndNode, MayRound, MayClose, MayCrash, MayFinish, IsLawful, after_all-append, IsOfCleanup}
+use Rattle.rt_laws.proofs.Prelude.{◌≡◌, ◌≢◌, ◌⊎◌, inl, inr, ℕ, List, [], ◌∷◌, ◌++◌, Option, Some, Bool, true, false, not, ◌&&◌, if◌then◌else◌, arith, refl, sym, ap, ◌∙◌, All, AllByRecursion, All-from_recursion, Call, WakeCall, CallReply, AnswerKind, Ended, FinishCause, OutOfMemory, Entry, Start, CallEntry, Event, Wake, Draw, Round, Answer, NodeEnd, Advance, Skip, Cleanup, Crash, Finish, only-rounds, Begin, Mark, TaskResult, is_ended, find, those, State, Phase, Between, Turning, Entered, Ending, Leaving, Cleaning, Closing, Crashed, Finished, Stood, begun, reached, ends_next, after, after_all, is_closing, is_settled, due_called, due_answered, due_node, due_panic, due_ended, ends_in_panic, cause_of, answered, node_ended, cleans, entered, ended, May, CallsAt, MayAnswer, MayEvent, MayEndNode, MayRound, MayClose, MayCrash, MayFinish, IsLawful, after_all-append, IsOfCleanup}
 use Rattle.rt_laws.proofs.Clock.{lawful-tail}
 
 -- in a cleanup that began for this cause, if it had one, or behind it
@@ -76,7 +76,7 @@ module _ (cause : Option FinishCause) where
 
   owes-answered : (s : State) (task : ℕ) (kind : AnswerKind) → EndsFor cause s.phase → due_answered s task kind ≡ []
   owes-answered s task Ended k =
-      let e = owes-ended s.phase (is_settled s task) (find task s.results) k in
+      let e = owes-ended s.phase (is_settled s task) (find task s.stood.results) k in
       rw (owes-no-panic s e.0, e.1) refl
   owes-answered s task _ k = refl
 
@@ -90,11 +90,11 @@ module _ (cause : Option FinishCause) where
 
   event-of : (s : State) (p : Phase) (label : List ℕ) (fields : List (List ℕ)) → EndsFor cause p → MayEvent p s label fields → IsOfCleanup (Event label fields)
   event-of s (Entered task left) label fields k m = absurd k
-  event-of s _ label fields k m = (stood_in s, s.announced, m.2)
+  event-of s _ label fields k m = (s.stood, s.announced, m.2)
 
   pub ends-entry : (s : State) (e : Entry) → s.owed ≡ [] → EndsFor cause s.phase → May s e → IsOfCleanup e × ((after s e).owed ≡ []) × EndsFor cause (after s e).phase
   unfolding after
-  ends-entry s (CallEntry by call reply) o k m = (tt, owes-called (is_closing s.phase) s.marks (stood_in s) call reply (call-closing s.phase s.root (ends_next s.running s.root) by k m.1.0), k)
+  ends-entry s (CallEntry by call reply) o k m = (tt, owes-called (is_closing s.phase) s.marks s.stood call reply (call-closing s.phase s.root (ends_next s.running s.root) by k m.1.0), k)
   ends-entry s (Event label fields) o k m = (event-of s s.phase label fields k m.1, refl, event-ends s s.phase k)
   ends-entry s (Wake task) o k m = absurd (cc)
   ends-entry s (Draw value) o k m = absurd (no-round s.phase s k (only-rounds s.phase s value m.1))
@@ -136,7 +136,7 @@ module _ (b : Begin) (x y : List Entry) (l : IsLawful (begun b) (x ++ Cleanup �
 
   behind : AllByRecursion IsOfCleanup y × EndsFor (reached closes) (after_all (after closes Cleanup) y).phase
   unfolding after
-  behind = ends-all (reached closes) (after closes Cleanup) y refl (cleans-for (is_ended closes.nodes 0) (reached closes)) (lawful-tail (begun b) x (Cleanup ∷ y) l).1
+  behind = ends-all (reached closes) (after closes Cleanup) y refl (cleans-for (is_ended closes.stood.nodes 0) (reached closes)) (lawful-tail (begun b) x (Cleanup ∷ y) l).1
 
   pub run_cleaned : All IsOfCleanup y
   run_cleaned = All-from_recursion IsOfCleanup y behind.0

@@ -81,10 +81,10 @@ module _ (task : ℕ) where
   ]
   out-unmarked _ ms running n t below h = inl h
 
-  out-node : (s : State) (node : ℕ) → AreTasks s → IsOut s.marks s.running s.numbers → IsOut (unmarked (leaving s.phase) (flag_all (flagged_by s.nodes node) s.marks)) s.running s.numbers
+  out-node : (s : State) (node : ℕ) → AreTasks s → IsOut s.marks s.running s.numbers → IsOut (unmarked (leaving s.phase) (flag_all (flagged_by s.stood.nodes node) s.marks)) s.running s.numbers
   out-node s node t (inr g) = inr g
   out-node s node t (inl h) =
-      out-unmarked s.phase (flag_all (flagged_by s.nodes node) s.marks) s.running s.numbers t.at (t.marked task (some-flagged (find task s.marks) h)) (flagged-all (flagged_by s.nodes node) task s.marks h)
+      out-unmarked s.phase (flag_all (flagged_by s.stood.nodes node) s.marks) s.running s.numbers t.at (t.marked task (some-flagged (find task s.marks) h)) (flagged-all (flagged_by s.stood.nodes node) task s.marks h)
 
   out-root : (s : State) (other : ℕ) → other ≡ s.numbers.next → IsOut s.marks s.running s.numbers → IsOut s.marks (with_number other s.running) (record { first = s.numbers.first; next = other + 1 })
   out-root s other e (inl h) = inl h

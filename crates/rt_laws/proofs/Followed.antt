@@ -1,6 +1,6 @@
 -- That entries follow the steps of a task type, and which values they leave, found out by computing: a tie for an example, or none, which
 -- says nothing.
-use Rattle.rt_laws.proofs.Prelude.{◌≡◌, inl, inr, ℕ, ℤ, List, [], ◌∷◌, Option, Some, None, Result, Ok, Err, option_map, Bool, true, false, refl, subst, option_zip, Error, Call, Child, CloseNode, Spawn, Abort, AbortTask, WakeCall, Join, GiveUp, SleepPoll, Signaler, CloneSignal, Signal, SignalPoll, SignalClose, SignalerClose, CompletionPoll, CompletionClose, Stop, StoppedCall, NextU32, NextU64, FillBytes, Auditor, Slots, Slot, SlotSend, SlotClose, SlotPoll, SlotGiveUp, AbortWait, CallReply, Done, PendingAt, IsOver, Refused, AnswerKind, IsPending, IsPanicked, IsStopped, LacksMemory, IsEnded, Entry, Start, CallEntry, Event, Wake, Draw, Root, Round, Visit, AnswerEntry, NodeEnd, Advance, Skip, Fire, Cleanup, Crash, Finish, find, State, Phase, Between, Visiting, Turning, Over, Turn, Stood, stood_in, alarm_of, after, counted, Held, Ask, Plainly, Sleeping, Sending, Spawning, IsOwn, IsAnswerOf, IsPlainly, Fits, Asks, call_of, heard_of, moved, has_place, put, Step, Does, Spends, Counts, Gives, Gave, Goes, Walks, Steps, Value, Polls, PollBreaks, given, kept_text, taken, MovesCleanup, MovesCrash, Moves, IsTied}
+use Rattle.rt_laws.proofs.Prelude.{◌≡◌, inl, inr, ℕ, ℤ, List, [], ◌∷◌, Option, Some, None, Result, Ok, Err, option_map, Bool, true, false, refl, subst, option_zip, Error, Call, Child, CloseNode, Spawn, Abort, AbortTask, WakeCall, Join, GiveUp, SleepPoll, Signaler, CloneSignal, Signal, SignalPoll, SignalClose, SignalerClose, CompletionPoll, CompletionClose, Stop, StoppedCall, NextU32, NextU64, FillBytes, Auditor, Slots, Slot, SlotSend, SlotClose, SlotPoll, SlotGiveUp, AbortWait, CallReply, Done, PendingAt, IsOver, Refused, AnswerKind, IsPending, IsPanicked, IsStopped, LacksMemory, IsEnded, Entry, Start, CallEntry, Event, Wake, Draw, Root, Round, Visit, AnswerEntry, NodeEnd, Advance, Skip, Fire, Cleanup, Crash, Finish, find, State, Phase, Between, Visiting, Turning, Over, Turn, Stood, alarm_of, after, counted, Held, Ask, Plainly, Sleeping, Sending, Spawning, IsOwn, IsAnswerOf, IsPlainly, Fits, Asks, call_of, heard_of, moved, has_place, put, Step, Does, Spends, Counts, Gives, Gave, Goes, Walks, Steps, Value, Polls, PollBreaks, given, kept_text, taken, MovesCleanup, MovesCrash, Moves, IsTied}
 use Rattle.rt_audit.specs.declared.answer.AnswerKind.TheVariants.{Ready as IsReady}
 use Rattle.rt_model.specs.declared.answer.Answer.{Answer}
 use Rattle.rt_model.specs.declared.answer.Answer.TheVariants.{Pending, Ready, Panicked}
@@ -141,7 +141,7 @@ module _ {A O : Type 0} (p : Steps A O) (s : State) (v : Value A O) where
 
   abbrev polled : (task : ℕ) → Option (Polled task)
   polled task =
-      found (there (find task v.held.tasks)) (λ a. found (walk s.turns (stood_in s) (taken task v.held) (p.task.next a.0 s.clock.time task)) (λ g. Some (g.0, put task g.1 g.2, record { before = a.0; left = g.1; moved = g.2; there = a.1; walks = g.3; is = refl })))
+      found (there (find task v.held.tasks)) (λ a. found (walk s.turns s.stood (taken task v.held) (p.task.next a.0 s.clock.time task)) (λ g. Some (g.0, put task g.1 g.2, record { before = a.0; left = g.1; moved = g.2; there = a.1; walks = g.3; is = refl })))
 
   abbrev pended : (task : ℕ) → Polled task → Option (Moved (AnswerEntry task IsPending))
   pended task (Pending, end, k) = Some (record v { held = end }, (end, k, refl))
@@ -168,7 +168,7 @@ module _ {A O : Type 0} (p : Steps A O) (s : State) (v : Value A O) where
   answers task LacksMemory =
       found (there (find task v.held.tasks)) (λ a. found (none_left s.turns) (λ f. Some (record v { held = put task a.0 (taken task v.held); whole = false }, broken_at_once task a.0 a.1 f)))
   answers task IsEnded =
-      found (there (find task v.held.tasks)) (λ a. found (walk s.turns (stood_in s) (taken task v.held) (p.task.last a.0 s.clock.time task)) (λ g. Some (record v { held = g.2 }, (a.0, a.1, inl (g.3, refl)))))
+      found (there (find task v.held.tasks)) (λ a. found (walk s.turns s.stood (taken task v.held) (p.task.last a.0 s.clock.time task)) (λ g. Some (record v { held = g.2 }, (a.0, a.1, inl (g.3, refl)))))
 
   abbrev cleans : (q : Phase) → Option ((w : Value A O) × MovesCleanup p s v q w)
   cleans Between = Some (v, refl)
@@ -188,7 +188,7 @@ module _ {A O : Type 0} (p : Steps A O) (s : State) (v : Value A O) where
   moves (Wake task) = Some (v, refl)
   moves (Draw value) = Some (v, refl)
   moves (Root task) =
-      found (walk s.turns (stood_in s) v.held (p.first s.clock.time)) (λ g. Some (record v { held = put task g.1 g.2 }, (g.1, g.2, g.3, refl)))
+      found (walk s.turns s.stood v.held (p.first s.clock.time)) (λ g. Some (record v { held = put task g.1 g.2 }, (g.1, g.2, g.3, refl)))
   moves (Round order) = found (is_true v.whole) (λ e. Some (v, (refl, e)))
   moves (Visit task) = found (is_true v.whole) (λ e. Some (v, (refl, e)))
   moves (AnswerEntry task kind) = answers task kind

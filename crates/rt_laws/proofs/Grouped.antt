@@ -129,25 +129,25 @@ changes-stopped e r s = elim (by-value s.value) [
   | inr e ↦ rw e.1 (inl (same r))
 ]
 
-changes-called : (s : State) (by : Option ℕ) (call : Call) (reply : CallReply) → AreGrouped s.signals s.stop.group → Change (CallEntry by call reply) s.signals (signals_called s.signals s.stop by call reply)
-changes-called s by Signaler (SignalAt number) g = inr (inl (record { group = s.signals.count; groups = owners-push s.signals.count _ s.signals.signals; within = omega arith; next = refl }))
-changes-called s by (CloneSignal signal) (SignalAt number) g = changes-clone _ s.signals signal
-changes-called s by (Signal signaler value) Done g = inl (given-same s.signals signaler value)
-changes-called s by (SignalPoll signal) StillPending g = inl (polled-same s.signals signal by)
+changes-called : (s : State) (by : Option ℕ) (call : Call) (reply : CallReply) → AreGrouped s.stood.signals s.stood.stop.group → Change (CallEntry by call reply) s.stood.signals (signals_called s.stood.signals s.stood.stop by call reply)
+changes-called s by Signaler (SignalAt number) g = inr (inl (record { group = s.stood.signals.count; groups = owners-push s.stood.signals.count _ s.stood.signals.signals; within = omega arith; next = refl }))
+changes-called s by (CloneSignal signal) (SignalAt number) g = changes-clone _ s.stood.signals signal
+changes-called s by (Signal signaler value) Done g = inl (given-same s.stood.signals signaler value)
+changes-called s by (SignalPoll signal) StillPending g = inl (polled-same s.stood.signals signal by)
 changes-called s by (SignalClose signal) Done g =
-    let closed = closed-so s.signals signal in
+    let closed = closed-so s.stood.signals signal in
     inr (inr (record { signal = signal; by = by; call = refl; groups = closed.0; next = closed.1 }))
-changes-called s by (SignalerClose signaler) Done g = inl (closing-same s.signals signaler)
-changes-called s by (CompletionPoll completion) StillPending g = inl (met-same s.signals completion by)
+changes-called s by (SignalerClose signaler) Done g = inl (closing-same s.stood.signals signaler)
+changes-called s by (CompletionPoll completion) StillPending g = inl (met-same s.stood.signals completion by)
 changes-called s by (CompletionClose completion) Done g = inl (record { groups = refl; rises = omega arith })
-changes-called s by (Stop value) (CompletionAt number) g = inl (stop-same s.signals s.stop value g.own)
-changes-called s by Stopped (SignalAt number) g = changes-stopped _ s.signals s.stop
-changes-called s by _ _ g = inl (same s.signals)
+changes-called s by (Stop value) (CompletionAt number) g = inl (stop-same s.stood.signals s.stood.stop value g.own)
+changes-called s by Stopped (SignalAt number) g = changes-stopped _ s.stood.signals s.stood.stop
+changes-called s by _ _ g = inl (same s.stood.signals)
 
-changes : (s : State) (e : Entry) → AreGrouped s.signals s.stop.group → Change e s.signals (after s e).signals
+changes : (s : State) (e : Entry) → AreGrouped s.stood.signals s.stood.stop.group → Change e s.stood.signals (after s e).stood.signals
 unfolding after
 changes s (CallEntry by call reply) g = changes-called s by call reply g
-changes s _ g = inl (same s.signals)
+changes s _ g = inl (same s.stood.signals)
 
 -- the shutdown's group stays the same
 
@@ -158,16 +158,16 @@ group-called s (Stop value) (CompletionAt number) = elim (by-value s.value) [
 ]
 group-called s _ _ = refl
 
-group-after : (s : State) (e : Entry) → (after s e).stop.group ≡ s.stop.group
+group-after : (s : State) (e : Entry) → (after s e).stood.stop.group ≡ s.stood.stop.group
 unfolding after
-group-after s (CallEntry by call reply) = group-called s.stop call reply
+group-after s (CallEntry by call reply) = group-called s.stood.stop call reply
 group-after s _ = refl
 
-group-all : (s : State) (x : List Entry) → (after_all s x).stop.group ≡ s.stop.group
+group-all : (s : State) (x : List Entry) → (after_all s x).stood.stop.group ≡ s.stood.stop.group
 group-all s [] = refl
 group-all s (e ∷ x) = group-all (after s e) x ∙ group-after s e
 
-pub group : (b : Begin) (x y : List Entry) → (after_all (begun b) (x ++ y)).stop.group ≡ (after_all (begun b) x).stop.group
+pub group : (b : Begin) (x y : List Entry) → (after_all (begun b) (x ++ y)).stood.stop.group ≡ (after_all (begun b) x).stood.stop.group
 group b x y = rw (after_all-append (begun b) x y) (group-all (after_all (begun b) x) y)
 
 -- what a change keeps
@@ -237,10 +237,10 @@ module _ (e : Entry) (r q : SignalRecord) (shutdown : ℕ) where
 -- and so does a journal
 
 abbrev IsGrouped : State → Type 0
-IsGrouped s = AreGrouped s.signals s.stop.group
+IsGrouped s = AreGrouped s.stood.signals s.stood.stop.group
 
 grouped-after : (s : State) (e : Entry) → IsGrouped s → IsGrouped (after s e)
-grouped-after s e g = rw (group-after s e) (stays e s.signals (after s e).signals s.stop.group g (changes s e g))
+grouped-after s e g = rw (group-after s e) (stays e s.stood.signals (after s e).stood.signals s.stood.stop.group g (changes s e g))
 
 grouped-all : (s : State) (x : List Entry) → IsGrouped s → IsGrouped (after_all s x)
 grouped-all s [] g = g
@@ -251,24 +251,24 @@ unfolding begun
 grouped b x = grouped-all (begun b) x (record { apart = tt; given = λ k h. absurd (cc); below = λ k group h. absurd (cc); own = refl; within = omega arith })
 
 -- the given numbers of a state are given behind it
-gone-all : (k : ℕ) (s : State) (y : List Entry) → IsGrouped s → k < s.signals.count → is_some (find k (groups s.signals)) ≡ false → is_some (find k (groups (after_all s y).signals)) ≡ false
+gone-all : (k : ℕ) (s : State) (y : List Entry) → IsGrouped s → k < s.stood.signals.count → is_some (find k (groups s.stood.signals)) ≡ false → is_some (find k (groups (after_all s y).stood.signals)) ≡ false
 gone-all k s [] g given none = none
 gone-all k s (e ∷ y) g given none =
     let c = changes s e g in
-    let more = rises e s.signals (after s e).signals s.stop.group c in
-    gone-all k (after s e) y (grouped-after s e g) (omega arith) (gone e s.signals (after s e).signals s.stop.group k given none c)
+    let more = rises e s.stood.signals (after s e).stood.signals s.stood.stop.group c in
+    gone-all k (after s e) y (grouped-after s e g) (omega arith) (gone e s.stood.signals (after s e).stood.signals s.stood.stop.group k given none c)
 
 abbrev IsClosed : ℕ → List Entry → Type 0
 IsClosed k y = (by : Option ℕ) × Contains y (CallEntry by (SignalClose k) Done)
 
-kept-all : (k group : ℕ) (s : State) (y : List Entry) → IsGrouped s → find k (groups s.signals) ≡ Some group → (find k (groups (after_all s y).signals) ≡ Some group) ⊎ ((find k (groups (after_all s y).signals) ≡ None) × IsClosed k y)
+kept-all : (k group : ℕ) (s : State) (y : List Entry) → IsGrouped s → find k (groups s.stood.signals) ≡ Some group → (find k (groups (after_all s y).stood.signals) ≡ Some group) ⊎ ((find k (groups (after_all s y).stood.signals) ≡ None) × IsClosed k y)
 kept-all k group s [] g there = inl there
 kept-all k group s (e ∷ y) g there =
     let c = changes s e g in
     let next = grouped-after s e g in
-    let given : k < s.signals.count = g.given k (some-of _ group there) in
-    let more = rises e s.signals (after s e).signals s.stop.group c in
-    elim (keeps e s.signals (after s e).signals s.stop.group k group g there c) [
+    let given : k < s.stood.signals.count = g.given k (some-of _ group there) in
+    let more = rises e s.stood.signals (after s e).stood.signals s.stood.stop.group c in
+    elim (keeps e s.stood.signals (after s e).stood.signals s.stood.stop.group k group g there c) [
       | inl still ↦ elim (kept-all k group (after s e) y next still) [
         | inl now ↦ inl now
         | inr now ↦ inr (now.0, (now.1.0, Contains-append_right (e ∷ []) y (CallEntry now.1.0 (SignalClose k) Done) now.1.1))
@@ -276,11 +276,11 @@ kept-all k group s (e ∷ y) g there =
       | inr closed ↦ inr (none-of _ (gone-all k (after s e) y next (omega arith) closed.0), (closed.1.0, (0, omega arith, closed.1.1)))
     ]
 
-pub kept : (b : Begin) (x y : List Entry) (signal group : ℕ) → signal_group (after_all (begun b) x).signals signal ≡ Some group → let now = signal_group (after_all (begun b) (x ++ y)).signals signal in (now ≡ Some group) ⊎ ((now ≡ None) × IsClosed signal y)
+pub kept : (b : Begin) (x y : List Entry) (signal group : ℕ) → signal_group (after_all (begun b) x).stood.signals signal ≡ Some group → let now = signal_group (after_all (begun b) (x ++ y)).stood.signals signal in (now ≡ Some group) ⊎ ((now ≡ None) × IsClosed signal y)
 kept b x y signal group there =
     let s = after_all (begun b) x in
-    let owned = kept-all signal group s y (grouped b x) (find-owners signal s.signals.signals ∙ there) in
-    rw (after_all-append (begun b) x y, ← find-owners signal (after_all s y).signals.signals) owned
+    let owned = kept-all signal group s y (grouped b x) (find-owners signal s.stood.signals.signals ∙ there) in
+    rw (after_all-append (begun b) x y, ← find-owners signal (after_all s y).stood.signals.signals) owned
 
 -- a signal that is added is of its group
 
@@ -317,10 +317,10 @@ module _ (b : Begin) (x y : List Entry) (by : Option ℕ) where
   answered : (call : Call) (reply : CallReply) → IsLawful (begun b) (x ++ CallEntry by call reply ∷ y) → Answers before call reply
   answered call reply l = (lawful-tail (begun b) x (CallEntry by call reply ∷ y) l).0.1.1
 
-  pub given : (signal : ℕ) → IsLawful (begun b) (x ++ CallEntry by Stopped (SignalAt signal) ∷ y) → signal_group (after before (CallEntry by Stopped (SignalAt signal))).signals signal ≡ Some before.stop.group
+  pub given : (signal : ℕ) → IsLawful (begun b) (x ++ CallEntry by Stopped (SignalAt signal) ∷ y) → signal_group (after before (CallEntry by Stopped (SignalAt signal))).stood.signals signal ≡ Some before.stood.stop.group
   unfolding after
-  given signal l = given-group before.signals before.stop signal (grouped b x) (answered Stopped (SignalAt signal) l)
+  given signal l = given-group before.stood.signals before.stood.stop signal (grouped b x) (answered Stopped (SignalAt signal) l)
 
-  pub copied : (signal copy : ℕ) → IsLawful (begun b) (x ++ CallEntry by (CloneSignal signal) (SignalAt copy) ∷ y) → signal_group (after before (CallEntry by (CloneSignal signal) (SignalAt copy))).signals copy ≡ signal_group before.signals signal
+  pub copied : (signal copy : ℕ) → IsLawful (begun b) (x ++ CallEntry by (CloneSignal signal) (SignalAt copy) ∷ y) → signal_group (after before (CallEntry by (CloneSignal signal) (SignalAt copy))).stood.signals copy ≡ signal_group before.stood.signals signal
   unfolding after
-  copied signal copy l = copied-group before.signals before.stop.group signal copy (grouped b x) (answered (CloneSignal signal) (SignalAt copy) l)
+  copied signal copy l = copied-group before.stood.signals before.stood.stop.group signal copy (grouped b x) (answered (CloneSignal signal) (SignalAt copy) l)

@@ -74,26 +74,26 @@ numbered-spent ss k n = record {
 slot-at : {k n : ℕ} → SlotAt k ≡ SlotAt n → k ≡ n
 slot-at e = cc
 
-numbered-called : (s : State) (by : Option ℕ) (call : Call) (reply : CallReply) → Answers s call reply → AreNumbered s.slots → AreNumbered (slots_called s.slots by call reply)
-numbered-called s by (Slots Slot) (SlotAt slot) m n = rw (slot-at m) (numbered-more s.slots n)
-numbered-called s by (Slots (SlotSend slot)) Done m n = numbered-sent s.slots There slot n
-numbered-called s by (Slots (SlotClose slot)) Done m n = numbered-sent s.slots IsClosed slot n
-numbered-called s by (Slots (SlotPoll slot)) StillPending m n = numbered-replaced s.slots (λ r. record r { outcome = Open by }) slot n
-numbered-called s by (Slots (SlotPoll slot)) IsReady m n = numbered-replaced s.slots (λ r. record r { outcome = IsClosed }) slot n
-numbered-called s by (Slots (SlotGiveUp slot)) Done m n = numbered-spent s.slots slot n
-numbered-called s by (Slots (AbortWait slot)) Done m n = numbered-replaced s.slots aborted slot n
+numbered-called : (s : State) (by : Option ℕ) (call : Call) (reply : CallReply) → Answers s call reply → AreNumbered s.stood.slots → AreNumbered (slots_called s.stood.slots by call reply)
+numbered-called s by (Slots Slot) (SlotAt slot) m n = rw (slot-at m) (numbered-more s.stood.slots n)
+numbered-called s by (Slots (SlotSend slot)) Done m n = numbered-sent s.stood.slots There slot n
+numbered-called s by (Slots (SlotClose slot)) Done m n = numbered-sent s.stood.slots IsClosed slot n
+numbered-called s by (Slots (SlotPoll slot)) StillPending m n = numbered-replaced s.stood.slots (λ r. record r { outcome = Open by }) slot n
+numbered-called s by (Slots (SlotPoll slot)) IsReady m n = numbered-replaced s.stood.slots (λ r. record r { outcome = IsClosed }) slot n
+numbered-called s by (Slots (SlotGiveUp slot)) Done m n = numbered-spent s.stood.slots slot n
+numbered-called s by (Slots (AbortWait slot)) Done m n = numbered-replaced s.stood.slots aborted slot n
 numbered-called s by _ _ m n = n
 
-numbered-after : (s : State) (e : Entry) → May s e → AreNumbered s.slots → AreNumbered (after s e).slots
+numbered-after : (s : State) (e : Entry) → May s e → AreNumbered s.stood.slots → AreNumbered (after s e).stood.slots
 unfolding after
 numbered-after s (CallEntry by call reply) m n = numbered-called s by call reply m.1.1 n
 numbered-after s _ m n = n
 
-numbered-all : (s : State) (x : List Entry) → IsLawful s x → AreNumbered s.slots → AreNumbered (after_all s x).slots
+numbered-all : (s : State) (x : List Entry) → IsLawful s x → AreNumbered s.stood.slots → AreNumbered (after_all s x).stood.slots
 numbered-all s [] l n = n
 numbered-all s (e ∷ x) l n = numbered-all (after s e) x l.1 (numbered-after s e l.0 n)
 
-run-numbered : (b : Begin) (x : List Entry) → IsLawful (begun b) x → AreNumbered (after_all (begun b) x).slots
+run-numbered : (b : Begin) (x : List Entry) → IsLawful (begun b) x → AreNumbered (after_all (begun b) x).stood.slots
 unfolding begun
 run-numbered b x l = numbered-all (begun b) x l (record { apart = tt; given = λ k h. absurd (cc); senders = tt; senders_given = λ k h. absurd (cc) })
 
@@ -154,33 +154,33 @@ module _ (slot : ℕ) where
   abbrev IsSpent : Slotted → Type 0
   IsSpent ss = (is_live (find slot ss.results) ≡ true → ⊥) × (slot < ss.count)
 
-  spent-called : (s : State) (by : Option ℕ) (call : Call) (reply : CallReply) → Answers s call reply → AreNumbered s.slots → IsSpent s.slots → IsSpent (slots_called s.slots by call reply)
+  spent-called : (s : State) (by : Option ℕ) (call : Call) (reply : CallReply) → Answers s call reply → AreNumbered s.stood.slots → IsSpent s.stood.slots → IsSpent (slots_called s.stood.slots by call reply)
   spent-called s by (Slots Slot) (SlotAt other) m n k =
       let l = k.1 in
-      let number : other ≡ s.slots.count = slot-at m in
+      let number : other ≡ s.stood.slots.count = slot-at m in
       let apart : eqb other slot ≡ false = rw number (grind arith) in
-      (λ h. k.0 (live-add slot other s.slots.results apart h), omega (arith, number))
-  spent-called s by (Slots (SlotSend other)) Done m n k = (λ h. k.0 (live-replaced (settled There) (settled-keeps There) slot other s.slots.results h), k.1)
-  spent-called s by (Slots (SlotClose other)) Done m n k = (λ h. k.0 (live-replaced (settled IsClosed) (settled-keeps IsClosed) slot other s.slots.results h), k.1)
+      (λ h. k.0 (live-add slot other s.stood.slots.results apart h), omega (arith, number))
+  spent-called s by (Slots (SlotSend other)) Done m n k = (λ h. k.0 (live-replaced (settled There) (settled-keeps There) slot other s.stood.slots.results h), k.1)
+  spent-called s by (Slots (SlotClose other)) Done m n k = (λ h. k.0 (live-replaced (settled IsClosed) (settled-keeps IsClosed) slot other s.stood.slots.results h), k.1)
   spent-called s by (Slots (SlotPoll other)) StillPending m n k = (λ h. k.0 (pending (cases_Bool (eqb other slot)) h), k.1)
     where
-      pending : (eqb other slot ≡ true) ⊎ (eqb other slot ≡ false) → is_live (find slot (with_outcome (Open by) other s.slots.results)) ≡ true → is_live (find slot s.slots.results) ≡ true
-      pending (inl e) h = (let same = eqb-true other slot e in polled-live (find slot s.slots.results) StillPending (inl refl) (rw same at m))
-      pending (inr e) h = (let z : is_live (find slot s.slots.results) ≡ true = rw (find-replaced (λ r. record r { outcome = Open by }) slot other s.slots.results e) at h in z)
-  spent-called s by (Slots (SlotPoll other)) IsReady m n k = (λ h. k.0 (live-replaced (λ r. record r { outcome = IsClosed }) (λ r f. absurd (cc)) slot other s.slots.results h), k.1)
+      pending : (eqb other slot ≡ true) ⊎ (eqb other slot ≡ false) → is_live (find slot (with_outcome (Open by) other s.stood.slots.results)) ≡ true → is_live (find slot s.stood.slots.results) ≡ true
+      pending (inl e) h = (let same = eqb-true other slot e in polled-live (find slot s.stood.slots.results) StillPending (inl refl) (rw same at m))
+      pending (inr e) h = (let z : is_live (find slot s.stood.slots.results) ≡ true = rw (find-replaced (λ r. record r { outcome = Open by }) slot other s.stood.slots.results e) at h in z)
+  spent-called s by (Slots (SlotPoll other)) IsReady m n k = (λ h. k.0 (live-replaced (λ r. record r { outcome = IsClosed }) (λ r f. absurd (cc)) slot other s.stood.slots.results h), k.1)
   spent-called s by (Slots (SlotGiveUp other)) Done m n k = (λ h. k.0 (removed (cases_Bool (eqb other slot)) h), k.1)
     where
-      removed : (eqb other slot ≡ true) ⊎ (eqb other slot ≡ false) → is_live (find slot (without other s.slots.results)) ≡ true → is_live (find slot s.slots.results) ≡ true
+      removed : (eqb other slot ≡ true) ⊎ (eqb other slot ≡ false) → is_live (find slot (without other s.stood.slots.results)) ≡ true → is_live (find slot s.stood.slots.results) ≡ true
       removed (inl e) h =
           let same = eqb-true other slot e in
-          let gone : is_some (find slot (without slot s.slots.results)) ≡ false = find-removed slot s.slots.results n.apart in
-          let there = live-some (find slot (without slot s.slots.results)) (rw same at h) in
+          let gone : is_some (find slot (without slot s.stood.slots.results)) ≡ false = find-removed slot s.stood.slots.results n.apart in
+          let there = live-some (find slot (without slot s.stood.slots.results)) (rw same at h) in
           absurd (cc)
-      removed (inr e) h = (let z : is_live (find slot s.slots.results) ≡ true = rw (find-other slot other s.slots.results e) at h in z)
-  spent-called s by (Slots (AbortWait other)) Done m n k = (λ h. k.0 (live-replaced aborted (λ r f. absurd (cc)) slot other s.slots.results h), k.1)
+      removed (inr e) h = (let z : is_live (find slot s.stood.slots.results) ≡ true = rw (find-other slot other s.stood.slots.results e) at h in z)
+  spent-called s by (Slots (AbortWait other)) Done m n k = (λ h. k.0 (live-replaced aborted (λ r f. absurd (cc)) slot other s.stood.slots.results h), k.1)
   spent-called s by _ _ m n k = k
 
-  spent-after : (s : State) (e : Entry) → May s e → AreNumbered s.slots → IsSpent s.slots → IsSpent (after s e).slots
+  spent-after : (s : State) (e : Entry) → May s e → AreNumbered s.stood.slots → IsSpent s.stood.slots → IsSpent (after s e).stood.slots
   unfolding after
   spent-after s (CallEntry by call reply) m n k = spent-called s by call reply m.1.1 n k
   spent-after s _ m n k = k
@@ -188,58 +188,58 @@ module _ (slot : ℕ) where
   abbrev HandsNone : Entry → Type 0
   HandsNone e = (by : Option ℕ) → e ≢ CallEntry by (Slots (SlotPoll slot)) IsReady
 
-  hands-none : (s : State) (e : Entry) → May s e → IsSpent s.slots → HandsNone e
+  hands-none : (s : State) (e : Entry) → May s e → IsSpent s.stood.slots → HandsNone e
   hands-none s (CallEntry by (Slots (SlotPoll other)) IsReady) m k who e =
       let same : other ≡ slot = cc in
-      k.0 (polled-live (find slot s.slots.results) IsReady (inr refl) (rw same at m.1.1))
+      k.0 (polled-live (find slot s.stood.slots.results) IsReady (inr refl) (rw same at m.1.1))
   hands-none s _ m k who e = cc
 
   -- it was given, and its sender is spent
   abbrev IsSent : Slotted → Type 0
   IsSent ss = (is_some (find slot ss.senders) ≡ false) × (slot < ss.count)
 
-  sent-called : (s : State) (by : Option ℕ) (call : Call) (reply : CallReply) → Answers s call reply → IsSent s.slots → IsSent (slots_called s.slots by call reply)
+  sent-called : (s : State) (by : Option ℕ) (call : Call) (reply : CallReply) → Answers s call reply → IsSent s.stood.slots → IsSent (slots_called s.stood.slots by call reply)
   sent-called s by (Slots Slot) (SlotAt other) m k =
       let l = k.1 in
-      let number : other ≡ s.slots.count = slot-at m in
+      let number : other ≡ s.stood.slots.count = slot-at m in
       let apart : eqb other slot ≡ false = rw number (grind arith) in
-      (lacks-add slot other tt s.slots.senders k.0 apart, omega (arith, number))
-  sent-called s by (Slots (SlotSend other)) Done m k = (lacks-removed slot other s.slots.senders k.0, k.1)
-  sent-called s by (Slots (SlotClose other)) Done m k = (lacks-removed slot other s.slots.senders k.0, k.1)
+      (lacks-add slot other tt s.stood.slots.senders k.0 apart, omega (arith, number))
+  sent-called s by (Slots (SlotSend other)) Done m k = (lacks-removed slot other s.stood.slots.senders k.0, k.1)
+  sent-called s by (Slots (SlotClose other)) Done m k = (lacks-removed slot other s.stood.slots.senders k.0, k.1)
   sent-called s by (Slots (SlotPoll other)) StillPending m k = k
   sent-called s by (Slots (SlotPoll other)) IsReady m k = k
   sent-called s by (Slots (SlotGiveUp other)) Done m k = k
   sent-called s by (Slots (AbortWait other)) Done m k = k
   sent-called s by _ _ m k = k
 
-  sent-after : (s : State) (e : Entry) → May s e → IsSent s.slots → IsSent (after s e).slots
+  sent-after : (s : State) (e : Entry) → May s e → IsSent s.stood.slots → IsSent (after s e).stood.slots
   unfolding after
   sent-after s (CallEntry by call reply) m k = sent-called s by call reply m.1.1 k
   sent-after s _ m k = k
 
-  sender-held : (s : State) (e : Entry) → May s e → SpendsSender slot e → is_some (find slot s.slots.senders) ≡ true
+  sender-held : (s : State) (e : Entry) → May s e → SpendsSender slot e → is_some (find slot s.stood.slots.senders) ≡ true
   sender-held s (CallEntry by (Slots (SlotSend other)) Done) m h = rw h at m.1.1.1
   sender-held s (CallEntry by (Slots (SlotClose other)) Done) m h = rw h at m.1.1.1
   sender-held s _ m h = absurd h
 
-  sent-all : (s : State) (y : List Entry) → IsLawful s y → IsSent s.slots → AllByRecursion (λ (e : Entry). SpendsSender slot e → ⊥) y
+  sent-all : (s : State) (y : List Entry) → IsLawful s y → IsSent s.stood.slots → AllByRecursion (λ (e : Entry). SpendsSender slot e → ⊥) y
   sent-all s [] l k = tt
   sent-all s (e ∷ y) l k =
       ((λ h. let held = sender-held s e l.0 h in let lacks = k.0 in cc), sent-all (after s e) y l.1 (sent-after s e l.0 k))
 
-  now-sent : (s : State) (e : Entry) → AreNumbered s.slots → SpendsSender slot e → is_some (find slot (after s e).slots.senders) ≡ false
+  now-sent : (s : State) (e : Entry) → AreNumbered s.stood.slots → SpendsSender slot e → is_some (find slot (after s e).stood.slots.senders) ≡ false
   unfolding after
-  now-sent s (CallEntry by (Slots (SlotSend other)) Done) n h = rw h (find-removed slot s.slots.senders n.senders)
-  now-sent s (CallEntry by (Slots (SlotClose other)) Done) n h = rw h (find-removed slot s.slots.senders n.senders)
+  now-sent s (CallEntry by (Slots (SlotSend other)) Done) n h = rw h (find-removed slot s.stood.slots.senders n.senders)
+  now-sent s (CallEntry by (Slots (SlotClose other)) Done) n h = rw h (find-removed slot s.stood.slots.senders n.senders)
   now-sent s _ n h = absurd h
 
-  count-kept : (s : State) (e : Entry) → SpendsSender slot e → (after s e).slots.count ≡ s.slots.count
+  count-kept : (s : State) (e : Entry) → SpendsSender slot e → (after s e).stood.slots.count ≡ s.stood.slots.count
   unfolding after
   count-kept s (CallEntry by (Slots (SlotSend other)) Done) h = refl
   count-kept s (CallEntry by (Slots (SlotClose other)) Done) h = refl
   count-kept s _ h = absurd h
 
-  spent-all : (s : State) (y : List Entry) → IsLawful s y → AreNumbered s.slots → IsSpent s.slots → AllByRecursion HandsNone y
+  spent-all : (s : State) (y : List Entry) → IsLawful s y → AreNumbered s.stood.slots → IsSpent s.stood.slots → AllByRecursion HandsNone y
   spent-all s [] l n k = tt
   spent-all s (e ∷ y) l n k = (hands-none s e l.0 k, spent-all (after s e) y l.1 (numbered-after s e l.0 n) (spent-after s e l.0 n k))
 
@@ -250,9 +250,9 @@ slot_handed_once b x y by slot l =
     let e = CallEntry by (Slots (SlotPoll slot)) IsReady in
     let r = lawful-tail (begun b) x (e ∷ y) l in
     let n = run-numbered b x (lawful-front (begun b) x (e ∷ y) l) in
-    let live = polled-live (find slot s.slots.results) IsReady (inr refl) r.0.1.1 in
-    let none : is_live (find slot (with_outcome IsClosed slot s.slots.results)) ≡ false = closed-now slot s.slots.results in
-    let given = n.given slot (live-some (find slot s.slots.results) live) in
+    let live = polled-live (find slot s.stood.slots.results) IsReady (inr refl) r.0.1.1 in
+    let none : is_live (find slot (with_outcome IsClosed slot s.stood.slots.results)) ≡ false = closed-now slot s.stood.slots.results in
+    let given = n.given slot (live-some (find slot s.stood.slots.results) live) in
     All-from_recursion (HandsNone slot) y (spent-all slot (after s e) y r.1 (numbered-after s e r.0 n) ((λ h. cc), given))
 
 pub slot_sent_once : (b : Begin) (x y : List Entry) (e : Entry) (slot : ℕ) → IsLawful (begun b) (x ++ e ∷ y) → SpendsSender slot e → All (λ (f : Entry). SpendsSender slot f → ⊥) y
@@ -260,5 +260,5 @@ slot_sent_once b x y e slot l h =
     let s = after_all (begun b) x in
     let r = lawful-tail (begun b) x (e ∷ y) l in
     let n = run-numbered b x (lawful-front (begun b) x (e ∷ y) l) in
-    let given : slot < (after s e).slots.count = rw (count-kept slot s e h) (n.senders_given slot (sender-held slot s e r.0 h)) in
+    let given : slot < (after s e).stood.slots.count = rw (count-kept slot s e h) (n.senders_given slot (sender-held slot s e r.0 h)) in
     All-from_recursion (λ (f : Entry). SpendsSender slot f → ⊥) y (sent-all slot (after s e) y r.1 (now-sent slot s e n h, given))

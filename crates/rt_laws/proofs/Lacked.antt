@@ -1,5 +1,5 @@
 -- What a part made before it lacked memory.
-use Rattle.rt_laws.proofs.Prelude.{◌≡◌, ◌⊎◌, inl, inr, ℕ, List, [], ◌∷◌, ◌++◌, Some, None, Result, false, true, refl, sym, ap, ◌∙◌, Error, Shared, LacksMemory, Ended, CloseNode, Slots, SlotSend, SlotGiveUp, Done, Entry, Answered, NodeEnd, Cleanup, State, Finished, Stood, Turn, stood_in, begun, after, after_all, IsLawful, IsCounted, Held, Sending, Frees, put, moved, with_spawned, has_place, Step, Spends, Fronts, Stops, Breaks, stood_before, Value, nothing, IsTied, taken, IsCutOff, IsTied-append, small_begin, opening, visiting_root, finishing, Aborting, Parent, Joining, Aborter, aborting_root, aborting_next, aborter_spawned, joiner_ends, lacking_join, beside_journal, sending_root, slot_ready, send_lacks, sending_journal}
+use Rattle.rt_laws.proofs.Prelude.{◌≡◌, ◌⊎◌, inl, inr, ℕ, List, [], ◌∷◌, ◌++◌, Some, None, Result, false, true, refl, sym, ap, ◌∙◌, Error, Shared, LacksMemory, Ended, CloseNode, Slots, SlotSend, SlotGiveUp, Done, Entry, Answered, NodeEnd, Cleanup, State, Finished, Stood, Turn, begun, after, after_all, IsLawful, IsCounted, Held, Sending, Frees, put, moved, with_spawned, has_place, Step, Spends, Fronts, Stops, Breaks, stood_before, Value, nothing, IsTied, taken, IsCutOff, IsTied-append, small_begin, opening, visiting_root, finishing, Aborting, Parent, Joining, Aborter, aborting_root, aborting_next, aborter_spawned, joiner_ends, lacking_join, beside_journal, sending_root, slot_ready, send_lacks, sending_journal}
 use Rattle.rt_audit.specs.declared.finish.FinishCause.TheVariants.{NoMemory}
 use Rattle.rt_audit.specs.declared.entry.Entry.TheVariants.{Call}
 use Rattle.rt_model.specs.declared.answer.Answer.{Answer}
@@ -24,7 +24,7 @@ abbrev before : Held Aborting ℕ
 before = nothing.held
 
 -- in the state that its spawn made, and in no other
-pub spawned_so : (mid : Held Aborting ℕ) → Stops begins before spawned.turns (stood_in spawned) mid → IsCounted (with_spawned 1 (Shared false) (Aborter 2) before) mid
+pub spawned_so : (mid : Held Aborting ℕ) → Stops begins before spawned.turns spawned.stood mid → IsCounted (with_spawned 1 (Shared false) (Aborter 2) before) mid
 unfolding begun after
 spawned_so mid stops = stops.1.1.1
 
@@ -42,7 +42,7 @@ module _ (node : ℕ) where
   abbrev behind : List Entry
   behind = (Cleanup ∷ NodeEnd 0 ∷ Call (Some 1) (CloseNode node) Done ∷ Answered 1 Ended ∷ []) ++ joiner_ends ++ finishing NoMemory
 
-  cut : Breaks begins before spawned.turns (stood_in spawned) made → IsLawful (begun small_begin) (lacking_join node) → IsTied (aborting_root Pending) (after spawned (Answered 0 LacksMemory)) broken behind cleaned → (after_all (begun small_begin) (lacking_join node)).phase ≡ Finished NoMemory → IsCutOff (aborting_root Pending) small_begin (lacking_join node)
+  cut : Breaks begins before spawned.turns spawned.stood made → IsLawful (begun small_begin) (lacking_join node) → IsTied (aborting_root Pending) (after spawned (Answered 0 LacksMemory)) broken behind cleaned → (after_all (begun small_begin) (lacking_join node)).phase ≡ Finished NoMemory → IsCutOff (aborting_root Pending) small_begin (lacking_join node)
   unfolding begun after
   cut breaks l rest ends =
       let p = aborting_root Pending in
@@ -106,7 +106,7 @@ module _ (sent : Result ℕ Error) where
       let poll = visited.1 in
       let breaks = rw kept at poll.breaks in
       let asked = after_all (begun small_begin) (slot_ready ++ visiting_root ++ (Call (Some 0) (Slots (SlotSend 0)) Done ∷ [])) in
-      let held : poll.moved.sent ≡ (0, sent) ∷ [] = ap (λ (h : Held (Unit {0}) ℕ). h.sent) (sent_first _ (stood_in asked) 0 sent _ (taken 0 waiting.held) poll.moved refl breaks).1 in
+      let held : poll.moved.sent ≡ (0, sent) ∷ [] = ap (λ (h : Held (Unit {0}) ℕ). h.sent) (sent_first _ asked.stood 0 sent _ (taken 0 waiting.held) poll.moved refl breaks).1 in
       ap (λ (v : Value (Unit {0}) ℕ). v.held.sent) (visited.2 ∙ poll.is) ∙ held
 
   -- its poll lacked memory behind the send, and its end gives the slot up

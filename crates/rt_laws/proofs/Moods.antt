@@ -1,5 +1,5 @@
 -- A root that pends where 1 is drawn completes where it isn't.
-use Rattle.rt_laws.proofs.Prelude.{◌≡◌, ◌≢◌, ℕ, List, [], ◌∷◌, ◌++◌, ◌==◌, ◌∙◌, Some, false, if◌then◌else◌, length, refl, arith, codes, NextU64, CallReply, Number, Entry, CallEntry, Event, Wake, Draw, FinishCause, Completed, Drawn, Long, State, Turn, begun, stood_in, after, after_all, Held, Plainly, Gives, Value, nothing, IsRun, small_begin}
+use Rattle.rt_laws.proofs.Prelude.{◌≡◌, ◌≢◌, ℕ, List, [], ◌∷◌, ◌++◌, ◌==◌, ◌∙◌, Some, false, if◌then◌else◌, length, refl, arith, codes, NextU64, CallReply, Number, Entry, CallEntry, Event, Wake, Draw, FinishCause, Completed, Drawn, Long, State, Turn, begun, after, after_all, Held, Plainly, Gives, Value, nothing, IsRun, small_begin}
 use Rattle.rand_core.specs.Stream.{Stream, u32_call, u64_call, bytes_call, next_u32, next_u64, fill_bytes}
 use Rattle.rt_audit.specs.declared.call.Call.{Call as CallOf}
 use Rattle.rt_model.specs.declared.answer.Answer.TheVariants.{Pending, Ready}
@@ -32,7 +32,7 @@ turns-more (u ∷ ts) t a b = (a.0, turns-more ts t a.1 b)
 
 onward : (s : State) (e : Entry) (x : List Entry) → TurnsOther s.turns × EntriesOther (e ∷ x) → TurnsOther (after s e).turns × EntriesOther x
 unfolding after
-onward s (CallEntry by call reply) x k = (turns-more s.turns (record { by = by; call = call; reply = reply; stood = stood_in s }) k.0 k.1.0, k.1.1)
+onward s (CallEntry by call reply) x k = (turns-more s.turns (record { by = by; call = call; reply = reply; stood = s.stood }) k.0 k.1.0, k.1.1)
 onward s (Wake task) x k = k
 onward s (Event label fields) x k = k
 onward s (Draw value) x k = k

@@ -148,10 +148,10 @@ unless-node : (refuses : Bool) (error : Error) (otherwise : CallReply → Type 0
 unless-node true error otherwise number ended m = absurd m
 unless-node false error otherwise number ended m = (refl, m)
 
-pub child-answers : (s : State) (node number : ℕ) (label : List ℕ) (ended : Bool) → Answers s (Child node label) (NodeAt number ended) → (is_live s.nodes node ≡ true) × (is_known s.nodes number ≡ false) × (ended ≡ is_ended s.nodes node)
+pub child-answers : (s : State) (node number : ℕ) (label : List ℕ) (ended : Bool) → Answers s (Child node label) (NodeAt number ended) → (is_live s.stood.nodes node ≡ true) × (is_known s.stood.nodes number ≡ false) × (ended ≡ is_ended s.stood.nodes node)
 child-answers s node number label ended m =
-    let k = unless-node (not (is_live s.nodes node)) UnknownToken (ChildAnswers s node label) number ended m in
-    (not-not (is_live s.nodes node) k.0, k.1.1, k.1.2)
+    let k = unless-node (not (is_live s.stood.nodes node)) UnknownToken (ChildAnswers s node label) number ended m in
+    (not-not (is_live s.stood.nodes node) k.0, k.1.1, k.1.2)
 
 free-parts : (a b : Bool) → (a && not b) ≡ true → (a ≡ true) × (b ≡ false)
 free-parts true false h = (refl, refl)
@@ -280,7 +280,7 @@ module _ (N : ℕ → Type 0) where
     pub caused : (k : ℕ) (m : Mark) → find k ms ≡ Some m → m.flagged ≡ true → N k ⊎ (is_ended nodes m.node ≡ true)
 
   abbrev pub AreNodesOf : State → Type 0
-  AreNodesOf s = AreNodes s.nodes s.marks s.numbers.next
+  AreNodesOf s = AreNodes s.stood.nodes s.marks s.numbers.next
 
   -- a node more
   nodes-child : (r : TreeRecord) (ms : List (ℕ × Mark)) (next number node : ℕ) → is_known r number ≡ false → is_known r node ≡ true → AreNodes r ms next → AreNodes (with_child r number node) ms next
@@ -425,27 +425,27 @@ module _ (N : ℕ → Type 0) where
   no-task None h = refl
   no-task (Some k) h = absurd (cc)
 
-  nodes-spawn : (s : State) (node task number : ℕ) → Answers s (Spawn node) (TaskAt task number) → AreNodesOf s → AreNodes (with_task (with_child s.nodes number node) node task) (s.marks ++ (task, new_mark node) ∷ []) (task + 1)
+  nodes-spawn : (s : State) (node task number : ℕ) → Answers s (Spawn node) (TaskAt task number) → AreNodesOf s → AreNodes (with_task (with_child s.stood.nodes number node) node task) (s.marks ++ (task, new_mark node) ∷ []) (task + 1)
   nodes-spawn s node task number m a =
       let h = spawn-answers s node task number m in
-      let free = free-parts (is_live s.nodes node) (is_some (task_on s.nodes node)) h.0 in
-      let known = known-live s.nodes node free.0 in
-      let apart = unlike s.nodes number node h.3 known in
-      let q = with_child s.nodes number node in
-      let k : is_known q node ≡ true = known-new s.nodes number (if is_ended s.nodes node then None else Some node) (is_ended s.nodes node) h.3 node known in
-      let none : task_on q node ≡ None = task-child s.nodes number node node h.3 ∙ no-task (task_on s.nodes node) free.1 in
-      let live : is_ended q node ≡ false = ended-child s.nodes number node node apart ∙ h.2 in
-      rw h.1 (nodes-task q s.marks s.numbers.next node k none live (nodes-child s.nodes s.marks s.numbers.next number node h.3 known a))
+      let free = free-parts (is_live s.stood.nodes node) (is_some (task_on s.stood.nodes node)) h.0 in
+      let known = known-live s.stood.nodes node free.0 in
+      let apart = unlike s.stood.nodes number node h.3 known in
+      let q = with_child s.stood.nodes number node in
+      let k : is_known q node ≡ true = known-new s.stood.nodes number (if is_ended s.stood.nodes node then None else Some node) (is_ended s.stood.nodes node) h.3 node known in
+      let none : task_on q node ≡ None = task-child s.stood.nodes number node node h.3 ∙ no-task (task_on s.stood.nodes node) free.1 in
+      let live : is_ended q node ≡ false = ended-child s.stood.nodes number node node apart ∙ h.2 in
+      rw h.1 (nodes-task q s.marks s.numbers.next node k none live (nodes-child s.stood.nodes s.marks s.numbers.next number node h.3 known a))
 
-  nodes-called-so : (s : State) (by : Option ℕ) (call : Call) (reply : CallReply) → Answers s call reply → ((k : ℕ) → IsAbortOf k (CallEntry by call reply) → N k) → AreNodesOf s → AreNodes (nodes_called s.nodes call reply) (marks_called s.marks call reply) (numbers_called s.numbers call reply).next
+  nodes-called-so : (s : State) (by : Option ℕ) (call : Call) (reply : CallReply) → Answers s call reply → ((k : ℕ) → IsAbortOf k (CallEntry by call reply) → N k) → AreNodesOf s → AreNodes (nodes_called s.stood.nodes call reply) (marks_called s.marks call reply) (numbers_called s.numbers call reply).next
   nodes-called-so s by (Child node label) (NodeAt number ended) m n a =
       let h = child-answers s node number label ended m in
-      nodes-child s.nodes s.marks s.numbers.next number node h.1 (known-live s.nodes node h.0) a
-  nodes-called-so s by (CloseNode node) Done m n a = nodes-release s.nodes s.marks s.numbers.next node a
+      nodes-child s.stood.nodes s.marks s.numbers.next number node h.1 (known-live s.stood.nodes node h.0) a
+  nodes-called-so s by (CloseNode node) Done m n a = nodes-release s.stood.nodes s.marks s.numbers.next node a
   nodes-called-so s by (Spawn node) (TaskAt task number) m n a = nodes-spawn s node task number m a
-  nodes-called-so s by (Spawn node) Closed m n a = nodes-release s.nodes s.marks s.numbers.next node a
-  nodes-called-so s by (Abort task) Done m n a = nodes-flag s.nodes s.marks s.numbers.next task (n task refl) a
-  nodes-called-so s by (AbortTask task) Done m n a = nodes-flag s.nodes s.marks s.numbers.next task (n task refl) a
+  nodes-called-so s by (Spawn node) Closed m n a = nodes-release s.stood.nodes s.marks s.numbers.next node a
+  nodes-called-so s by (Abort task) Done m n a = nodes-flag s.stood.nodes s.marks s.numbers.next task (n task refl) a
+  nodes-called-so s by (AbortTask task) Done m n a = nodes-flag s.stood.nodes s.marks s.numbers.next task (n task refl) a
   nodes-called-so s by _ _ m n a = a
 
   nodes-released : (r : TreeRecord) (ms : List (ℕ × Mark)) (next : ℕ) (m : Option Mark) → AreNodes r ms next → AreNodes (released m r) ms next
@@ -456,10 +456,10 @@ module _ (N : ℕ → Type 0) where
   nodes-ended r ms next task true p a = nodes-without r ms next task p a
   nodes-ended r ms next task false p a = a
 
-  nodes-answered-so : (s : State) (task : ℕ) (kind : AnswerKind) → AreTasks s → AreNodesOf s → AreNodes (nodes_answered s.nodes (find task s.marks) kind) (marks_answered s task kind) s.numbers.next
-  nodes-answered-so s task Pending t a = nodes-leave s.nodes s.marks s.numbers.next task a
+  nodes-answered-so : (s : State) (task : ℕ) (kind : AnswerKind) → AreTasks s → AreNodesOf s → AreNodes (nodes_answered s.stood.nodes (find task s.marks) kind) (marks_answered s task kind) s.numbers.next
+  nodes-answered-so s task Pending t a = nodes-leave s.stood.nodes s.marks s.numbers.next task a
   nodes-answered-so s task Ended t a =
-      nodes-ended (released (find task s.marks) s.nodes) s.marks s.numbers.next task (is_settled s task) t.marks (nodes-released s.nodes s.marks s.numbers.next (find task s.marks) a)
+      nodes-ended (released (find task s.marks) s.stood.nodes) s.marks s.numbers.next task (is_settled s task) t.marks (nodes-released s.stood.nodes s.marks s.numbers.next (find task s.marks) a)
   nodes-answered-so s task _ t a = a
 
   nodes-unmarked : (r : TreeRecord) (ms : List (ℕ × Mark)) (next : ℕ) (who : Option ℕ) → AreApart ms → AreNodes r ms next → AreNodes r (unmarked who ms) next
@@ -469,10 +469,10 @@ module _ (N : ℕ → Type 0) where
   pub nodes-after-entry : (s : State) (e : Entry) → May s e → AreTasks s → ((k : ℕ) → IsAbortOf k e → N k) → AreNodesOf s → AreNodesOf (after s e)
   unfolding after
   nodes-after-entry s (CallEntry by call reply) m t n a = nodes-called-so s by call reply m.1.1 n a
-  nodes-after-entry s (Root task) m t n a = let e = m.1.1 in nodes-next s.nodes s.marks s.numbers.next (task + 1) (omega arith) a
+  nodes-after-entry s (Root task) m t n a = let e = m.1.1 in nodes-next s.stood.nodes s.marks s.numbers.next (task + 1) (omega arith) a
   nodes-after-entry s (Answer task kind) m t n a = nodes-answered-so s task kind t a
   nodes-after-entry s (NodeEnd node) m t n a =
-      nodes-unmarked (unflagged (with_end s.nodes node)) (flag_all (flagged_by s.nodes node) s.marks) s.numbers.next (leaving s.phase) (apart-flagged (flagged_by s.nodes node) s.marks t.marks) (nodes-end s.nodes s.marks s.numbers.next node a)
+      nodes-unmarked (unflagged (with_end s.stood.nodes node)) (flag_all (flagged_by s.stood.nodes node) s.marks) s.numbers.next (leaving s.phase) (apart-flagged (flagged_by s.stood.nodes node) s.marks t.marks) (nodes-end s.stood.nodes s.marks s.numbers.next node a)
   nodes-after-entry s _ m t n a = a
 
   abbrev pub AreNamed : List Entry → Type 0

@@ -1,5 +1,5 @@
 -- The numbers of alarms: no two alarms have the same, and none is given twice.
-use Rattle.rt_laws.proofs.Prelude.{inl, inr, ◌≡◌, ◌≢◌, ◌<◌, ◌+◌, ◌==◌, ℕ, zero, suc, List, [], ◌∷◌, ◌++◌, map, drop, Option, Some, eqb, refl, sym, ap, ◌∙◌, arith, All, Contains, AllByRecursion, All-from_recursion, cases_Bool, Call, SleepPoll, CallReply, PendingAt, Entry, CallEntry, Wake, Fire, Cleanup, Alarm, AlarmList, with_alarm, waking, Begin, State, begun, slept, fires, woken_by, after, after_all, alarms_after, alarms_called, May, IsLawful}
+use Rattle.rt_laws.proofs.Prelude.{inl, inr, ◌≡◌, ◌≢◌, ◌<◌, ◌+◌, ◌==◌, ℕ, zero, suc, List, [], ◌∷◌, ◌++◌, map, drop, Option, Some, eqb, refl, sym, ap, ◌∙◌, arith, All, Contains, AllByRecursion, All-from_recursion, cases_Bool, Call, SleepPoll, CallReply, PendingAt, Entry, CallEntry, Wake, Fire, Cleanup, Alarm, AlarmList, with_alarm, waking, Begin, State, begun, slept, fires, woken_by, after, after_all, stood_after, alarms_called, May, IsLawful}
 use Rattle.rt_laws.proofs.Clock.{lawful-tail}
 use Rattle.rt_laws.proofs.Each.{Each, each-with, each-waking, each-drop}
 
@@ -72,24 +72,24 @@ numbered-drop : (n : ℕ) (alarms : List Alarm) → AreBelow n alarms × AreDist
 numbered-drop n [] h = h
 numbered-drop n (a ∷ alarms) h = (h.0.1, h.1.1)
 
-numbered-entry : (a : AlarmList) (e : Entry) → AreNumbered a → AreNumbered (alarms_after a e)
-numbered-entry a (CallEntry by call reply) h = numbered-called a by call reply h
-numbered-entry a (Fire number) h = numbered-drop a.count a.alarms h
-numbered-entry a Cleanup h = (tt, tt)
-numbered-entry a _ h = h
+numbered-entry : (s : State) (e : Entry) → AreNumbered s.stood.alarms → AreNumbered (stood_after s e).alarms
+numbered-entry s (CallEntry by call reply) h = numbered-called s.stood.alarms by call reply h
+numbered-entry s (Fire number) h = numbered-drop s.stood.alarms.count s.stood.alarms.alarms h
+numbered-entry s Cleanup h = (tt, tt)
+numbered-entry s _ h = h
 
-numbered-all : (s : State) (x : List Entry) → AreNumbered s.alarms → AreNumbered (after_all s x).alarms
+numbered-all : (s : State) (x : List Entry) → AreNumbered s.stood.alarms → AreNumbered (after_all s x).stood.alarms
 unfolding after
 numbered-all s [] h = h
-numbered-all s (e ∷ x) h = numbered-all (after s e) x (numbered-entry s.alarms e h)
+numbered-all s (e ∷ x) h = numbered-all (after s e) x (numbered-entry s e h)
 
-run_numbered : (b : Begin) (x : List Entry) → AreNumbered (after_all (begun b) x).alarms
+run_numbered : (b : Begin) (x : List Entry) → AreNumbered (after_all (begun b) x).stood.alarms
 unfolding begun
 run_numbered b x = numbered-all (begun b) x (tt, tt)
 
-spent-entry : (k : ℕ) (s : State) (e : Entry) → IsSpent k s.alarms → IsSpent k (alarms_after s.alarms e)
-spent-entry k s (CallEntry by call reply) h = spent-called k s.alarms by call reply h
-spent-entry k s (Fire number) h = (h.0, each-drop (λ due told. told ≢ k) s.alarms.alarms h.1)
+spent-entry : (k : ℕ) (s : State) (e : Entry) → IsSpent k s.stood.alarms → IsSpent k (stood_after s e).alarms
+spent-entry k s (CallEntry by call reply) h = spent-called k s.stood.alarms by call reply h
+spent-entry k s (Fire number) h = (h.0, each-drop (λ due told. told ≢ k) s.stood.alarms.alarms h.1)
 spent-entry k s Cleanup h = (h.0, tt)
 spent-entry k s _ h = h
 
@@ -100,11 +100,11 @@ fires-not k number time (a ∷ alarms) l f = let n = l.0 in grind arith
 fire-number : (a b : ℕ) → Fire a ≡ Fire b → a ≡ b
 fire-number a b h = cc
 
-spent-fires : (k : ℕ) (s : State) (e : Entry) → May s e → IsSpent k s.alarms → e ≢ Fire k
-spent-fires k s (Fire number) m h = λ z. fires-not k number s.clock.time s.alarms.alarms h.1 m.1.2 (fire-number number k z)
+spent-fires : (k : ℕ) (s : State) (e : Entry) → May s e → IsSpent k s.stood.alarms → e ≢ Fire k
+spent-fires k s (Fire number) m h = λ z. fires-not k number s.clock.time s.stood.alarms.alarms h.1 m.1.2 (fire-number number k z)
 spent-fires k s _ m h = λ z. cc
 
-spent-all : (k : ℕ) (s : State) (x : List Entry) → IsLawful s x → IsSpent k s.alarms → AllByRecursion (λ (e : Entry). e ≢ Fire k) x
+spent-all : (k : ℕ) (s : State) (x : List Entry) → IsLawful s x → IsSpent k s.stood.alarms → AllByRecursion (λ (e : Entry). e ≢ Fire k) x
 unfolding after
 spent-all k s [] l h = tt
 spent-all k s (e ∷ x) l h = (spent-fires k s e l.0 h, spent-all k (after s e) x l.1 (spent-entry k s e h))
@@ -125,7 +125,7 @@ unfolding after
 run_once b x y alarm l =
     let s = after_all (begun b) x in
     let t = lawful-tail (begun b) x (Fire alarm ∷ y) l in
-    let spent = spent-fired alarm s.clock.time s.alarms (run_numbered b x) t.0.1.2 in
+    let spent = spent-fired alarm s.clock.time s.stood.alarms (run_numbered b x) t.0.1.2 in
     All-from_recursion (λ (e : Entry). e ≢ Fire alarm) y (spent-all alarm (after s (Fire alarm)) y t.1 spent)
 
 -- the alarm of this number is the one that goes off
@@ -144,8 +144,8 @@ distinct-same (x ∷ alarms) a b d (zero, l, e) c h = sym e ∙ same-head x alar
 distinct-same (x ∷ alarms) a b d (suc i, l, e) (zero, k, f) h = sym (same-head x alarms a d.0 (suc i, l, e) (h ∙ ap (λ (c : Alarm). c.number) (sym f))) ∙ f
 distinct-same (x ∷ alarms) a b d (suc i, l, e) (suc j, k, f) h = distinct-same alarms a b d.1 (i, omega arith, e) (j, omega arith, f) h
 
-pub run_distinct : (b : Begin) (x : List Entry) (a c : Alarm) → Contains (after_all (begun b) x).alarms.alarms a → Contains (after_all (begun b) x).alarms.alarms c → a.number ≡ c.number → a ≡ c
-run_distinct b x a c h k e = distinct-same (after_all (begun b) x).alarms.alarms a c (run_numbered b x).1 h k e
+pub run_distinct : (b : Begin) (x : List Entry) (a c : Alarm) → Contains (after_all (begun b) x).stood.alarms.alarms a → Contains (after_all (begun b) x).stood.alarms.alarms c → a.number ≡ c.number → a ≡ c
+run_distinct b x a c h k e = distinct-same (after_all (begun b) x).stood.alarms.alarms a c (run_numbered b x).1 h k e
 
 wakes-head : (alarms : List Alarm) (time : ℕ) (a : Alarm) (task : ℕ) → AreDistinct alarms → fires alarms time ≡ Some a.number → Contains alarms a → a.task ≡ Some task → woken_by alarms ≡ task ∷ []
 wakes-head [] time a task d f c t = absurd (cc)
@@ -158,10 +158,10 @@ next-wakes : (s : State) (e : Entry) (task : ℕ) → s.owed ≡ task ∷ [] →
 next-wakes s (Wake other) task o m = let h : other ≡ task = cc in ap (λ (k : ℕ). Wake k) h
 next-wakes s _ task o m = absurd (cc)
 
-pub run_wakes : (b : Begin) (x y : List Entry) (e : Entry) (a : Alarm) (task : ℕ) → IsLawful (begun b) (x ++ Fire a.number ∷ e ∷ y) → Contains (after_all (begun b) x).alarms.alarms a → a.task ≡ Some task → e ≡ Wake task
+pub run_wakes : (b : Begin) (x y : List Entry) (e : Entry) (a : Alarm) (task : ℕ) → IsLawful (begun b) (x ++ Fire a.number ∷ e ∷ y) → Contains (after_all (begun b) x).stood.alarms.alarms a → a.task ≡ Some task → e ≡ Wake task
 unfolding after
 run_wakes b x y e a task l c t =
     let s = after_all (begun b) x in
     let m = lawful-tail (begun b) x (Fire a.number ∷ e ∷ y) l in
-    let owed = wakes-head s.alarms.alarms s.clock.time a task (run_numbered b x).1 m.0.1.2 c t in
+    let owed = wakes-head s.stood.alarms.alarms s.clock.time a task (run_numbered b x).1 m.0.1.2 c t in
     next-wakes (after s (Fire a.number)) e task owed m.1.0

@@ -1,5 +1,5 @@
 -- Alarms stay in order of their due times.
-use Rattle.rt_laws.proofs.Prelude.{◌≡◌, ◌≤◌, ◌<◌, ◌==◌, inl, inr, ℕ, sym, List, [], ◌∷◌, ◌++◌, map, drop, Option, Some, refl, arith, All, cases_Bool, All-from_recursion, Call, SleepPoll, CallReply, PendingAt, Entry, CallEntry, Fire, Cleanup, Skip, Alarm, AlarmList, with_alarm, waking, Begin, State, begun, slept, skip_to, ahead, after, after_all, alarms_after, alarms_called, IsLawful, IsEarliest}
+use Rattle.rt_laws.proofs.Prelude.{◌≡◌, ◌≤◌, ◌<◌, ◌==◌, inl, inr, ℕ, sym, List, [], ◌∷◌, ◌++◌, map, drop, Option, Some, refl, arith, All, cases_Bool, All-from_recursion, Call, SleepPoll, CallReply, PendingAt, Entry, CallEntry, Fire, Cleanup, Skip, Alarm, AlarmList, with_alarm, waking, Begin, State, begun, slept, skip_to, ahead, after, after_all, alarms_called, IsLawful, IsEarliest}
 use Rattle.rt_laws.proofs.Clock.{lawful-tail}
 use Rattle.rt_laws.proofs.Each.{Each, each-with, each-waking}
 
@@ -42,22 +42,19 @@ order-drop : (xs : List Alarm) → AreOrdered xs → AreOrdered (drop 1 xs)
 order-drop [] h = tt
 order-drop (x ∷ xs) h = h.1
 
-order-entry : (a : AlarmList) (e : Entry) → AreOrdered a.alarms → AreOrdered (alarms_after a e).alarms
-order-entry a (CallEntry by call reply) h = order-called a by call reply h
-order-entry a (Fire number) h = order-drop a.alarms h
-order-entry a Cleanup h = tt
-order-entry a _ h = h
-
-pub order-after : (s : State) (e : Entry) → AreOrdered s.alarms.alarms → AreOrdered (after s e).alarms.alarms
+pub order-after : (s : State) (e : Entry) → AreOrdered s.stood.alarms.alarms → AreOrdered (after s e).stood.alarms.alarms
 unfolding after
-order-after s e h = order-entry s.alarms e h
+order-after s (CallEntry by call reply) h = order-called s.stood.alarms by call reply h
+order-after s (Fire number) h = order-drop s.stood.alarms.alarms h
+order-after s Cleanup h = tt
+order-after s _ h = h
 
-order-all : (s : State) (es : List Entry) → AreOrdered s.alarms.alarms → AreOrdered (after_all s es).alarms.alarms
+order-all : (s : State) (es : List Entry) → AreOrdered s.stood.alarms.alarms → AreOrdered (after_all s es).stood.alarms.alarms
 order-all s [] h = h
 order-all s (e ∷ es) h = order-all (after s e) es (order-after s e h)
 
 -- the alarms of a run are in order
-pub run_order : (b : Begin) (xs : List Entry) → AreOrdered (after_all (begun b) xs).alarms.alarms
+pub run_order : (b : Begin) (xs : List Entry) → AreOrdered (after_all (begun b) xs).stood.alarms.alarms
 unfolding begun
 run_order b xs = order-all (begun b) xs tt
 
@@ -73,8 +70,8 @@ skip-earliest [] alarms time now o h = (refl, ahead-earliest alarms time now o h
 skip-earliest (k ∷ ready) alarms time now o h = cc
 
 -- a skip that may come in a run goes to the earliest of its alarms
-pub run_skip : (b : Begin) (x y : List Entry) (now : ℕ) → IsLawful (begun b) (x ++ Skip now ∷ y) → ((after_all (begun b) x).ready ≡ []) × IsEarliest (after_all (begun b) x).alarms.alarms now × ((after_all (begun b) x).clock.time < now)
+pub run_skip : (b : Begin) (x y : List Entry) (now : ℕ) → IsLawful (begun b) (x ++ Skip now ∷ y) → ((after_all (begun b) x).ready ≡ []) × IsEarliest (after_all (begun b) x).stood.alarms.alarms now × ((after_all (begun b) x).clock.time < now)
 run_skip b x y now l =
     let s = after_all (begun b) x in
-    let h = skip-earliest s.ready s.alarms.alarms s.clock.time now (run_order b x) (lawful-tail (begun b) x (Skip now ∷ y) l).0.1.1 in
+    let h = skip-earliest s.ready s.stood.alarms.alarms s.clock.time now (run_order b x) (lawful-tail (begun b) x (Skip now ∷ y) l).0.1.1 in
     (h.0, h.1.0, h.1.1)

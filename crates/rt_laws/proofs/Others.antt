@@ -1,5 +1,5 @@
 -- A part that lacked memory leaves the states of the other tasks as they were, but for those that it spawned, and so does each end.
-use Rattle.rt_laws.proofs.Prelude.{◌≡◌, ◌≢◌, inl, inr, ℕ, List, [], ◌∷◌, ◌++◌, refl, ap, ◌∙◌, arith, All, Result, Bool, true, false, if◌then◌else◌, AllByRecursion, recursion_from_All, cases_Bool, NoMemory, Ended, Call, Spawn, Join, GiveUp, Slots, SlotSend, SlotPoll, SlotGiveUp, AbortWait, CallReply, Done, TaskAt, Answer, find, without, State, Stood, Turn, stood_in, Error, Slotted, is_open, counted, Ask, Spawning, Sending, with_sent, Held, call_of, heard_of, moved, moved_by, freed_by, FreesOne, Frees, has_place, Step, Does, Spends, Counts, Gives, Gave, Goes, Walks, Fronts, Stops, Breaks, stood_before, gave-end, Steps, Value, Moves, taken, Spawns}
+use Rattle.rt_laws.proofs.Prelude.{◌≡◌, ◌≢◌, inl, inr, ℕ, List, [], ◌∷◌, ◌++◌, refl, ap, ◌∙◌, arith, All, Result, Bool, true, false, if◌then◌else◌, AllByRecursion, recursion_from_All, cases_Bool, NoMemory, Ended, Call, Spawn, Join, GiveUp, Slots, SlotSend, SlotPoll, SlotGiveUp, AbortWait, CallReply, Done, TaskAt, Answer, find, without, State, Stood, Turn, Error, Slotted, is_open, counted, Ask, Spawning, Sending, with_sent, Held, call_of, heard_of, moved, moved_by, freed_by, FreesOne, Frees, has_place, Step, Does, Spends, Counts, Gives, Gave, Goes, Walks, Fronts, Stops, Breaks, stood_before, gave-end, Steps, Value, Moves, taken, Spawns}
 use Rattle.rt_audit.specs.declared.reply.CallReply.TheVariants.{Ready}
 use Rattle.rt_model.specs.Turns.{with_task}
 
@@ -96,7 +96,7 @@ module _ (A O : Type 0) (p : Steps A O) (s : State) (v w : Value A O) (task : �
       let all = recursion_from_All (λ (t : Turn). Spawns other t → ⊥) s.turns spawns in
       let step = p.task.next h.before s.clock.time task in
       let kept : find other h.moved.tasks ≡ find other (taken task v.held).tasks = elim h.breaks [
-        | inl k ↦ breaks-keep other step (taken task v.held) s.turns (stood_in s) h.moved all k
+        | inl k ↦ breaks-keep other step (taken task v.held) s.turns s.stood h.moved all k
         | inr k ↦ fronts-keep other h.moved s.turns (taken task v.held) step all k
       ] in
       ap (λ (x : Value A O). find other x.held.tasks) h.is ∙ find-with task other h.left h.moved.tasks n ∙ kept ∙ find-without task other v.held.tasks n
@@ -106,7 +106,7 @@ module _ (A O : Type 0) (p : Steps A O) (s : State) (v w : Value A O) (task : �
       let all = recursion_from_All (λ (t : Turn). Spawns other t → ⊥) s.turns spawns in
       let step = p.task.last h.0 s.clock.time task in
       let kept : find other w.held.tasks ≡ find other (taken task v.held).tasks = elim h.2 [
-        | inl k ↦ walks-keep other w.held (stood_in s) tt tt s.turns (taken task v.held) step all k.0
-        | inr k ↦ breaks-keep other step (taken task v.held) s.turns (stood_in s) w.held all k.0
+        | inl k ↦ walks-keep other w.held s.stood tt tt s.turns (taken task v.held) step all k.0
+        | inr k ↦ breaks-keep other step (taken task v.held) s.turns s.stood w.held all k.0
       ] in
       kept ∙ find-without task other v.held.tasks n

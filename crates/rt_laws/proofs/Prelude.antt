@@ -65,7 +65,7 @@ pub use Rattle.rt_model.specs.Alarms.{ahead, alarm_of, fires, is_set, skip_to, s
 pub use Rattle.rt_model.specs.Causes.{cause_at, ends_next, from_running, is_late, overflows, reached, turning_cause, where_true}
 pub use Rattle.rt_model.specs.Digests.{AreDigested}
 pub use Rattle.rt_model.specs.Draws.{Drawn, Filled, Long, Short, shuffled}
-pub use Rattle.rt_model.specs.Effects.{after_all, alarms_after, alarms_called, announces, answered, cause_of, cleans, drawn_after, drawn_called, due_answered, due_called, due_ended, due_node, due_panic, ended, ends_in_panic, entered, entered as entering, entered_by, finished, flagged_by, is_closing, is_settled, label_at, leaves, leaving, left_of, left_pending, marks_answered, marks_called, marks_ended, node_ended, nodes_answered, nodes_called, numbers_called, panics_answered, released, results_answered, results_called, results_ended, results_left, running_answered, running_called, signals_called, slots_called, stop_called, task_label, unflagged, unmarked}
+pub use Rattle.rt_model.specs.Effects.{after_all, alarms_called, announces, answered, cause_of, cleans, drawn_after, drawn_called, due_answered, due_called, due_ended, due_node, due_panic, ended, ends_in_panic, entered, entered as entering, entered_by, finished, flagged_by, is_closing, is_settled, label_at, leaves, leaving, left_of, left_pending, marks_answered, marks_called, marks_ended, node_ended, nodes_answered, nodes_called, numbers_called, panics_answered, released, results_answered, results_called, results_ended, results_left, running_answered, running_called, signals_called, slots_called, stood_after, stop_called, task_label, unflagged, unmarked}
 unfoldable pub use Rattle.rt_model.specs.Effects.{after}
 pub use Rattle.rt_model.specs.Events.{IsOfCall, announced_by, process_task, task_fields}
 pub use Rattle.rt_model.specs.Lists.{find, has_number, is_nil, is_some_number, or_else, replaced, those, with_number, without, without_number}
@@ -76,7 +76,7 @@ pub use Rattle.rt_model.specs.Run.{IsCutOff, IsRun, IsValidInput}
 pub use Rattle.rt_model.specs.Runs.{AreLawful, next_begin, renewed, renews, run_after, runs_after}
 pub use Rattle.rt_model.specs.Signals.{has_signaler, met_reply, shown_reply, stopped_reply}
 pub use Rattle.rt_model.specs.Slots.{Slotted, aborted, is_open, settled, with_slot, without_slot}
-pub use Rattle.rt_model.specs.State.{Announced, Between, Blank, Cleaning, Clock, Closing, Crashed, Ending, Entered, Finished, Halted, Leaving, Making, Numbers, Over, Phase, Polling, State, Stood, Turn, Turning, Visiting, stood_in}
+pub use Rattle.rt_model.specs.State.{Announced, Between, Blank, Cleaning, Clock, Closing, Crashed, Ending, Entered, Finished, Halted, Leaving, Making, Numbers, Over, Phase, Polling, State, Stood, Turn, Turning, Visiting}
 unfoldable pub use Rattle.rt_model.specs.State.{begun}
 pub use Rattle.rt_model.specs.Tied.{EndsState, EndsTask, IsTied, MakerBreaks, Makes, Moves, MovesAnswer, MovesCleanup, MovesCrash, PollBreaks, Polls, Steps, Value, given, kept_text, no_number, nothing, taken, with_result}
 pub use Rattle.rt_model.specs.Turns.{Ask, Asks, Fits, Frees, FreesOne, Handed, Heard, Held, IsAnswerOf, IsCounted, IsOwn, IsPlainly, Plain, Plainly, Sending, Sleeping, Spawning, call_of, counted, freed, freed_by, has_place, heard_of, moved, moved_by, put, with_sent, with_spawned}

@@ -11,24 +11,24 @@ due-slept : (a : AlarmList) (by : Option ℕ) (due number : ℕ) → due ≤ MAX
 due-slept a by due number h k =
     grind (arith, each-with (λ at told. at ≤ MAX_TIME) (record { due = due; number = a.count; task = by }) a.alarms h k, each-waking (λ at told. at ≤ MAX_TIME) number by a.alarms k)
 
-due-called : (s : State) (by : Option ℕ) (call : Call) (reply : CallReply) → Answers s call reply → AreDue s.alarms.alarms → AreDue (alarms_called s.alarms by call reply).alarms
-due-called s by (SleepPoll due) (PendingAt number) h k = due-slept s.alarms by due number h.1 k
+due-called : (s : State) (by : Option ℕ) (call : Call) (reply : CallReply) → Answers s call reply → AreDue s.stood.alarms.alarms → AreDue (alarms_called s.stood.alarms by call reply).alarms
+due-called s by (SleepPoll due) (PendingAt number) h k = due-slept s.stood.alarms by due number h.1 k
 due-called s by _ _ h k = k
 
-due-all : (s : State) (x : List Entry) → IsLawful s x → AreDue s.alarms.alarms → AreDue (after_all s x).alarms.alarms
+due-all : (s : State) (x : List Entry) → IsLawful s x → AreDue s.stood.alarms.alarms → AreDue (after_all s x).stood.alarms.alarms
 unfolding after
 due-all s [] l k = k
 due-all s (e ∷ x) l k = due-all (after s e) x l.1 (due-after s e l.0 k)
   where
-    due-after : (s : State) (e : Entry) → May s e → AreDue s.alarms.alarms → AreDue (after s e).alarms.alarms
+    due-after : (s : State) (e : Entry) → May s e → AreDue s.stood.alarms.alarms → AreDue (after s e).stood.alarms.alarms
     due-after s (CallEntry by call reply) m k = due-called s by call reply m.1.1 k
-    due-after s (Fire alarm) m k = each-drop (λ at told. at ≤ MAX_TIME) s.alarms.alarms k
+    due-after s (Fire alarm) m k = each-drop (λ at told. at ≤ MAX_TIME) s.stood.alarms.alarms k
     due-after s Cleanup m k = tt
     due-after s _ m k = k
 
-pub run_due : (b : Begin) (x : List Entry) → IsLawful (begun b) x → All (λ (a : Alarm). a.due ≤ MAX_TIME) (after_all (begun b) x).alarms.alarms
+pub run_due : (b : Begin) (x : List Entry) → IsLawful (begun b) x → All (λ (a : Alarm). a.due ≤ MAX_TIME) (after_all (begun b) x).stood.alarms.alarms
 unfolding begun
-run_due b x l = All-from_recursion (λ (a : Alarm). a.due ≤ MAX_TIME) (after_all (begun b) x).alarms.alarms (due-all (begun b) x l tt)
+run_due b x l = All-from_recursion (λ (a : Alarm). a.due ≤ MAX_TIME) (after_all (begun b) x).stood.alarms.alarms (due-all (begun b) x l tt)
 
 pub run_in_range : (b : Begin) (x : List Entry) → b.start ≤ MAX_TIME → IsLawful (begun b) x → (after_all (begun b) x).clock.time ≤ MAX_TIME
 run_in_range b x h l = time-within b x h l
@@ -107,7 +107,7 @@ before-after s (Visit task) m k = tt
 before-after s (Answer task kind) m k = before-answered s task kind s.root k
 before-after s (NodeEnd node) m k = before-node s.phase s.root k
 before-after s (Advance now) m k = tt
-before-after s Cleanup m k = before-cleans (is_ended s.nodes 0) (reached s) s.root
+before-after s Cleanup m k = before-cleans (is_ended s.stood.nodes 0) (reached s) s.root
 before-after s (Crash choices) m k = tt
 before-after s (Finish cause) m k = tt
 before-after s _ m k = k

@@ -15,11 +15,11 @@ there-at : (o : Outcome) → is_there_at o ≡ true → o ≡ There
 there-at There h = refl
 there-at _ h = absurd (cc)
 
-there-stored : (s : State) (task : ℕ) (r : Option TaskResult) → find task s.results ≡ r → is_there r ≡ true → IsStored s task
+there-stored : (s : State) (task : ℕ) (r : Option TaskResult) → find task s.stood.results ≡ r → is_there r ≡ true → IsStored s task
 there-stored s task (Some r) e h = (r, e, there-at r.outcome h)
 there-stored s task None e h = absurd (cc)
 
-stored-there : (s : State) (task : ℕ) → IsStored s task → is_there (find task s.results) ≡ true
+stored-there : (s : State) (task : ℕ) → IsStored s task → is_there (find task s.stood.results) ≡ true
 stored-there s task h = rw (h.1, h.2) refl
 
 -- what is there behind a change was there before it
@@ -64,12 +64,12 @@ there-removed k other rs p h = elim (cases_Bool (eqb other k)) [
     none-there None g f = cc
     none-there (Some r) g f = cc
 
-there-called : (s : State) (by : Option ℕ) (call : Call) (reply : CallReply) (k : ℕ) → AreTasks s → is_there (find k (results_called s.results by call reply)) ≡ true → is_there (find k s.results) ≡ true
-there-called s by (Spawn node) (TaskAt task number) k t h = there-add k task s.results h
-there-called s by (Abort task) Done k t h = there-abort k task s.results h
-there-called s by (Join task) StillPending k t h = there-outcome k task (Open by) s.results refl h
-there-called s by (Join task) IsReady k t h = there-outcome k task IsClosed s.results refl h
-there-called s by (GiveUp task) Done k t h = there-removed k task s.results t.results h
+there-called : (s : State) (by : Option ℕ) (call : Call) (reply : CallReply) (k : ℕ) → AreTasks s → is_there (find k (results_called s.stood.results by call reply)) ≡ true → is_there (find k s.stood.results) ≡ true
+there-called s by (Spawn node) (TaskAt task number) k t h = there-add k task s.stood.results h
+there-called s by (Abort task) Done k t h = there-abort k task s.stood.results h
+there-called s by (Join task) StillPending k t h = there-outcome k task (Open by) s.stood.results refl h
+there-called s by (Join task) IsReady k t h = there-outcome k task IsClosed s.stood.results refl h
+there-called s by (GiveUp task) Done k t h = there-removed k task s.stood.results t.results h
 there-called s by _ _ k t h = h
 
 there-left : (p : Phase) (rs : List (ℕ × TaskResult)) (k : ℕ) → is_there (find k (results_left p rs)) ≡ true → is_there (find k rs) ≡ true
@@ -108,19 +108,19 @@ end-runs _ running root task t m = absurd m
 
 -- whose result is there doesn't run
 abbrev AreEnded : State → Type 0
-AreEnded s = (k : ℕ) → is_there (find k s.results) ≡ true → has_number k s.running ≡ false
+AreEnded s = (k : ℕ) → is_there (find k s.stood.results) ≡ true → has_number k s.running ≡ false
 
 some-told : (r : Option TaskResult) → is_there r ≡ true → is_some r ≡ true
 some-told (Some r) h = refl
 some-told None h = absurd (cc)
 
-ended-called : (s : State) (by : Option ℕ) (call : Call) (reply : CallReply) → Answers s call reply → AreTasks s → AreEnded s → (k : ℕ) → is_there (find k (results_called s.results by call reply)) ≡ true → has_number k (running_called s.running call reply) ≡ false
+ended-called : (s : State) (by : Option ℕ) (call : Call) (reply : CallReply) → Answers s call reply → AreTasks s → AreEnded s → (k : ℕ) → is_there (find k (results_called s.stood.results by call reply)) ≡ true → has_number k (running_called s.running call reply) ≡ false
 ended-called s by call reply m t d k h =
     let was = there-called s by call reply k t h in
-    (gone-called k s call reply m (d k was, t.told k (some-told (find k s.results) was))).0
+    (gone-called k s call reply m (d k was, t.told k (some-told (find k s.stood.results) was))).0
 
 ended-answered : (s : State) (task : ℕ) (kind : AnswerKind) → May s (Answer task kind) → AreTasks s → AreEnded s → (k : ℕ) → is_there (find k (results_answered s task kind)) ≡ true → has_number k (running_answered s.running task kind) ≡ false
-ended-answered s task Ended m t d k h = elim (there-ended s.phase (ends_next s.running s.root) (is_settled s task) task s.results s.running k m.1.0 h) [
+ended-answered s task Ended m t d k h = elim (there-ended s.phase (ends_next s.running s.root) (is_settled s task) task s.stood.results s.running k m.1.0 h) [
   | inl e ↦ (let same : task ≡ k = grind arith in rw same (gone-without k s.running t.once))
   | inr was ↦ without-lacks k task s.running (d k was)
 ]
@@ -132,9 +132,9 @@ ended-root s task k e l h = with-lacks k task s.running h (rw e (grind arith))
 ended-after : (s : State) (e : Entry) → May s e → AreTasks s → AreEnded s → AreEnded (after s e)
 unfolding after
 ended-after s (CallEntry by call reply) m t d = ended-called s by call reply m.1.1 t d
-ended-after s (Root task) m t d = λ k h. ended-root s task k m.1.1 (t.told k (some-told (find k s.results) h)) (d k h)
+ended-after s (Root task) m t d = λ k h. ended-root s task k m.1.1 (t.told k (some-told (find k s.stood.results) h)) (d k h)
 ended-after s (Answer task kind) m t d = ended-answered s task kind m t d
-ended-after s (NodeEnd node) m t d = λ k h. d k (there-left s.phase s.results k h)
+ended-after s (NodeEnd node) m t d = λ k h. d k (there-left s.phase s.stood.results k h)
 ended-after s _ m t d = d
 
 ended-all : (s : State) (x : List Entry) → IsLawful s x → AreTasks s → AreEnded s → AreEnded (after_all s x)
@@ -148,7 +148,7 @@ run-ended b x l = ended-all (begun b) x l (begun-tasks b) (λ k h. absurd (cc))
 module _ (task : ℕ) where
   -- its result isn't there, and it has gone
   abbrev IsTaken : State → Type 0
-  IsTaken s = (is_there (find task s.results) ≡ true → ⊥) × IsGone task s.running s.numbers
+  IsTaken s = (is_there (find task s.stood.results) ≡ true → ⊥) × IsGone task s.running s.numbers
 
   gone-after : (s : State) (e : Entry) → May s e → IsGone task s.running s.numbers → IsGone task (after s e).running (after s e).numbers
   unfolding after
@@ -161,7 +161,7 @@ module _ (task : ℕ) where
   gone-after s _ m g = g
 
   taken-answered : (s : State) (other : ℕ) (kind : AnswerKind) → May s (Answer other kind) → AreTasks s → IsTaken s → is_there (find task (results_answered s other kind)) ≡ true → ⊥
-  taken-answered s other Ended m t k h = elim (there-ended s.phase (ends_next s.running s.root) (is_settled s other) other s.results s.running task m.1.0 h) [
+  taken-answered s other Ended m t k h = elim (there-ended s.phase (ends_next s.running s.root) (is_settled s other) other s.stood.results s.running task m.1.0 h) [
     | inl e ↦ (
         let same : other ≡ task = grind arith in
         let runs : has_number task s.running ≡ true = rw same at (end-runs s.phase s.running s.root other t.at m.1.0) in
@@ -171,11 +171,11 @@ module _ (task : ℕ) where
   ]
   taken-answered s other _ m t k h = k.0 h
 
-  taken-results : (s : State) (e : Entry) → May s e → AreTasks s → IsTaken s → is_there (find task (after s e).results) ≡ true → ⊥
+  taken-results : (s : State) (e : Entry) → May s e → AreTasks s → IsTaken s → is_there (find task (after s e).stood.results) ≡ true → ⊥
   unfolding after
   taken-results s (CallEntry by call reply) m t k h = k.0 (there-called s by call reply task t h)
   taken-results s (Answer other kind) m t k h = taken-answered s other kind m t k h
-  taken-results s (NodeEnd node) m t k h = k.0 (there-left s.phase s.results task h)
+  taken-results s (NodeEnd node) m t k h = k.0 (there-left s.phase s.stood.results task h)
   taken-results s _ m t k h = k.0 h
 
   join-there : (r : Option TaskResult) → JoinAnswers r IsReady → is_there r ≡ true
@@ -194,7 +194,7 @@ module _ (task : ℕ) where
   hands-none : (s : State) (e : Entry) → May s e → IsTaken s → HandsNone e
   hands-none s (CallEntry by (Join other) IsReady) m k who e =
       let same : other ≡ task = cc in
-      k.0 (join-there (find task s.results) (rw same at m.1.1))
+      k.0 (join-there (find task s.stood.results) (rw same at m.1.1))
   hands-none s _ m k who e = cc
 
   taken-all : (s : State) (y : List Entry) → IsLawful s y → AreTasks s → IsTaken s → AllByRecursion HandsNone y
@@ -223,9 +223,9 @@ handed_once b x y by task l =
     let f = lawful-front (begun b) x (e ∷ y) l in
     let r = lawful-tail (begun b) x (e ∷ y) l in
     let t = run-tasks b x f in
-    let there = join-there task (find task s.results) r.0.1.1 in
-    let none : is_there (find task (with_outcome IsClosed task s.results)) ≡ false = closed-now task s.results in
-    let gone : IsGone task s.running s.numbers = (run-ended b x f task there, t.told task (some-told (find task s.results) there)) in
+    let there = join-there task (find task s.stood.results) r.0.1.1 in
+    let none : is_there (find task (with_outcome IsClosed task s.stood.results)) ≡ false = closed-now task s.stood.results in
+    let gone : IsGone task s.running s.numbers = (run-ended b x f task there, t.told task (some-told (find task s.stood.results) there)) in
     All-from_recursion (HandsNone task) y (taken-all task (after s e) y r.1 (tasks-after s e r.0 t) ((λ h. cc), gone))
 
 pub ends_once : (b : Begin) (x y : List Entry) (task : ℕ) → IsLawful (begun b) (x ++ Answer task Ended ∷ y) → All (λ (e : Entry). e ≢ Answer task Ended) y
@@ -239,15 +239,15 @@ ends_once b x y task l =
     All-from_recursion (λ (e : Entry). e ≢ Answer task Ended) y (gone-all task (after s e) y r.1 (tasks-after s e r.0 t) (gone-without task s.running t.once, t.runs task runs))
 
 -- a result comes to be there with the end of its task
-stores : (s : State) (e : Entry) (task : ℕ) → May s e → AreTasks s → (IsStored s task → ⊥) → is_there (find task (after s e).results) ≡ true → e ≡ Answer task Ended
+stores : (s : State) (e : Entry) (task : ℕ) → May s e → AreTasks s → (IsStored s task → ⊥) → is_there (find task (after s e).stood.results) ≡ true → e ≡ Answer task Ended
 unfolding after
-stores s (CallEntry by call reply) task m t n h = absurd (n (there-stored s task (find task s.results) refl (there-called s by call reply task t h)))
-stores s (Answer other Ended) task m t n h = elim (there-ended s.phase (ends_next s.running s.root) (is_settled s other) other s.results s.running task m.1.0 h) [
+stores s (CallEntry by call reply) task m t n h = absurd (n (there-stored s task (find task s.stood.results) refl (there-called s by call reply task t h)))
+stores s (Answer other Ended) task m t n h = elim (there-ended s.phase (ends_next s.running s.root) (is_settled s other) other s.stood.results s.running task m.1.0 h) [
   | inl e ↦ (let same : other ≡ task = grind arith in ap (λ (k : ℕ). Answer k Ended) same)
-  | inr was ↦ absurd (n (there-stored s task (find task s.results) refl was))
+  | inr was ↦ absurd (n (there-stored s task (find task s.stood.results) refl was))
 ]
-stores s (NodeEnd node) task m t n h = absurd (n (there-stored s task (find task s.results) refl (there-left s.phase s.results task h)))
-stores s _ task m t n h = absurd (n (there-stored s task (find task s.results) refl h))
+stores s (NodeEnd node) task m t n h = absurd (n (there-stored s task (find task s.stood.results) refl (there-left s.phase s.stood.results task h)))
+stores s _ task m t n h = absurd (n (there-stored s task (find task s.stood.results) refl h))
 
 pub stored_at_end : (b : Begin) (x y : List Entry) (e : Entry) (task : ℕ) → IsLawful (begun b) (x ++ e ∷ y) → (IsStored (after_all (begun b) x) task → ⊥) → IsStored (after (after_all (begun b) x) e) task → e ≡ Answer task Ended
 stored_at_end b x y e task l n h =

@@ -1,5 +1,5 @@
 -- A round that runs to its end visits each task that was ready and runs.
-use Rattle.rt_laws.proofs.Prelude.{◌≡◌, ◌⊎◌, inl, inr, ℕ, zero, suc, List, [], ◌∷◌, ◌++◌, drop, true, false, eqb, ap, arith, Contains, Bool, ◌&&◌, Option, cases_Bool, Contains-append_right, Contains-permutation, AnswerKind, Pending, Ready, Panicked, Stopped, NoMemory, Ended, FinishCause, Completed, TaskPanicked, Entry, Start, CallEntry, Event, Draw, Root, Round, Visit, Answer, NodeEnd, Advance, Skip, Fire, Cleanup, Crash, Finish, Call, Spawn, CallReply, TaskAt, only-rounds, Mark, Outcome, There, Exited, is_ended, has_number, without_number, is_some_number, find, is_flagged, Begin, State, Phase, Visiting, Entered, Polling, Halted, Ending, Leaving, Over, Cleaning, Closing, Crashed, Finished, Between, Turning, begun, from_running, ends_next, reached, after, after_all, is_settled, answered, entered, entered_by, node_ended, cleans, leaves, ended, left_pending, finished, left_of, May, MayAnswer, MayRound, MayCrash, MayFinish, MayEndNode, IsLawful, MayEnd}
+use Rattle.rt_laws.proofs.Prelude.{◌≡◌, ◌⊎◌, inl, inr, ℕ, zero, suc, List, [], ◌∷◌, ◌++◌, drop, true, false, eqb, ap, arith, Contains, Bool, ◌&&◌, Option, cases_Bool, Contains-append_right, Contains-permutation, AnswerKind, Pending, Ready, Panicked, Stopped, NoMemory, Ended, FinishCause, Completed, TaskPanicked, Entry, Start, CallEntry, Event, Draw, Root, Round, Visit, Answer, NodeEnd, Advance, Skip, Fire, Cleanup, Crash, Finish, only-rounds, Mark, Outcome, There, Exited, is_ended, has_number, without_number, is_some_number, find, is_flagged, Begin, State, Phase, Visiting, Entered, Polling, Halted, Ending, Leaving, Over, Cleaning, Closing, Crashed, Finished, Between, Turning, begun, from_running, ends_next, reached, after, after_all, is_settled, answered, entered, entered_by, node_ended, cleans, leaves, ended, left_pending, finished, left_of, May, MayAnswer, MayRound, MayCrash, MayFinish, MayEndNode, IsLawful, MayEnd}
 use Rattle.rt_laws.proofs.Clock.{lawful-front, lawful-tail}
 use Rattle.rt_laws.proofs.Tasks.{has-called}
 
@@ -87,7 +87,7 @@ past-after s (Visit task) k m = absurd (rw m.1.0 at k)
 past-after s (Answer task kind) k m = past-answered s task kind k m.1.0
 past-after s (NodeEnd node) k m = past-node s.phase k
 past-after s (Advance now) k m = absurd (rw m.1.0 at k)
-past-after s Cleanup k m = past-cleans (is_ended s.nodes 0) (reached s)
+past-after s Cleanup k m = past-cleans (is_ended s.stood.nodes 0) (reached s)
 past-after s (Crash choices) k m = tt
 past-after s (Finish cause) k m = tt
 past-after s _ k m = k
@@ -194,7 +194,7 @@ module _ (task : ℕ) where
   next s (Advance now) w m = absurd (not-over s w (m.1.0, m.1.1))
   next s (Skip now) w m = let k = w.0 in absurd (rw m.1.0 at k)
   next s (Fire alarm) w m = let k = w.0 in absurd (rw m.1.0 at k)
-  next s Cleanup w m = inr (inl (past-cleans (is_ended s.nodes 0) (reached s)))
+  next s Cleanup w m = inr (inl (past-cleans (is_ended s.stood.nodes 0) (reached s)))
   next s (Crash choices) w m = absurd (no-crash s.phase s.running w.0 m.1.0)
   next s (Finish cause) w m = absurd (no-finish s.phase cause w.0 m.1)
   next s _ w m = inr (inr w)

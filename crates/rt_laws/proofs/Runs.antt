@@ -11,7 +11,7 @@ use Rattle.rt_laws.proofs.Followed.{tied}
 use Rattle.rt_laws.proofs.Valid.{asleep, with_root, no_values}
 
 -- the end of a root, whatever it was
-pub ends-tied : {A O : Type 0} (p : Steps A O) (s : State) (v : Value A O) (a : A) (cause : FinishCause) → MovesCleanup p s v s.phase v → p.task.last a s.clock.time 0 ≡ closes_node → is_live (with_end s.nodes 0) 0 ≡ true → find 0 v.held.tasks ≡ Some a → v.unmade ≡ None → IsTied p s v (root_ends ++ finishing cause) (record v { held = taken 0 v.held })
+pub ends-tied : {A O : Type 0} (p : Steps A O) (s : State) (v : Value A O) (a : A) (cause : FinishCause) → MovesCleanup p s v s.phase v → p.task.last a s.clock.time 0 ≡ closes_node → is_live (with_end s.stood.nodes 0) 0 ≡ true → find 0 v.held.tasks ≡ Some a → v.unmade ≡ None → IsTied p s v (root_ends ++ finishing cause) (record v { held = taken 0 v.held })
 unfolding after
 ends-tied p s v a cause cleans last live there none =
     let w = record v { held = taken 0 v.held } in

@@ -66,19 +66,19 @@ has-fired [] time fired due number f h = absurd (cc)
 has-fired (a ∷ alarms) time fired due number f h = grind arith
 
 abbrev pub Stays : State → Entry → ℕ → ℕ → Type 0
-Stays s e due number = (e ≡ Fire number) ⊎ ((e ≡ Cleanup) ⊎ (has_alarm (after s e).alarms.alarms due number ≡ true))
+Stays s e due number = (e ≡ Fire number) ⊎ ((e ≡ Cleanup) ⊎ (has_alarm (after s e).stood.alarms.alarms due number ≡ true))
 
-stays-entry : (s : State) (e : Entry) (due number : ℕ) → May s e → has_alarm s.alarms.alarms due number ≡ true → Stays s e due number
+stays-entry : (s : State) (e : Entry) (due number : ℕ) → May s e → has_alarm s.stood.alarms.alarms due number ≡ true → Stays s e due number
 unfolding after
-stays-entry s (CallEntry by call reply) due number m h = inr (inr (has-called s.alarms by call reply due number h))
-stays-entry s (Fire fired) due number m h = elim (has-fired s.alarms.alarms s.clock.time fired due number m.1.2 h) [
+stays-entry s (CallEntry by call reply) due number m h = inr (inr (has-called s.stood.alarms by call reply due number h))
+stays-entry s (Fire fired) due number m h = elim (has-fired s.stood.alarms.alarms s.clock.time fired due number m.1.2 h) [
   | inl e ↦ inl (ap (λ (k : ℕ). Fire k) e)
   | inr k ↦ inr (inr k)
 ]
 stays-entry s Cleanup due number m h = inr (inl refl)
 stays-entry s _ due number m h = inr (inr h)
 
-stays-all : (s : State) (y : List Entry) (due number : ℕ) → IsLawful s y → has_alarm s.alarms.alarms due number ≡ true → Contains y (Fire number) ⊎ (Contains y Cleanup ⊎ (has_alarm (after_all s y).alarms.alarms due number ≡ true))
+stays-all : (s : State) (y : List Entry) (due number : ℕ) → IsLawful s y → has_alarm s.stood.alarms.alarms due number ≡ true → Contains y (Fire number) ⊎ (Contains y Cleanup ⊎ (has_alarm (after_all s y).stood.alarms.alarms due number ≡ true))
 stays-all s [] due number l h = inr (inr h)
 stays-all s (e ∷ y) due number l h = elim (stays-entry s e due number l.0 h) [
   | inl k ↦ inl (here e (Fire number) y k)
@@ -96,27 +96,27 @@ has-none m [] due number k h = absurd (cc)
 has-none m (a ∷ alarms) due number k h = grind (arith, has-none m alarms due number k.1)
 
 -- an alarm whose time has come has gone off, once the clock step is over
-pub run_gone : (b : Begin) (x y : List Entry) (a : Alarm) → IsLawful (begun b) (x ++ y) → Contains (after_all (begun b) x).alarms.alarms a → (after_all (begun b) (x ++ y)).phase ≢ Turning → a.due ≤ (after_all (begun b) (x ++ y)).clock.time → Contains y (Fire a.number) ⊎ Contains y Cleanup
+pub run_gone : (b : Begin) (x y : List Entry) (a : Alarm) → IsLawful (begun b) (x ++ y) → Contains (after_all (begun b) x).stood.alarms.alarms a → (after_all (begun b) (x ++ y)).phase ≢ Turning → a.due ≤ (after_all (begun b) (x ++ y)).clock.time → Contains y (Fire a.number) ⊎ Contains y Cleanup
 run_gone b x y a l c p d =
     let s = after_all (begun b) x in
     let t = after_all (begun b) (x ++ y) in
-    let h = has-of s.alarms.alarms a c in
+    let h = has-of s.stood.alarms.alarms a c in
     elim (stays-all s y a.due a.number (lawful-tail (begun b) x y l) h) [
       | inl z ↦ inl z
       | inr z ↦ elim z [
         | inl z ↦ inr z
         | inr z ↦ (
-            let alarms : has_alarm t.alarms.alarms a.due a.number ≡ true = rw (after_all-append (begun b) x y) z in
-            let late = has-none (t.clock.time + 1) t.alarms.alarms a.due a.number (outside t.phase t p (run_timely b (x ++ y) l)) alarms in
+            let alarms : has_alarm t.stood.alarms.alarms a.due a.number ≡ true = rw (after_all-append (begun b) x y) z in
+            let late = has-none (t.clock.time + 1) t.stood.alarms.alarms a.due a.number (outside t.phase t p (run_timely b (x ++ y) l)) alarms in
             absurd (omega arith))
       ]
     ]
 
 -- a sleep that waits has its alarm
-pub run_pending : (b : Begin) (x y : List Entry) (by : Option ℕ) (due number : ℕ) → IsLawful (begun b) (x ++ CallEntry by (SleepPoll due) (PendingAt number) ∷ y) → Contains (after_all (begun b) (x ++ CallEntry by (SleepPoll due) (PendingAt number) ∷ [])).alarms.alarms (record { due = due; number = number; task = by })
+pub run_pending : (b : Begin) (x y : List Entry) (by : Option ℕ) (due number : ℕ) → IsLawful (begun b) (x ++ CallEntry by (SleepPoll due) (PendingAt number) ∷ y) → Contains (after_all (begun b) (x ++ CallEntry by (SleepPoll due) (PendingAt number) ∷ [])).stood.alarms.alarms (record { due = due; number = number; task = by })
 unfolding after
 run_pending b x y by due number l =
     let s = after_all (begun b) x in
     let e = CallEntry by (SleepPoll due) (PendingAt number) in
     let m = (lawful-tail (begun b) x (e ∷ y) l).0.1.1 in
-    rw (after_all-append (begun b) x (e ∷ [])) (slept-new s.alarms by due number m.2)
+    rw (after_all-append (begun b) x (e ∷ [])) (slept-new s.stood.alarms by due number m.2)

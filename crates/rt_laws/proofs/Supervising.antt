@@ -1,5 +1,5 @@
 -- Further rules by which a run completes: calls of the maker, tokens that are spent, and a task that ends in its visit.
-use Rattle.rt_laws.proofs.Prelude.{◌≡◌, ◌≢◌, ◌⊎◌, inl, inr, ℕ, zero, suc, List, [], ◌∷◌, Option, Some, None, Bool, true, false, Contains, option_map, is_some, leb, ◌-◌, ◌^◌, refl, ap, ◌∙◌, arith, IsPermutation, Contains-permutation, length_permutation, Error, Execution, Call, Child, Spawn, AbortTask, Join, CallReply, Done, NodeAt, TaskAt, Closed, Refused, IsPending, IsPanicked, IsStopped, LacksMemory, IsEnded, FinishCause, Entry, CallEntry, Event, Wake, Root, AnswerEntry, NodeEnd, Cleanup, Mark, Outcome, TaskResult, is_live, is_known, is_ended, State, Making, Polling, Halted, Ending, Leaving, Turn, stood_in, reached, after, label_at, announced_by, Answers, OutcomeAnswers, ChildAnswers, SpawnAnswers, label_refusal, is_free, find, Held, Ask, Plainly, Spawning, Heard, Plain, Asks, Fits, call_of, put, has_place, Step, Does, Spends, Gives, Gave, Walks, Steps, Value, Polls, EndsState, EndsTask, taken}
+use Rattle.rt_laws.proofs.Prelude.{◌≡◌, ◌≢◌, ◌⊎◌, inl, inr, ℕ, zero, suc, List, [], ◌∷◌, Option, Some, None, Bool, true, false, Contains, option_map, is_some, leb, ◌-◌, ◌^◌, refl, ap, ◌∙◌, arith, IsPermutation, Contains-permutation, length_permutation, Error, Execution, Call, Child, Spawn, AbortTask, Join, CallReply, Done, NodeAt, TaskAt, Closed, Refused, IsPending, IsPanicked, IsStopped, LacksMemory, IsEnded, FinishCause, Entry, CallEntry, Event, Wake, Root, AnswerEntry, NodeEnd, Cleanup, Mark, Outcome, TaskResult, is_live, is_known, is_ended, State, Making, Polling, Halted, Ending, Leaving, Turn, reached, after, label_at, announced_by, Answers, OutcomeAnswers, ChildAnswers, SpawnAnswers, label_refusal, is_free, find, Held, Ask, Plainly, Spawning, Heard, Plain, Asks, Fits, call_of, put, has_place, Step, Does, Spends, Gives, Gave, Walks, Value, Polls, EndsState, EndsTask, taken}
 use Rattle.rt_audit.specs.declared.answer.AnswerKind.TheVariants.{Ready as IsReady}
 use Rattle.rt_model.specs.declared.answer.Answer.{Answer}
 use Rattle.rt_model.specs.declared.answer.Answer.TheVariants.{Pending, Ready, Panicked}
@@ -59,7 +59,7 @@ module _ {A O : Type 0} (p : Course A O) where
 
   -- the calls of an end under way are a front of its walk
 
-  ends-walk : (s : State) (v u : Value A O) (task other : ℕ) (a : A) → other ≡ task → find task v.held.tasks ≡ Some a → EndsTask p.steps s v other u → u.whole ≡ true → Walks (p.steps.task.last a s.clock.time task) (taken task v.held) s.turns (stood_in s) tt tt u.held × (u ≡ record v { held = u.held })
+  ends-walk : (s : State) (v u : Value A O) (task other : ℕ) (a : A) → other ≡ task → find task v.held.tasks ≡ Some a → EndsTask p.steps s v other u → u.whole ≡ true → Walks (p.steps.task.last a s.clock.time task) (taken task v.held) s.turns s.stood tt tt u.held × (u ≡ record v { held = u.held })
   ends-walk s v u task other a e f k w =
       let there : find task v.held.tasks ≡ Some k.0 = rw e at k.1 in
       let same : k.0 ≡ a = cc in
@@ -75,7 +75,7 @@ module _ {A O : Type 0} (p : Course A O) where
   ending-front s v task result left a [] cause h f r = let e = r.ends in absurd (cc)
   ending-front s v task result left a (CallEntry by call reply ∷ x) cause h f r =
       let m = further p s v (CallEntry by call reply) x cause r in
-      let t : Turn = record { by = by; call = call; reply = reply; stood = stood_in s } in
+      let t : Turn = record { by = by; call = call; reply = reply; stood = s.stood } in
       let k = ending-front (after s (CallEntry by call reply)) m.0 task result left a x cause h (rw m.1 f) m.3 in
       front-front s.turns (t ∷ []) (taken task v.held) (p.steps.task.last a s.clock.time task) (rw m.1 at k)
   ending-front s v task result left a (Event label fields ∷ x) cause h f r =
@@ -90,7 +90,7 @@ module _ {A O : Type 0} (p : Course A O) where
       let m = further p s v (AnswerEntry other IsEnded) x cause r in
       let e : other ≡ task = rw h at r.lawful.0.1.0 in
       let k = ends-walk s v m.0 task other a e f m.1 m.2 in
-      walks-front (stood_in s) tt tt m.0.held s.turns (taken task v.held) (p.steps.task.last a s.clock.time task) k.0
+      walks-front s.stood tt tt m.0.held s.turns (taken task v.held) (p.steps.task.last a s.clock.time task) k.0
   ending-front s v task result left a (AnswerEntry other IsPending ∷ x) cause h f r = let n : Ending task result left ≡ Polling other left = rw h at r.lawful.0.1.0 in absurd (cc)
   ending-front s v task result left a (AnswerEntry other IsReady ∷ x) cause h f r = let n : Ending task result left ≡ Polling other left = rw h at r.lawful.0.1.0 in absurd (cc)
   ending-front s v task result left a (AnswerEntry other IsPanicked ∷ x) cause h f r = let n : Ending task result left ≡ Polling other left = rw h at r.lawful.0.1.0 in absurd (cc)
@@ -101,12 +101,12 @@ module _ {A O : Type 0} (p : Course A O) where
   -- whatever is replied to this call
   abbrev pub Replied : State → Value A O → Option ℕ → Ask A O → Type 0
   Replied s v by ask =
-      (reply : CallReply) → Answers s (call_of ask) reply → (held : Held A O) → Fits held ask (record { by = by; call = call_of ask; reply = reply; stood = stood_in s }) → Completes p (after s (CallEntry by (call_of ask) reply)) v
+      (reply : CallReply) → Answers s (call_of ask) reply → (held : Held A O) → Fits held ask (record { by = by; call = call_of ask; reply = reply; stood = s.stood }) → Completes p (after s (CallEntry by (call_of ask) reply)) v
 
   -- what is replied to the calls of supervision; of a child also its refusal
 
   module _ (s : State) (v : Value A O) (by : Option ℕ) where
-    pub child_told : (node : ℕ) (label : List ℕ) → is_live s.nodes node ≡ true → ((number : ℕ) → is_known s.nodes number ≡ false → Completes p (after s (CallEntry by (Child node label) (NodeAt number (is_ended s.nodes node)))) v) → ((error : Error) → Some error ≡ label_refusal (label_at s.labels node) label → Completes p (after s (CallEntry by (Child node label) (Refused error))) v) → Replied s v by (Plainly (Child node label))
+    pub child_told : (node : ℕ) (label : List ℕ) → is_live s.stood.nodes node ≡ true → ((number : ℕ) → is_known s.stood.nodes number ≡ false → Completes p (after s (CallEntry by (Child node label) (NodeAt number (is_ended s.stood.nodes node)))) v) → ((error : Error) → Some error ≡ label_refusal (label_at s.labels node) label → Completes p (after s (CallEntry by (Child node label) (Refused error))) v) → Replied s v by (Plainly (Child node label))
     child_told node label live more refused reply m held f = tells reply (rw live at m)
       where
         tells : (reply : CallReply) → ChildAnswers s node label reply → Completes p (after s (CallEntry by (Child node label) reply)) v
@@ -114,12 +114,12 @@ module _ {A O : Type 0} (p : Course A O) where
         tells (Refused error) m = refused error m
         tells _ m = absurd m
 
-    pub spawn_told : (node : ℕ) (execution : Execution) (made : ℕ → A) → is_free s.nodes node ≡ true → is_ended s.nodes node ≡ false → leb (2 ^ 64 - 1) s.numbers.next ≡ false → ((own : ℕ) → is_known s.nodes own ≡ false → Completes p (after s (CallEntry by (Spawn node) (TaskAt s.numbers.next own))) v) → Replied s v by (Spawning node execution made)
+    pub spawn_told : (node : ℕ) (execution : Execution) (made : ℕ → A) → is_free s.stood.nodes node ≡ true → is_ended s.stood.nodes node ≡ false → leb (2 ^ 64 - 1) s.numbers.next ≡ false → ((own : ℕ) → is_known s.stood.nodes own ≡ false → Completes p (after s (CallEntry by (Spawn node) (TaskAt s.numbers.next own))) v) → Replied s v by (Spawning node execution made)
     spawn_told node execution made free runs room more reply m held f = tells reply (rw (free, room) at m)
       where
         tells : (reply : CallReply) → SpawnAnswers s node reply → Completes p (after s (CallEntry by (Spawn node) reply)) v
         tells (TaskAt task own) m = rw m.0 (more own m.2)
-        tells Closed m = never (is_ended s.nodes node) m runs
+        tells Closed m = never (is_ended s.stood.nodes node) m runs
         tells _ m = absurd m
 
     pub abort_told : (task : ℕ) → is_some (find task s.marks) ≡ true → Completes p (after s (CallEntry by (AbortTask task) Done)) v → Replied s v by (Plainly (AbortTask task))
@@ -128,12 +128,12 @@ module _ {A O : Type 0} (p : Course A O) where
     abort_told task there more _ m held f = absurd m
 
     -- of a join, by what has come of the task
-    pub join_told : (task : ℕ) (r : TaskResult) → find task s.results ≡ Some r → ((reply : CallReply) → OutcomeAnswers r.outcome reply → Completes p (after s (CallEntry by (Join task) reply)) v) → Replied s v by (Plainly (Join task))
+    pub join_told : (task : ℕ) (r : TaskResult) → find task s.stood.results ≡ Some r → ((reply : CallReply) → OutcomeAnswers r.outcome reply → Completes p (after s (CallEntry by (Join task) reply)) v) → Replied s v by (Plainly (Join task))
     join_told task r there more reply m held f = more reply (rw there at m)
 
   module _ (s : State) (v : Value A O) (owes : s.owed ≡ []) where
     abbrev turned : Option ℕ → Call → CallReply → Turn
-    turned by call reply = record { by = by; call = call; reply = reply; stood = stood_in s }
+    turned by call reply = record { by = by; call = call; reply = reply; stood = s.stood }
 
     -- a part of which these are the next calls, made by this task or by nobody
 
@@ -148,7 +148,7 @@ module _ {A O : Type 0} (p : Course A O) where
         let same : call ≡ call_of ask = asks.0 in
         more reply (rw same at m) now (rw same at fits) x cause (rw (same, k) at rest)
 
-    spends : {L R : Type 0} (by : Option ℕ) (ask : Ask A O) (next : Step A L O R) (now : Held A O) → CallsOf by (Spends ask next) now → has_place (stood_in s) (call_of ask) ≡ true → Completes p (after s (CallEntry by (call_of ask) Done)) v → (other : Option ℕ) (call : Call) (reply : CallReply) (u : Value A O) → other ≡ by → u ≡ v → Completes p (after s (CallEntry other call reply)) u
+    spends : {L R : Type 0} (by : Option ℕ) (ask : Ask A O) (next : Step A L O R) (now : Held A O) → CallsOf by (Spends ask next) now → has_place s.stood (call_of ask) ≡ true → Completes p (after s (CallEntry by (call_of ask) Done)) v → (other : Option ℕ) (call : Call) (reply : CallReply) (u : Value A O) → other ≡ by → u ≡ v → Completes p (after s (CallEntry other call reply)) u
     spends by ask next now calls there more other call reply u e k x cause r =
         let rest : Rest p (after s (CallEntry by call reply)) u x cause = rw e at r in
         let f = (calls call reply u x cause k rest).1.0 there in
@@ -170,19 +170,19 @@ module _ {A O : Type 0} (p : Course A O) where
         where
           c : Continues p s v
           c (CallEntry by call reply) u m k w = does None ask on now (maker-calls (Does ask on) l) more by call reply u (rw h at m.1.0) k m.1.1
-          c (Event label fields) u m k w = making_silent p s v owes (Does ask on) now h l (λ by call reply f. rw f.1.0.0 (quiet (stood_in s) reply)) label fields u k
-          c (Root task) u m k w = absurd (leads-gave (Does ask on) now (stood_in s) tt k.0 k.1 s.turns v.held (p.steps.first s.clock.time) l k.2)
+          c (Event label fields) u m k w = making_silent p s v owes (Does ask on) now h l (λ by call reply f. rw f.1.0.0 (quiet s.stood reply)) label fields u k
+          c (Root task) u m k w = absurd (leads-gave (Does ask on) now s.stood tt k.0 k.1 s.turns v.held (p.steps.first s.clock.time) l k.2)
           c Cleanup u m k w = cleanup p s u f
           c (Wake other) u m k w = absurd (cc)
           c e u m k w = let z : stands Making e ≡ true = rw h at (may_stand s e m) in absurd (cc)
 
-      pub making_spends : (ask : Ask A O) (next : Step A A O (Unit {0})) → MakerLeads (Spends ask next) → IsQuiet ask → has_place (stood_in s) (call_of ask) ≡ true → Completes p (after s (CallEntry None (call_of ask) Done)) v → Completes p s v
+      pub making_spends : (ask : Ask A O) (next : Step A A O (Unit {0})) → MakerLeads (Spends ask next) → IsQuiet ask → has_place s.stood (call_of ask) ≡ true → Completes p (after s (CallEntry None (call_of ask) Done)) v → Completes p s v
       making_spends ask next l quiet there more = continues p s v (λ cause e. cc) c
         where
           c : Continues p s v
           c (CallEntry by call reply) u m k w = spends None ask next now (maker-calls (Spends ask next) l) there more by call reply u (rw h at m.1.0) k
-          c (Event label fields) u m k w = making_silent p s v owes (Spends ask next) now h l (λ by call reply f. let is : call ≡ call_of ask = (f.1.0 there).0 in rw is (quiet (stood_in s) reply)) label fields u k
-          c (Root task) u m k w = let gone = (leads-gave (Spends ask next) now (stood_in s) tt k.0 k.1 s.turns v.held (p.steps.first s.clock.time) l k.2).0 in absurd (cc)
+          c (Event label fields) u m k w = making_silent p s v owes (Spends ask next) now h l (λ by call reply f. let is : call ≡ call_of ask = (f.1.0 there).0 in rw is (quiet s.stood reply)) label fields u k
+          c (Root task) u m k w = let gone = (leads-gave (Spends ask next) now s.stood tt k.0 k.1 s.turns v.held (p.steps.first s.clock.time) l k.2).0 in absurd (cc)
           c Cleanup u m k w = cleanup p s u f
           c (Wake other) u m k w = absurd (cc)
           c e u m k w = let z : stands Making e ≡ true = rw h at (may_stand s e m) in absurd (cc)
@@ -190,7 +190,7 @@ module _ {A O : Type 0} (p : Course A O) where
     -- a poll
 
     module _ (task : ℕ) (left : List ℕ) (a : A) (h : s.phase ≡ Polling task left) (f : find task v.held.tasks ≡ Some a) (now : Held A O) where
-      pub polling_spends : (ask : Ask A O) (next : Step A A O (Answer O)) → LeadsTo (p.steps.task.next a s.clock.time task) (taken task v.held) s.turns (Spends ask next) now → IsQuiet ask → has_place (stood_in s) (call_of ask) ≡ true → Completes p (after s (CallEntry (Some task) (call_of ask) Done)) v → Completes p s v
+      pub polling_spends : (ask : Ask A O) (next : Step A A O (Answer O)) → LeadsTo (p.steps.task.next a s.clock.time task) (taken task v.held) s.turns (Spends ask next) now → IsQuiet ask → has_place s.stood (call_of ask) ≡ true → Completes p (after s (CallEntry (Some task) (call_of ask) Done)) v → Completes p s v
       polling_spends ask next l quiet there more = continues p s v (λ cause e. cc) c
         where
           calls : CallsOf (Some task) (Spends ask next) now
@@ -201,7 +201,7 @@ module _ {A O : Type 0} (p : Course A O) where
 
           c : Continues p s v
           c (CallEntry by call reply) u m k w = spends (Some task) ask next now calls there more by call reply u (rw h at m.1.0) k
-          c (Event label fields) u m k w = silent p s v owes task left a h f now (Spends ask next) l (λ by call reply g. let is : call ≡ call_of ask = (g.1.0 there).0 in rw is (quiet (stood_in s) reply)) label fields u k
+          c (Event label fields) u m k w = silent p s v owes task left a h f now (Spends ask next) l (λ by call reply g. let is : call ≡ call_of ask = (g.1.0 there).0 in rw is (quiet s.stood reply)) label fields u k
           c (AnswerEntry other IsPending) u m k w = let n = m.1.0 in absurd (answers Pending k.0 other (cc) k.1)
           c (AnswerEntry other IsReady) u m k w = let n = m.1.0 in let o : O = k.0 in absurd (answers (Ready o) k.1 other (cc) k.2)
           c (AnswerEntry other IsPanicked) u m k w = let n = m.1.0 in let text : List ℕ = k.0 in absurd (answers (Panicked text) k.1 other (cc) k.2)
@@ -223,24 +223,24 @@ module _ {A O : Type 0} (p : Course A O) where
           let front = ending-front (after s (CallEntry (Some task) call reply)) u task result left a x cause h (rw k f) r in
           leads-fronts at now (turned (Some task) call reply ∷ []) s.turns (taken task v.held) (p.steps.task.last a s.clock.time task) l (rw k at front)
 
-      end-silent : (at : Step A (Unit {0}) O (Unit {0})) → EndLeads at → ((by : Option ℕ) (call : Call) (reply : CallReply) → IsFront at now (record { by = by; call = call; reply = reply; stood = stood_in s } ∷ []) → announced_by (stood_in s) call reply ≡ []) → (label : List ℕ) (fields : List (List ℕ)) (u : Value A O) → u ≡ v → Completes p (after s (Event label fields)) u
+      end-silent : (at : Step A (Unit {0}) O (Unit {0})) → EndLeads at → ((by : Option ℕ) (call : Call) (reply : CallReply) → IsFront at now (record { by = by; call = call; reply = reply; stood = s.stood } ∷ []) → announced_by s.stood call reply ≡ []) → (label : List ℕ) (fields : List (List ℕ)) (u : Value A O) → u ≡ v → Completes p (after s (Event label fields)) u
       end-silent at l quiet =
-          strays p (p.steps.task.last a s.clock.time task) at (taken task v.held) now s.turns l (Ending task result left) (inr (inr (task, result, left, refl))) s.clock (stood_in s) v quiet
+          strays p (p.steps.task.last a s.clock.time task) at (taken task v.held) now s.turns l (Ending task result left) (inr (inr (task, result, left, refl))) s.clock s.stood v quiet
           (λ t x cause h c r. let g = ending-front t v task result left a x cause h f r in rw c at g)
           s h refl refl refl
 
       -- its answer is its last step
-      end-gave : (at : Step A (Unit {0}) O (Unit {0})) (u : Value A O) (other : ℕ) → EndLeads at → other ≡ task → EndsTask p.steps s v other u → u.whole ≡ true → Gave (stood_in s) now at tt tt u.held × (u ≡ record v { held = u.held })
+      end-gave : (at : Step A (Unit {0}) O (Unit {0})) (u : Value A O) (other : ℕ) → EndLeads at → other ≡ task → EndsTask p.steps s v other u → u.whole ≡ true → Gave s.stood now at tt tt u.held × (u ≡ record v { held = u.held })
       end-gave at u other l e k w =
           let z = ends-walk s v u task other a e f k w in
-          (leads-gave at now (stood_in s) tt tt u.held s.turns (taken task v.held) (p.steps.task.last a s.clock.time task) l z.0, z.1)
+          (leads-gave at now s.stood tt tt u.held s.turns (taken task v.held) (p.steps.task.last a s.clock.time task) l z.0, z.1)
 
-      pub ending_spends : (ask : Ask A O) (next : Step A (Unit {0}) O (Unit {0})) → EndLeads (Spends ask next) → IsQuiet ask → has_place (stood_in s) (call_of ask) ≡ true → Completes p (after s (CallEntry (Some task) (call_of ask) Done)) v → Completes p s v
+      pub ending_spends : (ask : Ask A O) (next : Step A (Unit {0}) O (Unit {0})) → EndLeads (Spends ask next) → IsQuiet ask → has_place s.stood (call_of ask) ≡ true → Completes p (after s (CallEntry (Some task) (call_of ask) Done)) v → Completes p s v
       ending_spends ask next l quiet there more = continues p s v (λ cause e. cc) c
         where
           c : Continues p s v
           c (CallEntry by call reply) u m k w = spends (Some task) ask next now (end-calls (Spends ask next) l) there more by call reply u (rw h at m.1.0) k
-          c (Event label fields) u m k w = end-silent (Spends ask next) l (λ by call reply g. let is : call ≡ call_of ask = (g.1.0 there).0 in rw is (quiet (stood_in s) reply)) label fields u k
+          c (Event label fields) u m k w = end-silent (Spends ask next) l (λ by call reply g. let is : call ≡ call_of ask = (g.1.0 there).0 in rw is (quiet s.stood reply)) label fields u k
           c (AnswerEntry other IsEnded) u m k w = let gone = (end-gave (Spends ask next) u other l (rw h at m.1.0) k w).0.0 in absurd (cc)
           c (AnswerEntry other IsStopped) u m k w = let n : Ending task result left ≡ Halted other = rw h at m.1.0 in absurd (cc)
           c (AnswerEntry other kind) u m k w = let n : Ending task result left ≡ Polling other left = rw h at m.1.0 in absurd (cc)

@@ -116,9 +116,9 @@ pub record AreTasks (s : State) : Type 0 where
   pub once : AreOnce s.running
   pub runs : (k : ℕ) → has_number k s.running ≡ true → k < s.numbers.next
   pub marked : (k : ℕ) → is_some (find k s.marks) ≡ true → k < s.numbers.next
-  pub told : (k : ℕ) → is_some (find k s.results) ≡ true → k < s.numbers.next
+  pub told : (k : ℕ) → is_some (find k s.stood.results) ≡ true → k < s.numbers.next
   pub marks : AreApart s.marks
-  pub results : AreApart s.results
+  pub results : AreApart s.stood.results
   pub at : IsTaskAt s.phase s.running
 
 -- the next number isn't one that runs
@@ -138,11 +138,11 @@ pub not-not : (b : Bool) → not b ≡ false → b ≡ true
 not-not true h = refl
 not-not false h = absurd (cc)
 
-pub spawn-answers : (s : State) (node task number : ℕ) → Answers s (Spawn node) (TaskAt task number) → (is_free s.nodes node ≡ true) × (task ≡ s.numbers.next) × (is_ended s.nodes node ≡ false) × (is_known s.nodes number ≡ false)
+pub spawn-answers : (s : State) (node task number : ℕ) → Answers s (Spawn node) (TaskAt task number) → (is_free s.stood.nodes node ≡ true) × (task ≡ s.numbers.next) × (is_ended s.stood.nodes node ≡ false) × (is_known s.stood.nodes number ≡ false)
 spawn-answers s node task number m =
-    let first = unless-not (not (is_free s.nodes node)) UnknownToken (λ reply. Unless (leb (2 ^ 64 - 1) s.numbers.next) TooManyTasks (SpawnAnswers s node) reply) task number m in
+    let first = unless-not (not (is_free s.stood.nodes node)) UnknownToken (λ reply. Unless (leb (2 ^ 64 - 1) s.numbers.next) TooManyTasks (SpawnAnswers s node) reply) task number m in
     let second = unless-not (leb (2 ^ 64 - 1) s.numbers.next) TooManyTasks (SpawnAnswers s node) task number first.1 in
-    let free = not-not (is_free s.nodes node) first.0 in
+    let free = not-not (is_free s.stood.nodes node) first.0 in
     (free, second.1.0, second.1.1, second.1.2)
 
 -- calls
@@ -173,17 +173,17 @@ marked-called s (Abort task) Done m t k h = t.marked k (has-replaced k task flag
 marked-called s (AbortTask task) Done m t k h = t.marked k (has-replaced k task flagged s.marks h)
 marked-called s _ _ m t k h = t.marked k h
 
-told-called : (s : State) (by : Option ℕ) (call : Call) (reply : CallReply) → Answers s call reply → AreTasks s → (k : ℕ) → is_some (find k (results_called s.results by call reply)) ≡ true → k < (numbers_called s.numbers call reply).next
+told-called : (s : State) (by : Option ℕ) (call : Call) (reply : CallReply) → Answers s call reply → AreTasks s → (k : ℕ) → is_some (find k (results_called s.stood.results by call reply)) ≡ true → k < (numbers_called s.numbers call reply).next
 told-called s by (Spawn node) (TaskAt task number) m t k h =
     let e = (spawn-answers s node task number m).1 in
-    elim (has-add k task new_result s.results h) [
+    elim (has-add k task new_result s.stood.results h) [
       | inl same ↦ omega arith
       | inr old ↦ (let l = t.told k old in omega arith)
     ]
-told-called s by (Abort task) Done m t k h = t.told k (has-replaced k task (λ r. record r { aborted = true }) s.results h)
-told-called s by (Join task) StillPending m t k h = t.told k (has-replaced k task (λ r. record r { outcome = Open by }) s.results h)
-told-called s by (Join task) IsReady m t k h = t.told k (has-replaced k task (λ r. record r { outcome = IsClosed }) s.results h)
-told-called s by (GiveUp task) Done m t k h = t.told k (has-removed k task s.results h)
+told-called s by (Abort task) Done m t k h = t.told k (has-replaced k task (λ r. record r { aborted = true }) s.stood.results h)
+told-called s by (Join task) StillPending m t k h = t.told k (has-replaced k task (λ r. record r { outcome = Open by }) s.stood.results h)
+told-called s by (Join task) IsReady m t k h = t.told k (has-replaced k task (λ r. record r { outcome = IsClosed }) s.stood.results h)
+told-called s by (GiveUp task) Done m t k h = t.told k (has-removed k task s.stood.results h)
 told-called s by _ _ m t k h = t.told k h
 
 pub has-called : (task : ℕ) (running : List ℕ) (call : Call) (reply : CallReply) → has_number task running ≡ true → has_number task (running_called running call reply) ≡ true
@@ -272,8 +272,8 @@ told-ended (Ending other None left) false task rs k h = h
 told-ended _ true task rs k h = has-replaced k task (λ r. record r { outcome = IsClosed }) rs h
 told-ended _ false task rs k h = h
 
-told-answered : (s : State) (task : ℕ) (kind : AnswerKind) (k : ℕ) → is_some (find k (results_answered s task kind)) ≡ true → is_some (find k s.results) ≡ true
-told-answered s task Ended k h = told-ended s.phase (is_settled s task) task s.results k h
+told-answered : (s : State) (task : ℕ) (kind : AnswerKind) (k : ℕ) → is_some (find k (results_answered s task kind)) ≡ true → is_some (find k s.stood.results) ≡ true
+told-answered s task Ended k h = told-ended s.phase (is_settled s task) task s.stood.results k h
 told-answered s task _ k h = h
 
 -- ends of nodes
@@ -299,8 +299,8 @@ none-marked s t = elim (cases_Bool (is_some (find s.numbers.next s.marks))) [
   | inr h ↦ h
 ]
 
-none-told : (s : State) → AreTasks s → is_some (find s.numbers.next s.results) ≡ false
-none-told s t = elim (cases_Bool (is_some (find s.numbers.next s.results))) [
+none-told : (s : State) → AreTasks s → is_some (find s.numbers.next s.stood.results) ≡ false
+none-told s t = elim (cases_Bool (is_some (find s.numbers.next s.stood.results))) [
   | inl h ↦ (let l = t.told s.numbers.next h in absurd (omega arith))
   | inr h ↦ h
 ]
@@ -313,14 +313,14 @@ apart-called s (Abort task) Done m t = apart-replaced task flagged s.marks t.mar
 apart-called s (AbortTask task) Done m t = apart-replaced task flagged s.marks t.marks
 apart-called s _ _ m t = t.marks
 
-results-called : (s : State) (by : Option ℕ) (call : Call) (reply : CallReply) → Answers s call reply → AreTasks s → AreApart (results_called s.results by call reply)
+results-called : (s : State) (by : Option ℕ) (call : Call) (reply : CallReply) → Answers s call reply → AreTasks s → AreApart (results_called s.stood.results by call reply)
 results-called s by (Spawn node) (TaskAt task number) m t =
     let e = (spawn-answers s node task number m).1 in
-    apart-add task new_result s.results (rw e (none-told s t)) t.results
-results-called s by (Abort task) Done m t = apart-replaced task (λ r. record r { aborted = true }) s.results t.results
-results-called s by (Join task) StillPending m t = apart-replaced task (λ r. record r { outcome = Open by }) s.results t.results
-results-called s by (Join task) IsReady m t = apart-replaced task (λ r. record r { outcome = IsClosed }) s.results t.results
-results-called s by (GiveUp task) Done m t = apart-removed task s.results t.results
+    apart-add task new_result s.stood.results (rw e (none-told s t)) t.results
+results-called s by (Abort task) Done m t = apart-replaced task (λ r. record r { aborted = true }) s.stood.results t.results
+results-called s by (Join task) StillPending m t = apart-replaced task (λ r. record r { outcome = Open by }) s.stood.results t.results
+results-called s by (Join task) IsReady m t = apart-replaced task (λ r. record r { outcome = IsClosed }) s.stood.results t.results
+results-called s by (GiveUp task) Done m t = apart-removed task s.stood.results t.results
 results-called s by _ _ m t = t.results
 
 apart-ended : (settles : Bool) (task : ℕ) (ms : List (ℕ × Mark)) → AreApart ms → AreApart (marks_ended settles task ms)
@@ -339,8 +339,8 @@ results-ended (Ending other None left) false task rs h = h
 results-ended _ true task rs h = apart-replaced task (λ r. record r { outcome = IsClosed }) rs h
 results-ended _ false task rs h = h
 
-results-answered : (s : State) (task : ℕ) (kind : AnswerKind) → AreApart s.results → AreApart (results_answered s task kind)
-results-answered s task Ended h = results-ended s.phase (is_settled s task) task s.results h
+results-answered : (s : State) (task : ℕ) (kind : AnswerKind) → AreApart s.stood.results → AreApart (results_answered s task kind)
+results-answered s task Ended h = results-ended s.phase (is_settled s task) task s.stood.results h
 results-answered s task _ h = h
 
 pub apart-flagged : (ks : List ℕ) (ms : List (ℕ × Mark)) → AreApart ms → AreApart (flag_all ks ms)
@@ -402,14 +402,14 @@ tasks-after s (Answer task kind) m t = record {
 tasks-after s (NodeEnd node) m t = record {
   once = t.once;
   runs = t.runs;
-  marked = λ k h. t.marked k (has-flagged (flagged_by s.nodes node) s.marks k (has-unmarked (leaving s.phase) (flag_all (flagged_by s.nodes node) s.marks) k h));
-  told = λ k h. t.told k (told-left s.phase s.results k h);
-  marks = apart-unmarked (leaving s.phase) (flag_all (flagged_by s.nodes node) s.marks) (apart-flagged (flagged_by s.nodes node) s.marks t.marks);
-  results = results-left s.phase s.results t.results;
+  marked = λ k h. t.marked k (has-flagged (flagged_by s.stood.nodes node) s.marks k (has-unmarked (leaving s.phase) (flag_all (flagged_by s.stood.nodes node) s.marks) k h));
+  told = λ k h. t.told k (told-left s.phase s.stood.results k h);
+  marks = apart-unmarked (leaving s.phase) (flag_all (flagged_by s.stood.nodes node) s.marks) (apart-flagged (flagged_by s.stood.nodes node) s.marks t.marks);
+  results = results-left s.phase s.stood.results t.results;
   at = at-node s.phase s.running t.at;
 }
 tasks-after s (Advance now) m t = record { once = t.once; runs = t.runs; marked = t.marked; told = t.told; marks = t.marks; results = t.results; at = tt }
-tasks-after s Cleanup m t = record { once = t.once; runs = t.runs; marked = t.marked; told = t.told; marks = t.marks; results = t.results; at = at-cleans (is_ended s.nodes 0) (reached s) s.running }
+tasks-after s Cleanup m t = record { once = t.once; runs = t.runs; marked = t.marked; told = t.told; marks = t.marks; results = t.results; at = at-cleans (is_ended s.stood.nodes 0) (reached s) s.running }
 tasks-after s (Crash choices) m t = record { once = t.once; runs = t.runs; marked = t.marked; told = t.told; marks = t.marks; results = t.results; at = tt }
 tasks-after s (Finish cause) m t = record { once = t.once; runs = t.runs; marked = t.marked; told = t.told; marks = t.marks; results = t.results; at = tt }
 tasks-after s _ m t = record { once = t.once; runs = t.runs; marked = t.marked; told = t.told; marks = t.marks; results = t.results; at = t.at }

@@ -10,7 +10,7 @@ earliest_due Turning time cycle = time - (cycle - 1)
 earliest_due _ time cycle = time + 1
 
 abbrev pub IsTimelyAt : Phase → State → Type 0
-IsTimelyAt p s = NoneBefore (earliest_due p s.clock.time s.clock.fixed.cycle) s.alarms.alarms
+IsTimelyAt p s = NoneBefore (earliest_due p s.clock.time s.clock.fixed.cycle) s.stood.alarms.alarms
 
 abbrev pub IsTimely : State → Type 0
 IsTimely s = IsTimelyAt s.phase s
@@ -22,8 +22,8 @@ at-most-next _ time cycle = omega arith
 none-slept : (m : ℕ) (a : AlarmList) (by : Option ℕ) (due number : ℕ) → m ≤ due → NoneBefore m a.alarms → NoneBefore m (slept a by due number).alarms
 none-slept m a by due number h k = grind (arith, each-with (λ at told. m ≤ at) (record { due = due; number = a.count; task = by }) a.alarms h k, each-waking (λ at told. m ≤ at) number by a.alarms k)
 
-none-called : (s : State) (m : ℕ) (by : Option ℕ) (call : Call) (reply : CallReply) → m ≤ s.clock.time + 1 → Answers s call reply → NoneBefore m s.alarms.alarms → NoneBefore m (alarms_called s.alarms by call reply).alarms
-none-called s m by (SleepPoll due) (PendingAt number) h a k = let l = a.0 in none-slept m s.alarms by due number (omega arith) k
+none-called : (s : State) (m : ℕ) (by : Option ℕ) (call : Call) (reply : CallReply) → m ≤ s.clock.time + 1 → Answers s call reply → NoneBefore m s.stood.alarms.alarms → NoneBefore m (alarms_called s.stood.alarms by call reply).alarms
+none-called s m by (SleepPoll due) (PendingAt number) h a k = let l = a.0 in none-slept m s.stood.alarms by due number (omega arith) k
 none-called s m by _ _ h a k = k
 
 -- where nothing fires, each alarm lies ahead
@@ -45,7 +45,7 @@ none-skipped (k ∷ ready) alarms time now o h = absurd (cc)
 
 -- nothing is overdue
 abbrev AreAhead : State → Type 0
-AreAhead s = NoneBefore (s.clock.time + 1) s.alarms.alarms
+AreAhead s = NoneBefore (s.clock.time + 1) s.stood.alarms.alarms
 
 timely-by : (stopped flagged : Bool) (task : ℕ) (left : List ℕ) (s : State) → AreAhead s → IsTimelyAt (entered_by stopped flagged task left) s
 timely-by true flagged task left s k = k
@@ -61,9 +61,9 @@ timely-node (Cleaning cause) s k = k
 timely-node (Leaving task result left) s k = k
 timely-node _ s k = k
 
-timely-round : (p : Phase) (s : State) → AreOrdered s.alarms.alarms → MayRound p s → IsTimelyAt p s → NoneBefore (s.clock.time + 1) s.alarms.alarms
+timely-round : (p : Phase) (s : State) → AreOrdered s.stood.alarms.alarms → MayRound p s → IsTimelyAt p s → NoneBefore (s.clock.time + 1) s.stood.alarms.alarms
 timely-round Between s o m k = k
-timely-round Turning s o m k = none-fires s.alarms.alarms s.clock.time o m.2
+timely-round Turning s o m k = none-fires s.stood.alarms.alarms s.clock.time o m.2
 timely-round _ s o m k = absurd m
 
 timely-leaves : (settles : Bool) (task : ℕ) (result : Option Outcome) (left : List ℕ) (s : State) → AreAhead s → IsTimelyAt (leaves settles task result left) s
@@ -90,19 +90,19 @@ timely-answered s task Stopped m k = rw m at k
 timely-answered s task NoMemory m k = rw m at k
 timely-answered s task Ended m k = timely-ended (is_settled s task) s.phase s k
 
-timely-crash : (p : Phase) (s : State) (running : List ℕ) → MayCrash p running → IsTimelyAt p s → NoneBefore (s.clock.time + 1) s.alarms.alarms
+timely-crash : (p : Phase) (s : State) (running : List ℕ) → MayCrash p running → IsTimelyAt p s → NoneBefore (s.clock.time + 1) s.stood.alarms.alarms
 timely-crash (Closing cause) s running m k = k
 timely-crash _ s running m k = absurd m
 
-timely-finish : (p : Phase) (s : State) (cause : FinishCause) → MayFinish p cause → IsTimelyAt p s → NoneBefore (s.clock.time + 1) s.alarms.alarms
+timely-finish : (p : Phase) (s : State) (cause : FinishCause) → MayFinish p cause → IsTimelyAt p s → NoneBefore (s.clock.time + 1) s.stood.alarms.alarms
 timely-finish (Crashed reached) s cause m k = k
 timely-finish _ s cause m k = absurd m
 
-timely-cleans : (over : Bool) (cause : Option FinishCause) (s : State) → s.alarms.alarms ≡ [] → IsTimelyAt (cleans over cause) s
+timely-cleans : (over : Bool) (cause : Option FinishCause) (s : State) → s.stood.alarms.alarms ≡ [] → IsTimelyAt (cleans over cause) s
 timely-cleans true cause s none = rw none tt
 timely-cleans false cause s none = rw none tt
 
-timely-after : (s : State) (e : Entry) → AreOrdered s.alarms.alarms → May s e → IsTimely s → IsTimely (after s e)
+timely-after : (s : State) (e : Entry) → AreOrdered s.stood.alarms.alarms → May s e → IsTimely s → IsTimely (after s e)
 unfolding after
 timely-after s (Start next now deadline cycle) o m k = rw m.1.0 at k
 timely-after s (CallEntry by call reply) o m k =
@@ -115,17 +115,17 @@ timely-after s (Answer task kind) o m k = timely-answered s task kind m.1.0 k
 timely-after s (NodeEnd node) o m k = timely-node s.phase s k
 timely-after s (Advance now) o m k =
     let e = m.1.2 in
-    let b : NoneBefore (s.clock.time + 1) s.alarms.alarms = rw m.1.0 at k in
-    none-sooner (now - (s.clock.fixed.cycle - 1)) (s.clock.time + 1) s.alarms.alarms (omega arith) b
+    let b : NoneBefore (s.clock.time + 1) s.stood.alarms.alarms = rw m.1.0 at k in
+    none-sooner (now - (s.clock.fixed.cycle - 1)) (s.clock.time + 1) s.stood.alarms.alarms (omega arith) b
 timely-after s (Skip now) o m k =
-    rw m.1.0 (none-sooner (now - (s.clock.fixed.cycle - 1)) now s.alarms.alarms (omega arith) (none-skipped s.ready s.alarms.alarms s.clock.time now o m.1.1))
-timely-after s (Fire alarm) o m k = each-drop (λ at told. earliest_due s.phase s.clock.time s.clock.fixed.cycle ≤ at) s.alarms.alarms k
-timely-after s Cleanup o m k = timely-cleans (is_ended s.nodes 0) (reached s) (after s Cleanup) refl
+    rw m.1.0 (none-sooner (now - (s.clock.fixed.cycle - 1)) now s.stood.alarms.alarms (omega arith) (none-skipped s.ready s.stood.alarms.alarms s.clock.time now o m.1.1))
+timely-after s (Fire alarm) o m k = each-drop (λ at told. earliest_due s.phase s.clock.time s.clock.fixed.cycle ≤ at) s.stood.alarms.alarms k
+timely-after s Cleanup o m k = timely-cleans (is_ended s.stood.nodes 0) (reached s) (after s Cleanup) refl
 timely-after s (Crash choices) o m k = timely-crash s.phase s s.running m.1.0 k
 timely-after s (Finish cause) o m k = timely-finish s.phase s cause m.1 k
 timely-after s _ o m k = k
 
-timely-all : (s : State) (x : List Entry) → AreOrdered s.alarms.alarms → IsLawful s x → IsTimely s → IsTimely (after_all s x)
+timely-all : (s : State) (x : List Entry) → AreOrdered s.stood.alarms.alarms → IsLawful s x → IsTimely s → IsTimely (after_all s x)
 timely-all s [] o l k = k
 timely-all s (e ∷ x) o l k = timely-all (after s e) x (order-after s e o) l.1 (timely-after s e o l.0 k)
 
@@ -133,16 +133,16 @@ pub run_timely : (b : Begin) (x : List Entry) → IsLawful (begun b) x → IsTim
 unfolding begun
 run_timely b x l = timely-all (begun b) x tt l tt
 
-pub outside : (p : Phase) (s : State) → p ≢ Turning → IsTimelyAt p s → NoneBefore (s.clock.time + 1) s.alarms.alarms
+pub outside : (p : Phase) (s : State) → p ≢ Turning → IsTimelyAt p s → NoneBefore (s.clock.time + 1) s.stood.alarms.alarms
 outside Turning s h k = absurd (h refl)
 outside _ s h k = k
 
 -- outside a clock step each alarm that is set lies ahead
-pub run_ahead : (b : Begin) (x : List Entry) → IsLawful (begun b) x → (after_all (begun b) x).phase ≢ Turning → All (λ (a : Alarm). (after_all (begun b) x).clock.time < a.due) (after_all (begun b) x).alarms.alarms
+pub run_ahead : (b : Begin) (x : List Entry) → IsLawful (begun b) x → (after_all (begun b) x).phase ≢ Turning → All (λ (a : Alarm). (after_all (begun b) x).clock.time < a.due) (after_all (begun b) x).stood.alarms.alarms
 run_ahead b x l h =
     let s = after_all (begun b) x in
-    let all = none-before (s.clock.time + 1) s.alarms.alarms (outside s.phase s h (run_timely b x l)) in
-    All-weaker (λ (a : Alarm). s.clock.time + 1 ≤ a.due) (λ (a : Alarm). s.clock.time < a.due) (λ a k. omega arith) s.alarms.alarms all
+    let all = none-before (s.clock.time + 1) s.stood.alarms.alarms (outside s.phase s h (run_timely b x l)) in
+    All-weaker (λ (a : Alarm). s.clock.time + 1 ≤ a.due) (λ (a : Alarm). s.clock.time < a.due) (λ a k. omega arith) s.stood.alarms.alarms all
 
 -- a sleep is ready exactly from its due time on
 exactly-ready : (s : State) (due : ℕ) (reply : CallReply) → Answers s (SleepPoll due) reply → (reply ≡ IsReady) ↔ (due ≤ s.clock.time)
@@ -167,13 +167,13 @@ fires-due (a ∷ alarms) time cycle number o h k =
     (a, is, p.0, earliest, p.1, (λ c. omega arith))
 
 module _ (b : Begin) (x y : List Entry) (number : ℕ) (l : IsLawful (begun b) (x ++ Fire number ∷ y)) where
-  pub run_fire : FiresOnTime (after_all (begun b) x).alarms.alarms (after_all (begun b) x).clock.time (after_all (begun b) x).clock.fixed.cycle number
+  pub run_fire : FiresOnTime (after_all (begun b) x).stood.alarms.alarms (after_all (begun b) x).clock.time (after_all (begun b) x).clock.fixed.cycle number
   run_fire =
       let s = after_all (begun b) x in
       let m = (lawful-tail (begun b) x (Fire number ∷ y) l).0.1 in
       let k : IsTimely s = run_timely b x (lawful-front (begun b) x (Fire number ∷ y) l) in
-      let k2 : NoneBefore (s.clock.time - (s.clock.fixed.cycle - 1)) s.alarms.alarms = rw m.0 at k in
-      fires-due s.alarms.alarms s.clock.time s.clock.fixed.cycle number (run_order b x) m.2 k2
+      let k2 : NoneBefore (s.clock.time - (s.clock.fixed.cycle - 1)) s.stood.alarms.alarms = rw m.0 at k in
+      fires-due s.stood.alarms.alarms s.clock.time s.clock.fixed.cycle number (run_order b x) m.2 k2
 
   pub run_fire_early : is_late (after_all (begun b) x).clock ≡ false
   run_fire_early = (lawful-tail (begun b) x (Fire number ∷ y) l).0.1.1

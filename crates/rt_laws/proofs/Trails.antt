@@ -1,5 +1,5 @@
 -- The events of a call stand directly before it.
-use Rattle.rt_laws.proofs.Prelude.{◌≡◌, ◌⊎◌, inl, inr, List, [], ◌∷◌, ◌++◌, ℕ, Option, refl, sym, ap, ◌∙◌, append_assoc, append-nil, map-append, CallOf, CallReply, Entry, Event, Wake, Begin, Phase, Entered, Announced, State, begun, stood_in, after, after_all, May, IsLawful, announced_by, after_all-append, events_of}
+use Rattle.rt_laws.proofs.Prelude.{◌≡◌, ◌⊎◌, inl, inr, List, [], ◌∷◌, ◌++◌, ℕ, Option, refl, sym, ap, ◌∙◌, append_assoc, append-nil, map-append, CallOf, CallReply, Entry, Event, Wake, Begin, Phase, Entered, Announced, State, begun, after, after_all, May, IsLawful, announced_by, after_all-append, events_of}
 use Rattle.rt_audit.specs.declared.entry.Entry.TheVariants.{Call}
 use Rattle.rt_laws.proofs.Clock.{lawful-tail, lawful-front}
 
@@ -64,9 +64,9 @@ module _ (start : State) where
       let rest : IsLawful (after_all start (xs ++ e ∷ [])) es = rw (after_all-append start xs (e ∷ [])) l.1 in
       rw (← append_assoc xs (e ∷ []) es) (all (xs ++ e ∷ []) es rest (next xs e l.0 t))
 
-pub events-before : (b : Begin) (x : List Entry) (by : Option ℕ) (call : CallOf) (reply : CallReply) → IsLawful (begun b) (x ++ Call by call reply ∷ []) → (front : List Entry) × (x ≡ front ++ events_of (announced_by (stood_in (after_all (begun b) x)) call reply)) × ((after_all (begun b) front).announced ≡ [])
+pub events-before : (b : Begin) (x : List Entry) (by : Option ℕ) (call : CallOf) (reply : CallReply) → IsLawful (begun b) (x ++ Call by call reply ∷ []) → (front : List Entry) × (x ≡ front ++ events_of (announced_by (after_all (begun b) x).stood call reply)) × ((after_all (begun b) front).announced ≡ [])
 unfolding begun
 events-before b x by call reply l =
     let t = all (begun b) [] x (lawful-front (begun b) x (Call by call reply ∷ []) l) (record { front = []; is = refl; silent = refl; apart = inl refl }) in
-    let own : (after_all (begun b) x).announced ≡ announced_by (stood_in (after_all (begun b) x)) call reply = (lawful-tail (begun b) x (Call by call reply ∷ []) l).0.1.2 in
+    let own : (after_all (begun b) x).announced ≡ announced_by (after_all (begun b) x).stood call reply = (lawful-tail (begun b) x (Call by call reply ∷ []) l).0.1.2 in
     (t.front, rw (← own) t.is, t.silent)

@@ -35,12 +35,12 @@ module _ (j : ℕ) where
   over-task : (r : TreeRecord) (node task : ℕ) → IsOver r → IsOver (with_task r node task)
   over-task r node task o = (known-changed (λ (x : NodeState). record x { task = Some task }) (puts-keeps task) node r j ∙ o.0, ended-put r node task j ∙ o.1)
 
-  over-called : (s : State) (call : Call) (reply : CallReply) → Answers s call reply → IsOver s.nodes → IsOver (nodes_called s.nodes call reply)
-  over-called s (Child node label) (NodeAt number ended) m o = over-child s.nodes number node (child-answers s node number label ended m).1 o
-  over-called s (CloseNode node) Done m o = over-release s.nodes node o
+  over-called : (s : State) (call : Call) (reply : CallReply) → Answers s call reply → IsOver s.stood.nodes → IsOver (nodes_called s.stood.nodes call reply)
+  over-called s (Child node label) (NodeAt number ended) m o = over-child s.stood.nodes number node (child-answers s node number label ended m).1 o
+  over-called s (CloseNode node) Done m o = over-release s.stood.nodes node o
   over-called s (Spawn node) (TaskAt task number) m o =
-      over-task (with_child s.nodes number node) node task (over-child s.nodes number node (spawn-answers s node task number m).3 o)
-  over-called s (Spawn node) Closed m o = over-release s.nodes node o
+      over-task (with_child s.stood.nodes number node) node task (over-child s.stood.nodes number node (spawn-answers s node task number m).3 o)
+  over-called s (Spawn node) Closed m o = over-release s.stood.nodes node o
   over-called s _ _ m o = o
 
   over-released : (r : TreeRecord) (m : Option Mark) → IsOver r → IsOver (released m r)
@@ -54,14 +54,14 @@ module _ (j : ℕ) where
   over-end : (r : TreeRecord) (n : ℕ) → is_known r j ≡ true → is_ended (with_end r n) j ≡ true → IsOver (unflagged (with_end r n))
   over-end r n k e = (rw (end-nodes r n) k, e)
 
-  over-after : (s : State) (e : Entry) → May s e → IsOver s.nodes → IsOver (after s e).nodes
+  over-after : (s : State) (e : Entry) → May s e → IsOver s.stood.nodes → IsOver (after s e).stood.nodes
   unfolding after
   over-after s (CallEntry by call reply) m o = over-called s call reply m.1.1 o
-  over-after s (Answer task kind) m o = over-answered s.nodes (find task s.marks) kind o
-  over-after s (NodeEnd node) m o = over-end s.nodes node o.0 (ended-stays s.nodes node j o.1)
+  over-after s (Answer task kind) m o = over-answered s.stood.nodes (find task s.marks) kind o
+  over-after s (NodeEnd node) m o = over-end s.stood.nodes node o.0 (ended-stays s.stood.nodes node j o.1)
   over-after s _ m o = o
 
-  over-all : (s : State) (y : List Entry) → IsLawful s y → IsOver s.nodes → IsOver (after_all s y).nodes
+  over-all : (s : State) (y : List Entry) → IsLawful s y → IsOver s.stood.nodes → IsOver (after_all s y).stood.nodes
   over-all s [] l o = o
   over-all s (e ∷ y) l o = over-all (after s e) y l.1 (over-after s e l.0 o)
 
@@ -70,10 +70,10 @@ module _ (j : ℕ) where
 mark-flagged : (k : ℕ) (ms : List (ℕ × Mark)) (m : Mark) → find k ms ≡ Some m → m.flagged ≡ true → is_flagged (find k ms) ≡ true
 mark-flagged k ms m f h = rw f h
 
-ended-polls : (s : State) (z : List Entry) (task : ℕ) (m : Mark) → IsLawful s z → AreTasks s → AreNodesOf Any s → find task s.marks ≡ Some m → is_ended s.nodes m.node ≡ true → PollsNone s z task
+ended-polls : (s : State) (z : List Entry) (task : ℕ) (m : Mark) → IsLawful s z → AreTasks s → AreNodesOf Any s → find task s.marks ≡ Some m → is_ended s.stood.nodes m.node ≡ true → PollsNone s z task
 ended-polls s z task m l t a f e = out-all task s z l t (inl (mark-flagged task s.marks m f (a.ended task m f e)))
 
-pub ended_unpolled : (b : Begin) (x y : List Entry) (task : ℕ) (m : Mark) → IsLawful (begun b) (x ++ y) → find task (after_all (begun b) x).marks ≡ Some m → is_ended (after_all (begun b) x).nodes m.node ≡ true → PollsNone (after_all (begun b) x) y task
+pub ended_unpolled : (b : Begin) (x y : List Entry) (task : ℕ) (m : Mark) → IsLawful (begun b) (x ++ y) → find task (after_all (begun b) x).marks ≡ Some m → is_ended (after_all (begun b) x).stood.nodes m.node ≡ true → PollsNone (after_all (begun b) x) y task
 ended_unpolled b x y task m l f e =
     let front = lawful-front (begun b) x y l in
     ended-polls (after_all (begun b) x) y task m (lawful-tail (begun b) x y l) (run-tasks b x front) (run-any b x front) f e
@@ -85,13 +85,13 @@ contains-stands [] j (i, l, e) = absurd (omega arith)
 contains-stands (x ∷ xs) j (zero, l, e) = or-left (eqb x j) (stands_in xs j) (grind arith)
 contains-stands (x ∷ xs) j (suc i, l, e) = or-right (eqb x j) (stands_in xs j) (contains-stands xs j (i, omega arith, e))
 
-below-polls : (n : ℕ) (u : State) (y z : List Entry) (child : ℕ) (k : Mark) → IsLawful u (y ++ z) → AreTasks u → AreNodesOf Any u → IsOver n u.nodes → find child (after_all u y).marks ≡ Some k → stands_in (nodes_below n (links (after_all u y).nodes)) k.node ≡ true → PollsNone (after_all u y) z child
+below-polls : (n : ℕ) (u : State) (y z : List Entry) (child : ℕ) (k : Mark) → IsLawful u (y ++ z) → AreTasks u → AreNodesOf Any u → IsOver n u.stood.nodes → find child (after_all u y).marks ≡ Some k → stands_in (nodes_below n (links (after_all u y).stood.nodes)) k.node ≡ true → PollsNone (after_all u y) z child
 below-polls n u y z child k l t a o f h =
     let s = after_all u y in
     let front = lawful-front u y z l in
     let nodes = nodes-all Any u y front t (any-named y) a in
     let over = over-all n u y front o in
-    ended-polls s z child k (lawful-tail u y z l) (tasks-all u y front t) nodes f (ended-below s.nodes n k.node nodes.tree over.1 h)
+    ended-polls s z child k (lawful-tail u y z l) (tasks-all u y front t) nodes f (ended-below s.stood.nodes n k.node nodes.tree over.1 h)
 
 flag-some : (k other : ℕ) (ms : List (ℕ × Mark)) → is_some (find k ms) ≡ true → is_some (find k (flag other ms)) ≡ true
 flag-some k other [] h = h
@@ -125,7 +125,7 @@ flagged-below r ms next n child k a f known h =
 
 module _ (task : ℕ) (m : Mark) (result : Option Outcome) (left : List ℕ) (child : ℕ) (k : Mark) where
   abbrev IsBelow : State → Type 0
-  IsBelow s = stands_in (nodes_below m.node (links s.nodes)) k.node ≡ true
+  IsBelow s = stands_in (nodes_below m.node (links s.stood.nodes)) k.node ≡ true
 
   leaving-polls : (u : State) (z : List Entry) → u.phase ≡ Leaving task result left → find task u.marks ≡ Some m → IsLawful u z → AreTasks u → AreNodesOf Any u → find child u.marks ≡ Some k → IsBelow u → PollsNone u z child
   unfolding after
@@ -134,11 +134,11 @@ module _ (task : ℕ) (m : Mark) (result : Option Outcome) (left : List ℕ) (ch
       ((λ x. x), leaving-polls (after u (Wake other)) z p f l.1 (tasks-after u (Wake other) l.0 t) (nodes-after-entry Any u (Wake other) l.0 t (λ i x. tt) a) g h)
   leaving-polls u (NodeEnd node ∷ z) p f l t a g h =
       let is : m.node ≡ node = the-node task m u.phase u.marks result left node p f l.0.1 in
-      let known : is_known u.nodes node ≡ true = rw (← is) (known-on u.nodes m.node task (a.on task m f)) in
-      let below : stands_in (nodes_below node (links u.nodes)) k.node ≡ true = ap (λ i. stands_in (nodes_below i (links u.nodes)) k.node) (sym is) ∙ h in
-      let flags = flagged-below u.nodes u.marks u.numbers.next node child k a g known below in
+      let known : is_known u.stood.nodes node ≡ true = rw (← is) (known-on u.stood.nodes m.node task (a.on task m f)) in
+      let below : stands_in (nodes_below node (links u.stood.nodes)) k.node ≡ true = ap (λ i. stands_in (nodes_below i (links u.stood.nodes)) k.node) (sym is) ∙ h in
+      let flags = flagged-below u.stood.nodes u.marks u.numbers.next node child k a g known below in
       let given = t.marked child (rw g refl) in
-      ((λ x. x), out-all child (after u (NodeEnd node)) z l.1 (tasks-after u (NodeEnd node) l.0 t) (out-unmarked child u.phase (flag_all (flagged_by u.nodes node) u.marks) u.running u.numbers t.at given flags))
+      ((λ x. x), out-all child (after u (NodeEnd node)) z l.1 (tasks-after u (NodeEnd node) l.0 t) (out-unmarked child u.phase (flag_all (flagged_by u.stood.nodes node) u.marks) u.running u.numbers t.at given flags))
   leaving-polls u (e ∷ z) p f l t a g h = let s : stands (Leaving task result left) e ≡ true = rw p at (may_stand u e l.0) in absurd (cc)
 
   leaving-all : (u : State) (y z : List Entry) → u.phase ≡ Leaving task result left → find task u.marks ≡ Some m → IsLawful u (y ++ z) → AreTasks u → AreNodesOf Any u → find child (after_all u y).marks ≡ Some k → IsBelow (after_all u y) → PollsNone (after_all u y) z child
@@ -148,10 +148,10 @@ module _ (task : ℕ) (m : Mark) (result : Option Outcome) (left : List ℕ) (ch
       leaving-all (after u (Wake other)) y z p f l.1 (tasks-after u (Wake other) l.0 t) (nodes-after-entry Any u (Wake other) l.0 t (λ i x. tt) a) g h
   leaving-all u (NodeEnd node ∷ y) z p f l t a g h =
       let is : m.node ≡ node = the-node task m u.phase u.marks result left node p f l.0.1 in
-      let known = known-on u.nodes m.node task (a.on task m f) in
-      let knows : is_known u.nodes node ≡ true = ap (is_known u.nodes) (sym is) ∙ known in
-      let over = ended-now u.nodes node m.node knows (or-left (eqb node m.node) (stands_in (nodes_below node (links u.nodes)) m.node) (grind arith)) in
-      below-polls m.node (after u (NodeEnd node)) y z child k l.1 (tasks-after u (NodeEnd node) l.0 t) (nodes-after-entry Any u (NodeEnd node) l.0 t (λ i x. tt) a) (over-end m.node u.nodes node known over) g h
+      let known = known-on u.stood.nodes m.node task (a.on task m f) in
+      let knows : is_known u.stood.nodes node ≡ true = ap (is_known u.stood.nodes) (sym is) ∙ known in
+      let over = ended-now u.stood.nodes node m.node knows (or-left (eqb node m.node) (stands_in (nodes_below node (links u.stood.nodes)) m.node) (grind arith)) in
+      below-polls m.node (after u (NodeEnd node)) y z child k l.1 (tasks-after u (NodeEnd node) l.0 t) (nodes-after-entry Any u (NodeEnd node) l.0 t (λ i x. tt) a) (over-end m.node u.stood.nodes node known over) g h
   leaving-all u (e ∷ y) z p f l t a g h = let s : stands (Leaving task result left) e ≡ true = rw p at (may_stand u e l.0) in absurd (cc)
 
 -- behind a cleanup nobody is polled
@@ -172,11 +172,11 @@ polls-append s (e ∷ y) z task h = polls-append (after s e) y z task h.1
 
 -- from the visit that ends a task
 module _ (task : ℕ) (m : Mark) (child : ℕ) (k : Mark) where
-  from-ending : (s : State) (y z : List Entry) (result : Option Outcome) (left : List ℕ) (settles : Bool) → is_ended s.nodes m.node ≡ settles → s.phase ≡ Ending task result left → find task s.marks ≡ Some m → IsLawful s (Answer task Ended ∷ (y ++ z)) → AreTasks s → AreNodesOf Any s → find child (after_all (after s (Answer task Ended)) y).marks ≡ Some k → stands_in (nodes_below m.node (links (after_all (after s (Answer task Ended)) y).nodes)) k.node ≡ true → PollsNone (after_all (after s (Answer task Ended)) y) z child
+  from-ending : (s : State) (y z : List Entry) (result : Option Outcome) (left : List ℕ) (settles : Bool) → is_ended s.stood.nodes m.node ≡ settles → s.phase ≡ Ending task result left → find task s.marks ≡ Some m → IsLawful s (Answer task Ended ∷ (y ++ z)) → AreTasks s → AreNodesOf Any s → find child (after_all (after s (Answer task Ended)) y).marks ≡ Some k → stands_in (nodes_below m.node (links (after_all (after s (Answer task Ended)) y).stood.nodes)) k.node ≡ true → PollsNone (after_all (after s (Answer task Ended)) y) z child
   unfolding after
   from-ending s y z result left true settles p f l t a g h =
       let u = after s (Answer task Ended) in
-      let known = known-on s.nodes m.node task (a.on task m f) in
+      let known = known-on s.stood.nodes m.node task (a.on task m f) in
       below-polls m.node u y z child k l.1 (tasks-after s (Answer task Ended) l.0 t) (nodes-after-entry Any s (Answer task Ended) l.0 t (λ i x. tt) a) (over-after m.node s (Answer task Ended) l.0 (known, settles)) g h
   from-ending s y z result left false settles p f l t a g h =
       let u = after s (Answer task Ended) in
@@ -185,41 +185,41 @@ module _ (task : ℕ) (m : Mark) (child : ℕ) (k : Mark) where
       let mark : find task u.marks ≡ Some m = rw unsettled f in
       leaving-all task m result left child k u y z phase mark l.1 (tasks-after s (Answer task Ended) l.0 t) (nodes-after-entry Any s (Answer task Ended) l.0 t (λ i x. tt) a) g h
 
-  from-end : (s : State) (y z : List Entry) (p : Phase) → s.phase ≡ p → MayEnd p (ends_next s.running s.root) task → find task s.marks ≡ Some m → IsLawful s (Answer task Ended ∷ (y ++ z)) → AreTasks s → AreNodesOf Any s → find child (after_all (after s (Answer task Ended)) y).marks ≡ Some k → stands_in (nodes_below m.node (links (after_all (after s (Answer task Ended)) y).nodes)) k.node ≡ true → PollsNone (after_all (after s (Answer task Ended)) y) z child
-  from-end s y z (Ending other result left) e n f l t a g h = from-ending s y z result left (is_ended s.nodes m.node) refl (e ∙ ap (λ i. Ending i result left) (sym n)) f l t a g h
+  from-end : (s : State) (y z : List Entry) (p : Phase) → s.phase ≡ p → MayEnd p (ends_next s.running s.root) task → find task s.marks ≡ Some m → IsLawful s (Answer task Ended ∷ (y ++ z)) → AreTasks s → AreNodesOf Any s → find child (after_all (after s (Answer task Ended)) y).marks ≡ Some k → stands_in (nodes_below m.node (links (after_all (after s (Answer task Ended)) y).stood.nodes)) k.node ≡ true → PollsNone (after_all (after s (Answer task Ended)) y) z child
+  from-end s y z (Ending other result left) e n f l t a g h = from-ending s y z result left (is_ended s.stood.nodes m.node) refl (e ∙ ap (λ i. Ending i result left) (sym n)) f l t a g h
   from-end s y z (Closing cause) e n f l t a g h =
       let ends : EndsFor cause s.phase = rw e refl in
       let all = ends-entry cause s (Answer task Ended) l.0.0 ends l.0 in
       polls-append (after s (Answer task Ended)) y z child (cleaned-polls cause (after s (Answer task Ended)) (y ++ z) child all.1 all.2 l.1)
   from-end s y z _ e n f l t a g h = absurd n
 
-pub ended_visit : (b : Begin) (x y z : List Entry) (task child : ℕ) (m k : Mark) → IsLawful (begun b) (x ++ Answer task Ended ∷ (y ++ z)) → find task (after_all (begun b) x).marks ≡ Some m → find child (after_all (begun b) (x ++ Answer task Ended ∷ y)).marks ≡ Some k → Contains (nodes_below m.node (links (after_all (begun b) (x ++ Answer task Ended ∷ y)).nodes)) k.node → PollsNone (after_all (begun b) (x ++ Answer task Ended ∷ y)) z child
+pub ended_visit : (b : Begin) (x y z : List Entry) (task child : ℕ) (m k : Mark) → IsLawful (begun b) (x ++ Answer task Ended ∷ (y ++ z)) → find task (after_all (begun b) x).marks ≡ Some m → find child (after_all (begun b) (x ++ Answer task Ended ∷ y)).marks ≡ Some k → Contains (nodes_below m.node (links (after_all (begun b) (x ++ Answer task Ended ∷ y)).stood.nodes)) k.node → PollsNone (after_all (begun b) (x ++ Answer task Ended ∷ y)) z child
 ended_visit b x y z task child m k l f g c =
     let s = after_all (begun b) x in
     let e = after_all-append (begun b) x (Answer task Ended ∷ y) in
     let front = lawful-front (begun b) x (Answer task Ended ∷ (y ++ z)) l in
     let r = lawful-tail (begun b) x (Answer task Ended ∷ (y ++ z)) l in
     let mark : find child (after_all s (Answer task Ended ∷ y)).marks ≡ Some k = rw e at g in
-    let below : Contains (nodes_below m.node (links (after_all s (Answer task Ended ∷ y)).nodes)) k.node = rw e at c in
-    let polls = from-end task m child k s y z s.phase refl r.0.1.0 f r (run-tasks b x front) (run-any b x front) mark (contains-stands (nodes_below m.node (links (after_all s (Answer task Ended ∷ y)).nodes)) k.node below) in
+    let below : Contains (nodes_below m.node (links (after_all s (Answer task Ended ∷ y)).stood.nodes)) k.node = rw e at c in
+    let polls = from-end task m child k s y z s.phase refl r.0.1.0 f r (run-tasks b x front) (run-any b x front) mark (contains-stands (nodes_below m.node (links (after_all s (Answer task Ended ∷ y)).stood.nodes)) k.node below) in
     rw e polls
 
 -- an end goes down the tree, and stays
 
-pub born_ended : (b : Begin) (x y : List Entry) (by : Option ℕ) (node number : ℕ) (label : List ℕ) (ended : Bool) → IsLawful (begun b) (x ++ CallEntry by (Child node label) (NodeAt number ended) ∷ y) → is_ended (after_all (begun b) x).nodes node ≡ true → (ended ≡ true) × (is_ended (after (after_all (begun b) x) (CallEntry by (Child node label) (NodeAt number ended))).nodes number ≡ true)
+pub born_ended : (b : Begin) (x y : List Entry) (by : Option ℕ) (node number : ℕ) (label : List ℕ) (ended : Bool) → IsLawful (begun b) (x ++ CallEntry by (Child node label) (NodeAt number ended) ∷ y) → is_ended (after_all (begun b) x).stood.nodes node ≡ true → (ended ≡ true) × (is_ended (after (after_all (begun b) x) (CallEntry by (Child node label) (NodeAt number ended))).stood.nodes number ≡ true)
 unfolding after
 born_ended b x y by node number label ended l h =
     let s = after_all (begun b) x in
     let m = (lawful-tail (begun b) x (CallEntry by (Child node label) (NodeAt number ended) ∷ y) l).0.1.1 in
     let k = child-answers s node number label ended m in
-    (k.2 ∙ h, born-own s.nodes number (if is_ended s.nodes node then None else Some node) (is_ended s.nodes node) k.1 h)
+    (k.2 ∙ h, born-own s.stood.nodes number (if is_ended s.stood.nodes node then None else Some node) (is_ended s.stood.nodes node) k.1 h)
 
-pub ends_below : (b : Begin) (x : List Entry) (n j : ℕ) → IsLawful (begun b) x → is_ended (after_all (begun b) x).nodes n ≡ true → Contains (nodes_below n (links (after_all (begun b) x).nodes)) j → is_ended (after_all (begun b) x).nodes j ≡ true
+pub ends_below : (b : Begin) (x : List Entry) (n j : ℕ) → IsLawful (begun b) x → is_ended (after_all (begun b) x).stood.nodes n ≡ true → Contains (nodes_below n (links (after_all (begun b) x).stood.nodes)) j → is_ended (after_all (begun b) x).stood.nodes j ≡ true
 ends_below b x n j l h c =
     let s = after_all (begun b) x in
-    ended-below s.nodes n j (run-any b x l).tree h (contains-stands (nodes_below n (links s.nodes)) j c)
+    ended-below s.stood.nodes n j (run-any b x l).tree h (contains-stands (nodes_below n (links s.stood.nodes)) j c)
 
-pub end_stays : (b : Begin) (x y : List Entry) (n : ℕ) → IsLawful (begun b) (x ++ y) → is_known (after_all (begun b) x).nodes n ≡ true → is_ended (after_all (begun b) x).nodes n ≡ true → is_ended (after_all (begun b) (x ++ y)).nodes n ≡ true
+pub end_stays : (b : Begin) (x y : List Entry) (n : ℕ) → IsLawful (begun b) (x ++ y) → is_known (after_all (begun b) x).stood.nodes n ≡ true → is_ended (after_all (begun b) x).stood.nodes n ≡ true → is_ended (after_all (begun b) (x ++ y)).stood.nodes n ≡ true
 end_stays b x y n l k h = rw (after_all-append (begun b) x y) (over-all n (after_all (begun b) x) y (lawful-tail (begun b) x y l) (k, h)).1
 
 -- who ends unpolled was named by an abort, or stands on an ended node
@@ -240,7 +240,7 @@ names-all whole [] h = tt
 names-all whole (e ∷ x) h =
     ((λ k a. (e, h e (0, omega arith, refl), a)), names-all whole x (λ f c. h f (Contains-append_right (e ∷ []) x f c)))
 
-pub unpolled : (b : Begin) (x y : List Entry) (label : List ℕ) (fields : List (List ℕ)) (task : ℕ) (left : List ℕ) → IsLawful (begun b) (x ++ Event label fields ∷ y) → (after_all (begun b) x).phase ≡ Entered task left → (after (after_all (begun b) x) (Event label fields)).phase ≡ Ending task None left → IsNamed x task ⊎ ((m : Mark) × (find task (after_all (begun b) x).marks ≡ Some m) × (is_ended (after_all (begun b) x).nodes m.node ≡ true))
+pub unpolled : (b : Begin) (x y : List Entry) (label : List ℕ) (fields : List (List ℕ)) (task : ℕ) (left : List ℕ) → IsLawful (begun b) (x ++ Event label fields ∷ y) → (after_all (begun b) x).phase ≡ Entered task left → (after (after_all (begun b) x) (Event label fields)).phase ≡ Ending task None left → IsNamed x task ⊎ ((m : Mark) × (find task (after_all (begun b) x).marks ≡ Some m) × (is_ended (after_all (begun b) x).stood.nodes m.node ≡ true))
 unfolding after
 unpolled b x y label fields task left l e h =
     let s = after_all (begun b) x in

@@ -48,7 +48,9 @@ module _ {A O : Type 0} (q : Steps A O) (answer : Answer O) (is : JoinsAborted q
   module _ (child own : ℕ) where
     -- the task is spawned
     abbrev spawned_in : State
-    spawned_in = record (after (with_node child) (Call (Some 0) (Spawn child) (TaskAt 1 own))) { nodes = grown child own 1 true true }
+    spawned_in =
+        let spawned = after (with_node child) (Call (Some 0) (Spawn child) (TaskAt 1 own)) in
+        record spawned { stood = record spawned.stood { nodes = grown child own 1 true true } }
 
     -- while the root is polled, its own state is out
     abbrev task_alone : Held A O
@@ -133,9 +135,8 @@ module _ {A O : Type 0} (q : Steps A O) (answer : Answer O) (is : JoinsAborted q
         phase = Leaving 1 (Some There) [];
         running = 0 ∷ [];
         ready = [];
-        nodes = grown child own 1 false false;
+        stood = record (waits child own).stood { nodes = grown child own 1 false false; results = (1, record { outcome = There; aborted = false }) ∷ [] };
         marks = (1, record { node = child; left = false; flagged = true }) ∷ [];
-        results = (1, record { outcome = There; aborted = false }) ∷ [];
         owed = 0 ∷ [];
       }
 
@@ -144,7 +145,7 @@ module _ {A O : Type 0} (q : Steps A O) (answer : Answer O) (is : JoinsAborted q
       node_ended = record task_ended {
         phase = Visiting [];
         ready = 0 ∷ [];
-        nodes = record (grown child own 1 false false) { ends = child ∷ [] };
+        stood = record task_ended.stood { nodes = record (grown child own 1 false false) { ends = child ∷ [] } };
         marks = [];
         owed = [];
       }
@@ -175,7 +176,8 @@ module _ {A O : Type 0} (q : Steps A O) (answer : Answer O) (is : JoinsAborted q
           let w = left_alone in
           let s4 = aborted child own in
           let s5 = after s4 (Answered 1 AnswersReady) in
-          let s6 = record (after s5 (Call (Some 1) (CloseNode own) Done)) { nodes = grown child own 1 true false } in
+          let closed_node = after s5 (Call (Some 1) (CloseNode own) Done) in
+          let s6 = record closed_node { stood = record closed_node.stood { nodes = grown child own 1 true false } } in
           let s7 = after task_ended (Wake 0) in
           let at = is.left own in
           let close = closed child fresh own other 1 in
@@ -199,7 +201,7 @@ module _ {A O : Type 0} (q : Steps A O) (answer : Answer O) (is : JoinsAborted q
         phase = Leaving 1 None [];
         running = 0 ∷ [];
         ready = [];
-        nodes = grown child own 1 false false;
+        stood = record (waits child own).stood { nodes = grown child own 1 false false };
         marks = (1, record { node = child; left = true; flagged = true }) ∷ [];
       }
 
@@ -210,9 +212,8 @@ module _ {A O : Type 0} (q : Steps A O) (answer : Answer O) (is : JoinsAborted q
       abbrev node_stopped : State
       node_stopped = record task_stopped {
         phase = Visiting [];
-        nodes = record (grown child own 1 false false) { ends = child ∷ [] };
+        stood = record task_stopped.stood { nodes = record (grown child own 1 false false) { ends = child ∷ [] }; results = (1, record { outcome = IsClosed; aborted = false }) ∷ [] };
         marks = [];
-        results = (1, record { outcome = IsClosed; aborted = false }) ∷ [];
         owed = 1 ∷ 0 ∷ [];
       }
 
@@ -257,7 +258,8 @@ module _ {A O : Type 0} (q : Steps A O) (answer : Answer O) (is : JoinsAborted q
           let u = task_left child own in
           let s4 = aborted child own in
           let s5 = after s4 (Answered 1 AnswersPending) in
-          let s6 = record (after s5 (Call (Some 1) (CloseNode own) Done)) { nodes = grown child own 1 true false } in
+          let closed_node = after s5 (Call (Some 1) (CloseNode own) Done) in
+          let s6 = record closed_node { stood = record closed_node.stood { nodes = grown child own 1 true false } } in
           let s7 = after node_stopped (Wake 1) in
           let s8 = after s7 (Wake 0) in
           let at = is.left own in

@@ -33,9 +33,9 @@ module _ {A O : Type 0} (q : Steps A O) (is : MakesBeside q) where
 
     -- the maker has spawned its task
     abbrev beside : State
-    beside = record (after_all (begun small_begin) (Start 0 0 None 1000000 ∷ Call None (Child 0 is.label) (NodeAt child false) ∷ Call None (Spawn child) (TaskAt 0 own) ∷ [])) {
-      nodes = grown child own 0 true true;
-    }
+    beside =
+        let spawned = after_all (begun small_begin) (Start 0 0 None 1000000 ∷ Call None (Child 0 is.label) (NodeAt child false) ∷ Call None (Spawn child) (TaskAt 0 own) ∷ []) in
+        record spawned { stood = record spawned.stood { nodes = grown child own 0 true true } }
 
     -- and is over
     abbrev in_round : List ℕ → State
@@ -55,14 +55,14 @@ module _ {A O : Type 0} (q : Steps A O) (is : MakesBeside q) where
     ended = record (in_round (1 ∷ [])) {
       phase = Leaving 0 (Some There) (1 ∷ []);
       running = 1 ∷ [];
-      nodes = grown child own 0 false false;
+      stood = record (in_round (1 ∷ [])).stood { nodes = grown child own 0 false false };
     }
 
     -- and its node
     abbrev node_ended : State
     node_ended = record ended {
       phase = Visiting (1 ∷ []);
-      nodes = record (grown child own 0 false false) { ends = child ∷ [] };
+      stood = record ended.stood { nodes = record (grown child own 0 false false) { ends = child ∷ [] } };
       marks = [];
     }
 
@@ -82,7 +82,8 @@ module _ {A O : Type 0} (q : Steps A O) (is : MakesBeside q) where
         let s2 = after s1 (Visit 0) in
         let s3 = after s2 (Event process_task (task_fields 0 is.label)) in
         let s4 = after s3 (Answered 0 AnswersReady) in
-        let s5 = record (after s4 (Call (Some 0) (CloseNode own) Done)) { nodes = grown child own 0 true false } in
+        let closed_node = after s4 (Call (Some 0) (CloseNode own) Done) in
+        let s5 = record closed_node { stood = record closed_node.stood { nodes = grown child own 0 true false } } in
         let rest = taken 0 v.held in
         let w : Value A O = record v { held = rest } in
         let close = closed child fresh own other 0 in

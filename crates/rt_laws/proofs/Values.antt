@@ -1,5 +1,5 @@
 -- The entries of a run determine what it moves: the steps decide each walk, as long as no part lacked memory.
-use Rattle.rt_laws.proofs.Prelude.{◌≡◌, inl, inr, ℕ, List, [], ◌∷◌, Option, Some, None, is_some, if◌then◌else◌, Bool, true, false, refl, ap, sym, ◌∙◌, AnswerKind, IsPending, IsPanicked, IsStopped, LacksMemory, IsEnded, FinishCause, Entry, Root, Round, Visit, AnswerEntry, Advance, Skip, Fire, Cleanup, Crash, Begin, State, Phase, Making, Stood, Turn, stood_in, begun, after, find, is_some_number, counted, Held, put, Step, Does, Spends, Counts, Gives, Gave, Walks, Steps, Value, Polls, EndsState, Makes, MakerBreaks, MovesAnswer, MovesCleanup, MovesCrash, Moves, IsTied, taken, no_number, nothing, given, kept_text, with_result, IsRun}
+use Rattle.rt_laws.proofs.Prelude.{◌≡◌, inl, inr, ℕ, List, [], ◌∷◌, Option, Some, None, is_some, if◌then◌else◌, Bool, true, false, refl, ap, sym, ◌∙◌, AnswerKind, IsPending, IsPanicked, IsStopped, LacksMemory, IsEnded, FinishCause, Entry, Root, Round, Visit, AnswerEntry, Advance, Skip, Fire, Cleanup, Crash, Begin, State, Phase, Making, Stood, Turn, begun, after, find, is_some_number, counted, Held, put, Step, Does, Spends, Counts, Gives, Gave, Walks, Steps, Value, Polls, EndsState, Makes, MakerBreaks, MovesAnswer, MovesCleanup, MovesCrash, Moves, IsTied, taken, no_number, nothing, given, kept_text, with_result, IsRun}
 use Rattle.rt_audit.specs.declared.answer.AnswerKind.TheVariants.{Ready as IsReady}
 use Rattle.rt_model.specs.declared.answer.Answer.{Answer}
 use Rattle.rt_model.specs.declared.answer.Answer.TheVariants.{Pending, Ready, Panicked}
@@ -34,13 +34,13 @@ module _ {A O : Type 0} (p : Steps A O) (s : State) (v u w : Value A O) where
   polls-same task a b e f h k =
       let same = same-some (find task v.held.tasks) k.before h.before k.there h.there in
       let walks = k.walks in
-      let other : Walks (p.task.next h.before s.clock.time task) (taken task v.held) s.turns (stood_in s) b k.left k.moved = rw same at walks in
-      let q = walks-same (stood_in s) a b h.left k.left h.moved k.moved s.turns (taken task v.held) (p.task.next h.before s.clock.time task) h.walks other in
+      let other : Walks (p.task.next h.before s.clock.time task) (taken task v.held) s.turns s.stood b k.left k.moved = rw same at walks in
+      let q = walks-same s.stood a b h.left k.left h.moved k.moved s.turns (taken task v.held) (p.task.next h.before s.clock.time task) h.walks other in
       (q.0, h.is ∙ (rw (q.1, q.2) refl) ∙ sym k.is)
 
   makes-same : (a b : A) (e f : Held A O) → Makes p s v.held a e → Makes p s v.held b f → (a ≡ b) × (e ≡ f)
   makes-same a b e f h k =
-      let q = walks-same (stood_in s) tt tt a b e f s.turns v.held (p.first s.clock.time) h k in
+      let q = walks-same s.stood tt tt a b e f s.turns v.held (p.first s.clock.time) h k in
       (q.1, q.2)
 
   module _ (first : u.whole ≡ true) (second : w.whole ≡ true) where
@@ -48,7 +48,7 @@ module _ {A O : Type 0} (p : Steps A O) (s : State) (v u w : Value A O) where
     ends-same number before held v h k = elim h [
       | inl h ↦ elim k [
         | inl k ↦ (
-            let e = (walks-same (stood_in s) tt tt tt tt u.held w.held s.turns held (p.task.last before s.clock.time number) h.0 k.0).2 in
+            let e = (walks-same s.stood tt tt tt tt u.held w.held s.turns held (p.task.last before s.clock.time number) h.0 k.0).2 in
             h.1 ∙ ap (λ (x : Held A O). record v { held = x }) e ∙ sym k.1)
         | inr k ↦ not-whole w (record v { held = w.held; whole = false }) second refl k.1
       ]
@@ -123,9 +123,9 @@ module _ {A O : Type 0} (p : Steps A O) (s : State) (v w : Value A O) (whole : w
   ]
 
   -- an output leaves it as it is, wherever it goes
-  was-given : (is_root : Bool) (task : ℕ) (o : O) (end : Held A O) → w ≡ (if is_root then record v { held = end; output = Some o } else record v { held = with_result (is_some (find task s.results)) task o end }) → v.whole ≡ true
+  was-given : (is_root : Bool) (task : ℕ) (o : O) (end : Held A O) → w ≡ (if is_root then record v { held = end; output = Some o } else record v { held = with_result (is_some (find task s.stood.results)) task o end }) → v.whole ≡ true
   was-given true task o end k = was-same (record v { held = end; output = Some o }) k
-  was-given false task o end k = was-same (record v { held = with_result (is_some (find task s.results)) task o end }) k
+  was-given false task o end k = was-same (record v { held = with_result (is_some (find task s.stood.results)) task o end }) k
 
   was-answered : (task : ℕ) (kind : AnswerKind) → MovesAnswer p s v task kind w → v.whole ≡ true
   was-answered task IsPending k = was-same (record v { held = k.0 }) k.2

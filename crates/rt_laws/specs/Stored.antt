@@ -7,4 +7,4 @@ use Rattle.rt_model.specs.State.{State}
 
 -- the output of this task is there, and nobody has taken it
 abbrev pub IsStored : State → ℕ → Type 0
-IsStored s task = (r : TaskResult) × (find task s.results ≡ Some r) × (r.outcome ≡ There)
+IsStored s task = (r : TaskResult) × (find task s.stood.results ≡ Some r) × (r.outcome ≡ There)

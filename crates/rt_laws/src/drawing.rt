@@ -13,7 +13,7 @@ ghost use Rattle.rt_audit.specs.declared.finish.FinishCause.{FinishCause};
 ghost use Rattle.rt_audit.specs.declared.finish.FinishCause.TheVariants.{Completed, Stalled};
 ghost use Rattle.rt_model.specs.declared.begin.Begin.{Begin};
 ghost use Rattle.rt_model.specs.Draws.{Drawn, Long, Filled};
-ghost use Rattle.rt_model.specs.State.{stood_in, State, begun};
+ghost use Rattle.rt_model.specs.State.{State, begun};
 ghost use Rattle.rt_model.specs.Effects.{after_all};
 ghost use Rattle.rt_model.specs.Events.{announced_by};
 ghost use Rattle.rt_model.specs.Rules.{Answers, IsLawful, AreDrawn};
@@ -59,8 +59,8 @@ pub fn a_root_that_asks_has_its_run()
 /// The events of calls that a state keeps are those that announce the call which comes next, and no others (`state`). In the entries
 /// of a run these stand directly before the call, and directly before these no other event of a call (`behind`).
 pub fn a_call_comes_behind_its_own_event()
-    ensures state { (s : State) (by : Option ℕ) (call : CallOf) (reply : CallReply) → IsLawful s (Call by call reply ∷ []) → s.announced ≡ announced_by (stood_in s) call reply }
-    ensures behind { (b : Begin) (x : List Entry) (by : Option ℕ) (call : CallOf) (reply : CallReply) → IsLawful (begun b) (x ++ Call by call reply ∷ []) → (front : List Entry) × (x ≡ front ++ events_of (announced_by (stood_in (after_all (begun b) x)) call reply)) × ((after_all (begun b) front).announced ≡ []) }
+    ensures state { (s : State) (by : Option ℕ) (call : CallOf) (reply : CallReply) → IsLawful s (Call by call reply ∷ []) → s.announced ≡ announced_by s.stood call reply }
+    ensures behind { (b : Begin) (x : List Entry) (by : Option ℕ) (call : CallOf) (reply : CallReply) → IsLawful (begun b) (x ++ Call by call reply ∷ []) → (front : List Entry) × (x ≡ front ++ events_of (announced_by (after_all (begun b) x).stood call reply)) × ((after_all (begun b) front).announced ≡ []) }
 {}
 
 /// What was drawn stays, and what is drawn later stands behind it. It decides nothing of what may come.

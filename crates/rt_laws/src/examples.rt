@@ -14,7 +14,7 @@ ghost use Rattle.rt_audit.specs.declared.finish.FinishCause.{FinishCause};
 ghost use Rattle.rt_audit.specs.declared.finish.FinishCause.TheVariants.{Completed, Timeout, Stalled, TimeOverflow, TooManyTasks, NoMemory};
 ghost use Rattle.rt_model.specs.declared.answer.Answer.{Answer};
 ghost use Rattle.rt_model.specs.declared.answer.Answer.TheVariants.{Pending, Ready};
-ghost use Rattle.rt_model.specs.State.{State, Stood, Turn, begun, stood_in};
+ghost use Rattle.rt_model.specs.State.{State, Stood, Turn, begun};
 ghost use Rattle.rt_model.specs.Effects.{after_all};
 ghost use Rattle.rt_model.specs.Rules.{IsLawful, AreDrawn};
 ghost use Rattle.rt_model.specs.Turns.{IsCounted, Held, with_change, with_spawned};
@@ -131,6 +131,6 @@ pub fn near_misses_are_not_cut_off()
 /// What a part made before it lacked memory is held. A task that it spawned is in the state that its spawn made, and in no other,
 /// where the lack came behind that. What it sent before any call that may lack memory is held wherever it lacked it.
 pub fn what_was_made_before_a_lack_is_held()
-    ensures spawned { (mid : Held Aborting ℕ) → let s = after_all (begun small_begin) (opening ++ visiting_root ++ aborter_spawned) in Stops (aborting_next Pending Parent 0 0) nothing.held s.turns (stood_in s) mid → IsCounted (with_spawned 1 (Shared false) (Aborter 2) nothing.held) mid }
+    ensures spawned { (mid : Held Aborting ℕ) → let s = after_all (begun small_begin) (opening ++ visiting_root ++ aborter_spawned) in Stops (aborting_next Pending Parent 0 0) nothing.held s.turns s.stood mid → IsCounted (with_spawned 1 (Shared false) (Aborter 2) nothing.held) mid }
     ensures sent { (sent : Result ℕ Error) (w : Value (Unit {0}) ℕ) → IsTied (sending_root sent) (begun small_begin) nothing send_lacks w → w.held.sent ≡ (0, sent) ∷ [] }
 {}

@@ -29,7 +29,7 @@ ghost use Rattle.rt_super.specs.Alarms.{Alarm};
 ghost use Rattle.rt_super.specs.Ancestry.{is_known, is_ended, links, nodes_below};
 ghost use Rattle.rt_model.specs.declared.begin.Begin.{Begin};
 ghost use Rattle.rt_model.specs.declared.mark.Mark.{Mark};
-ghost use Rattle.rt_model.specs.State.{State, Turn, Making, Entered, Ending, Turning, Over, Finished, begun, stood_in};
+ghost use Rattle.rt_model.specs.State.{State, Turn, Making, Entered, Ending, Turning, Over, Finished, begun};
 ghost use Rattle.rt_model.specs.Causes.{is_late, overflows, reached};
 ghost use Rattle.rt_model.specs.Effects.{after, after_all};
 ghost use Rattle.rt_model.specs.Rules.{IsLawful, May, MayClose};
@@ -102,37 +102,37 @@ pub fn time_never_goes_back()
 /// Time skips only where nobody is ready, ahead, and to the earliest alarm.
 #[tactic(auto, using(crate::proofs::Order::run_skip))]
 pub fn a_skip_goes_to_the_earliest_alarm()
-    ensures { (b : Begin) (x y : List Entry) (now : ℕ) → IsLawful (begun b) (x ++ Skip now ∷ y) → ((after_all (begun b) x).ready ≡ []) × IsEarliest (after_all (begun b) x).alarms.alarms now × ((after_all (begun b) x).clock.time < now) }
+    ensures { (b : Begin) (x y : List Entry) (now : ℕ) → IsLawful (begun b) (x ++ Skip now ∷ y) → ((after_all (begun b) x).ready ≡ []) × IsEarliest (after_all (begun b) x).stood.alarms.alarms now × ((after_all (begun b) x).clock.time < now) }
 {}
 
 /// A sleep is ready from its due time on, and not before. One that waits has its alarm.
 #[tactic(auto, using(crate::proofs::Timely::run_ready, crate::proofs::Stays::run_pending))]
 pub fn a_sleep_is_ready_once_it_is_due()
     ensures ready { (b : Begin) (x y : List Entry) (by : Option ℕ) (due : ℕ) (reply : CallReply) → IsLawful (begun b) (x ++ Called by (SleepPoll due) reply ∷ y) → (reply ≡ Ready) ↔ (due ≤ (after_all (begun b) x).clock.time) }
-    ensures waits { (b : Begin) (x y : List Entry) (by : Option ℕ) (due alarm : ℕ) → IsLawful (begun b) (x ++ Called by (SleepPoll due) (PendingAt alarm) ∷ y) → Contains (after_all (begun b) (x ++ Called by (SleepPoll due) (PendingAt alarm) ∷ [])).alarms.alarms (record { due = due; number = alarm; task = by }) }
+    ensures waits { (b : Begin) (x y : List Entry) (by : Option ℕ) (due alarm : ℕ) → IsLawful (begun b) (x ++ Called by (SleepPoll due) (PendingAt alarm) ∷ y) → Contains (after_all (begun b) (x ++ Called by (SleepPoll due) (PendingAt alarm) ∷ [])).stood.alarms.alarms (record { due = due; number = alarm; task = by }) }
 {}
 
 /// Outside a clock step no alarm is overdue: each that is set lies ahead.
 #[tactic(auto, using(crate::proofs::Timely::run_ahead))]
 pub fn alarms_lie_ahead()
-    ensures { (b : Begin) (x : List Entry) → IsLawful (begun b) x → let s = after_all (begun b) x in s.phase ≢ Turning → All (λ (a : Alarm). s.clock.time < a.due) s.alarms.alarms }
+    ensures { (b : Begin) (x : List Entry) → IsLawful (begun b) x → let s = after_all (begun b) x in s.phase ≢ Turning → All (λ (a : Alarm). s.clock.time < a.due) s.stood.alarms.alarms }
 {}
 
 /// An alarm that goes off is set and due, the earliest first, and less than a cycle late. None does once the deadline is there.
 #[tactic(auto, using(crate::proofs::Timely::run_fire, crate::proofs::Timely::run_fire_early))]
 pub fn an_alarm_fires_on_time()
-    ensures on_time { (b : Begin) (x y : List Entry) (alarm : ℕ) → IsLawful (begun b) (x ++ Fire alarm ∷ y) → let s = after_all (begun b) x in (a : Alarm) × Contains s.alarms.alarms a × (a.number ≡ alarm) × IsEarliest s.alarms.alarms a.due × (a.due ≤ s.clock.time) × (0 < s.clock.fixed.cycle → s.clock.time < a.due + s.clock.fixed.cycle) }
+    ensures on_time { (b : Begin) (x y : List Entry) (alarm : ℕ) → IsLawful (begun b) (x ++ Fire alarm ∷ y) → let s = after_all (begun b) x in (a : Alarm) × Contains s.stood.alarms.alarms a × (a.number ≡ alarm) × IsEarliest s.stood.alarms.alarms a.due × (a.due ≤ s.clock.time) × (0 < s.clock.fixed.cycle → s.clock.time < a.due + s.clock.fixed.cycle) }
     ensures before_the_deadline { (b : Begin) (x y : List Entry) (alarm : ℕ) → IsLawful (begun b) (x ++ Fire alarm ∷ y) → is_late (after_all (begun b) x).clock ≡ false }
 {}
 
 /// An alarm whose time has come has gone off once the clock step is over, if no cleanup began before.
 pub fn a_due_alarm_has_fired()
-    ensures { (b : Begin) (x y : List Entry) (a : Alarm) → IsLawful (begun b) (x ++ y) → Contains (after_all (begun b) x).alarms.alarms a → let s = after_all (begun b) (x ++ y) in s.phase ≢ Turning → a.due ≤ s.clock.time → Contains y (Fire a.number) ⊎ Contains y Cleanup }
+    ensures { (b : Begin) (x y : List Entry) (a : Alarm) → IsLawful (begun b) (x ++ y) → Contains (after_all (begun b) x).stood.alarms.alarms a → let s = after_all (begun b) (x ++ y) in s.phase ≢ Turning → a.due ≤ s.clock.time → Contains y (Fire a.number) ⊎ Contains y Cleanup }
 {}
 
 /// No two alarms that are set have the same number.
 pub fn alarms_have_numbers_of_their_own()
-    ensures { (b : Begin) (x : List Entry) (a c : Alarm) → let alarms = (after_all (begun b) x).alarms.alarms in Contains alarms a → Contains alarms c → a.number ≡ c.number → a ≡ c }
+    ensures { (b : Begin) (x : List Entry) (a c : Alarm) → let alarms = (after_all (begun b) x).stood.alarms.alarms in Contains alarms a → Contains alarms c → a.number ≡ c.number → a ≡ c }
 {}
 
 /// An alarm goes off at most once.
@@ -144,7 +144,7 @@ pub fn an_alarm_fires_once()
 /// Right after an alarm that goes off its task wakes.
 #[tactic(auto, using(crate::proofs::Numbers::run_wakes))]
 pub fn an_alarm_wakes_its_task()
-    ensures { (b : Begin) (x y : List Entry) (e : Entry) (a : Alarm) (task : ℕ) → IsLawful (begun b) (x ++ Fire a.number ∷ e ∷ y) → Contains (after_all (begun b) x).alarms.alarms a → a.task ≡ Some task → e ≡ Wake task }
+    ensures { (b : Begin) (x y : List Entry) (e : Entry) (a : Alarm) (task : ℕ) → IsLawful (begun b) (x ++ Fire a.number ∷ e ∷ y) → Contains (after_all (begun b) x).stood.alarms.alarms a → a.task ≡ Some task → e ≡ Wake task }
 {}
 
 /// A task is visited while it runs, and before the deadline.
@@ -172,7 +172,7 @@ pub fn a_cleanup_only_ends_tasks()
 #[tactic(auto, using(crate::proofs::Causes::run_stalled, crate::proofs::Causes::run_late, crate::proofs::Causes::run_overflows, crate::proofs::Causes::run_panicked, crate::proofs::Causes::run_numberless))]
 pub fn a_run_ends_for_a_cause_that_holds()
     ensures reached { (b : Begin) (x y : List Entry) (cause : FinishCause) → IsLawful (begun b) (x ++ Cleanup ∷ y) → (after_all (begun b) (x ++ Cleanup ∷ y)).phase ≡ Finished cause → cause ≢ OutOfMemory → reached (after_all (begun b) x) ≡ Some cause }
-    ensures stalled { (b : Begin) (x y : List Entry) → IsLawful (begun b) (x ++ Cleanup ∷ y) → (after_all (begun b) (x ++ Cleanup ∷ y)).phase ≡ Finished Stalled → ((after_all (begun b) x).ready ≡ []) × ((after_all (begun b) x).alarms.alarms ≡ []) }
+    ensures stalled { (b : Begin) (x y : List Entry) → IsLawful (begun b) (x ++ Cleanup ∷ y) → (after_all (begun b) (x ++ Cleanup ∷ y)).phase ≡ Finished Stalled → ((after_all (begun b) x).ready ≡ []) × ((after_all (begun b) x).stood.alarms.alarms ≡ []) }
     ensures timeout { (b : Begin) (x y : List Entry) → IsLawful (begun b) (x ++ Cleanup ∷ y) → (after_all (begun b) (x ++ Cleanup ∷ y)).phase ≡ Finished Timeout → is_late (after_all (begun b) x).clock ≡ true }
     ensures overflow { (b : Begin) (x y : List Entry) → IsLawful (begun b) (x ++ Cleanup ∷ y) → (after_all (begun b) (x ++ Cleanup ∷ y)).phase ≡ Finished TimeOverflow → overflows (after_all (begun b) x).clock ≡ true }
     ensures panicked { (b : Begin) (x y : List Entry) → IsLawful (begun b) (x ++ Cleanup ∷ y) → (after_all (begun b) (x ++ Cleanup ∷ y)).phase ≡ Finished TaskPanicked → (after_all (begun b) x).phase ≡ Over TaskPanicked }
@@ -218,7 +218,7 @@ pub fn a_run_begins_with_its_start()
 #[tactic(auto, using(crate::proofs::Ranges::run_due, crate::proofs::Ranges::run_in_range))]
 pub fn time_stays_within_its_range()
     ensures time { (b : Begin) (x : List Entry) → b.start ≤ MAX_TIME → IsLawful (begun b) x → (after_all (begun b) x).clock.time ≤ MAX_TIME }
-    ensures alarms { (b : Begin) (x : List Entry) → IsLawful (begun b) x → All (λ (a : Alarm). a.due ≤ MAX_TIME) (after_all (begun b) x).alarms.alarms }
+    ensures alarms { (b : Begin) (x : List Entry) → IsLawful (begun b) x → All (λ (a : Alarm). a.due ≤ MAX_TIME) (after_all (begun b) x).stood.alarms.alarms }
 {}
 
 /// A sleep that waits is due by the last moment.
@@ -251,7 +251,7 @@ pub fn lacking_memory_keeps_the_other_tasks<A, O>()
 /// lacked it answers so. No entry tells it of an end, so each end behind which the run goes on has made all calls of its steps.
 pub fn behind_a_lack_of_memory_a_run_only_ends<A, O>()
     ensures polls { (p : Steps A O) (s : State) (v w : Value A O) (task : ℕ) (x y : List Entry) (e : Entry) → IsOnward e → IsTied p s v (Answer task NoMemory ∷ x ++ e ∷ y) w → ⊥ }
-    ensures ends { (p : Steps A O) (s : State) (v w : Value A O) (task : ℕ) (x y : List Entry) (e : Entry) → IsOnward e → IsTied p s v (Answer task Ended ∷ x ++ e ∷ y) w → (a : A) × (find task v.held.tasks ≡ Some a) × ((end : Held A O) × Walks (p.task.last a s.clock.time task) (taken task v.held) s.turns (stood_in s) tt tt end) }
+    ensures ends { (p : Steps A O) (s : State) (v w : Value A O) (task : ℕ) (x y : List Entry) (e : Entry) → IsOnward e → IsTied p s v (Answer task Ended ∷ x ++ e ∷ y) w → (a : A) × (find task v.held.tasks ≡ Some a) × ((end : Held A O) × Walks (p.task.last a s.clock.time task) (taken task v.held) s.turns s.stood tt tt end) }
 {}
 
 /// Several runs in one journal are walked one after another: runs that are lawful each from its beginning are lawful
@@ -285,18 +285,18 @@ pub fn a_value_of_a_slot_is_sent_and_handed_out_once()
 /// No poll begins of a task on an ended node. From the visit that ends a task on, none begins of a task below its node,
 /// whether that was spawned before or later.
 pub fn nobody_is_polled_below_an_end()
-    ensures on_it { (b : Begin) (x y : List Entry) (task : ℕ) (m : Mark) → IsLawful (begun b) (x ++ y) → find task (after_all (begun b) x).marks ≡ Some m → is_ended (after_all (begun b) x).nodes m.node ≡ true → PollsNone (after_all (begun b) x) y task }
-    ensures below { (b : Begin) (x y z : List Entry) (task child : ℕ) (m k : Mark) → IsLawful (begun b) (x ++ Answer task Ended ∷ (y ++ z)) → find task (after_all (begun b) x).marks ≡ Some m → let t = after_all (begun b) (x ++ Answer task Ended ∷ y) in find child t.marks ≡ Some k → Contains (nodes_below m.node (links t.nodes)) k.node → PollsNone t z child }
+    ensures on_it { (b : Begin) (x y : List Entry) (task : ℕ) (m : Mark) → IsLawful (begun b) (x ++ y) → find task (after_all (begun b) x).marks ≡ Some m → is_ended (after_all (begun b) x).stood.nodes m.node ≡ true → PollsNone (after_all (begun b) x) y task }
+    ensures below { (b : Begin) (x y z : List Entry) (task child : ℕ) (m k : Mark) → IsLawful (begun b) (x ++ Answer task Ended ∷ (y ++ z)) → find task (after_all (begun b) x).marks ≡ Some m → let t = after_all (begun b) (x ++ Answer task Ended ∷ y) in find child t.marks ≡ Some k → Contains (nodes_below m.node (links t.stood.nodes)) k.node → PollsNone t z child }
 {}
 
 /// A task is ended unpolled only where an abort named it before, or its node has ended.
 pub fn whoever_ends_unpolled_was_aborted_or_ended()
-    ensures { (b : Begin) (x y : List Entry) (label : List ℕ) (fields : List (List ℕ)) (task : ℕ) (left : List ℕ) → IsLawful (begun b) (x ++ Event label fields ∷ y) → let s = after_all (begun b) x in s.phase ≡ Entered task left → (after s (Event label fields)).phase ≡ Ending task None left → ((e : Entry) × Contains x e × IsAbortOf task e) ⊎ ((m : Mark) × (find task s.marks ≡ Some m) × (is_ended s.nodes m.node ≡ true)) }
+    ensures { (b : Begin) (x y : List Entry) (label : List ℕ) (fields : List (List ℕ)) (task : ℕ) (left : List ℕ) → IsLawful (begun b) (x ++ Event label fields ∷ y) → let s = after_all (begun b) x in s.phase ≡ Entered task left → (after s (Event label fields)).phase ≡ Ending task None left → ((e : Entry) × Contains x e × IsAbortOf task e) ⊎ ((m : Mark) × (find task s.marks ≡ Some m) × (is_ended s.stood.nodes m.node ≡ true)) }
 {}
 
 /// Who is born under an ended node is ended. What stands below an ended node is ended, and whoever has ended stays so.
 pub fn ends_go_down_the_tree()
-    ensures born { (b : Begin) (x y : List Entry) (by : Option ℕ) (node number : ℕ) (label : List ℕ) (ended : Bool) → IsLawful (begun b) (x ++ Called by (Child node label) (NodeAt number ended) ∷ y) → let s = after_all (begun b) x in is_ended s.nodes node ≡ true → (ended ≡ true) × (is_ended (after s (Called by (Child node label) (NodeAt number ended))).nodes number ≡ true) }
-    ensures below { (b : Begin) (x : List Entry) (n j : ℕ) → IsLawful (begun b) x → let s = after_all (begun b) x in is_ended s.nodes n ≡ true → Contains (nodes_below n (links s.nodes)) j → is_ended s.nodes j ≡ true }
-    ensures stays { (b : Begin) (x y : List Entry) (n : ℕ) → IsLawful (begun b) (x ++ y) → is_known (after_all (begun b) x).nodes n ≡ true → is_ended (after_all (begun b) x).nodes n ≡ true → is_ended (after_all (begun b) (x ++ y)).nodes n ≡ true }
+    ensures born { (b : Begin) (x y : List Entry) (by : Option ℕ) (node number : ℕ) (label : List ℕ) (ended : Bool) → IsLawful (begun b) (x ++ Called by (Child node label) (NodeAt number ended) ∷ y) → let s = after_all (begun b) x in is_ended s.stood.nodes node ≡ true → (ended ≡ true) × (is_ended (after s (Called by (Child node label) (NodeAt number ended))).stood.nodes number ≡ true) }
+    ensures below { (b : Begin) (x : List Entry) (n j : ℕ) → IsLawful (begun b) x → let s = after_all (begun b) x in is_ended s.stood.nodes n ≡ true → Contains (nodes_below n (links s.stood.nodes)) j → is_ended s.stood.nodes j ≡ true }
+    ensures stays { (b : Begin) (x y : List Entry) (n : ℕ) → IsLawful (begun b) (x ++ y) → is_known (after_all (begun b) x).stood.nodes n ≡ true → is_ended (after_all (begun b) x).stood.nodes n ≡ true → is_ended (after_all (begun b) (x ++ y)).stood.nodes n ≡ true }
 {}

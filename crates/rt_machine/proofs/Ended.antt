@@ -12,7 +12,7 @@ or-not true b = refl
 or-not false b = refl
 
 -- in the cleanup
-pub closing-ended : (s : State) (task : ℕ) (cause : Option FinishCause) → s.phase ≡ Closing cause → after s (Answer task Ended) ≡ record s { running = without_number task s.running; nodes = released (find task s.marks) s.nodes; marks = without task s.marks; results = with_outcome Closed task s.results; owed = []; announced = []; turns = [] }
+pub closing-ended : (s : State) (task : ℕ) (cause : Option FinishCause) → s.phase ≡ Closing cause → after s (Answer task Ended) ≡ record s { running = without_number task s.running; stood = record s.stood { nodes = released (find task s.marks) s.stood.nodes; results = with_outcome Closed task s.stood.results }; marks = without task s.marks; owed = []; announced = []; turns = [] }
 unfolding after
 closing-ended s task cause h = rw (h, no-panic s.root_left (not s.panicked) (not s.clock.fixed.catch) (those s.root), or-not s.panicked (not s.clock.fixed.catch)) refl
 
@@ -27,9 +27,9 @@ results-ending task None left false k rs = refl
 results-ending task (Some o) left settles k rs = refl
 
 -- in the task's own visit
-pub visit-ended : (s : State) (task : ℕ) (own : Option Outcome) (left : List ℕ) (settles : Bool) → s.phase ≡ Ending task own left → is_ended_at s.nodes (find task s.marks) ≡ settles → after s (Answer task Ended) ≡ record s { phase = leaves settles task own left; panicked = s.panicked || (is_panic own && not s.clock.fixed.catch); running = without_number task s.running; nodes = released (find task s.marks) s.nodes; marks = marks_ended settles task s.marks; results = ended_results own settles task s.results; owed = panic_wakes s own ++ ended_waiting own settles (find task s.results); announced = []; turns = [] }
+pub visit-ended : (s : State) (task : ℕ) (own : Option Outcome) (left : List ℕ) (settles : Bool) → s.phase ≡ Ending task own left → is_ended_at s.stood.nodes (find task s.marks) ≡ settles → after s (Answer task Ended) ≡ record s { phase = leaves settles task own left; panicked = s.panicked || (is_panic own && not s.clock.fixed.catch); running = without_number task s.running; stood = record s.stood { nodes = released (find task s.marks) s.stood.nodes; results = ended_results own settles task s.stood.results }; marks = marks_ended settles task s.marks; owed = panic_wakes s own ++ ended_waiting own settles (find task s.stood.results); announced = []; turns = [] }
 unfolding after
-visit-ended s task own left settles h e = rw (h, e, due-ending s task own left settles (find task s.results), results-ending task own left settles task s.results) refl
+visit-ended s task own left settles h e = rw (h, e, due-ending s task own left settles (find task s.stood.results), results-ending task own left settles task s.stood.results) refl
 
 -- where a task has left its visit, and where its node is to end next
 pub leaves-places : (settles : Bool) (task : ℕ) (own : Option Outcome) (left : List ℕ) → (places (leaves settles task own left) ≡ 4) × (visit_places (leaves settles task own left) ≡ 0) × (is_closing (leaves settles task own left) ≡ false)
@@ -45,6 +45,6 @@ due-leaving task None left rs = refl
 due-leaving task (Some o) left rs = refl
 
 -- the node of a task that leaves
-pub node-ended : (s : State) (task : ℕ) (own : Option Outcome) (left : List ℕ) (node : ℕ) → s.phase ≡ Leaving task own left → after s (NodeEnd node) ≡ record s { phase = Visiting left; nodes = unflagged (with_end s.nodes node); marks = without task (flag_all (flagged_by s.nodes node) s.marks); results = ended_results None (is_none own) task s.results; owed = due_all (flagged_by s.nodes node) s.marks ++ ended_waiting None (is_none own) (find task s.results); announced = []; turns = [] }
+pub node-ended : (s : State) (task : ℕ) (own : Option Outcome) (left : List ℕ) (node : ℕ) → s.phase ≡ Leaving task own left → after s (NodeEnd node) ≡ record s { phase = Visiting left; stood = record s.stood { nodes = unflagged (with_end s.stood.nodes node); results = ended_results None (is_none own) task s.stood.results }; marks = without task (flag_all (flagged_by s.stood.nodes node) s.marks); owed = due_all (flagged_by s.stood.nodes node) s.marks ++ ended_waiting None (is_none own) (find task s.stood.results); announced = []; turns = [] }
 unfolding after
-node-ended s task own left node h = rw (h, results-leaving task own left s.results, due-leaving task own left s.results) refl
+node-ended s task own left node h = rw (h, results-leaving task own left s.stood.results, due-leaving task own left s.stood.results) refl

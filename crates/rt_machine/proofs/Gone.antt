@@ -10,12 +10,12 @@ none-of : {V : Type 0} (o : Option V) → is_some o ≡ false → o ≡ None
 none-of None h = refl
 none-of (Some v) h = cc
 
-pub spent-gone : (by : Option ℕ) (old new : Seen) (slot : ℕ) → AreRising old.told.state.slots.results → Spent by old new (Slots (GiveUp slot)) → find slot new.told.state.slots.results ≡ None
-spent-gone by old new slot rising spent = with (is_some (find slot old.told.state.slots.results)) refl
+pub spent-gone : (by : Option ℕ) (old new : Seen) (slot : ℕ) → AreRising old.told.state.stood.slots.results → Spent by old new (Slots (GiveUp slot)) → find slot new.told.state.stood.slots.results ≡ None
+spent-gone by old new slot rising spent = with (is_some (find slot old.told.state.stood.slots.results)) refl
   where
-    with : (b : Bool) → is_some (find slot old.told.state.slots.results) ≡ b → find slot new.told.state.slots.results ≡ None
+    with : (b : Bool) → is_some (find slot old.told.state.stood.slots.results) ≡ b → find slot new.told.state.stood.slots.results ≡ None
     with true e =
         let n = spent.there e in
         let results = ap (λ (s : Stood). s.slots.results) n.stood in
-        rw results (gone-at slot old.told.state.slots.results rising)
-    with false e = rw (spent.gone e) (none-of (find slot old.told.state.slots.results) e)
+        rw results (gone-at slot old.told.state.stood.slots.results rising)
+    with false e = rw (spent.gone e) (none-of (find slot old.told.state.stood.slots.results) e)

@@ -54,7 +54,7 @@ pub use Rattle.rt_model.specs.Rows.{Rows, total}
 pub use Rattle.rt_model.specs.Rules.{AreDrawn, CallsAt, IsDrawn, IsEndedNext, IsLawful, May, MayCall, MayClose, MayDraw, MayEvent, MayRound, RoundNeeds, is_free}
 pub use Rattle.rt_model.specs.Signals.{has_signaler}
 pub use Rattle.rt_model.specs.Slots.{Slotted, slots_by, slots_wake}
-pub use Rattle.rt_model.specs.State.{Announced, Between, Blank, Cleaning, Clock, Closing, Crashed, Ending, Entered, Finished, Halted, Leaving, Making, Numbers, Over, Phase, Polling, State, Stood, Turning, Visiting, begun, stood_in}
+pub use Rattle.rt_model.specs.State.{Announced, Between, Blank, Cleaning, Clock, Closing, Crashed, Ending, Entered, Finished, Halted, Leaving, Making, Numbers, Over, Phase, Polling, State, Stood, Turning, Visiting, begun}
 pub use Rattle.rt_model.specs.declared.begin.Begin.{Begin}
 pub use Rattle.rt_model.specs.declared.mark.Mark.{Mark}
 pub use Rattle.rt_model.specs.declared.result.Outcome.{Outcome}

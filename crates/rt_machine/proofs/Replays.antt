@@ -71,16 +71,16 @@ ended-none root None h = refl
 ended-none root (Some k) h = absurd (cc)
 
 -- a cleanup has begun, and node 0 has ended
-pub cleaned : (t u : Told) → u ≡ pushed_all t (cleanup_entries t.state.nodes) → u.state.phase ≡ Closing (reached t.state)
+pub cleaned : (t u : Told) → u ≡ pushed_all t (cleanup_entries t.state.stood.nodes) → u.state.phase ≡ Closing (reached t.state)
 unfolding after
-cleaned t u e = ap (λ (v : Told). v.state.phase) e ∙ by (is_ended t.state.nodes 0) refl
+cleaned t u e = ap (λ (v : Told). v.state.phase) e ∙ by (is_ended t.state.stood.nodes 0) refl
   where
-    by : (b : Bool) → is_ended t.state.nodes 0 ≡ b → (pushed_all t (cleanup_by b)).state.phase ≡ Closing (reached t.state)
+    by : (b : Bool) → is_ended t.state.stood.nodes 0 ≡ b → (pushed_all t (cleanup_by b)).state.phase ≡ Closing (reached t.state)
     by true h = rw h refl
     by false h = rw h refl
 
 -- and the cause that was reached before is kept
-pub caused : (t u : Told) (cause : FinishCause) → u ≡ pushed_all t (cleanup_entries t.state.nodes) → (cause ≡ NoMemory) ⊎ (reached t.state ≡ Some cause) → (cause ≡ NoMemory) ⊎ (cause_of u.state.phase ≡ Some cause)
+pub caused : (t u : Told) (cause : FinishCause) → u ≡ pushed_all t (cleanup_entries t.state.stood.nodes) → (cause ≡ NoMemory) ⊎ (reached t.state ≡ Some cause) → (cause ≡ NoMemory) ⊎ (cause_of u.state.phase ≡ Some cause)
 caused t u cause e (inl lacks) = inl lacks
 caused t u cause e (inr is) = inr (ap cause_of (cleaned t u e) ∙ is)
 

@@ -24,7 +24,7 @@ visited-once task own old new l = record {
   root = l.root;
   numbers = l.numbers;
   running = l.running;
-  results = l.results ∙ results-once own task old.told.state.results;
+  results = l.results ∙ results-once own task old.told.state.stood.results;
   slots = l.slots;
   lacked = l.lacked;
 }
@@ -33,8 +33,8 @@ visited-once task own old new l = record {
 pub left-leaving : (task : ℕ) (own : Option Outcome) (old new : Seen) → Left task own false old new → new.told.state.phase ≡ Leaving task own (left_of new.told.state.phase)
 left-leaving task own old new l = rw l.phase refl
 
-pub left-marked : (task : ℕ) (own : Option Outcome) (old new : Seen) → Left task own false old new → is_ended_at old.told.state.nodes (find task old.told.state.marks) ≡ false → is_some (find task new.told.state.marks) ≡ true
-left-marked task own old new l h = rw l.marks (marked old.told.state.nodes (find task old.told.state.marks) h)
+pub left-marked : (task : ℕ) (own : Option Outcome) (old new : Seen) → Left task own false old new → is_ended_at old.told.state.stood.nodes (find task old.told.state.marks) ≡ false → is_some (find task new.told.state.marks) ≡ true
+left-marked task own old new l h = rw l.marks (marked old.told.state.stood.nodes (find task old.told.state.marks) h)
 
 pub visited-twice : (task : ℕ) (own : Option Outcome) (old mid new : Seen) → Left task own false old mid → Gone task own mid new → Visited task own old new
 visited-twice task own old mid new l g = record {
@@ -45,7 +45,7 @@ visited-twice task own old mid new l g = record {
   root = g.root ∙ l.root;
   numbers = g.numbers ∙ l.numbers;
   running = g.running ∙ l.running;
-  results = g.results ∙ ap (λ rs. ended_results None (is_none own) task rs) l.results ∙ results-twice own task old.told.state.results;
+  results = g.results ∙ ap (λ rs. ended_results None (is_none own) task rs) l.results ∙ results-twice own task old.told.state.stood.results;
   slots = g.slots ∙ l.slots;
   lacked = g.lacked ∙ l.lacked;
 }

@@ -8,7 +8,7 @@ use Rattle.rt_audit.specs.declared.slot_call.SlotCall.TheVariants.{Poll}
 use Rattle.rt_audit.specs.declared.reply.CallReply.{CallReply}
 use Rattle.rt_audit.specs.declared.reply.CallReply.TheVariants.{Done, TaskAt, Closed, Pending, PendingAt, Ready, Refused}
 use Rattle.rt_super.specs.Alarms.{AlarmList}
-use Rattle.rt_model.specs.State.{State, Turn, stood_in}
+use Rattle.rt_model.specs.State.{State, Turn}
 use Rattle.rt_model.specs.Alarms.{alarm_of}
 use Rattle.rt_model.specs.Lists.{or_else}
 use Rattle.rt_model.specs.Rules.{Answers}
@@ -18,7 +18,7 @@ use Rattle.rt_machine.specs.Places.{Seen}
 
 -- a call with its reply, who made it, and what was there when it was made
 abbrev pub turn_in : State → Option ℕ → Call → CallReply → Turn
-turn_in s by call reply = record { by = by; call = call; reply = reply; stood = stood_in s }
+turn_in s by call reply = record { by = by; call = call; reply = reply; stood = s.stood }
 
 -- the call was noted with this reply, which it may have, and nothing that decides what comes next has changed
 pub record Noted (by : Option ℕ) (old new : Seen) (call : Call) (reply : CallReply) : Type 0 where
@@ -32,7 +32,7 @@ pub record Noted (by : Option ℕ) (old new : Seen) (call : Call) (reply : CallR
   pub root : new.told.state.root ≡ old.told.state.root
   pub numbers : new.told.state.numbers ≡ numbers_called old.told.state.numbers call reply
   pub running : new.told.state.running ≡ running_called old.told.state.running call reply
-  pub stood : stood_in new.told.state ≡ stood_called (stood_in old.told.state) by call reply
+  pub stood : new.told.state.stood ≡ stood_called old.told.state.stood by call reply
   pub drawn : new.told.state.drawn ≡ drawn_called old.told.state.drawn call reply
   pub lacked : new.lacked ≡ old.lacked
 
@@ -55,8 +55,8 @@ Shown by old new slot sent answer =
 
 -- the call spends a token: where that isn't there it does nothing
 pub record Spent (by : Option ℕ) (old new : Seen) (call : Call) : Type 0 where
-  pub there : has_place (stood_in old.told.state) call ≡ true → Noted by old new call Done
-  pub gone : has_place (stood_in old.told.state) call ≡ false → new ≡ old
+  pub there : has_place old.told.state.stood call ≡ true → Noted by old new call Done
+  pub gone : has_place old.told.state.stood call ≡ false → new ≡ old
 
 -- the reply to a poll of a sleep
 abbrev pub sleep_reply : Option ℕ → CallReply

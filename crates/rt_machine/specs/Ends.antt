@@ -64,8 +64,8 @@ pub record Left (task : ℕ) (own : Option Outcome) (settles : Bool) (old new : 
   pub numbers : new.told.state.numbers ≡ old.told.state.numbers
   pub running : new.told.state.running ≡ without_number task old.told.state.running
   pub marks : new.told.state.marks ≡ marks_ended settles task old.told.state.marks
-  pub results : new.told.state.results ≡ ended_results own settles task old.told.state.results
-  pub slots : new.told.state.slots ≡ old.told.state.slots
+  pub results : new.told.state.stood.results ≡ ended_results own settles task old.told.state.stood.results
+  pub slots : new.told.state.stood.slots ≡ old.told.state.stood.slots
   pub lacked : new.lacked ≡ old.lacked
 
 -- a task that was to leave has left its visit
@@ -77,8 +77,8 @@ pub record Gone (task : ℕ) (own : Option Outcome) (old new : Seen) : Type 0 wh
   pub root : new.told.state.root ≡ old.told.state.root
   pub numbers : new.told.state.numbers ≡ old.told.state.numbers
   pub running : new.told.state.running ≡ old.told.state.running
-  pub results : new.told.state.results ≡ ended_results None (is_none own) task old.told.state.results
-  pub slots : new.told.state.slots ≡ old.told.state.slots
+  pub results : new.told.state.stood.results ≡ ended_results None (is_none own) task old.told.state.stood.results
+  pub slots : new.told.state.stood.slots ≡ old.told.state.stood.slots
   pub lacked : new.lacked ≡ old.lacked
 
 -- the visit of a task has ended with it
@@ -90,6 +90,6 @@ pub record Visited (task : ℕ) (own : Option Outcome) (old new : Seen) : Type 0
   pub root : new.told.state.root ≡ old.told.state.root
   pub numbers : new.told.state.numbers ≡ old.told.state.numbers
   pub running : new.told.state.running ≡ without_number task old.told.state.running
-  pub results : new.told.state.results ≡ with_outcome (unwrap_or own Closed) task old.told.state.results
-  pub slots : new.told.state.slots ≡ old.told.state.slots
+  pub results : new.told.state.stood.results ≡ with_outcome (unwrap_or own Closed) task old.told.state.stood.results
+  pub slots : new.told.state.stood.slots ≡ old.told.state.stood.slots
   pub lacked : new.lacked ≡ old.lacked

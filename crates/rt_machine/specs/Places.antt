@@ -71,14 +71,14 @@ visit_places _ = 0
 -- and beside these: a firing and a wake for each alarm, the end of each running task, and a wake of the root by a panic
 abbrev pub promised_by : State → ℕ
 promised_by s =
-    2 * length s.alarms.alarms
+    2 * length s.stood.alarms.alarms
     + length s.running
-    + live_count s.nodes.nodes
+    + live_count s.stood.nodes.nodes
     + total mark_places s.marks
-    + total result_places s.results
-    + total result_places s.slots.results
-    + total sender_places s.slots.senders
-    + signal_places s.signals
+    + total result_places s.stood.results
+    + total result_places s.stood.slots.results
+    + total sender_places s.stood.slots.senders
+    + signal_places s.stood.signals
     + ones (not s.panicked)
     + visit_places s.phase
 
@@ -94,22 +94,22 @@ pub record Stands (journal : Journaled) (time next : ℕ) (root : Option ℕ) (r
   pub root_is : journal.told.state.root ≡ root
   pub left_is : journal.told.state.root_left ≡ root_left
   pub panicked_is : journal.told.state.panicked ≡ panicked
-  pub nodes_are : journal.told.state.nodes ≡ tree
+  pub nodes_are : journal.told.state.stood.nodes ≡ tree
   pub labels_are : journal.told.state.labels ≡ labels.items
   pub closing_is : closing ≡ is_closing journal.told.state.phase
   pub ready_is : journal.told.state.ready ≡ ready
-  pub alarms_are : journal.told.state.alarms ≡ alarms
+  pub alarms_are : journal.told.state.stood.alarms ≡ alarms
   pub marks_are : journal.told.state.marks ≡ marks.items
-  pub results_are : journal.told.state.results ≡ results.items
-  pub slots_are : journal.told.state.slots ≡ record { results = slots.items; senders = senders.items; count = slots.next }
-  pub signals_are : journal.told.state.signals ≡ groups.told
-  pub stop_is : journal.told.state.stop ≡ groups.stop
+  pub results_are : journal.told.state.stood.results ≡ results.items
+  pub slots_are : journal.told.state.stood.slots ≡ record { results = slots.items; senders = senders.items; count = slots.next }
+  pub signals_are : journal.told.state.stood.signals ≡ groups.told
+  pub stop_is : journal.told.state.stood.stop ≡ groups.stop
   pub nobody_met : groups.woken ≡ []
   pub none_announced : journal.told.state.announced ≡ []
   pub none_drawn : journal.told.state.draws ≡ []
   pub none_owed : journal.told.state.owed ≡ []
   -- after the cleanup has begun every node is ended
-  pub all_ended : closing ≡ true → AreEnded journal.told.state.nodes
+  pub all_ended : closing ≡ true → AreEnded journal.told.state.stood.nodes
   -- each node has its label, and each task its places
   pub label_next : labels.count ≡ length tree.nodes
   pub mark_next : marks.next ≡ next

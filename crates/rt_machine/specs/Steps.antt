@@ -28,8 +28,8 @@ pub record Turns (old new : Told) : Type 0 where
   pub root : new.state.root ≡ old.state.root
   pub running : new.state.running ≡ old.state.running
   pub numbers : new.state.numbers ≡ old.state.numbers
-  pub results : new.state.results ≡ old.state.results
-  pub slots : new.state.slots ≡ old.state.slots
+  pub results : new.state.stood.results ≡ old.state.stood.results
+  pub slots : new.state.stood.slots ≡ old.state.stood.slots
 
 -- where the run is after a clock step: a round may begin, or the run ends
 abbrev pub StepStands : State → Result (Unit {0}) FinishCause → Type 0

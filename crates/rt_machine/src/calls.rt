@@ -70,7 +70,7 @@ impl Machine {
 
     /// Returns the full label of a child of a node, or why there is none; without a cause memory ran out.
     fn full_label(&self, node: u64, label: &str) -> Result<SmallText, Option<Cause>>
-        ensures live { IfOk result (λ full. is_live self.now.told.state.nodes node ≡ true) }
+        ensures live { IfOk result (λ full. is_live self.now.told.state.stood.nodes node ≡ true) }
         ensures fine { IfOk result (λ full. label_refusal (label_at self.now.told.state.labels node) label.now ≡ None) }
         ensures full { IfOk result (λ full. full ≡ prefixed (label_at self.now.told.state.labels node) label.now) }
         ensures err { IfErr result (λ why. ForSome why (λ cause. Answers self.now.told.state (Call.Child node label.now) (CallReply.Refused (error_of cause)))) }
@@ -121,7 +121,7 @@ impl Machine {
         full: SmallText,
     ) -> Result<(u64, bool), Error>
         requires calling { MayCall self.old.told.state by }
-        requires live { is_live self.old.told.state.nodes node ≡ true }
+        requires live { is_live self.old.told.state.stood.nodes node ≡ true }
         requires call { (label : List ℕ) × (call ≡ Call.Child node label) × (label_refusal (label_at self.old.told.state.labels node) label ≡ None) × (full ≡ prefixed (label_at self.old.told.state.labels node) label) }
         ensures ok { IfOk result (λ made. Noted by self.old self.new call (CallReply.NodeAt made.0 made.1)) }
         ensures err { IfErr result (λ e. (e ≡ Error.NoMemory) × (self.new ≡ lacking self.old)) }
@@ -205,7 +205,7 @@ impl Machine {
         requires calling { MayCall self.old.told.state by }
         requires runs { IfSome by (λ task. has_number task self.old.told.state.running ≡ true) }
         requires due { due ≤ MAX_TIME }
-        ensures told { IfOk result (λ told. told ≡ slept_number self.old.told.state.clock.time self.old.told.state.alarms due alarm) }
+        ensures told { IfOk result (λ told. told ≡ slept_number self.old.told.state.clock.time self.old.told.state.stood.alarms due alarm) }
         ensures ok { IfOk result (λ told. Noted by self.old self.new (Call.SleepPoll due) (sleep_reply told)) }
         ensures err { OnErr result (self.new ≡ lacking self.old) }
     {

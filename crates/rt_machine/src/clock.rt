@@ -26,7 +26,7 @@ impl Machine {
 
     /// Returns the moment that time skips to, if it skips.
     fn skip_to(&self) -> Option<Nanos>
-        ensures { result ≡ skip_to self.now.told.state.ready self.now.told.state.alarms.alarms self.now.told.state.clock.time }
+        ensures { result ≡ skip_to self.now.told.state.ready self.now.told.state.stood.alarms.alarms self.now.told.state.clock.time }
     {
         if !self.ready.is_empty() {
             return None;
@@ -55,7 +55,7 @@ impl Machine {
     /// Moves time on to the earliest alarm, which lies ahead with nobody ready.
     fn skip(&mut self, to: Nanos) -> Result<(), NoMemory>
         requires phase { self.old.told.state.phase ≡ Turning }
-        requires ahead { skip_to self.old.told.state.ready self.old.told.state.alarms.alarms self.old.told.state.clock.time ≡ Some to }
+        requires ahead { skip_to self.old.told.state.ready self.old.told.state.stood.alarms.alarms self.old.told.state.clock.time ≡ Some to }
         ensures ok { OnOk result (self.new ≡ record { told = pushed self.old.told (Entry.Skip to); lacked = self.old.lacked }) }
         ensures err { OnErr result (self.new ≡ self.old) }
     {
@@ -71,11 +71,11 @@ impl Machine {
     fn fire(&mut self) -> bool
         requires phase { self.old.told.state.phase ≡ Turning }
         requires early { is_late self.old.told.state.clock ≡ false }
-        ensures fired { result ≡ is_some (fires self.old.told.state.alarms.alarms self.old.told.state.clock.time) }
+        ensures fired { result ≡ is_some (fires self.old.told.state.stood.alarms.alarms self.old.told.state.clock.time) }
         ensures turns { Turns self.old.told self.new.told }
         ensures phase { self.new.told.state.phase ≡ Turning }
         ensures clock { self.new.told.state.clock ≡ self.old.told.state.clock }
-        ensures fewer { result ≡ true → length self.new.told.state.alarms.alarms < length self.old.told.state.alarms.alarms }
+        ensures fewer { result ≡ true → length self.new.told.state.stood.alarms.alarms < length self.old.told.state.stood.alarms.alarms }
         ensures ready { is_nil self.old.told.state.ready ≡ false → is_nil self.new.told.state.ready ≡ false }
         ensures lacked { self.new.lacked ≡ self.old.lacked }
         ensures same { result ≡ false → self.new ≡ self.old }
@@ -99,9 +99,9 @@ impl Machine {
         ensures turns { Turns self.old.told self.new.told }
         ensures phase { self.new.told.state.phase ≡ Turning }
         ensures clock { self.new.told.state.clock ≡ self.old.told.state.clock }
-        ensures none { fires self.new.told.state.alarms.alarms self.new.told.state.clock.time ≡ None }
-        ensures fewer { length self.new.told.state.alarms.alarms ≤ length self.old.told.state.alarms.alarms }
-        ensures some { IsSome (fires self.old.told.state.alarms.alarms self.old.told.state.clock.time) → length self.new.told.state.alarms.alarms < length self.old.told.state.alarms.alarms }
+        ensures none { fires self.new.told.state.stood.alarms.alarms self.new.told.state.clock.time ≡ None }
+        ensures fewer { length self.new.told.state.stood.alarms.alarms ≤ length self.old.told.state.stood.alarms.alarms }
+        ensures some { IsSome (fires self.old.told.state.stood.alarms.alarms self.old.told.state.clock.time) → length self.new.told.state.stood.alarms.alarms < length self.old.told.state.stood.alarms.alarms }
         ensures ready { is_nil self.old.told.state.ready ≡ false → is_nil self.new.told.state.ready ≡ false }
         ensures lacked { self.new.lacked ≡ self.old.lacked }
     {
@@ -114,8 +114,8 @@ impl Machine {
         ensures turns { Turns self.old.told self.new.told }
         ensures phase { self.new.told.state.phase ≡ Turning }
         ensures ready { self.new.told.state.ready ≡ self.old.told.state.ready }
-        ensures alarms { self.new.told.state.alarms ≡ self.old.told.state.alarms }
-        ensures there { OnOk result (skip_to self.new.told.state.ready self.new.told.state.alarms.alarms self.new.told.state.clock.time ≡ None) }
+        ensures alarms { self.new.told.state.stood.alarms ≡ self.old.told.state.stood.alarms }
+        ensures there { OnOk result (skip_to self.new.told.state.ready self.new.told.state.stood.alarms.alarms self.new.told.state.clock.time ≡ None) }
         ensures lacked { self.new.lacked ≡ self.old.lacked }
     {
         if let Some(to) = self.skip_to() {
@@ -131,7 +131,7 @@ impl Machine {
         requires phase { self.old.told.state.phase ≡ Turning }
         ensures turns { Turns self.old.told self.new.told }
         ensures stands { TurnStands self.new.told.state result }
-        ensures fewer { result ≡ Ok false → length self.new.told.state.alarms.alarms < length self.old.told.state.alarms.alarms }
+        ensures fewer { result ≡ Ok false → length self.new.told.state.stood.alarms.alarms < length self.old.told.state.stood.alarms.alarms }
         ensures lacked { self.new.lacked ≡ self.old.lacked }
     {
         if self.skip_ahead().is_err() {

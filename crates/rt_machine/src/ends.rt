@@ -43,7 +43,7 @@ impl Machine {
     /// Begins the cleanup: nobody is ready and no alarm is set from here on, and node 0 has ended. It takes no memory.
     pub fn cleanup(&mut self)
         requires { MayClose self.old.told.state.phase }
-        ensures { self.new ≡ record { told = pushed_all self.old.told (cleanup_entries self.old.told.state.nodes); lacked = self.old.lacked } }
+        ensures { self.new ≡ record { told = pushed_all self.old.told (cleanup_entries self.old.told.state.stood.nodes); lacked = self.old.lacked } }
     {
         let alarms = 2 * self.alarms.len();
         let ended = self.tree.is_over();
@@ -76,7 +76,7 @@ impl Machine {
 
     /// Returns whether no node ends after the end of a task, since its own had ended.
     fn is_settled(&self, task: u64) -> bool
-        ensures { result ≡ is_ended_at self.now.told.state.nodes (find task self.now.told.state.marks) }
+        ensures { result ≡ is_ended_at self.now.told.state.stood.nodes (find task self.now.told.state.marks) }
     {
         match self.marks.get(task) {
             Some(mark) => self.tree.has_ended(mark.node.get()),
@@ -107,7 +107,7 @@ impl Machine {
         requires phase { self.old.told.state.phase ≡ Ending task own (left_of self.old.told.state.phase) }
         requires runs { has_number task self.old.told.state.running ≡ true }
         requires own { open_in own ≡ 0 }
-        ensures settled { result ≡ is_ended_at self.old.told.state.nodes (find task self.old.told.state.marks) }
+        ensures settled { result ≡ is_ended_at self.old.told.state.stood.nodes (find task self.old.told.state.marks) }
         ensures calm { Calmly (pushed self.old.told (Entry.Answer task AnswerKind.Ended)) self.new.told }
         ensures left { Left task own result self.old self.new }
     {

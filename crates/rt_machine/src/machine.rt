@@ -377,8 +377,8 @@ impl Machine {
         ensures digested { AreDigested (digest_of self.now.told.given) (own self.now.told) }
         ensures state { self.now.told.state ≡ after_all (begun self.now.told.begin) (own self.now.told) }
         ensures calls { AreCalls self.now.told.calls }
-        ensures fresh { (task : ℕ) → self.now.told.state.numbers.next ≤ task → find task self.now.told.state.results ≡ None }
-        ensures unslotted { (slot : ℕ) → self.now.told.state.slots.count ≤ slot → find slot self.now.told.state.slots.results ≡ None }
+        ensures fresh { (task : ℕ) → self.now.told.state.numbers.next ≤ task → find task self.now.told.state.stood.results ≡ None }
+        ensures unslotted { (slot : ℕ) → self.now.told.state.stood.slots.count ≤ slot → find slot self.now.told.state.stood.slots.results ≡ None }
     {
         self.results.facts();
         self.slots.facts();

@@ -123,7 +123,7 @@ impl Machine {
     /// Notes a poll of a signal that shows its value.
     fn show_value(&mut self, by: Option<u64>, signal: u64, value: i32) -> Result<Poll<i32>, Error>
         requires calling { MayCall self.old.told.state by }
-        requires shown { signal_answer self.old.told.state.signals signal ≡ Ok (Poll.Ready value) }
+        requires shown { signal_answer self.old.told.state.stood.signals signal ≡ Ok (Poll.Ready value) }
         ensures ok { IfOk result (λ shown. (shown ≡ Poll.Ready value) × Noted by self.old self.new (Call.SignalPoll signal) (CallReply.Value value)) }
         ensures err { IfErr result (λ e. (e ≡ Error.NoMemory) × (self.new ≡ lacking self.old)) }
     {
@@ -143,7 +143,7 @@ impl Machine {
     fn wait_for_signal(&mut self, by: Option<u64>, signal: u64) -> Result<Poll<i32>, Error>
         requires calling { MayCall self.old.told.state by }
         requires runs { IfSome by (λ task. has_number task self.old.told.state.running ≡ true) }
-        requires pending { signal_answer self.old.told.state.signals signal ≡ Ok Poll.Pending }
+        requires pending { signal_answer self.old.told.state.stood.signals signal ≡ Ok Poll.Pending }
         ensures ok { IfOk result (λ shown. (shown ≡ Poll.Pending) × Noted by self.old self.new (Call.SignalPoll signal) CallReply.Pending) }
         ensures err { IfErr result (λ e. (e ≡ Error.NoMemory) × (self.new ≡ lacking self.old)) }
     {
@@ -231,7 +231,7 @@ impl Machine {
     /// Notes a poll of a completion that is met.
     fn note_met(&mut self, by: Option<u64>, completion: u64) -> Result<Poll<()>, Error>
         requires calling { MayCall self.old.told.state by }
-        requires met { completion_answer self.old.told.state.signals completion ≡ Ok (Poll.Ready tt) }
+        requires met { completion_answer self.old.told.state.stood.signals completion ≡ Ok (Poll.Ready tt) }
         ensures ok { IfOk result (λ met. (met ≡ Poll.Ready tt) × Noted by self.old self.new (Call.CompletionPoll completion) CallReply.Done) }
         ensures err { IfErr result (λ e. (e ≡ Error.NoMemory) × (self.new ≡ lacking self.old)) }
     {
@@ -251,7 +251,7 @@ impl Machine {
     fn wait_for_completion(&mut self, by: Option<u64>, completion: u64) -> Result<Poll<()>, Error>
         requires calling { MayCall self.old.told.state by }
         requires runs { IfSome by (λ task. has_number task self.old.told.state.running ≡ true) }
-        requires pending { completion_answer self.old.told.state.signals completion ≡ Ok Poll.Pending }
+        requires pending { completion_answer self.old.told.state.stood.signals completion ≡ Ok Poll.Pending }
         ensures ok { IfOk result (λ met. (met ≡ Poll.Pending) × Noted by self.old self.new (Call.CompletionPoll completion) CallReply.Pending) }
         ensures err { IfErr result (λ e. (e ≡ Error.NoMemory) × (self.new ≡ lacking self.old)) }
     {

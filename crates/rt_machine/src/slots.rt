@@ -25,7 +25,7 @@ impl Machine {
     /// no memory.
     fn perform(&mut self, by: Option<u64>, call: SlotCall, reply: CallReply) -> Result<(), NoMemory>
         requires calling { MayCall self.old.told.state by }
-        requires answers { AnswersSlot self.old.told.state.slots call reply }
+        requires answers { AnswersSlot self.old.told.state.stood.slots call reply }
         ensures ok { OnOk result (Noted by self.old self.new (Call.Slots call) reply) }
         ensures err { OnErr result (self.new ≡ lacking self.old) }
         ensures spends { is_spending call ≡ true → IsOk result }
@@ -72,7 +72,7 @@ impl Machine {
 
     /// Returns whether the token is there that a call on slots spends.
     fn has_place(&self, call: SlotCall) -> bool
-        ensures { result ≡ slot_place self.now.told.state.slots call }
+        ensures { result ≡ slot_place self.now.told.state.stood.slots call }
     {
         match call {
             SlotCall::Send { slot } | SlotCall::Close { slot } => self.senders.get(slot).is_some(),
@@ -127,7 +127,7 @@ impl Machine {
     /// Returns whether what is sent into a slot now is kept there: its sender wasn't spent, and nothing else is there
     /// yet.
     pub fn takes(&self, slot: u64) -> bool
-        ensures { result ≡ (is_some (find slot self.now.told.state.slots.senders) && is_open (find slot self.now.told.state.slots.results)) }
+        ensures { result ≡ (is_some (find slot self.now.told.state.stood.slots.senders) && is_open (find slot self.now.told.state.stood.slots.results)) }
     {
         if self.senders.get(slot).is_none() {
             return false;
@@ -144,21 +144,21 @@ impl Machine {
     /// Returns whether the wait for what comes by a slot can be aborted: its receiver wasn't spent, and it wasn't
     /// aborted before.
     pub fn may_abort_wait(&self, slot: u64) -> bool
-        ensures { result ≡ may_abort (find slot self.now.told.state.slots.results) }
+        ensures { result ≡ may_abort (find slot self.now.told.state.stood.slots.results) }
     {
         may_abort(&self.slots, slot)
     }
 
     /// Returns whether the receiver of a slot wasn't spent.
     pub fn has_slot(&self, slot: u64) -> bool
-        ensures { result ≡ is_some (find slot self.now.told.state.slots.results) }
+        ensures { result ≡ is_some (find slot self.now.told.state.stood.slots.results) }
     {
         self.slots.get(slot).is_some()
     }
 
     /// Returns whether a result was sent into a slot and wasn't taken.
     pub fn has_sent(&self, slot: u64) -> bool
-        ensures { result ≡ is_there (find slot self.now.told.state.slots.results) }
+        ensures { result ≡ is_there (find slot self.now.told.state.stood.slots.results) }
     {
         let Some(found) = self.slots.get(slot) else {
             return false;
@@ -174,7 +174,7 @@ impl Machine {
     pub fn slot_give_up(&mut self, by: Option<u64>, slot: u64)
         requires { MayCall self.old.told.state by }
         ensures spent { Spent by self.old self.new (Call.Slots (GiveUp slot)) }
-        ensures gone { find slot self.new.told.state.slots.results ≡ None }
+        ensures gone { find slot self.new.told.state.stood.slots.results ≡ None }
     {
         self.slots.facts();
         self.spend(by, SlotCall::GiveUp { slot })
@@ -186,7 +186,7 @@ impl Machine {
     /// where nothing comes any more; `NoMemory`.
     pub fn slot_poll(&mut self, by: Option<u64>, slot: u64) -> Result<(), Error>
         requires calling { MayCall self.old.told.state by }
-        requires unsent { is_there (find slot self.old.told.state.slots.results) ≡ false }
+        requires unsent { is_there (find slot self.old.told.state.stood.slots.results) ≡ false }
         ensures ok { OnOk result (Noted by self.old self.new (Call.Slots (Poll slot)) CallReply.Pending) }
         ensures err { IfErr result (λ e. IsRefused by self.old self.new (Call.Slots (Poll slot)) e) }
     {
@@ -208,7 +208,7 @@ impl Machine {
     /// Takes the value that was sent into a slot. It takes memory.
     pub fn take_sent(&mut self, by: Option<u64>, slot: u64) -> Result<(), NoMemory>
         requires calling { MayCall self.old.told.state by }
-        requires sent { is_there (find slot self.old.told.state.slots.results) ≡ true }
+        requires sent { is_there (find slot self.old.told.state.stood.slots.results) ≡ true }
         ensures ok { OnOk result (Noted by self.old self.new (Call.Slots (Poll slot)) CallReply.Ready) }
         ensures err { OnErr result (self.new ≡ lacking self.old) }
     {
@@ -219,7 +219,7 @@ impl Machine {
     /// error, or `NoMemory` where memory ran out.
     pub fn show_sent(&mut self, by: Option<u64>, slot: u64, sent: &Error) -> Error
         requires calling { MayCall self.old.told.state by }
-        requires sent { is_there (find slot self.old.told.state.slots.results) ≡ true }
+        requires sent { is_there (find slot self.old.told.state.stood.slots.results) ≡ true }
         ensures { Shown by self.old self.new slot sent.now result }
     {
         let Ok((error, answer)) = copies(*self.ready.allocator(), sent) else {

@@ -24,7 +24,7 @@ use rt_super::Tree;
 impl Machine {
     /// Returns whether a task may be put on a node: it is live, and without one.
     fn is_free(&self, node: u64) -> bool
-        ensures { result ≡ is_free self.now.told.state.nodes node }
+        ensures { result ≡ is_free self.now.told.state.stood.nodes node }
     {
         self.tree.lives(node) && self.tree.task_of(node).is_none()
     }
@@ -57,9 +57,9 @@ impl Machine {
     /// Notes a spawn on a node that has ended.
     fn spawn_closed(&mut self, by: Option<u64>, node: u64) -> Result<Option<(u64, u64)>, Error>
         requires calling { MayCall self.old.told.state by }
-        requires free { is_free self.old.told.state.nodes node ≡ true }
+        requires free { is_free self.old.told.state.stood.nodes node ≡ true }
         requires left { self.old.told.state.numbers.next < 2 ^ 64 - 1 }
-        requires ended { is_ended self.old.told.state.nodes node ≡ true }
+        requires ended { is_ended self.old.told.state.stood.nodes node ≡ true }
         ensures ok { IfOk result (λ at. (at ≡ None) × Noted by self.old self.new (Call.Spawn node) CallReply.Closed) }
         ensures err { IfErr result (λ e. (e ≡ Error.NoMemory) × (self.new ≡ lacking self.old)) }
     {
@@ -80,9 +80,9 @@ impl Machine {
     /// Notes a spawn on a node that hasn't ended, and puts the task there.
     fn spawn_running(&mut self, by: Option<u64>, node: u64) -> Result<Option<(u64, u64)>, Error>
         requires calling { MayCall self.old.told.state by }
-        requires free { is_free self.old.told.state.nodes node ≡ true }
+        requires free { is_free self.old.told.state.stood.nodes node ≡ true }
         requires left { self.old.told.state.numbers.next < 2 ^ 64 - 1 }
-        requires open { is_ended self.old.told.state.nodes node ≡ false }
+        requires open { is_ended self.old.told.state.stood.nodes node ≡ false }
         ensures ok { IfOk result (λ at. IfSome at (λ at. Noted by self.old self.new (Call.Spawn node) (CallReply.TaskAt at.0 at.1))) }
         ensures some { IfOk result (λ at. is_some at ≡ true) }
         ensures running { IfOk result (λ at. is_closing self.old.told.state.phase ≡ false) }
@@ -210,7 +210,7 @@ impl Machine {
     /// Notes a poll of a result that is open, for which the caller waits then.
     fn join_open(&mut self, by: Option<u64>, task: u64) -> Result<bool, Error>
         requires calling { MayCall self.old.told.state by }
-        requires open { (r : TaskResult) × (find task self.old.told.state.results ≡ Some r) × (open_places r.outcome ≡ 1) × Answers self.old.told.state (Call.Join task) CallReply.Pending }
+        requires open { (r : TaskResult) × (find task self.old.told.state.stood.results ≡ Some r) × (open_places r.outcome ≡ 1) × Answers self.old.told.state (Call.Join task) CallReply.Pending }
         ensures ok { IfOk result (λ there. (there ≡ false) × Noted by self.old self.new (Call.Join task) CallReply.Pending) }
         ensures err { IfErr result (λ e. (e ≡ Error.NoMemory) × (self.new ≡ lacking self.old)) }
     {
@@ -249,7 +249,7 @@ impl Machine {
 
     /// Returns whether the result of a task wasn't given up.
     pub fn has_result(&self, task: u64) -> bool
-        ensures { result ≡ is_some (find task self.now.told.state.results) }
+        ensures { result ≡ is_some (find task self.now.told.state.stood.results) }
     {
         self.results.get(task).is_some()
     }
@@ -259,7 +259,7 @@ impl Machine {
     pub fn give_up(&mut self, by: Option<u64>, task: u64)
         requires { MayCall self.old.told.state by }
         ensures spent { Spent by self.old self.new (Call.GiveUp task) }
-        ensures gone { find task self.new.told.state.results ≡ None }
+        ensures gone { find task self.new.told.state.stood.results ≡ None }
     {
         let Some(found) = self.results.get(task) else {
             return;

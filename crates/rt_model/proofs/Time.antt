@@ -38,20 +38,20 @@ skip-due [] [] time now h k = cc
 skip-due [] (a ∷ rest) time now h k = grind arith
 skip-due (r ∷ ready) alarms time now h k = cc
 
-due-called : (s : State) (by : Option ℕ) (call : Call) (reply : CallReply) → Answers s call reply → AreDue s.alarms.alarms → AreDue (alarms_called s.alarms by call reply).alarms
-due-called s by (SleepPoll due) (PendingAt number) h k = due-slept s.alarms by due number h.1 k
+due-called : (s : State) (by : Option ℕ) (call : Call) (reply : CallReply) → Answers s call reply → AreDue s.stood.alarms.alarms → AreDue (alarms_called s.stood.alarms by call reply).alarms
+due-called s by (SleepPoll due) (PendingAt number) h k = due-slept s.stood.alarms by due number h.1 k
 due-called s by _ _ h k = k
 
 record IsInTime (s : State) : Type 0 where
   pub time : s.clock.time ≤ MAX_TIME
-  pub alarms : AreDue s.alarms.alarms
+  pub alarms : AreDue s.stood.alarms.alarms
 
 in-time-after : (s : State) (e : Entry) → IsInTime s → May s e → IsInTime (after s e)
 unfolding after
 in-time-after s (CallEntry by call reply) i m = record { time = i.time; alarms = due-called s by call reply m.1.1 i.alarms }
 in-time-after s (Advance now) i m = record { time = m.1.3; alarms = i.alarms }
-in-time-after s (Skip now) i m = record { time = skip-due s.ready s.alarms.alarms s.clock.time now m.1.1 i.alarms; alarms = i.alarms }
-in-time-after s (Fire alarm) i m = record { time = i.time; alarms = due-drop s.alarms.alarms i.alarms }
+in-time-after s (Skip now) i m = record { time = skip-due s.ready s.stood.alarms.alarms s.clock.time now m.1.1 i.alarms; alarms = i.alarms }
+in-time-after s (Fire alarm) i m = record { time = i.time; alarms = due-drop s.stood.alarms.alarms i.alarms }
 in-time-after s Cleanup i m = record { time = i.time; alarms = tt }
 in-time-after s _ i m = record { time = i.time; alarms = i.alarms }
 

@@ -49,7 +49,7 @@ cause_at Between s = where_true (is_late s.clock) Timeout
 cause_at (Visiting left) s = where_true (is_nil (from_running s.running left) && overflows s.clock) TimeOverflow
 cause_at Turning s =
     turning_cause
-    (skip_to s.ready s.alarms.alarms s.clock.time) (is_late s.clock) (fires s.alarms.alarms s.clock.time) s.ready s.alarms.alarms
+    (skip_to s.ready s.stood.alarms.alarms s.clock.time) (is_late s.clock) (fires s.stood.alarms.alarms s.clock.time) s.ready s.stood.alarms.alarms
 cause_at (Over cause) s = Some cause
 cause_at Blank s = None
 cause_at (Entered task left) s = None

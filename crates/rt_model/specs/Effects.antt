@@ -24,7 +24,7 @@ use Rattle.rt_model.specs.Lists.{find, without, those, without_number, with_numb
 use Rattle.rt_model.specs.Marks.{new_mark, is_flagged, is_ended_at, flag, flag_all, due_of, due_all, leave}
 use Rattle.rt_model.specs.Results.{new_result, waiting, with_outcome, with_abort}
 use Rattle.rt_model.specs.Slots.{Slotted, slots_by, slots_wake}
-use Rattle.rt_model.specs.State.{Phase, Making, Between, Visiting, Entered, Polling, Halted, Ending, Leaving, Turning, Over, Cleaning, Closing, Crashed, Finished, Clock, Numbers, Announced, Turn, Stood, State, stood_in}
+use Rattle.rt_model.specs.State.{Phase, Making, Between, Visiting, Entered, Polling, Halted, Ending, Leaving, Turning, Over, Cleaning, Closing, Crashed, Finished, Clock, Numbers, Announced, Turn, Stood, State}
 use Rattle.rt_model.specs.Alarms.{slept, woken_by}
 use Rattle.rt_model.specs.Causes.{reached, from_running}
 
@@ -142,11 +142,9 @@ abbrev pub alarms_called : AlarmList → Option ℕ → Call → CallReply → A
 alarms_called a by (SleepPoll due) (PendingAt number) = slept a by due number
 alarms_called a by _ _ = a
 
-abbrev pub alarms_after : AlarmList → Entry → AlarmList
-alarms_after a (CallEntry by call reply) = alarms_called a by call reply
-alarms_after a (Fire number) = record { alarms = drop 1 a.alarms; count = a.count }
-alarms_after a Cleanup = alarms_cleared a
-alarms_after a _ = a
+-- the first alarm went off
+abbrev pub fired : AlarmList → AlarmList
+fired a = record a { alarms = drop 1 a.alarms }
 
 -- nodes
 
@@ -170,12 +168,6 @@ released (Some m) n = with_release n m.node
 abbrev pub nodes_answered : TreeRecord → Option Mark → AnswerKind → TreeRecord
 nodes_answered n m Ended = released m n
 nodes_answered n m _ = n
-
-abbrev pub nodes_after : State → Entry → TreeRecord
-nodes_after s (CallEntry by call reply) = nodes_called s.nodes call reply
-nodes_after s (Answer task kind) = nodes_answered s.nodes (find task s.marks) kind
-nodes_after s (NodeEnd node) = unflagged (with_end s.nodes node)
-nodes_after s _ = s.nodes
 
 -- labels: that of a child is its parent's, a low line and its own, and that of a task's own context its node's
 
@@ -214,7 +206,7 @@ marks_called ms _ _ = ms
 
 -- no node ends after the end of this task: in a cleanup, or where its node had ended before
 abbrev pub is_settled : State → ℕ → Bool
-is_settled s task = is_closing s.phase || is_ended_at s.nodes (find task s.marks)
+is_settled s task = is_closing s.phase || is_ended_at s.stood.nodes (find task s.marks)
 
 abbrev pub marks_ended : Bool → ℕ → List (ℕ × Mark) → List (ℕ × Mark)
 marks_ended true task ms = without task ms
@@ -232,7 +224,7 @@ unmarked (Some task) ms = without task ms
 abbrev pub marks_after : State → Entry → List (ℕ × Mark)
 marks_after s (CallEntry by call reply) = marks_called s.marks call reply
 marks_after s (Answer task kind) = marks_answered s task kind
-marks_after s (NodeEnd node) = unmarked (leaving s.phase) (flag_all (flagged_by s.nodes node) s.marks)
+marks_after s (NodeEnd node) = unmarked (leaving s.phase) (flag_all (flagged_by s.stood.nodes node) s.marks)
 marks_after s _ = s.marks
 
 -- results
@@ -252,28 +244,18 @@ results_ended _ true task rs = with_outcome IsClosed task rs
 results_ended _ false task rs = rs
 
 abbrev pub results_answered : State → ℕ → AnswerKind → List (ℕ × TaskResult)
-results_answered s task Ended = results_ended s.phase (is_settled s task) task s.results
-results_answered s task _ = s.results
+results_answered s task Ended = results_ended s.phase (is_settled s task) task s.stood.results
+results_answered s task _ = s.stood.results
 
 abbrev pub results_left : Phase → List (ℕ × TaskResult) → List (ℕ × TaskResult)
 results_left (Leaving task None left) rs = with_outcome IsClosed task rs
 results_left _ rs = rs
-
-abbrev pub results_after : State → Entry → List (ℕ × TaskResult)
-results_after s (CallEntry by call reply) = results_called s.results by call reply
-results_after s (Answer task kind) = results_answered s task kind
-results_after s (NodeEnd node) = results_left s.phase s.results
-results_after s _ = s.results
 
 -- slots
 
 abbrev pub slots_called : Slotted → Option ℕ → Call → CallReply → Slotted
 slots_called ss by (Slots call) reply = slots_by ss by call reply
 slots_called ss by _ _ = ss
-
-abbrev pub slots_after : Slotted → Entry → Slotted
-slots_after ss (CallEntry by call reply) = slots_called ss by call reply
-slots_after ss _ = ss
 
 -- signals
 
@@ -290,17 +272,9 @@ signals_called r s by (Stop value) (CompletionAt number) = stop_after r s value
 signals_called r s by StoppedCall (SignalAt number) = stopped_after r s
 signals_called r s by _ _ = r
 
-abbrev pub signals_after : SignalRecord → StopRecord → Entry → SignalRecord
-signals_after r s (CallEntry by call reply) = signals_called r s by call reply
-signals_after r s _ = r
-
 abbrev pub stop_called : StopRecord → Call → CallReply → StopRecord
 stop_called s (Stop value) (CompletionAt number) = with_stop s value
 stop_called s _ _ = s
-
-abbrev pub stop_after_entry : StopRecord → Entry → StopRecord
-stop_after_entry s (CallEntry by call reply) = stop_called s call reply
-stop_after_entry s _ = s
 
 -- what is there after a call
 abbrev pub stood_called : Stood → Option ℕ → Call → CallReply → Stood
@@ -342,7 +316,7 @@ due_ended (Ending ended None left) true r = waiting r
 due_ended _ _ r = []
 
 abbrev pub due_answered : State → ℕ → AnswerKind → List ℕ
-due_answered s task Ended = due_panic s ++ due_ended s.phase (is_settled s task) (find task s.results)
+due_answered s task Ended = due_panic s ++ due_ended s.phase (is_settled s task) (find task s.stood.results)
 due_answered s task _ = []
 
 -- who waits for the result of a task that leaves without one
@@ -353,14 +327,14 @@ due_left _ rs = []
 -- the tasks that the end of a node flags, and then who waits for the one that leaves with it
 abbrev pub due_node : Bool → State → ℕ → List ℕ
 due_node true s node = []
-due_node false s node = due_all (flagged_by s.nodes node) s.marks ++ due_left s.phase s.results
+due_node false s node = due_all (flagged_by s.stood.nodes node) s.marks ++ due_left s.phase s.stood.results
 
 abbrev pub owed_after : State → Entry → List ℕ
 owed_after s (Wake task) = drop 1 s.owed
-owed_after s (CallEntry by call reply) = due_called (is_closing s.phase) s.marks (stood_in s) call reply
+owed_after s (CallEntry by call reply) = due_called (is_closing s.phase) s.marks s.stood call reply
 owed_after s (Answer task kind) = due_answered s task kind
 owed_after s (NodeEnd node) = due_node (is_closing s.phase) s node
-owed_after s (Fire number) = woken_by s.alarms.alarms
+owed_after s (Fire number) = woken_by s.stood.alarms.alarms
 owed_after s _ = []
 
 -- the events of the call that comes next
@@ -377,7 +351,7 @@ announced_after s _ = []
 -- the calls of the part under way
 
 abbrev pub turns_after : State → Entry → List Turn
-turns_after s (CallEntry by call reply) = s.turns ++ record { by = by; call = call; reply = reply; stood = stood_in s } ∷ []
+turns_after s (CallEntry by call reply) = s.turns ++ record { by = by; call = call; reply = reply; stood = s.stood } ∷ []
 turns_after s (Wake task) = s.turns
 turns_after s (Event label fields) = s.turns
 turns_after s (Draw value) = s.turns
@@ -465,10 +439,21 @@ phase_after s (Event label fields) = entered s s.phase
 phase_after s (Answer task kind) = answered s task kind
 phase_after s (Advance now) = Turning
 phase_after s (NodeEnd node) = node_ended s.phase
-phase_after s Cleanup = cleans (is_ended s.nodes 0) (reached s)
+phase_after s Cleanup = cleans (is_ended s.stood.nodes 0) (reached s)
 phase_after s (Crash choices) = Crashed (cause_of s.phase)
 phase_after s (Finish cause) = Finished cause
 phase_after s _ = s.phase
+
+-- what is there after an entry
+abbrev pub stood_after : State → Entry → Stood
+stood_after s (CallEntry by call reply) = stood_called s.stood by call reply
+stood_after s (Answer task kind) =
+    record s.stood { nodes = nodes_answered s.stood.nodes (find task s.marks) kind; results = results_answered s task kind }
+stood_after s (NodeEnd node) =
+    record s.stood { nodes = unflagged (with_end s.stood.nodes node); results = results_left s.phase s.stood.results }
+stood_after s (Fire number) = record s.stood { alarms = fired s.stood.alarms }
+stood_after s Cleanup = record s.stood { alarms = alarms_cleared s.stood.alarms }
+stood_after s _ = s.stood
 
 -- the state after an entry
 unfoldable pub after : State → Entry → State
@@ -483,14 +468,9 @@ after s e = record {
   ready = ready_after s.ready e;
   draws = draws_after s.draws e;
   drawn = drawn_after s.drawn e;
-  alarms = alarms_after s.alarms e;
-  nodes = nodes_after s e;
+  stood = stood_after s e;
   labels = labels_after s.labels e;
   marks = marks_after s e;
-  results = results_after s e;
-  slots = slots_after s.slots e;
-  signals = signals_after s.signals s.stop e;
-  stop = stop_after_entry s.stop e;
   announced = announced_after s e;
   owed = owed_after s e;
   turns = turns_after s e;

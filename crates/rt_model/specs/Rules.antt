@@ -30,7 +30,7 @@ pub use Rattle.rt_model.specs.Replies.{IsRefusal, OutcomeAnswers, Unless}
 pub use Rattle.rt_model.specs.Slots.{IsSent, SlotAnswers, ReceiveAnswers, AnswersSlot}
 use Rattle.rt_model.specs.Results.{may_abort}
 use Rattle.rt_model.specs.Signals.{has_signaler, shown_reply, met_reply, stopped_reply}
-use Rattle.rt_model.specs.State.{Phase, Blank, Making, Between, Visiting, Entered, Polling, Halted, Ending, Leaving, Turning, Cleaning, Closing, Crashed, Finished, Numbers, Announced, Stood, State, stood_in}
+use Rattle.rt_model.specs.State.{Phase, Blank, Making, Between, Visiting, Entered, Polling, Halted, Ending, Leaving, Turning, Cleaning, Closing, Crashed, Finished, Numbers, Announced, Stood, State}
 use Rattle.rt_model.specs.Alarms.{is_set, skip_to, fires}
 use Rattle.rt_model.specs.Causes.{is_late, from_running, ends_next}
 use Rattle.rt_model.specs.Draws.{shuffled}
@@ -55,15 +55,15 @@ label_refusal prefix label =
 -- a child of a node that is live: refused for its label, or fresh, and ended exactly where the node is
 abbrev pub ChildAnswers : State → ℕ → List ℕ → CallReply → Type 0
 ChildAnswers s node label (NodeAt number ended) =
-    (label_refusal (label_at s.labels node) label ≡ None) × (is_known s.nodes number ≡ false) × (ended ≡ is_ended s.nodes node)
+    (label_refusal (label_at s.labels node) label ≡ None) × (is_known s.stood.nodes number ≡ false) × (ended ≡ is_ended s.stood.nodes node)
 ChildAnswers s node label (Refused error) = Some error ≡ label_refusal (label_at s.labels node) label
 ChildAnswers s node label _ = ⊥
 
 -- a spawn on a node that is free, while numbers are left
 abbrev pub SpawnAnswers : State → ℕ → CallReply → Type 0
 SpawnAnswers s node (TaskAt task number) =
-    (task ≡ s.numbers.next) × (is_ended s.nodes node ≡ false) × (is_known s.nodes number ≡ false)
-SpawnAnswers s node Closed = is_ended s.nodes node ≡ true
+    (task ≡ s.numbers.next) × (is_ended s.stood.nodes node ≡ false) × (is_known s.stood.nodes number ≡ false)
+SpawnAnswers s node Closed = is_ended s.stood.nodes node ≡ true
 SpawnAnswers s node _ = ⊥
 
 -- a poll of a result
@@ -78,34 +78,34 @@ ShownAs reply_of (Err error) reply = IsRefusal error reply
 
 -- the reply is one that the call may have
 abbrev pub Answers : State → Call → CallReply → Type 0
-Answers s (Child node label) reply = Unless (not (is_live s.nodes node)) UnknownToken (ChildAnswers s node label) reply
-Answers s (CloseNode node) Done = is_live s.nodes node ≡ true
+Answers s (Child node label) reply = Unless (not (is_live s.stood.nodes node)) UnknownToken (ChildAnswers s node label) reply
+Answers s (CloseNode node) Done = is_live s.stood.nodes node ≡ true
 Answers s (Spawn node) reply =
-    Unless (not (is_free s.nodes node)) UnknownToken
+    Unless (not (is_free s.stood.nodes node)) UnknownToken
     (λ reply. Unless (leb (2 ^ 64 - 1) s.numbers.next) TooManyTasks (SpawnAnswers s node) reply)
     reply
-Answers s (Abort task) Done = may_abort (find task s.results) ≡ true
+Answers s (Abort task) Done = may_abort (find task s.stood.results) ≡ true
 Answers s (AbortTask task) Done = is_some (find task s.marks) ≡ true
 Answers s (AbortTask task) (Refused error) = (error ≡ UnknownToken) × (is_some (find task s.marks) ≡ false)
-Answers s (Join task) reply = JoinAnswers (find task s.results) reply
-Answers s (GiveUp task) Done = is_some (find task s.results) ≡ true
+Answers s (Join task) reply = JoinAnswers (find task s.stood.results) reply
+Answers s (GiveUp task) Done = is_some (find task s.stood.results) ≡ true
 Answers s (WakeCall task) Done = WasGiven s.numbers task
 Answers s (WakeCall task) (Refused error) = (error ≡ UnknownToken) × (WasGiven s.numbers task → ⊥)
 Answers s (SleepPoll due) IsReady = due ≤ s.clock.time
 Answers s (SleepPoll due) (PendingAt alarm) =
-    (s.clock.time < due) × (due ≤ MAX_TIME) × ((alarm ≡ s.alarms.count) ⊎ (is_set s.alarms.alarms due alarm ≡ true))
-Answers s (Slots call) reply = AnswersSlot s.slots call reply
-Answers s Signaler (SignalAt signal) = signal ≡ s.signals.count
+    (s.clock.time < due) × (due ≤ MAX_TIME) × ((alarm ≡ s.stood.alarms.count) ⊎ (is_set s.stood.alarms.alarms due alarm ≡ true))
+Answers s (Slots call) reply = AnswersSlot s.stood.slots call reply
+Answers s Signaler (SignalAt signal) = signal ≡ s.stood.signals.count
 Answers s (CloneSignal signal) reply =
-    Unless (not (is_some (find signal s.signals.signals))) UnknownToken (λ reply. reply ≡ SignalAt s.signals.count) reply
-Answers s (Signal signaler value) Done = has_signaler s.signals s.stop signaler ≡ true
-Answers s (SignalPoll signal) reply = ShownAs shown_reply (signal_answer s.signals signal) reply
-Answers s (SignalClose signal) Done = is_some (find signal s.signals.signals) ≡ true
-Answers s (SignalerClose signaler) Done = has_signaler s.signals s.stop signaler ≡ true
-Answers s (CompletionPoll completion) reply = ShownAs met_reply (completion_answer s.signals completion) reply
-Answers s (CompletionClose completion) Done = is_some (find completion s.signals.completions) ≡ true
-Answers s (Stop value) (CompletionAt completion) = completion ≡ s.signals.count
-Answers s StoppedCall reply = reply ≡ stopped_reply (stopped_answer s.signals s.stop)
+    Unless (not (is_some (find signal s.stood.signals.signals))) UnknownToken (λ reply. reply ≡ SignalAt s.stood.signals.count) reply
+Answers s (Signal signaler value) Done = has_signaler s.stood.signals s.stood.stop signaler ≡ true
+Answers s (SignalPoll signal) reply = ShownAs shown_reply (signal_answer s.stood.signals signal) reply
+Answers s (SignalClose signal) Done = is_some (find signal s.stood.signals.signals) ≡ true
+Answers s (SignalerClose signaler) Done = has_signaler s.stood.signals s.stood.stop signaler ≡ true
+Answers s (CompletionPoll completion) reply = ShownAs met_reply (completion_answer s.stood.signals completion) reply
+Answers s (CompletionClose completion) Done = is_some (find completion s.stood.signals.completions) ≡ true
+Answers s (Stop value) (CompletionAt completion) = completion ≡ s.stood.signals.count
+Answers s StoppedCall reply = reply ≡ stopped_reply (stopped_answer s.stood.signals s.stood.stop)
 -- which number or bytes the generator decides, and which digest the events
 Answers s NextU32 (Number number) = number < 2 ^ 32
 Answers s NextU64 (Number number) = number < 2 ^ 64
@@ -132,7 +132,7 @@ MayCall s by = CallsAt s.phase s.root (ends_next s.running s.root) by
 -- an event may come here: that of a visit at its beginning, and where calls are made those of a call
 abbrev pub MayEvent : Phase → State → List ℕ → List (List ℕ) → Type 0
 MayEvent (Entered task left) s label fields = (label ≡ process_task) × (fields ≡ task_fields task (task_label s task))
-MayEvent p s label fields = (by : Option ℕ) × CallsAt p s.root (ends_next s.running s.root) by × IsOfCall (stood_in s) s.announced label fields
+MayEvent p s label fields = (by : Option ℕ) × CallsAt p s.root (ends_next s.running s.root) by × IsOfCall s.stood s.announced label fields
 
 -- this task's end may be over
 abbrev pub MayEnd : Phase → Option ℕ → ℕ → Type 0
@@ -152,7 +152,7 @@ MayAnswer s task Ended = MayEnd s.phase (ends_next s.running s.root) task
 -- a round may begin here
 abbrev pub MayRound : Phase → State → Type 0
 MayRound Between s = is_late s.clock ≡ false
-MayRound Turning s = (s.ready ≢ []) × (is_late s.clock ≡ false) × (fires s.alarms.alarms s.clock.time ≡ None)
+MayRound Turning s = (s.ready ≢ []) × (is_late s.clock ≡ false) × (fires s.stood.alarms.alarms s.clock.time ≡ None)
 MayRound _ s = ⊥
 
 -- a call with this reply takes these draws, which are before its events. None does so far
@@ -160,17 +160,17 @@ abbrev pub CallNeeds : Stood → Call → CallReply → List ℕ → Type 0
 CallNeeds stood call reply draws = draws ≡ []
 
 -- the crash takes these draws
-abbrev pub CrashNeeds : Items Choice → List ℕ → Type 0
-CrashNeeds choices draws = (choices ≡ []) × (draws ≡ [])
+abbrev pub CrashNeeds : Stood → Items Choice → List ℕ → Type 0
+CrashNeeds stood choices draws = (choices ≡ []) × (draws ≡ [])
 
 -- these draws and this one are the first that a call takes, or the crash
 abbrev pub IsOfDraws : State → Option ℕ → ℕ → Type 0
 IsOfDraws s by value =
     (s.announced ≡ [])
-    × (call : Call) × (reply : CallReply) × (more : List ℕ) × CallNeeds (stood_in s) call reply (s.draws ++ value ∷ more)
+    × (call : Call) × (reply : CallReply) × (more : List ℕ) × CallNeeds s.stood call reply (s.draws ++ value ∷ more)
 
 abbrev pub IsOfCrash : State → ℕ → Type 0
-IsOfCrash s value = (s.running ≡ []) × (choices : Items Choice) × (more : List ℕ) × CrashNeeds choices (s.draws ++ value ∷ more)
+IsOfCrash s value = (s.running ≡ []) × (choices : Items Choice) × (more : List ℕ) × CrashNeeds s.stood choices (s.draws ++ value ∷ more)
 
 -- a number may be drawn here: for the order of a round, where calls are made for one of those, and in a cleanup for the crash
 abbrev pub MayDraw : Phase → State → ℕ → Type 0
@@ -215,7 +215,7 @@ MayFree s (Start next now deadline cycle) =
     × (now ≡ s.clock.fixed.start)
     × (deadline ≡ s.clock.fixed.deadline)
     × (cycle ≡ s.clock.fixed.cycle)
-MayFree s (CallEntry by call reply) = MayCall s by × Answers s call reply × (s.announced ≡ announced_by (stood_in s) call reply)
+MayFree s (CallEntry by call reply) = MayCall s by × Answers s call reply × (s.announced ≡ announced_by s.stood call reply)
 MayFree s (Event label fields) = MayEvent s.phase s label fields
 MayFree s (Wake task) = ⊥
 MayFree s (Draw value) = MayDraw s.phase s value
@@ -231,8 +231,8 @@ MayFree s (Advance now) =
     × (from_running s.running (left_of s.phase) ≡ [])
     × (now ≡ s.clock.time + s.clock.fixed.cycle)
     × (now ≤ MAX_TIME)
-MayFree s (Skip now) = (s.phase ≡ Turning) × (skip_to s.ready s.alarms.alarms s.clock.time ≡ Some now)
-MayFree s (Fire alarm) = (s.phase ≡ Turning) × (is_late s.clock ≡ false) × (fires s.alarms.alarms s.clock.time ≡ Some alarm)
+MayFree s (Skip now) = (s.phase ≡ Turning) × (skip_to s.ready s.stood.alarms.alarms s.clock.time ≡ Some now)
+MayFree s (Fire alarm) = (s.phase ≡ Turning) × (is_late s.clock ≡ false) × (fires s.stood.alarms.alarms s.clock.time ≡ Some alarm)
 MayFree s Cleanup = MayClose s.phase × (s.announced ≡ [])
 MayFree s (Crash choices) = MayCrash s.phase s.running × (choices ≡ []) × (s.announced ≡ [])
 MayFree s (Finish cause) = MayFinish s.phase cause
@@ -258,8 +258,8 @@ RoundNeeds _ s draws = Unit {0}
 abbrev pub Needs : State → Entry → List ℕ → Type 0
 Needs s (Draw value) draws = RoundNeeds s.phase s draws
 Needs s (Round order) draws = (order ≡ shuffled s.ready draws) × (length draws ≡ length s.ready - 1)
-Needs s (CallEntry by call reply) draws = CallNeeds (stood_in s) call reply draws
-Needs s (Crash choices) draws = CrashNeeds choices draws
+Needs s (CallEntry by call reply) draws = CallNeeds s.stood call reply draws
+Needs s (Crash choices) draws = CrashNeeds s.stood choices draws
 Needs s _ draws = Unit {0}
 
 abbrev pub IsDrawn : State → Entry → Type 0

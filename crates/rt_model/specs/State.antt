@@ -64,8 +64,10 @@ pub record Announced : Type 0 where
 pub record Stood : Type 0 where
   pub alarms : AlarmList
   pub nodes : TreeRecord
+  -- the results that were not given up, by their tasks
   pub results : List (ℕ × TaskResult)
   pub slots : Slotted
+  -- the groups of signals, and the shutdown, whose group is one of them
   pub signals : SignalRecord
   pub stop : StopRecord
 
@@ -94,27 +96,18 @@ pub record State : Type 0 where
   pub draws : List ℕ
   -- all that was drawn so far, in order
   pub drawn : List Drawn
-  pub alarms : AlarmList
-  pub nodes : TreeRecord
+  -- the parts that calls read and move
+  pub stood : Stood
   -- the label of each node
   pub labels : List (ℕ × List ℕ)
   -- the spawned tasks that run, up to the end of their nodes
   pub marks : List (ℕ × Mark)
-  -- the results that were not given up, by their tasks
-  pub results : List (ℕ × TaskResult)
-  pub slots : Slotted
-  -- the groups of signals, and the shutdown, whose group is one of them
-  pub signals : SignalRecord
-  pub stop : StopRecord
   -- the events of the call that comes next
   pub announced : List Announced
   -- the numbers that the last event must still wake
   pub owed : List ℕ
   -- the calls of the part under way
   pub turns : List Turn
-
-abbrev pub stood_in : State → Stood
-stood_in s = record { alarms = s.alarms; nodes = s.nodes; results = s.results; slots = s.slots; signals = s.signals; stop = s.stop }
 
 -- before the first entry of a run that begins so: no task, no alarm, and node 0 alone
 unfoldable pub begun : Begin → State
@@ -129,14 +122,9 @@ begun b = record {
   ready = [];
   draws = [];
   drawn = [];
-  alarms = no_alarms;
-  nodes = first_record;
+  stood = record { alarms = no_alarms; nodes = first_record; results = []; slots = no_slots; signals = shutdown_alone; stop = no_stop };
   labels = (0, []) ∷ [];
   marks = [];
-  results = [];
-  slots = no_slots;
-  signals = shutdown_alone;
-  stop = no_stop;
   announced = [];
   owed = [];
   turns = [];

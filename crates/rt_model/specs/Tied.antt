@@ -7,7 +7,7 @@ use Rattle.rt_audit.specs.declared.entry.Entry.TheVariants.{Root, Round, Visit, 
 use Rattle.rt_model.specs.declared.answer.Answer.{Answer}
 use Rattle.rt_model.specs.declared.answer.Answer.TheVariants.{Pending, Ready, Panicked}
 use Rattle.rt_model.specs.Lists.{find, without, is_some_number}
-use Rattle.rt_model.specs.State.{State, Phase, Making, stood_in}
+use Rattle.rt_model.specs.State.{State, Phase, Making}
 use Rattle.rt_model.specs.Effects.{after}
 use Rattle.rt_model.specs.Turns.{Held, with_task, put}
 use Rattle.rt_model.specs.Walk.{Step, Last, Walks, Fronts, Breaks}
@@ -60,7 +60,7 @@ pub record Polls {A O : Type 0} (p : Steps A O) (s : State) (task : ℕ) (held :
   pub left : A
   pub moved : Held A O
   pub there : find task held.tasks ≡ Some before
-  pub walks : Walks (p.task.next before s.clock.time task) (taken task held) s.turns (stood_in s) answer left moved
+  pub walks : Walks (p.task.next before s.clock.time task) (taken task held) s.turns s.stood answer left moved
   pub is : end ≡ put task left moved
 
 -- the poll of this task broke off: its own state is free, and the others are as its calls left them
@@ -69,14 +69,14 @@ pub record PollBreaks {A O : Type 0} (p : Steps A O) (s : State) (task : ℕ) (v
   pub left : A
   pub moved : Held A O
   pub there : find task v.held.tasks ≡ Some before
-  pub breaks : Breaks (p.task.next before s.clock.time task) (taken task v.held) s.turns (stood_in s) moved ⊎ Fronts (p.task.next before s.clock.time task) (taken task v.held) s.turns moved
+  pub breaks : Breaks (p.task.next before s.clock.time task) (taken task v.held) s.turns s.stood moved ⊎ Fronts (p.task.next before s.clock.time task) (taken task v.held) s.turns moved
   pub is : w ≡ record v { held = put task left moved; whole = false }
 
 -- the calls are those of the end of this state, or its end ran out of memory
 abbrev pub EndsState : {A O : Type 0} → Steps A O → State → ℕ → A → Held A O → Value A O → Value A O → Type 0
 EndsState p s number before held v w =
-    (Walks (p.task.last before s.clock.time number) held s.turns (stood_in s) tt tt w.held × (w ≡ record v { held = w.held }))
-    ⊎ (Breaks (p.task.last before s.clock.time number) held s.turns (stood_in s) w.held × (w ≡ record v { held = w.held; whole = false }))
+    (Walks (p.task.last before s.clock.time number) held s.turns s.stood tt tt w.held × (w ≡ record v { held = w.held }))
+    ⊎ (Breaks (p.task.last before s.clock.time number) held s.turns s.stood w.held × (w ≡ record v { held = w.held; whole = false }))
 
 -- the end of a running task
 abbrev pub EndsTask : {A O : Type 0} → Steps A O → State → Value A O → ℕ → Value A O → Type 0
@@ -84,7 +84,7 @@ EndsTask {A = A} p s v task w = (a : A) × (find task v.held.tasks ≡ Some a) �
 
 -- the calls are those of the maker, which makes this state
 abbrev pub Makes : {A O : Type 0} → Steps A O → State → Held A O → A → Held A O → Type 0
-Makes p s held made end = Walks (p.first s.clock.time) held s.turns (stood_in s) tt made end
+Makes p s held made end = Walks (p.first s.clock.time) held s.turns s.stood tt made end
 
 -- an output becomes the run's where it is the root's. Another task's is its result, if that wasn't given up
 abbrev pub with_result : {A O : Type 0} → Bool → ℕ → O → Held A O → Held A O
@@ -94,7 +94,7 @@ with_result false k o held = held
 abbrev pub given : {A O : Type 0} → State → ℕ → O → Held A O → Value A O → Value A O
 given s task o end v =
     if is_some_number task s.root then record v { held = end; output = Some o }
-    else record v { held = with_result (is_some (find task s.results)) task o end }
+    else record v { held = with_result (is_some (find task s.stood.results)) task o end }
 
 -- the text of the root's own panic is the run's. Another task's is kept, where none is caught and none is kept
 abbrev pub kept_text : State → ℕ → List ℕ → Option (List ℕ) → Option (List ℕ)
@@ -114,7 +114,7 @@ MovesAnswer p s v task IsEnded w = EndsTask p s v task w
 -- the maker ran out of memory, and then the root that it made is free; or it said so itself, and made none
 abbrev pub MakerBreaks : {A O : Type 0} → Steps A O → State → Value A O → Value A O → Type 0
 MakerBreaks p s v w =
-    (Breaks (p.first s.clock.time) v.held s.turns (stood_in s) w.held × (w ≡ record v { held = w.held; unmade = w.unmade; whole = false }))
+    (Breaks (p.first s.clock.time) v.held s.turns s.stood w.held × (w ≡ record v { held = w.held; unmade = w.unmade; whole = false }))
     ⊎ (Fronts (p.first s.clock.time) v.held s.turns w.held × (w ≡ record v { held = w.held; unmade = None; whole = false }))
 
 -- a run that ends before its root is taken in: the maker made one, or it broke off

@@ -1,5 +1,5 @@
 -- The inputs of worked examples are valid whose scripts spawn others or stop their run.
-use Rattle.rt_scripts.proofs.Prelude.{◌≡◌, ℕ, ℤ, List, [], ◌∷◌, None, true, false, Bool, eqb, eq-eqb, not, if◌then◌else◌, refl, ◌≤◌, ◌+◌, codes, Option, Some, ltb, Ok, arith, negsuc, cast_unsigned, to_be_bytes, is_label, is_reserved, prefixed, Error, Metric, MetricError, BadLabel, Reserved, Shared, MAX_TIME, IsMet, AbortTask, Child, CloseNode, GiveUp, Join, Stop, CompletionPoll, CompletionClose, Done, StillPending, NodeAt, CompletionAt, Refused, CallEntry, Event, Answer, Pending, Ready, label_refusal, Plain, Plainly, Spawning, Gives, followed_by, then, Steps, Value, taken, IsValidInput, State, from_begin, after, first_record, is_known, is_live, completion_answer, tells, Context, child_name, childs, context_on, root_context, spawns_on, handle_polls, handle_spends, task_handle, sleep_for, until, completion_polls, completion_spends, Sleeper, begins, limit_for, stage_spends, still, stop_polls, stop_spends, timeout_polls, timeout_spends, small_begin, Calls, behind, told, Replied, child_told, polling_spends, never, JoinsAborted, heard_behind, handed_valid, closed_valid, beside_valid, polling_announces, polling_does, polling_gives, one_child, alive, with_state, first_polled, first_poll, Line, AbortSelf, End, EndLast, JoinLine, Pend, Spawn, StopLine, StopWithin, ScriptText, text_at, Handle, Maker, begun, beside, besides, making, name_at, root_steps, Script, aborted_in, aborts_chosen, aborts_itself, bound, ended, freed_of, goes_on, joins, loosed, passed, polled, releases_all, releases_chosen, roomed, spawns, started, Next, stop_goes, stops, unheld}
+use Rattle.rt_scripts.proofs.Prelude.{◌≡◌, ℕ, ℤ, List, [], ◌∷◌, None, true, false, Bool, eqb, eq-eqb, not, if◌then◌else◌, refl, ◌≤◌, ◌+◌, codes, Option, Some, ltb, Ok, arith, negsuc, cast_unsigned, to_be_bytes, is_label, is_reserved, prefixed, Error, Metric, MetricError, BadLabel, Reserved, Shared, MAX_TIME, IsMet, AbortTask, Child, CloseNode, GiveUp, Join, Stop, CompletionPoll, CompletionClose, Done, StillPending, NodeAt, CompletionAt, Refused, CallEntry, Event, Answer, Pending, Ready, label_refusal, Plain, Plainly, Spawning, Gives, followed_by, then, Value, taken, IsValidInput, State, from_begin, after, first_record, is_known, is_live, completion_answer, tells, Context, child_name, childs, context_on, root_context, spawns_on, handle_polls, handle_spends, task_handle, sleep_for, until, completion_polls, completion_spends, Sleeper, begins, limit_for, stage_spends, still, stop_polls, stop_spends, timeout_polls, timeout_spends, small_begin, Calls, behind, told, Replied, child_told, polling_spends, never, JoinsAborted, heard_behind, handed_valid, closed_valid, beside_valid, polling_announces, polling_does, polling_gives, one_child, alive, with_state, first_polled, first_poll, Line, AbortSelf, End, EndLast, JoinLine, Pend, Spawn, StopLine, StopWithin, ScriptText, text_at, Handle, Maker, begun, beside, besides, making, name_at, root_steps, Script, aborted_in, aborts_chosen, aborts_itself, bound, ended, freed_of, goes_on, joins, loosed, passed, polled, releases_all, releases_chosen, roomed, spawns, started, Next, stop_goes, stops, unheld}
 use Rattle.std.specs.Prelude.{pos}
 use Rattle.std.specs.Int.{w32}
 use Rattle.rt_model.specs.Turns.{Held}
@@ -130,11 +130,11 @@ module _ (m : Maker) (alone : m.with ≡ []) (at script : ℕ) (lines : (text_at
 
 -- what is replied to a stop, and to a poll of a completion that is met
 module _ {A O : Type 0} (q : Course A O) (s : State) (v : Value A O) (by : Option ℕ) where
-  stop_told : (value : ℤ) → Completes q (after s (CallEntry by (Stop value) (CompletionAt s.signals.count))) v → Replied q s v by (Plainly (Stop value))
+  stop_told : (value : ℤ) → Completes q (after s (CallEntry by (Stop value) (CompletionAt s.stood.signals.count))) v → Replied q s v by (Plainly (Stop value))
   stop_told value more (CompletionAt completion) m held f = rw m more
   stop_told value more _ m held f = absurd m
 
-  met_told : (completion : ℕ) → completion_answer s.signals completion ≡ Ok (IsMet tt) → Completes q (after s (CallEntry by (CompletionPoll completion) Done)) v → Replied q s v by (Plainly (CompletionPoll completion))
+  met_told : (completion : ℕ) → completion_answer s.stood.signals completion ≡ Ok (IsMet tt) → Completes q (after s (CallEntry by (CompletionPoll completion) Done)) v → Replied q s v by (Plainly (CompletionPoll completion))
   met_told completion met more reply m held f = let is : reply ≡ Done = rw met at m in rw is more
 
 -- a script that stops the run at its first line, maybe within a limit, and ends at the second

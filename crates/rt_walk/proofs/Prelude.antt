@@ -29,14 +29,14 @@ pub use Rattle.rt_base.specs.declared.no_memory.NoMemory.{NoMemory as OutOfMemor
 pub use Rattle.rt_model.proofs.Append.{AreLawful-append, runs_after-append}
 pub use Rattle.rt_model.proofs.Draws.{only-rounds, round-draws}
 pub use Rattle.rt_model.specs.Causes.{cause_at, ends_next, from_running}
-pub use Rattle.rt_model.specs.Effects.{cleans, due_node, entered, is_closing, marks_after, nodes_after, owed_after, panicked_after, phase_after, results_after}
+pub use Rattle.rt_model.specs.Effects.{cleans, due_node, entered, is_closing, marks_after, owed_after, panicked_after, phase_after, stood_after}
 unfoldable pub use Rattle.rt_model.specs.Effects.{after}
 pub use Rattle.rt_model.specs.Events.{IsOfCall, announced_by}
 pub use Rattle.rt_model.specs.Lists.{find, has_number, or_else, replaced, those, with_number, without, without_number}
 pub use Rattle.rt_model.specs.Marks.{due_all, flag_all, flagged}
 pub use Rattle.rt_model.specs.Rules.{Answers, ChildAnswers, IsEndedNext, May, MayAnswer, MayDraw, MayEvent, MayRound, SpawnAnswers, Unless, is_free}
 pub use Rattle.rt_model.specs.Runs.{AreLawful, next_begin, renewed, renews, run_after, runs_after}
-pub use Rattle.rt_model.specs.State.{Announced, Between, Closing, Entered, Making, Phase, State, Stood, Turning, Visiting, stood_in}
+pub use Rattle.rt_model.specs.State.{Announced, Between, Closing, Entered, Making, Phase, State, Stood, Turning, Visiting}
 unfoldable pub use Rattle.rt_model.specs.State.{begun}
 pub use Rattle.rt_model.specs.declared.begin.Begin.{Begin}
 pub use Rattle.rt_model.specs.declared.mark.Mark.{Mark}

@@ -1,5 +1,5 @@
 -- The calls under way, and what was drawn, make no difference to what may come, and none to what is kept.
-use Rattle.rt_walk.proofs.Prelude.{◌≡◌, ◌↔◌, ℕ, List, Bool, true, false, IsTrue, refl, ap, not, leb, ◌-◌, ◌^◌, Error, OutOfMemory, Result, Ok, Err, IfOk, AnswerKind, Pending, Ended, Call, Abort, AbortTask, Child, CloseNode, GiveUp, Join, Spawn, WakeCall, SleepPoll, Slots, CallReply, Closed, Done, NodeAt, PendingAt, IsReady, Refused, TaskAt, Entry, CallEntry, Event, Wake, Draw, NodeEnd, Round, Answer, Cleanup, is_ended, is_live, Begin, State, Phase, begun, Making, Between, Entered, Turning, cause_at, after, cleans, due_node, entered, is_closing, marks_after, nodes_after, owed_after, panicked_after, phase_after, results_after, Answers, ChildAnswers, May, MayAnswer, MayEvent, MayRound, MayDraw, SpawnAnswers, Unless, is_free, quiet}
+use Rattle.rt_walk.proofs.Prelude.{◌≡◌, ◌↔◌, ℕ, List, Bool, true, false, IsTrue, refl, ap, not, leb, ◌-◌, ◌^◌, Error, OutOfMemory, Result, Ok, Err, IfOk, AnswerKind, Pending, Ended, Call, Abort, AbortTask, Child, CloseNode, GiveUp, Join, Spawn, WakeCall, SleepPoll, Slots, CallReply, Closed, Done, NodeAt, PendingAt, IsReady, Refused, TaskAt, Entry, CallEntry, Event, Wake, Draw, NodeEnd, Round, Answer, Cleanup, is_ended, is_live, Begin, State, Phase, begun, Making, Between, Entered, Turning, cause_at, after, cleans, due_node, entered, is_closing, marks_after, owed_after, panicked_after, phase_after, stood_after, Answers, ChildAnswers, May, MayAnswer, MayEvent, MayRound, MayDraw, SpawnAnswers, Unless, is_free, quiet}
 
 unless-same : (b : Bool) (e : Error) (f g : CallReply → Type 0) (r : CallReply) → f r ≡ g r → Unless b e f r ≡ Unless b e g r
 unless-same true e f g r h = refl
@@ -17,10 +17,10 @@ spawn-quiet s node _ = refl
 
 answers-quiet : (s : State) (call : Call) (reply : CallReply) → Answers s call reply ≡ Answers (quiet s) call reply
 answers-quiet s (Child node label) reply =
-    unless-same (not (is_live s.nodes node)) _ (ChildAnswers s node label) (ChildAnswers (quiet s) node label) reply (child-quiet s node label reply)
+    unless-same (not (is_live s.stood.nodes node)) _ (ChildAnswers s node label) (ChildAnswers (quiet s) node label) reply (child-quiet s node label reply)
 answers-quiet s (CloseNode node) Done = refl
 answers-quiet s (Spawn node) reply =
-    unless-same (not (is_free s.nodes node)) _ _ _ reply
+    unless-same (not (is_free s.stood.nodes node)) _ _ _ reply
     (unless-same (leb (2 ^ 64 - 1) s.numbers.next) _ (SpawnAnswers s node) (SpawnAnswers (quiet s) node) reply (spawn-quiet s node reply))
 answers-quiet s (Abort task) Done = refl
 answers-quiet s (AbortTask task) Done = refl
@@ -69,7 +69,7 @@ entered-quiet (Entered task left) s = refl
 entered-quiet _ s = refl
 
 phase-quiet : (s : State) (e : Entry) → phase_after s e ≡ phase_after (quiet s) e
-phase-quiet s Cleanup = ap (cleans (is_ended s.nodes 0)) (cause-quiet s.phase s)
+phase-quiet s Cleanup = ap (cleans (is_ended s.stood.nodes 0)) (cause-quiet s.phase s)
 phase-quiet s (Event label fields) = entered-quiet s.phase s
 phase-quiet s _ = refl
 
@@ -78,17 +78,14 @@ panicked-quiet s (Answer task Ended) = refl
 panicked-quiet s (Answer task _) = refl
 panicked-quiet s _ = refl
 
-nodes-quiet : (s : State) (e : Entry) → nodes_after s e ≡ nodes_after (quiet s) e
-nodes-quiet s _ = refl
-
 marks-quiet : (s : State) (e : Entry) → marks_after s e ≡ marks_after (quiet s) e
 marks-quiet s (Answer task Pending) = refl
 marks-quiet s _ = refl
 
-results-quiet : (s : State) (e : Entry) → results_after s e ≡ results_after (quiet s) e
-results-quiet s (Answer task Ended) = refl
-results-quiet s (Answer task _) = refl
-results-quiet s _ = refl
+stood-quiet : (s : State) (e : Entry) → stood_after s e ≡ stood_after (quiet s) e
+stood-quiet s (Answer task Ended) = refl
+stood-quiet s (Answer task _) = refl
+stood-quiet s _ = refl
 
 due-quiet : (b : Bool) (s : State) (node : ℕ) → due_node b s node ≡ due_node b (quiet s) node
 due-quiet true s node = refl
@@ -103,7 +100,7 @@ owed-quiet s _ = refl
 after-quiet : (s : State) (e : Entry) → quiet (after s e) ≡ quiet (after (quiet s) e)
 unfolding after
 after-quiet s e =
-    rw (phase-quiet s e, panicked-quiet s e, nodes-quiet s e, marks-quiet s e, results-quiet s e, owed-quiet s e) refl
+    rw (phase-quiet s e, panicked-quiet s e, marks-quiet s e, stood-quiet s e, owed-quiet s e) refl
 
 pub begun-quiet : (b : Begin) → quiet (begun b) ≡ begun b
 unfolding begun

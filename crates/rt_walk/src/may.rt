@@ -2,7 +2,7 @@
 
 ghost use Rattle.std.specs.Prelude.{◌≡◌, ◌↔◌, ◌<◌, ◌-◌, ◌^◌, [], IfOk, IfNone, IfSome, OnErr, IsTrue, List, ℕ, Option, true};
 ghost use Rattle.rt_audit.specs.declared.entry.Entry.TheVariants.{Start, Event, Root, Round, Visit, Answer, NodeEnd, Advance, Skip, Fire, Crash, Finish};
-ghost use Rattle.rt_model.specs.State.{Halted, Making, Polling, State, stood_in};
+ghost use Rattle.rt_model.specs.State.{Halted, Making, Polling, State};
 ghost use Rattle.rt_model.specs.Causes.{ends_next};
 ghost use Rattle.rt_model.specs.Effects.{left_of};
 ghost use Rattle.rt_model.specs.Events.{announced_by, IsOfCall};
@@ -131,14 +131,14 @@ impl Walker {
 
     /// Returns whether this event is the next of a call.
     fn is_announced(&self, label: &EventLabel, fields: &EventFields) -> bool
-        ensures { IsTrue result ↔ IsOfCall (stood_in self.now) self.now.announced label.now fields.now }
+        ensures { IsTrue result ↔ IsOfCall self.now.stood self.now.announced label.now fields.now }
     {
         is_of_call(self.announced.as_slice(), label, fields)
     }
 
     /// Returns whether the events of this call are before it.
     fn has_announced(&self, call: &Call, reply: &CallReply) -> bool
-        ensures { IsTrue result ↔ (self.now.announced ≡ announced_by (stood_in self.now) call.now reply.now) }
+        ensures { IsTrue result ↔ (self.now.announced ≡ announced_by self.now.stood call.now reply.now) }
     {
         are_of(self.announced.as_slice(), call, reply)
     }

@@ -118,7 +118,7 @@ impl Walker {
     }
 
     fn join_answers(&self, task: u64, reply: &CallReply) -> bool
-        ensures { IsTrue result ↔ JoinAnswers (find task self.now.results) reply.now }
+        ensures { IsTrue result ↔ JoinAnswers (find task self.now.stood.results) reply.now }
     {
         match self.results.get(task) {
             None => is_unknown(reply),

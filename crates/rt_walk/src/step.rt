@@ -4,7 +4,7 @@ ghost use Rattle.std.specs.Prelude.{◌≡◌, ◌++◌, [], IfOk, OnOk, ℕ, Li
 ghost use Rattle.rt_audit.specs.declared.entry.Entry.TheVariants.{Start, Call as CallEntry, Event, Wake, Draw, Root, Round, Visit, Answer, NodeEnd, Advance, Skip, Fire, Cleanup, Crash, Finish};
 ghost use Rattle.rt_base.specs.declared.choice.Choice.{Choice};
 ghost use Rattle.rt_model.specs.Lists.{is_some_number};
-ghost use Rattle.rt_model.specs.State.{State, Blank, Entered, Over, stood_in};
+ghost use Rattle.rt_model.specs.State.{State, Blank, Entered, Over};
 ghost use Rattle.rt_walk.specs.Signaled.{due_beside};
 ghost use Rattle.rt_model.specs.Effects.{after, due_answered, due_called, due_panic, finished, is_closing, left_of, signals_called, stop_called, visited};
 ghost use Rattle.rt_walk.specs.Quiet.{quiet};
@@ -113,8 +113,8 @@ impl Walker {
         call: &Call,
         reply: &CallReply,
     ) -> Result<Vec<u64>, NoMemory>
-        ensures due { IfOk result (λ due. due.items ≡ due_called (is_closing self.old.phase) self.old.marks (stood_in self.old) call.now reply.now) }
-        ensures state { OnOk result (self.new ≡ record self.old { signals = signals_called self.old.signals self.old.stop by call.now reply.now; stop = stop_called self.old.stop call.now reply.now; drawn = []; turns = [] }) }
+        ensures due { IfOk result (λ due. due.items ≡ due_called (is_closing self.old.phase) self.old.marks self.old.stood call.now reply.now) }
+        ensures state { OnOk result (self.new ≡ record self.old { stood = record self.old.stood { signals = signals_called self.old.stood.signals self.old.stood.stop by call.now reply.now; stop = stop_called self.old.stood.stop call.now reply.now }; drawn = []; turns = [] }) }
     {
         let mut due = self.due_beside(call, reply)?;
         let alloc = self.allocator();
@@ -127,7 +127,7 @@ impl Walker {
 
     /// Whom a call must wake by marks and slots.
     fn due_beside(&self, call: &Call, reply: &CallReply) -> Result<Vec<u64>, NoMemory>
-        ensures { IfOk result (λ due. due.items ≡ due_beside (is_closing self.now.phase) self.now.marks self.now.slots call.now reply.now) }
+        ensures { IfOk result (λ due. due.items ≡ due_beside (is_closing self.now.phase) self.now.marks self.now.stood.slots call.now reply.now) }
     {
         let mut due = Vec::new(self.allocator());
         add_due_called(

@@ -62,7 +62,7 @@ impl Model for Walker {
 
     ghost Value = { State };
 
-    ghost view = { λ w. record { clock = record { time = w.time; fixed = w.begin }; phase = phase_of w.stage; numbers = record { first = w.begin.first; next = w.next }; root = w.root; root_left = w.root_left; panicked = w.panicked; running = w.running; ready = w.ready.items; draws = w.draws.items; drawn = []; alarms = w.alarms; nodes = w.nodes; labels = w.labels; marks = w.marks; results = w.results; slots = w.slots; signals = w.signals.signals; stop = w.signals.stop; announced = w.announced.items; owed = w.owed; turns = [] } };
+    ghost view = { λ w. record { clock = record { time = w.time; fixed = w.begin }; phase = phase_of w.stage; numbers = record { first = w.begin.first; next = w.next }; root = w.root; root_left = w.root_left; panicked = w.panicked; running = w.running; ready = w.ready.items; draws = w.draws.items; drawn = []; stood = record { alarms = w.alarms; nodes = w.nodes; results = w.results; slots = w.slots; signals = w.signals.signals; stop = w.signals.stop }; labels = w.labels; marks = w.marks; announced = w.announced.items; owed = w.owed; turns = [] } };
 }
 
 #[tactic(auto, unfolding(rt_model::specs::Effects::after, rt_model::specs::State::begun))]
@@ -151,7 +151,7 @@ impl Walker {
 
     /// Returns the moment that time skips to, if it skips.
     pub(crate) fn skip_to(&self) -> Option<Nanos>
-        ensures { result ≡ skip_to self.now.ready self.now.alarms.alarms self.now.clock.time }
+        ensures { result ≡ skip_to self.now.ready self.now.stood.alarms.alarms self.now.clock.time }
     {
         if self.ready.is_empty() {
             self.alarms.ahead(self.time)
@@ -162,7 +162,7 @@ impl Walker {
 
     /// Returns the number of the alarm that goes off now.
     pub(crate) fn fires(&self) -> Option<u64>
-        ensures { result ≡ fires self.now.alarms.alarms self.now.clock.time }
+        ensures { result ≡ fires self.now.stood.alarms.alarms self.now.clock.time }
     {
         self.alarms.fires(self.time)
     }
@@ -213,7 +213,7 @@ impl Walker {
 
     /// The cause that is reached in a clock step.
     fn turning_cause(&self) -> Option<FinishCause>
-        ensures { result ≡ turning_cause (skip_to self.now.ready self.now.alarms.alarms self.now.clock.time) (is_late self.now.clock) (fires self.now.alarms.alarms self.now.clock.time) self.now.ready self.now.alarms.alarms }
+        ensures { result ≡ turning_cause (skip_to self.now.ready self.now.stood.alarms.alarms self.now.clock.time) (is_late self.now.clock) (fires self.now.stood.alarms.alarms self.now.clock.time) self.now.ready self.now.stood.alarms.alarms }
     {
         if self.skip_to().is_some() {
             None

@@ -94,7 +94,7 @@ module _ {O : Type 0} (rs : List (ℕ × TaskResult)) (os : List (ℕ × O)) whe
   coming-answered s k NoMemory r e = coming-over _
   coming-answered s k Ended r e = absurd (e refl)
 
-pub results-answered : (s : State) (k : ℕ) (kind : AnswerKind) → kind ≢ Ended → results_answered s k kind ≡ s.results
+pub results-answered : (s : State) (k : ℕ) (kind : AnswerKind) → kind ≢ Ended → results_answered s k kind ≡ s.stood.results
 results-answered s k Ended e = absurd (e refl)
 results-answered s k _ e = refl
 

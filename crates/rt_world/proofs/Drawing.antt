@@ -1,30 +1,30 @@
 -- Calls that draw, and the one that asks for the digest.
-use Rattle.rt_world.proofs.Prelude.{◌≡◌, ◌∙◌, ap, ℕ, List, refl, true, Option, Result, Ok, Err, IfOk, IfErr, OnOk, OnErr, length, Stream, next_u32, next_u64, fill_bytes, NoMemory, OutOfMemory, Call, NextU32, NextU64, FillBytes, Auditor, CallReply, Number, Bytes, Refused, Heard, Held, Plainly, Plain, Noted, lacking, Seen, Roomed, AreSeated, AreSlotted, World, Drew, Kept, Made, world_lacking, Called, Goes, tells, auditor_told, filled_told, number_told}
+use Rattle.rt_world.proofs.Prelude.{◌≡◌, ◌∙◌, ap, ℕ, List, refl, true, Option, Result, Ok, Err, IfOk, OnOk, OnErr, Stream, next_u32, next_u64, fill_bytes, NoMemory, OutOfMemory, Call, NextU32, NextU64, FillBytes, Auditor, CallReply, Number, Bytes, Refused, Heard, Held, Plainly, Plain, Noted, lacking, Seen, Roomed, AreSeated, AreSlotted, World, Drew, Kept, Made, world_lacking, Called, Goes, tells, auditor_told, filled_told, number_told}
 use Rattle.rt_world.proofs.Lasting.{lasts-of}
 use Rattle.rt_world.proofs.Drawn.{drew-same, drew-short, drew-long, drew-filled}
-use Rattle.rt_world.proofs.Signaled.{Stand, is_apart, lacked, noted, quiet}
+use Rattle.rt_world.proofs.Signaled.{is_apart, lacked, noted, quiet}
 use Rattle.rt_world.proofs.Walked.{called-lacking, called-made, tells-lacking, tells-made, grows-same, stays-marked, stays-same, lasts-kept, calling-kept}
 
-module _ {A O V : Type 0} (tasks : Roomed (ℕ × A)) (outputs : Roomed (ℕ × O)) (sent : Roomed (ℕ × V)) (out by : Option ℕ) (old new : Seen) (i : AreSeated tasks outputs out old.told.state × AreSlotted sent old.told.state.slots) where
-  stands : (call : Call) (reply : CallReply) → is_apart call ≡ true → Noted by old new call reply → AreSeated tasks outputs out new.told.state × AreSlotted sent new.told.state.slots
+module _ {A O V : Type 0} (tasks : Roomed (ℕ × A)) (outputs : Roomed (ℕ × O)) (sent : Roomed (ℕ × V)) (out by : Option ℕ) (old new : Seen) (i : AreSeated tasks outputs out old.told.state × AreSlotted sent old.told.state.stood.slots) where
+  stands : (call : Call) (reply : CallReply) → is_apart call ≡ true → Noted by old new call reply → AreSeated tasks outputs out new.told.state × AreSlotted sent new.told.state.stood.slots
   stands call reply h n = noted tasks outputs sent out by old new i call reply h n
 
-  stands-lacking : new ≡ lacking old → AreSeated tasks outputs out new.told.state × AreSlotted sent new.told.state.slots
+  stands-lacking : new ≡ lacking old → AreSeated tasks outputs out new.told.state × AreSlotted sent new.told.state.stood.slots
   stands-lacking e = lacked tasks outputs sent out by old new i e
 
-  pub short-stands : (result : Result ℕ OutOfMemory) → IfOk result (λ number. Noted by old new NextU32 (Number number)) → OnErr result (new ≡ lacking old) → AreSeated tasks outputs out new.told.state × AreSlotted sent new.told.state.slots
+  pub short-stands : (result : Result ℕ OutOfMemory) → IfOk result (λ number. Noted by old new NextU32 (Number number)) → OnErr result (new ≡ lacking old) → AreSeated tasks outputs out new.told.state × AreSlotted sent new.told.state.stood.slots
   short-stands (Ok number) n e = stands NextU32 (Number number) refl n
   short-stands (Err lack) n e = stands-lacking e
 
-  pub long-stands : (result : Result ℕ OutOfMemory) → IfOk result (λ number. Noted by old new NextU64 (Number number)) → OnErr result (new ≡ lacking old) → AreSeated tasks outputs out new.told.state × AreSlotted sent new.told.state.slots
+  pub long-stands : (result : Result ℕ OutOfMemory) → IfOk result (λ number. Noted by old new NextU64 (Number number)) → OnErr result (new ≡ lacking old) → AreSeated tasks outputs out new.told.state × AreSlotted sent new.told.state.stood.slots
   long-stands (Ok number) n e = stands NextU64 (Number number) refl n
   long-stands (Err lack) n e = stands-lacking e
 
-  pub filled-stands : (len : ℕ) (bytes : List ℕ) (result : Result (Unit {0}) OutOfMemory) → OnOk result (Noted by old new (FillBytes len) (Bytes bytes)) → OnErr result (new ≡ lacking old) → AreSeated tasks outputs out new.told.state × AreSlotted sent new.told.state.slots
+  pub filled-stands : (len : ℕ) (bytes : List ℕ) (result : Result (Unit {0}) OutOfMemory) → OnOk result (Noted by old new (FillBytes len) (Bytes bytes)) → OnErr result (new ≡ lacking old) → AreSeated tasks outputs out new.told.state × AreSlotted sent new.told.state.stood.slots
   filled-stands len bytes (Ok done) n e = stands (FillBytes len) (Bytes bytes) refl n
   filled-stands len bytes (Err lack) n e = stands-lacking e
 
-  pub auditor-stands : (result : Result (List ℕ) OutOfMemory) → IfOk result (λ digest. Noted by old new Auditor (Bytes digest)) → OnErr result (new ≡ lacking old) → AreSeated tasks outputs out new.told.state × AreSlotted sent new.told.state.slots
+  pub auditor-stands : (result : Result (List ℕ) OutOfMemory) → IfOk result (λ digest. Noted by old new Auditor (Bytes digest)) → OnErr result (new ≡ lacking old) → AreSeated tasks outputs out new.told.state × AreSlotted sent new.told.state.stood.slots
   auditor-stands (Ok digest) n e = stands Auditor (Bytes digest) refl n
   auditor-stands (Err lack) n e = stands-lacking e
 

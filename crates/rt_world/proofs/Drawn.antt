@@ -45,8 +45,8 @@ unfolding after
 cleanup-drawn t true = refl
 cleanup-drawn t false = refl
 
-pub cleaned-drawn : (t u : Told) → u ≡ pushed_all t (cleanup_entries t.state.nodes) → u.state.drawn ≡ t.state.drawn
-cleaned-drawn t u e = rw e (cleanup-drawn t (is_ended t.state.nodes 0))
+pub cleaned-drawn : (t u : Told) → u ≡ pushed_all t (cleanup_entries t.state.stood.nodes) → u.state.drawn ≡ t.state.drawn
+cleaned-drawn t u e = rw e (cleanup-drawn t (is_ended t.state.stood.nodes 0))
 
 -- what a generator gave, one part after another
 draws-draws : (from mid left : Stream) (a b c : List Drawn) → Draws from mid a b → Draws mid left b c → Draws from left a c

@@ -1,5 +1,5 @@
 -- How a journal goes on following the steps.
-use Rattle.rt_world.proofs.Prelude.{◌≡◌, ◌⊎◌, inl, inr, ℕ, List, [], ◌∷◌, ◌++◌, map, refl, ap, ◌∙◌, Bool, true, false, Option, Some, None, append-nil, Stream, IsPending, IsReady, IsPanicked, IsStopped, LacksMemory, IsEnded, FinishCause, Entry, Start, Event, Draw, Root, Round, Visit, AnswerEntry, NodeEnd, Advance, Skip, Fire, Cleanup, Crash, Finish, Begin, is_ended, State, Clock, Phase, begun, stood_in, Making, after, after_all, process_task, find, is_some_number, Held, put, Walks, Fronts, Breaks, Steps, Value, nothing, Moves, MovesCleanup, MakerBreaks, EndsState, IsTied, Polls, given, kept_text, taken, no_number, after_all-append, IsTied-append, Drains, AreCalm, Calmly, cleanup_by, cleanup_entries, Told, fresh, pushed, pushed_all, AreCalls, AreQuiet, Quietly, own, World, Kept, Follows, Agrees, AgreesWith, value_of, unmade_of, IsMade, MakingAgrees}
+use Rattle.rt_world.proofs.Prelude.{◌≡◌, ◌⊎◌, inl, inr, ℕ, List, [], ◌∷◌, ◌++◌, map, refl, ap, ◌∙◌, Bool, true, false, Option, Some, None, append-nil, Stream, IsPending, IsReady, IsPanicked, IsStopped, LacksMemory, IsEnded, FinishCause, Entry, Start, Event, Draw, Root, Round, Visit, AnswerEntry, NodeEnd, Advance, Skip, Fire, Cleanup, Crash, Finish, Begin, is_ended, State, Clock, Phase, begun, Making, after, after_all, process_task, find, is_some_number, Held, put, Walks, Fronts, Breaks, Steps, Value, nothing, Moves, MovesCleanup, MakerBreaks, EndsState, IsTied, Polls, given, kept_text, taken, no_number, after_all-append, IsTied-append, Drains, AreCalm, Calmly, cleanup_by, cleanup_entries, Told, fresh, pushed, pushed_all, AreCalls, AreQuiet, Quietly, own, World, Kept, Follows, Agrees, AgreesWith, value_of, unmade_of, IsMade, MakingAgrees}
 use Rattle.rt_audit.specs.declared.entry.Entry.TheVariants.{Call, Wake}
 use Rattle.rt_model.specs.declared.answer.Answer.{Answer}
 use Rattle.rt_model.specs.declared.answer.Answer.TheVariants.{Pending, Ready, Panicked}
@@ -98,7 +98,7 @@ module _ {A O : Type 0} (p : Steps A O) where
     panic : w2.panic ≡ w0.panic
     panic = kept.panic ∙ ap (λ (w : World A O G). w.panic) began
 
-    polls : (answer : Answer O) → Walks (p.task.next a w1.told.state.clock.time task) w1.held w2.told.state.turns (stood_in w2.told.state) answer b w2.held → Polls p w2.told.state task w0.held answer (put task b w2.held)
+    polls : (answer : Answer O) → Walks (p.task.next a w1.told.state.clock.time task) w1.held w2.told.state.turns w2.told.state.stood answer b w2.held → Polls p w2.told.state task w0.held answer (put task b w2.held)
     polls answer walks = record {
       before = a;
       left = b;
@@ -108,12 +108,12 @@ module _ {A O : Type 0} (p : Steps A O) where
       is = refl;
     }
 
-    pub visit-pending : Walks (p.task.next a w1.told.state.clock.time task) w1.held w2.told.state.turns (stood_in w2.told.state) Pending b w2.held → Agrees p true w0 None → Follows p (pushed w2.told (AnswerEntry task IsPending)) (record { held = put task b w2.held; output = None; panic = w2.panic; unmade = None; whole = true })
+    pub visit-pending : Walks (p.task.next a w1.told.state.clock.time task) w1.held w2.told.state.turns w2.told.state.stood Pending b w2.held → Agrees p true w0 None → Follows p (pushed w2.told (AnswerEntry task IsPending)) (record { held = put task b w2.held; output = None; panic = w2.panic; unmade = None; whole = true })
     visit-pending walks f =
         follows-pushed w2.told (value_of w0 None None true) (record { held = put task b w2.held; output = None; panic = w2.panic; unmade = None; whole = true }) (AnswerEntry task IsPending) (polled f)
         (put task b w2.held, polls Pending walks, rw panic refl)
 
-    pub visit-ready : (o : O) → Walks (p.task.next a w1.told.state.clock.time task) w1.held w2.told.state.turns (stood_in w2.told.state) (Ready o) b w2.held → Agrees p true w0 None → Follows p (pushed w2.told (AnswerEntry task IsReady)) (given w2.told.state task o (put task b w2.held) (value_of w2 None None true))
+    pub visit-ready : (o : O) → Walks (p.task.next a w1.told.state.clock.time task) w1.held w2.told.state.turns w2.told.state.stood (Ready o) b w2.held → Agrees p true w0 None → Follows p (pushed w2.told (AnswerEntry task IsReady)) (given w2.told.state task o (put task b w2.held) (value_of w2 None None true))
     visit-ready o walks f =
         follows-pushed w2.told (value_of w0 None None true) (given w2.told.state task o (put task b w2.held) (value_of w2 None None true)) (AnswerEntry task IsReady) (polled f)
         (o, put task b w2.held, polls (Ready o) walks, given-same w2.told.state task o (put task b w2.held) (is_some_number task w2.told.state.root) refl)
@@ -122,12 +122,12 @@ module _ {A O : Type 0} (p : Steps A O) where
         given-same s task o end true e = rw (e, panic) refl
         given-same s task o end false e = rw (e, panic) refl
 
-    pub visit-panicked : (text : List ℕ) → Walks (p.task.next a w1.told.state.clock.time task) w1.held w2.told.state.turns (stood_in w2.told.state) (Panicked text) b w2.held → Agrees p true w0 None → Follows p (pushed w2.told (AnswerEntry task IsPanicked)) (record { held = put task b w2.held; output = None; panic = kept_text w2.told.state task text w2.panic; unmade = None; whole = true })
+    pub visit-panicked : (text : List ℕ) → Walks (p.task.next a w1.told.state.clock.time task) w1.held w2.told.state.turns w2.told.state.stood (Panicked text) b w2.held → Agrees p true w0 None → Follows p (pushed w2.told (AnswerEntry task IsPanicked)) (record { held = put task b w2.held; output = None; panic = kept_text w2.told.state task text w2.panic; unmade = None; whole = true })
     visit-panicked text walks f =
         follows-pushed w2.told (value_of w0 None None true) (record { held = put task b w2.held; output = None; panic = kept_text w2.told.state task text w2.panic; unmade = None; whole = true }) (AnswerEntry task IsPanicked) (polled f)
         (text, put task b w2.held, polls (Panicked text) walks, rw panic refl)
 
-    pub visit-cut : (Breaks (p.task.next a w1.told.state.clock.time task) w1.held w2.told.state.turns (stood_in w2.told.state) w2.held ⊎ Fronts (p.task.next a w1.told.state.clock.time task) w1.held w2.told.state.turns w2.held) → Agrees p true w0 None → Follows p (pushed w2.told (AnswerEntry task LacksMemory)) (record { held = put task b w2.held; output = None; panic = w2.panic; unmade = None; whole = false })
+    pub visit-cut : (Breaks (p.task.next a w1.told.state.clock.time task) w1.held w2.told.state.turns w2.told.state.stood w2.held ⊎ Fronts (p.task.next a w1.told.state.clock.time task) w1.held w2.told.state.turns w2.held) → Agrees p true w0 None → Follows p (pushed w2.told (AnswerEntry task LacksMemory)) (record { held = put task b w2.held; output = None; panic = w2.panic; unmade = None; whole = false })
     visit-cut breaks f =
         follows-pushed w2.told (value_of w0 None None true) (record { held = put task b w2.held; output = None; panic = w2.panic; unmade = None; whole = false }) (AnswerEntry task LacksMemory) (polled f)
         (record {
@@ -148,8 +148,8 @@ module _ {A O : Type 0} (p : Steps A O) where
   not-making s v _ made = refl
 
   -- a cleanup of a run whose root was taken in
-  pub follows-closed : (t u : Told) (v : Value A O) → u ≡ pushed_all t (cleanup_entries t.state.nodes) → (t.state.phase ≡ Making → ⊥) → Follows p t v → Follows p u v
-  follows-closed t u v e made f = rw e (closed-by t v v (is_ended t.state.nodes 0) f (not-making t.state v t.state.phase made))
+  pub follows-closed : (t u : Told) (v : Value A O) → u ≡ pushed_all t (cleanup_entries t.state.stood.nodes) → (t.state.phase ≡ Making → ⊥) → Follows p t v → Follows p u v
+  follows-closed t u v e made f = rw e (closed-by t v v (is_ended t.state.stood.nodes 0) f (not-making t.state v t.state.phase made))
 
   -- the crash of a run whose root was taken in
   pub follows-crashed : (t : Told) (held : Held A O) (output : Option O) (panic : Option (List ℕ)) (whole : Bool) → t.state.turns ≡ [] → let v : Value A O = record { held = held; output = output; panic = panic; unmade = None; whole = whole } in Follows p t v → Follows p (pushed t (Crash [])) v
@@ -162,18 +162,18 @@ module _ {A O : Type 0} (p : Steps A O) where
   follows-finished t u v cause e f = rw e (follows-pushed t v v (Finish cause) f refl)
 
   -- a cleanup in place of the root's number: the maker made a root, or it lacked memory
-  module _ {G : Type 0} (old : World A O G) (u : Told) (closed : u ≡ pushed_all old.told (cleanup_entries old.told.state.nodes)) (making : old.told.state.phase ≡ Making) (calm : old.panic ≡ None) where
+  module _ {G : Type 0} (old : World A O G) (u : Told) (closed : u ≡ pushed_all old.told (cleanup_entries old.told.state.stood.nodes)) (making : old.told.state.phase ≡ Making) (calm : old.panic ≡ None) where
     closed-as : (v w : Value A O) → Follows p old.told v → MovesCleanup p old.told.state v Making w → Follows p u w
     closed-as v w f m =
         let moves : MovesCleanup p old.told.state v old.told.state.phase w = rw making m in
-        rw closed (closed-by old.told v w (is_ended old.told.state.nodes 0) f moves)
+        rw closed (closed-by old.told v w (is_ended old.told.state.stood.nodes 0) f moves)
 
     pub closed-unmade : (whole : Bool) (unmade : Option A) → MakingAgrees p whole old unmade → Follows p u (value_of old None unmade whole)
     closed-unmade true (Some root) m = closed-as (unmade_of m.before) (value_of old None (Some root) true) m.follows (inl (root, m.walks, rw calm refl))
     closed-unmade true None m = absurd m
     closed-unmade false unmade m = closed-as (unmade_of m.before) (value_of old None unmade false) m.follows (inr (broken m.breaks))
       where
-        broken : (Breaks (p.first old.told.state.clock.time) m.before old.told.state.turns (stood_in old.told.state) old.held ⊎ (Fronts (p.first old.told.state.clock.time) m.before old.told.state.turns old.held × (unmade ≡ None))) → MakerBreaks p old.told.state (unmade_of m.before) (value_of old None unmade false)
+        broken : (Breaks (p.first old.told.state.clock.time) m.before old.told.state.turns old.told.state.stood old.held ⊎ (Fronts (p.first old.told.state.clock.time) m.before old.told.state.turns old.held × (unmade ≡ None))) → MakerBreaks p old.told.state (unmade_of m.before) (value_of old None unmade false)
         broken (inl breaks) = inl (breaks, rw calm refl)
         broken (inr fronts) = inr (fronts.0, rw (calm, fronts.1) refl)
 
@@ -195,11 +195,11 @@ module _ {A O : Type 0} (p : Steps A O) where
     ended still ends f =
         follows-pushed w2.told (value_of w0 output unmade whole) (value_of w2 output unmade still) (AnswerEntry task IsEnded) (ending f) (a, there, ends)
 
-    pub ended-tied : Walks (p.task.last a w1.told.state.clock.time task) w1.held w2.told.state.turns (stood_in w2.told.state) tt tt w2.held → AgreesWith p whole w0 output unmade → Follows p (pushed w2.told (AnswerEntry task IsEnded)) (value_of w2 output unmade whole)
+    pub ended-tied : Walks (p.task.last a w1.told.state.clock.time task) w1.held w2.told.state.turns w2.told.state.stood tt tt w2.held → AgreesWith p whole w0 output unmade → Follows p (pushed w2.told (AnswerEntry task IsEnded)) (value_of w2 output unmade whole)
     ended-tied walks f =
         ended whole (inl (rw (← ap (λ (w : World A O G). w.held) began, ap (λ (c : Clock). c.time) kept.clock) walks, rw same-panic refl)) f
 
-    pub ended-broken : Breaks (p.task.last a w1.told.state.clock.time task) w1.held w2.told.state.turns (stood_in w2.told.state) w2.held → AgreesWith p whole w0 output unmade → Follows p (pushed w2.told (AnswerEntry task IsEnded)) (value_of w2 output unmade false)
+    pub ended-broken : Breaks (p.task.last a w1.told.state.clock.time task) w1.held w2.told.state.turns w2.told.state.stood w2.held → AgreesWith p whole w0 output unmade → Follows p (pushed w2.told (AnswerEntry task IsEnded)) (value_of w2 output unmade false)
     ended-broken breaks f =
         ended false (inr (rw (← ap (λ (w : World A O G). w.held) began, ap (λ (c : Clock). c.time) kept.clock) breaks, rw same-panic refl)) f
 
@@ -209,8 +209,8 @@ module _ {A O : Type 0} (p : Steps A O) where
     unmade-as still ends f =
         follows-pushed w2.told (value_of w0 output (Some a) whole) (value_of w2 output None still) (Crash []) (follows-called w0.told w2.told (value_of w0 output (Some a) whole) f none kept.begin kept.past calls state) ends
 
-    pub unmade-tied : Walks (p.task.last a w0.told.state.clock.time no_number) w0.held w2.told.state.turns (stood_in w2.told.state) tt tt w2.held → AgreesWith p whole w0 output (Some a) → Follows p (pushed w2.told (Crash [])) (value_of w2 output None whole)
+    pub unmade-tied : Walks (p.task.last a w0.told.state.clock.time no_number) w0.held w2.told.state.turns w2.told.state.stood tt tt w2.held → AgreesWith p whole w0 output (Some a) → Follows p (pushed w2.told (Crash [])) (value_of w2 output None whole)
     unmade-tied walks f = unmade-as whole (inl (rw (ap (λ (c : Clock). c.time) kept.clock) walks, rw kept.panic refl)) f
 
-    pub unmade-broken : Breaks (p.task.last a w0.told.state.clock.time no_number) w0.held w2.told.state.turns (stood_in w2.told.state) w2.held → AgreesWith p whole w0 output (Some a) → Follows p (pushed w2.told (Crash [])) (value_of w2 output None false)
+    pub unmade-broken : Breaks (p.task.last a w0.told.state.clock.time no_number) w0.held w2.told.state.turns w2.told.state.stood w2.held → AgreesWith p whole w0 output (Some a) → Follows p (pushed w2.told (Crash [])) (value_of w2 output None false)
     unmade-broken breaks f = unmade-as false (inr (rw (ap (λ (c : Clock). c.time) kept.clock) breaks, rw kept.panic refl)) f

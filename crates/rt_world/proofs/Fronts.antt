@@ -1,5 +1,5 @@
 -- The entries so far stay a front.
-use Rattle.rt_world.proofs.Prelude.{◌≡◌, ◌∙◌, ap, ℕ, List, [], ◌∷◌, ◌++◌, map, Some, refl, sym, append_assoc, append-nil, Stream, Entry, Draw, Round, taken, Drains, Calmly, cleanup_entries, Told, pushed, pushed_all, Quietly, own, World, IsFront, Kept}
+use Rattle.rt_world.proofs.Prelude.{◌≡◌, ap, ℕ, List, [], ◌∷◌, ◌++◌, map, Some, refl, sym, append_assoc, append-nil, Stream, Entry, Draw, Round, taken, Drains, Calmly, cleanup_entries, Told, pushed, pushed_all, Quietly, own, World, IsFront, Kept}
 
 own-pushed : (t : Told) (e : Entry) → own (pushed t e) ≡ own t ++ e ∷ []
 own-pushed t e = append-nil (own t ++ e ∷ [])
@@ -34,8 +34,8 @@ front-calmly t u c = rw c.is (front-all t c.entries)
 pub front-quietly : (t u : Told) → Quietly t u → IsFront t u
 front-quietly t u q = rw q.is (front-all t q.entries)
 
-pub front-cleaned : (t u : Told) → u ≡ pushed_all t (cleanup_entries t.state.nodes) → IsFront t u
-front-cleaned t u e = rw e (front-all t (cleanup_entries t.state.nodes))
+pub front-cleaned : (t u : Told) → u ≡ pushed_all t (cleanup_entries t.state.stood.nodes) → IsFront t u
+front-cleaned t u e = rw e (front-all t (cleanup_entries t.state.stood.nodes))
 
 -- a round was drained
 pub front-drained : (from left : Stream) (t u : Told) (order : List ℕ) → Drains from left t u order → IsFront t u

@@ -48,7 +48,7 @@ pub use Rattle.rt_model.specs.Results.{may_abort, new_result, with_abort, with_o
 pub use Rattle.rt_model.specs.Rules.{Answers, CallsAt, IsLawful, JoinAnswers, May, MayAnswer, MayCall, MayClose, MayCrash, MayFinish, OutcomeAnswers, ReceiveAnswers, SlotAnswers, SpawnAnswers, Unless, is_free}
 pub use Rattle.rt_model.specs.Signals.{met_reply, shown_reply, stopped_reply}
 pub use Rattle.rt_model.specs.Slots.{Slotted, aborted, is_open, is_sent, is_there, no_slots, settled, with_polled, with_sent, with_slot, with_wait_aborted, without_slot}
-pub use Rattle.rt_model.specs.State.{Between, Blank, Cleaning, Clock, Closing, Crashed, Ending, Entered, Finished, Halted, Leaving, Making, Over, Phase, Polling, State, Stood, Turn, Turning, Visiting, stood_in}
+pub use Rattle.rt_model.specs.State.{Between, Blank, Cleaning, Clock, Closing, Crashed, Ending, Entered, Finished, Halted, Leaving, Making, Over, Phase, Polling, State, Stood, Turn, Turning, Visiting}
 unfoldable pub use Rattle.rt_model.specs.State.{begun}
 pub use Rattle.rt_model.specs.Tied.{EndsState, First, IsTied, MakerBreaks, Moves, MovesAnswer, MovesCleanup, MovesCrash, Polls, Steps, Value, given, kept_text, no_number, nothing, taken, with_first}
 pub use Rattle.rt_model.specs.Turns.{Ask, Asks, Change, Frees, FreesOne, Handed, Heard, Held, IsAnswerOf, IsCounted, IsOwn, Plain, Plainly, Sleeping, Spawning, call_of, counted, has_place, heard_of, moved, moved_by, put, unsent, with_task}

@@ -1,5 +1,5 @@
 -- Calls on signals move no value.
-use Rattle.rt_world.proofs.Prelude.{◌≡◌, ◌∙◌, ap, inl, inr, ℕ, ℤ, List, refl, Bool, true, false, Option, Result, Ok, Err, IfOk, IfErr, OnErr, Stream, Error, NoMemory, OutOfMemory, Poll, Call, Signaler, CloneSignal, Signal, SignalPoll, SignalClose, SignalerClose, CompletionPoll, CompletionClose, Stop, Stopped, NextU32, NextU64, FillBytes, Auditor, CallReply, Done, SignalAt, CompletionAt, Refused, StopAnswer, met_reply, shown_reply, stopped_reply, State, stood_in, Held, Heard, Plainly, Plain, has_place, drawn_called, numbers_called, results_called, running_called, slots_called, IsRefused, Noted, Spent, lacking, Seen, Roomed, AreSeated, AreSlotted, World, Kept, Made, WorldRefused, world_lacking, Called, Goes, tells, clone_told, met_told, shown_told, signaler_told, stop_told, stopped_told}
+use Rattle.rt_world.proofs.Prelude.{◌≡◌, ◌∙◌, ap, inl, inr, ℕ, ℤ, List, refl, Bool, true, false, Option, Result, Ok, Err, IfOk, IfErr, OnErr, Stream, Error, NoMemory, OutOfMemory, Poll, Call, Signaler, CloneSignal, Signal, SignalPoll, SignalClose, SignalerClose, CompletionPoll, CompletionClose, Stop, Stopped, NextU32, NextU64, FillBytes, Auditor, CallReply, Done, SignalAt, CompletionAt, Refused, StopAnswer, met_reply, shown_reply, stopped_reply, State, Held, Heard, Plainly, Plain, has_place, drawn_called, numbers_called, results_called, running_called, slots_called, IsRefused, Noted, Spent, lacking, Seen, Roomed, AreSeated, AreSlotted, World, Kept, Made, WorldRefused, world_lacking, Called, Goes, tells, clone_told, met_told, shown_told, signaler_told, stop_told, stopped_told}
 use Rattle.rt_world.proofs.Walked.{called-lacking, called-made, called-refused, tells-lacking, tells-made, tells-refused, stays-same, stays-marked, grows-same, lasts-kept, calling-kept}
 use Rattle.rt_world.proofs.Lasting.{lasts-of}
 use Rattle.rt_world.proofs.Drawn.{drew-same}
@@ -27,8 +27,8 @@ is_apart _ = false
 pub record Quiet (s : State) (by : Option ℕ) (call : Call) (reply : CallReply) : Type 0 where
   pub running : running_called s.running call reply ≡ s.running
   pub numbers : numbers_called s.numbers call reply ≡ s.numbers
-  pub results : results_called s.results by call reply ≡ s.results
-  pub slots : slots_called s.slots by call reply ≡ s.slots
+  pub results : results_called s.stood.results by call reply ≡ s.stood.results
+  pub slots : slots_called s.stood.slots by call reply ≡ s.stood.slots
 
 pub quiet : (s : State) (by : Option ℕ) (call : Call) (reply : CallReply) → is_apart call ≡ true → Quiet s by call reply
 quiet s by Signaler reply h = record { running = refl; numbers = refl; results = refl; slots = refl }
@@ -47,9 +47,9 @@ quiet s by (FillBytes len) reply h = record { running = refl; numbers = refl; re
 quiet s by Auditor reply h = record { running = refl; numbers = refl; results = refl; slots = refl }
 quiet s by _ reply h = absurd (cc)
 
-module _ {A O V : Type 0} (tasks : Roomed (ℕ × A)) (outputs : Roomed (ℕ × O)) (sent : Roomed (ℕ × V)) (out by : Option ℕ) (old new : Seen) (i : AreSeated tasks outputs out old.told.state × AreSlotted sent old.told.state.slots) where
+module _ {A O V : Type 0} (tasks : Roomed (ℕ × A)) (outputs : Roomed (ℕ × O)) (sent : Roomed (ℕ × V)) (out by : Option ℕ) (old new : Seen) (i : AreSeated tasks outputs out old.told.state × AreSlotted sent old.told.state.stood.slots) where
   abbrev pub Stand : Type 0
-  Stand = AreSeated tasks outputs out new.told.state × AreSlotted sent new.told.state.slots
+  Stand = AreSeated tasks outputs out new.told.state × AreSlotted sent new.told.state.stood.slots
 
   pub noted : (call : Call) (reply : CallReply) → is_apart call ≡ true → Noted by old new call reply → Stand
   noted call reply h n =
@@ -88,9 +88,9 @@ module _ {A O V : Type 0} (tasks : Roomed (ℕ × A)) (outputs : Roomed (ℕ × 
   met-stands completion (Err e) n r = refused (CompletionPoll completion) e refl r
 
   spent : (call : Call) → is_apart call ≡ true → Spent by old new call → Stand
-  spent call h s = with (has_place (stood_in old.told.state) call) refl
+  spent call h s = with (has_place old.told.state.stood call) refl
     where
-      with : (b : Bool) → has_place (stood_in old.told.state) call ≡ b → Stand
+      with : (b : Bool) → has_place old.told.state.stood call ≡ b → Stand
       with true e = noted call Done h (s.there e)
       with false e = rw (s.gone e) i
 
@@ -137,9 +137,9 @@ module _ {A O G : Type 0} (stream : G → Stream) (held : Held A O) (panic : Opt
   Keeps = Kept stream (record { told = old.told; lacked = old.lacked; held = held; panic = panic; out = out; rng = rng }) (record { told = new.told; lacked = new.lacked; held = held; panic = panic; out = out; rng = rng })
 
   spent-keeps : (call : Call) → is_apart call ≡ true → drawn_called old.told.state.drawn call Done ≡ old.told.state.drawn → Spent by old new call → Keeps
-  spent-keeps call h undrawn s = with (has_place (stood_in old.told.state) call) refl
+  spent-keeps call h undrawn s = with (has_place old.told.state.stood call) refl
     where
-      with : (b : Bool) → has_place (stood_in old.told.state) call ≡ b → Keeps
+      with : (b : Bool) → has_place old.told.state.stood call ≡ b → Keeps
       with true e =
           let n = s.there e in
           let q = quiet old.told.state by call Done h in

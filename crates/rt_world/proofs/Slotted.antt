@@ -1,5 +1,5 @@
 -- What is held for slots, as calls change them.
-use Rattle.rt_world.proofs.Prelude.{◌≡◌, ◌≢◌, ◌+◌, ◌∙◌, sym, ap, ℕ, List, [], ◌∷◌, ◌++◌, refl, Bool, true, false, Option, Some, None, Result, Ok, Err, IfOk, IfErr, OnOk, OnErr, is_some, option_map, arith, eqb, inl, inr, ◌&&◌, Error, OutOfMemory, Call, Child, CloseNode, Spawn, Abort, AbortTask, Wake, Join, GiveUp, SleepPoll, Signaler, CloneSignal, Signal, SignalPoll, SignalClose, SignalerClose, CompletionPoll, CompletionClose, Stop, Stopped, NextU32, NextU64, FillBytes, Auditor, Slots, Slot, SlotSend, SlotClose, SlotPoll, SlotGiveUp, AbortWait, CallReply, Done, NodeAt, SlotAt, Pending, PendingAt, Ready, Refused, after, slots_called, Aborted, Outcome, Open, There, Exited, IsClosed, TaskResult, new_result, ReceiveAnswers, SlotAnswers, Unless, find, replaced, without, Slotted, no_slots, with_slot, with_sent, with_polled, with_wait_aborted, without_slot, settled, aborted, is_open, is_sent, is_there, Stood, has_place, with_task, stood_in, Noted, Spent, IsRefused, lacking, sleep_reply, Seen, open_places, cleanup_by, cleanup_entries, Told, pushed_all, is_ended, Roomed, AreSlotted, AreSent, AreWaited}
+use Rattle.rt_world.proofs.Prelude.{◌≡◌, ◌≢◌, ◌+◌, ◌∙◌, sym, ap, ℕ, List, [], ◌∷◌, ◌++◌, refl, Bool, true, false, Option, Some, None, Result, Ok, Err, IfOk, IfErr, OnOk, OnErr, is_some, option_map, arith, eqb, inl, inr, ◌&&◌, Error, OutOfMemory, Call, Child, CloseNode, Abort, AbortTask, Wake, SleepPoll, Slots, Slot, SlotSend, SlotClose, SlotPoll, SlotGiveUp, AbortWait, CallReply, Done, NodeAt, SlotAt, Pending, PendingAt, Ready, Refused, after, slots_called, Aborted, Outcome, Open, There, Exited, IsClosed, TaskResult, new_result, ReceiveAnswers, SlotAnswers, Unless, find, replaced, without, Slotted, no_slots, with_slot, with_sent, with_polled, with_wait_aborted, without_slot, settled, aborted, is_open, is_sent, is_there, Stood, has_place, with_task, Noted, Spent, IsRefused, lacking, sleep_reply, Seen, open_places, cleanup_by, cleanup_entries, Told, pushed_all, is_ended, Roomed, AreSlotted, AreSent, AreWaited}
 use Rattle.rt_world.proofs.Coming.{same-number, find-last, find-own, find-with, find-without}
 
 module _ {V : Type 0} (sent : Roomed (ℕ × V)) where
@@ -8,53 +8,53 @@ module _ {V : Type 0} (sent : Roomed (ℕ × V)) where
   unfolding AreSent AreWaited
   slotted-none items first next = record { first = first; next = next; held = λ slot. rw items refl; waited = λ slot r found. absurd (cc) }
 
-  module _ (by : Option ℕ) (old new : Seen) (i : AreSlotted sent old.told.state.slots) where
+  module _ (by : Option ℕ) (old new : Seen) (i : AreSlotted sent old.told.state.stood.slots) where
     -- a call that is about no slot
-    pub slotted-noted : (call : Call) (reply : CallReply) → Noted by old new call reply → slots_called old.told.state.slots by call reply ≡ old.told.state.slots → AreSlotted sent new.told.state.slots
+    pub slotted-noted : (call : Call) (reply : CallReply) → Noted by old new call reply → slots_called old.told.state.stood.slots by call reply ≡ old.told.state.stood.slots → AreSlotted sent new.told.state.stood.slots
     slotted-noted call reply n same = let slots = ap (λ (s : Stood). s.slots) n.stood ∙ same in rw slots i
 
-    slotted-lacking : new ≡ lacking old → AreSlotted sent new.told.state.slots
+    slotted-lacking : new ≡ lacking old → AreSlotted sent new.told.state.stood.slots
     slotted-lacking e = rw e i
 
-    slots-refused : (call : Call) (e : Error) → slots_called old.told.state.slots by call (Refused e) ≡ old.told.state.slots
+    slots-refused : (call : Call) (e : Error) → slots_called old.told.state.stood.slots by call (Refused e) ≡ old.told.state.stood.slots
     slots-refused (Slots call) e = refl
     slots-refused _ e = refl
 
-    pub slotted-refused : (call : Call) (e : Error) → IsRefused by old new call e → AreSlotted sent new.told.state.slots
+    pub slotted-refused : (call : Call) (e : Error) → IsRefused by old new call e → AreSlotted sent new.told.state.stood.slots
     slotted-refused call e (inl lack) = slotted-lacking lack.1
     slotted-refused call e (inr n) = slotted-noted call (Refused e) n (slots-refused call e)
 
-    pub child-slotted : (node : ℕ) (label : List ℕ) (result : Result (ℕ × Bool) Error) → IfOk result (λ made. Noted by old new (Child node label) (NodeAt made.0 made.1)) → IfErr result (λ e. IsRefused by old new (Child node label) e) → AreSlotted sent new.told.state.slots
+    pub child-slotted : (node : ℕ) (label : List ℕ) (result : Result (ℕ × Bool) Error) → IfOk result (λ made. Noted by old new (Child node label) (NodeAt made.0 made.1)) → IfErr result (λ e. IsRefused by old new (Child node label) e) → AreSlotted sent new.told.state.stood.slots
     child-slotted node label (Ok made) n r = slotted-noted (Child node label) (NodeAt made.0 made.1) n refl
     child-slotted node label (Err e) n r = slotted-refused (Child node label) e r
 
-    pub wake-slotted : (task : ℕ) (result : Result (Unit {0}) Error) → OnOk result (Noted by old new (Wake task) Done) → IfErr result (λ e. IsRefused by old new (Wake task) e) → AreSlotted sent new.told.state.slots
+    pub wake-slotted : (task : ℕ) (result : Result (Unit {0}) Error) → OnOk result (Noted by old new (Wake task) Done) → IfErr result (λ e. IsRefused by old new (Wake task) e) → AreSlotted sent new.told.state.stood.slots
     wake-slotted task (Ok done) n r = slotted-noted (Wake task) Done n refl
     wake-slotted task (Err e) n r = slotted-refused (Wake task) e r
 
-    pub abort-task-slotted : (task : ℕ) (result : Result (Unit {0}) Error) → OnOk result (Noted by old new (AbortTask task) Done) → IfErr result (λ e. IsRefused by old new (AbortTask task) e) → AreSlotted sent new.told.state.slots
+    pub abort-task-slotted : (task : ℕ) (result : Result (Unit {0}) Error) → OnOk result (Noted by old new (AbortTask task) Done) → IfErr result (λ e. IsRefused by old new (AbortTask task) e) → AreSlotted sent new.told.state.stood.slots
     abort-task-slotted task (Ok done) n r = slotted-noted (AbortTask task) Done n refl
     abort-task-slotted task (Err e) n r = slotted-refused (AbortTask task) e r
 
-    slotted-slept : (due : ℕ) (told : Option ℕ) → Noted by old new (SleepPoll due) (sleep_reply told) → AreSlotted sent new.told.state.slots
+    slotted-slept : (due : ℕ) (told : Option ℕ) → Noted by old new (SleepPoll due) (sleep_reply told) → AreSlotted sent new.told.state.stood.slots
     slotted-slept due None n = slotted-noted (SleepPoll due) Ready n refl
     slotted-slept due (Some alarm) n = slotted-noted (SleepPoll due) (PendingAt alarm) n refl
 
-    pub sleep-slotted : (due : ℕ) (result : Result (Option ℕ) OutOfMemory) → IfOk result (λ told. Noted by old new (SleepPoll due) (sleep_reply told)) → OnErr result (new ≡ lacking old) → AreSlotted sent new.told.state.slots
+    pub sleep-slotted : (due : ℕ) (result : Result (Option ℕ) OutOfMemory) → IfOk result (λ told. Noted by old new (SleepPoll due) (sleep_reply told)) → OnErr result (new ≡ lacking old) → AreSlotted sent new.told.state.stood.slots
     sleep-slotted due (Ok told) n e = slotted-slept due told n
     sleep-slotted due (Err lack) n e = slotted-lacking e
 
-    slotted-spent : (call : Call) → slots_called old.told.state.slots by call Done ≡ old.told.state.slots → Spent by old new call → AreSlotted sent new.told.state.slots
-    slotted-spent call same spent = with (has_place (stood_in old.told.state) call) refl
+    slotted-spent : (call : Call) → slots_called old.told.state.stood.slots by call Done ≡ old.told.state.stood.slots → Spent by old new call → AreSlotted sent new.told.state.stood.slots
+    slotted-spent call same spent = with (has_place old.told.state.stood call) refl
       where
-        with : (b : Bool) → has_place (stood_in old.told.state) call ≡ b → AreSlotted sent new.told.state.slots
+        with : (b : Bool) → has_place old.told.state.stood call ≡ b → AreSlotted sent new.told.state.stood.slots
         with true e = slotted-noted call Done (spent.there e) same
         with false e = rw (spent.gone e) i
 
-    pub abort-slotted : (task : ℕ) → Spent by old new (Abort task) → AreSlotted sent new.told.state.slots
+    pub abort-slotted : (task : ℕ) → Spent by old new (Abort task) → AreSlotted sent new.told.state.stood.slots
     abort-slotted task spent = slotted-spent (Abort task) refl spent
 
-    pub close-slotted : (node : ℕ) → Spent by old new (CloseNode node) → AreSlotted sent new.told.state.slots
+    pub close-slotted : (node : ℕ) → Spent by old new (CloseNode node) → AreSlotted sent new.told.state.stood.slots
     close-slotted node spent = slotted-spent (CloseNode node) refl spent
 
 replaced-other : (change : TaskResult → TaskResult) (j k : ℕ) (rs : List (ℕ × TaskResult)) → eqb k j ≡ false → find j (replaced change k rs) ≡ find j rs
@@ -177,15 +177,15 @@ find-end k v (x ∷ xs) h = grind (arith, find-end k v xs)
 none-held : {V : Type 0} (o : Option V) → o ≡ None → is_some o ≡ false
 none-held o e = rw e refl
 
-module _ {V : Type 0} (sent after : Roomed (ℕ × V)) (by : Option ℕ) (old new : Seen) (i : AreSlotted sent old.told.state.slots) (k : ℕ) where
+module _ {V : Type 0} (sent after : Roomed (ℕ × V)) (by : Option ℕ) (old new : Seen) (i : AreSlotted sent old.told.state.stood.slots) (k : ℕ) where
   abbrev slots : Slotted
-  slots = old.told.state.slots
+  slots = old.told.state.stood.slots
 
   -- a slot more
-  pub made-slotted : Noted by old new (Slots Slot) (SlotAt k) → after.items ≡ sent.items → after.first ≡ sent.first → after.next ≡ sent.next + 1 → find slots.count slots.results ≡ None → AreSlotted after new.told.state.slots
+  pub made-slotted : Noted by old new (Slots Slot) (SlotAt k) → after.items ≡ sent.items → after.first ≡ sent.first → after.next ≡ sent.next + 1 → find slots.count slots.results ≡ None → AreSlotted after new.told.state.stood.slots
   unfolding AreSent
   made-slotted n items first next none =
-      let told : new.told.state.slots ≡ with_slot k slots = ap (λ (s : Stood). s.slots) n.stood in
+      let told : new.told.state.stood.slots ≡ with_slot k slots = ap (λ (s : Stood). s.slots) n.stood in
       let told_at : SlotAt k ≡ SlotAt slots.count = n.answers in
       let is : k ≡ slots.count = cc in
       let gone : find k slots.results ≡ None = rw is none in
@@ -201,20 +201,20 @@ module _ {V : Type 0} (sent after : Roomed (ℕ × V)) (by : Option ℕ) (old ne
       some-same e = cc
 
   -- its sender closed it
-  pub closed-slot : Noted by old new (Slots (SlotClose k)) Done → AreSlotted sent new.told.state.slots
+  pub closed-slot : Noted by old new (Slots (SlotClose k)) Done → AreSlotted sent new.told.state.stood.slots
   unfolding AreSent
   closed-slot n =
-      let told : new.told.state.slots ≡ with_sent IsClosed k slots = ap (λ (s : Stood). s.slots) n.stood in
+      let told : new.told.state.stood.slots ≡ with_sent IsClosed k slots = ap (λ (s : Stood). s.slots) n.stood in
       rw told
       (slotted-change sent sent slots (with_sent IsClosed k slots) i refl k refl refl (settled IsClosed) refl (λ j e. refl)
       (i.held k ∙ sym (settled-there IsClosed refl refl (find k slots.results)))
       (λ r found open_. absurd (settled-shut IsClosed refl r open_)))
 
   -- a result was sent where it is waited for
-  pub sent-slotted : Noted by old new (Slots (SlotSend k)) Done → (v : V) → after.items ≡ with_task k v sent.items → after.first ≡ sent.first → after.next ≡ sent.next → is_open (find k slots.results) ≡ true → AreSlotted after new.told.state.slots
+  pub sent-slotted : Noted by old new (Slots (SlotSend k)) Done → (v : V) → after.items ≡ with_task k v sent.items → after.first ≡ sent.first → after.next ≡ sent.next → is_open (find k slots.results) ≡ true → AreSlotted after new.told.state.stood.slots
   unfolding AreSent AreWaited
   sent-slotted n v items first next open_ =
-      let told : new.told.state.slots ≡ with_sent There k slots = ap (λ (s : Stood). s.slots) n.stood in
+      let told : new.told.state.stood.slots ≡ with_sent There k slots = ap (λ (s : Stood). s.slots) n.stood in
       rw told
       (slotted-change sent after slots (with_sent There k slots) i first k next refl (settled There) refl
       (λ j e. rw items (find-with j k v sent.items e))
@@ -222,20 +222,20 @@ module _ {V : Type 0} (sent after : Roomed (ℕ × V)) (by : Option ℕ) (old ne
       (λ r found is. absurd (settled-shut There refl r is)))
 
   -- or where it isn't
-  pub dropped-slotted : Noted by old new (Slots (SlotSend k)) Done → is_open (find k slots.results) ≡ false → AreSlotted sent new.told.state.slots
+  pub dropped-slotted : Noted by old new (Slots (SlotSend k)) Done → is_open (find k slots.results) ≡ false → AreSlotted sent new.told.state.stood.slots
   unfolding AreSent
   dropped-slotted n shut =
-      let told : new.told.state.slots ≡ with_sent There k slots = ap (λ (s : Stood). s.slots) n.stood in
+      let told : new.told.state.stood.slots ≡ with_sent There k slots = ap (λ (s : Stood). s.slots) n.stood in
       rw told
       (slotted-change sent sent slots (with_sent There k slots) i refl k refl refl (settled There) refl (λ j e. refl)
       (i.held k ∙ sym (unsent-there (find k slots.results) shut))
       (λ r found is. absurd (settled-shut There refl r is)))
 
   -- its receiver polled, and waits
-  pub polled-slotted : Noted by old new (Slots (SlotPoll k)) Pending → find k sent.items ≡ None → AreSlotted sent new.told.state.slots
+  pub polled-slotted : Noted by old new (Slots (SlotPoll k)) Pending → find k sent.items ≡ None → AreSlotted sent new.told.state.stood.slots
   unfolding AreSent
   polled-slotted n none =
-      let told : new.told.state.slots ≡ with_polled (Open by) k slots = ap (λ (s : Stood). s.slots) n.stood in
+      let told : new.told.state.stood.slots ≡ with_polled (Open by) k slots = ap (λ (s : Stood). s.slots) n.stood in
       rw told
       (slotted-change sent sent slots (with_polled (Open by) k slots) i refl k refl refl (λ r. record r { outcome = Open by }) refl (λ j e. refl)
       (none-held (find k sent.items) none ∙ sym (polled-there (Open by) (λ e. absurd (cc)) (find k slots.results)))
@@ -246,9 +246,9 @@ module _ {V : Type 0} (sent after : Roomed (ℕ × V)) (by : Option ℕ) (old ne
     none-after = none-held (find k after.items) (rw items gone)
 
     -- or takes what was sent
-    pub taken-slotted : Noted by old new (Slots (SlotPoll k)) Ready → AreSlotted after new.told.state.slots
+    pub taken-slotted : Noted by old new (Slots (SlotPoll k)) Ready → AreSlotted after new.told.state.stood.slots
     taken-slotted n =
-        let told : new.told.state.slots ≡ with_polled IsClosed k slots = ap (λ (s : Stood). s.slots) n.stood in
+        let told : new.told.state.stood.slots ≡ with_polled IsClosed k slots = ap (λ (s : Stood). s.slots) n.stood in
         rw told
         (slotted-change sent after slots (with_polled IsClosed k slots) i first k next refl (λ r. record r { outcome = IsClosed }) refl
         (λ j e. rw items (find-without j k sent.items e))
@@ -256,9 +256,9 @@ module _ {V : Type 0} (sent after : Roomed (ℕ × V)) (by : Option ℕ) (old ne
         (λ r found is. absurd (cc)))
 
     -- or gives it up
-    pub unslotted : Noted by old new (Slots (SlotGiveUp k)) Done → find k new.told.state.slots.results ≡ None → AreSlotted after new.told.state.slots
+    pub unslotted : Noted by old new (Slots (SlotGiveUp k)) Done → find k new.told.state.stood.slots.results ≡ None → AreSlotted after new.told.state.stood.slots
     unslotted n none =
-        let told : new.told.state.slots ≡ without_slot k slots = ap (λ (s : Stood). s.slots) n.stood in
+        let told : new.told.state.stood.slots ≡ without_slot k slots = ap (λ (s : Stood). s.slots) n.stood in
         let left : find k (without k slots.results) ≡ None = rw told at none in
         rw told
         (slotted-one sent after slots (without_slot k slots) i first k (next ∙ i.next)
@@ -268,9 +268,9 @@ module _ {V : Type 0} (sent after : Roomed (ℕ × V)) (by : Option ℕ) (old ne
         (λ r found is. let bad : None ≡ Some r = sym left ∙ found in absurd (cc)))
 
     -- or the wait is aborted
-    pub aborted-slotted : Noted by old new (Slots (AbortWait k)) Done → AreSlotted after new.told.state.slots
+    pub aborted-slotted : Noted by old new (Slots (AbortWait k)) Done → AreSlotted after new.told.state.stood.slots
     aborted-slotted n =
-        let told : new.told.state.slots ≡ with_wait_aborted k slots = ap (λ (s : Stood). s.slots) n.stood in
+        let told : new.told.state.stood.slots ≡ with_wait_aborted k slots = ap (λ (s : Stood). s.slots) n.stood in
         rw told
         (slotted-change sent after slots (with_wait_aborted k slots) i first k next refl aborted refl
         (λ j e. rw items (find-without j k sent.items e))
@@ -314,32 +314,32 @@ open-unsent sent slots i k open_ = none-of (find k sent.items) (i.held k ∙ ope
         by IsClosed open_ = cc
 
 -- a slot that is closed, or was before
-pub slot-closed : {V : Type 0} (sent : Roomed (ℕ × V)) (by : Option ℕ) (old new : Seen) → AreSlotted sent old.told.state.slots → (k : ℕ) → Spent by old new (Slots (SlotClose k)) → AreSlotted sent new.told.state.slots
-slot-closed sent by old new i k spent = with (has_place (stood_in old.told.state) (Slots (SlotClose k))) refl
+pub slot-closed : {V : Type 0} (sent : Roomed (ℕ × V)) (by : Option ℕ) (old new : Seen) → AreSlotted sent old.told.state.stood.slots → (k : ℕ) → Spent by old new (Slots (SlotClose k)) → AreSlotted sent new.told.state.stood.slots
+slot-closed sent by old new i k spent = with (has_place old.told.state.stood (Slots (SlotClose k))) refl
   where
-    with : (b : Bool) → has_place (stood_in old.told.state) (Slots (SlotClose k)) ≡ b → AreSlotted sent new.told.state.slots
+    with : (b : Bool) → has_place old.told.state.stood (Slots (SlotClose k)) ≡ b → AreSlotted sent new.told.state.stood.slots
     with true e = closed-slot sent sent by old new i k (spent.there e)
     with false e = rw (spent.gone e) i
 
 -- a result that is sent where it isn't taken
-pub slot-dropped : {V : Type 0} (sent : Roomed (ℕ × V)) (by : Option ℕ) (old new : Seen) → AreSlotted sent old.told.state.slots → (k : ℕ) → Spent by old new (Slots (SlotSend k)) → (is_some (find k old.told.state.slots.senders) && is_open (find k old.told.state.slots.results)) ≡ false → AreSlotted sent new.told.state.slots
-slot-dropped sent by old new i k spent takes = with (has_place (stood_in old.told.state) (Slots (SlotSend k))) refl
+pub slot-dropped : {V : Type 0} (sent : Roomed (ℕ × V)) (by : Option ℕ) (old new : Seen) → AreSlotted sent old.told.state.stood.slots → (k : ℕ) → Spent by old new (Slots (SlotSend k)) → (is_some (find k old.told.state.stood.slots.senders) && is_open (find k old.told.state.stood.slots.results)) ≡ false → AreSlotted sent new.told.state.stood.slots
+slot-dropped sent by old new i k spent takes = with (has_place old.told.state.stood (Slots (SlotSend k))) refl
   where
     shut : (a b : Bool) → a ≡ true → (a && b) ≡ false → b ≡ false
     shut true b a t = t
     shut false b a t = cc
 
-    with : (b : Bool) → has_place (stood_in old.told.state) (Slots (SlotSend k)) ≡ b → AreSlotted sent new.told.state.slots
-    with true e = dropped-slotted sent sent by old new i k (spent.there e) (shut (is_some (find k old.told.state.slots.senders)) (is_open (find k old.told.state.slots.results)) e takes)
+    with : (b : Bool) → has_place old.told.state.stood (Slots (SlotSend k)) ≡ b → AreSlotted sent new.told.state.stood.slots
+    with true e = dropped-slotted sent sent by old new i k (spent.there e) (shut (is_some (find k old.told.state.stood.slots.senders)) (is_open (find k old.told.state.stood.slots.results)) e takes)
     with false e = rw (spent.gone e) i
 
 -- a cleanup begins
-closed-slots : (t : Told) (ended : Bool) → (pushed_all t (cleanup_by ended)).state.slots ≡ t.state.slots
+closed-slots : (t : Told) (ended : Bool) → (pushed_all t (cleanup_by ended)).state.stood.slots ≡ t.state.stood.slots
 unfolding after
 closed-slots t true = refl
 closed-slots t false = refl
 
-pub closed-slotted : {V : Type 0} (sent : Roomed (ℕ × V)) (old new : Seen) → new.told ≡ pushed_all old.told (cleanup_entries old.told.state.nodes) → AreSlotted sent old.told.state.slots → AreSlotted sent new.told.state.slots
-closed-slotted sent old new e i = let same = closed-slots old.told (is_ended old.told.state.nodes 0) in rw (e, same) i
+pub closed-slotted : {V : Type 0} (sent : Roomed (ℕ × V)) (old new : Seen) → new.told ≡ pushed_all old.told (cleanup_entries old.told.state.stood.nodes) → AreSlotted sent old.told.state.stood.slots → AreSlotted sent new.told.state.stood.slots
+closed-slotted sent old new e i = let same = closed-slots old.told (is_ended old.told.state.stood.nodes 0) in rw (e, same) i
 
 pub ruleset slotted_laws = (held-none, slotted-none, slotted-refused, child-slotted, wake-slotted, abort-task-slotted, sleep-slotted, abort-slotted, close-slotted)

@@ -1,5 +1,5 @@
 -- Steps are walked call by call, and poller by poller.
-use Rattle.rt_world.proofs.Prelude.{◌≡◌, ◌⊎◌, inl, inr, ℕ, Bool, List, [], ◌∷◌, ◌++◌, refl, sym, ap, ◌∙◌, Option, Some, None, Result, Ok, Err, true, false, append_assoc, arith, is_some, OnOk, OnErr, IfOk, IfErr, append-nil, Error, OutOf, OutOfMemory, Execution, Child, AbortTask, Wake, Join, Slots, Slot, SlotPoll, CallReply, Done, NodeAt, SlotAt, Pending, Ready, Refused, AlarmList, Phase, Making, Polling, Ending, Closing, Stood, Turn, stood_in, ends_next, CallsAt, MayCall, alarm_of, IsAnswerOf, Ask, Heard, Plainly, Sleeping, Spawning, Plain, Handed, Held, Change, counted, Asks, IsOwn, FreesOne, call_of, heard_of, moved, has_place, find, heard_result, polled, Step, Last, Does, Spends, Counts, Gives, Walks, Fronts, Lacks, Stops, Breaks, then, followed_by, stood_before, IsSpending, walks-then, fronts-then, stops-then, stops-first, frees-counted, frees-append, frees-moved, frees-spent, turn_in, marked, sleep_reply, slept_number, Stream, World, Stays, Grows, Kept, Made, IsUnreceived, IsUnsent, SpentBy, Joined, Received, Lasts, Broke, EndsWith, Turned, Walked, Polled, answered_by, Rooted, root_by, Goes, Called, tells, wake_told, sleep_told, slot_told, child_told, spawn_told, join_told, MaySpend, Closes, Counted, Leads}
+use Rattle.rt_world.proofs.Prelude.{◌≡◌, ◌⊎◌, inl, inr, ℕ, Bool, List, [], ◌∷◌, ◌++◌, refl, sym, ap, ◌∙◌, Option, Some, None, Result, Ok, Err, true, false, append_assoc, arith, is_some, OnOk, OnErr, IfOk, IfErr, append-nil, Error, OutOf, OutOfMemory, Execution, Child, AbortTask, Wake, Join, Slots, Slot, SlotPoll, CallReply, Done, NodeAt, SlotAt, Pending, Ready, Refused, AlarmList, Phase, Making, Polling, Ending, Closing, Stood, Turn, ends_next, CallsAt, MayCall, alarm_of, IsAnswerOf, Ask, Heard, Plainly, Sleeping, Spawning, Plain, Handed, Held, Change, counted, Asks, IsOwn, FreesOne, call_of, heard_of, moved, has_place, find, heard_result, polled, Step, Last, Does, Spends, Counts, Gives, Walks, Fronts, Lacks, Stops, Breaks, then, followed_by, stood_before, IsSpending, walks-then, fronts-then, stops-then, stops-first, frees-counted, frees-append, frees-moved, frees-spent, turn_in, marked, sleep_reply, slept_number, Stream, World, Stays, Grows, Kept, Made, IsUnreceived, IsUnsent, SpentBy, Joined, Received, Lasts, Broke, EndsWith, Turned, Walked, Polled, answered_by, Rooted, root_by, Goes, Called, tells, wake_told, sleep_told, slot_told, child_told, spawn_told, join_told, MaySpend, Closes, Counted, Leads}
 use Rattle.rt_model.specs.declared.answer.Answer.{Answer}
 use Rattle.rt_model.specs.declared.answer.Answer.TheVariants.{NoMemory}
 use Rattle.rt_world.proofs.Drawn.{drew-same, drew-drew}
@@ -28,11 +28,11 @@ unmarked None new stays n = refl
 unmarked (Some made) new stays n = let e = stays made refl in absurd (cc)
 
 module _ {A L O R M Q G : Type 0} (old mid new : World A O G) (first : Step A L O R) (more : R → L → Step A M O Q) (r : R) (a : L) (given : Option (Q × M)) (one : Turned first old mid (Some (r, a))) (two : Turned (more r a) mid new given) where
-  turned-ends : (Walks first old.held one.more (stood_in mid.told.state) r a mid.held) → (given : Option (Q × M)) → EndsWith (more r a) mid.held two.more (stood_in new.told.state) given new.held → EndsWith (then first more) old.held (one.more ++ two.more) (stood_in new.told.state) given new.held
-  turned-ends w None e = fronts-then more (stood_in mid.told.state) r a mid.held (stood_in new.told.state) new.held one.more two.more old.held first two.stood w e
-  turned-ends w (Some g) e = walks-then more (stood_in mid.told.state) r a mid.held (stood_in new.told.state) g.0 g.1 new.held one.more two.more old.held first two.stood w e
+  turned-ends : (Walks first old.held one.more mid.told.state.stood r a mid.held) → (given : Option (Q × M)) → EndsWith (more r a) mid.held two.more new.told.state.stood given new.held → EndsWith (then first more) old.held (one.more ++ two.more) new.told.state.stood given new.held
+  turned-ends w None e = fronts-then more mid.told.state.stood r a mid.held new.told.state.stood new.held one.more two.more old.held first two.stood w e
+  turned-ends w (Some g) e = walks-then more mid.told.state.stood r a mid.held new.told.state.stood g.0 g.1 new.held one.more two.more old.held first two.stood w e
 
-  turned-broke : (made : List Turn) → old.lacked ≡ None → new.lacked ≡ Some made → (there : Option (List Turn)) → mid.lacked ≡ there → Broke (then first more) old.held old.told.state.turns made (one.more ++ two.more) (stood_in new.told.state) new.held
+  turned-broke : (made : List Turn) → old.lacked ≡ None → new.lacked ≡ Some made → (there : Option (List Turn)) → mid.lacked ≡ there → Broke (then first more) old.held old.told.state.turns made (one.more ++ two.more) new.told.state.stood new.held
   turned-broke made o n None m =
       let k = two.broke made m n in
       record {
@@ -41,7 +41,7 @@ module _ {A L O R M Q G : Type 0} (old mid new : World A O G) (first : Step A L 
         mid = k.mid;
         are = rw (k.are, append_assoc one.more k.front k.rest) refl;
         before = k.before ∙ ap (λ xs. xs ++ k.front) one.turns ∙ append_assoc old.told.state.turns one.more k.front;
-        walks = stops-then more (stood_in mid.told.state) r a mid.held (stood_before k.rest (stood_in new.told.state)) k.mid one.more k.front old.held first (sym (stood-both k.front k.rest (stood_in new.told.state)) ∙ sym (ap (λ us. stood_before us (stood_in new.told.state)) k.are) ∙ two.stood) (one.ends m) k.walks;
+        walks = stops-then more mid.told.state.stood r a mid.held (stood_before k.rest new.told.state.stood) k.mid one.more k.front old.held first (sym (stood-both k.front k.rest new.told.state.stood) ∙ sym (ap (λ us. stood_before us new.told.state.stood) k.are) ∙ two.stood) (one.ends m) k.walks;
         frees = k.frees;
       }
   turned-broke made o n (Some before) m =
@@ -53,7 +53,7 @@ module _ {A L O R M Q G : Type 0} (old mid new : World A O G) (first : Step A L 
         mid = k.mid;
         are = rw (k.are) (append_assoc k.front k.rest two.more);
         before = same ∙ k.before;
-        walks = stops-first more (stood_before (k.rest ++ two.more) (stood_in new.told.state)) k.mid k.front old.held first (rw (stood-both k.rest two.more (stood_in new.told.state), two.stood) k.walks);
+        walks = stops-first more (stood_before (k.rest ++ two.more) new.told.state.stood) k.mid k.front old.held first (rw (stood-both k.rest two.more new.told.state.stood, two.stood) k.walks);
         frees = frees-append k.rest two.more k.mid mid.held new.held k.frees two.frees;
       }
 
@@ -81,14 +81,14 @@ has-none false h k = cc
 
 module _ {A L O R G : Type 0} (old mid new : World A O G) (given : Option (R × L)) where
   -- a turn more in front
-  turned-before : (t : Turn) (step next : Step A L O R) → mid.told.state.turns ≡ old.told.state.turns ++ t ∷ [] → FreesOne t.stood old.held t.call t.reply mid.held → mid.lacked ≡ old.lacked → t.stood ≡ stood_in old.told.state → ((us : List Turn) (stood : Stood) (end : Held A O) (given : Option (R × L)) → EndsWith next mid.held us stood given end → EndsWith step old.held (t ∷ us) stood given end) → ((front : List Turn) (stood : Stood) (end : Held A O) → Stops next mid.held front stood end → Stops step old.held (t ∷ front) stood end) → Turned next mid new given → Turned step old new given
+  turned-before : (t : Turn) (step next : Step A L O R) → mid.told.state.turns ≡ old.told.state.turns ++ t ∷ [] → FreesOne t.stood old.held t.call t.reply mid.held → mid.lacked ≡ old.lacked → t.stood ≡ old.told.state.stood → ((us : List Turn) (stood : Stood) (end : Held A O) (given : Option (R × L)) → EndsWith next mid.held us stood given end → EndsWith step old.held (t ∷ us) stood given end) → ((front : List Turn) (stood : Stood) (end : Held A O) → Stops next mid.held front stood end → Stops step old.held (t ∷ front) stood end) → Turned next mid new given → Turned step old new given
   turned-before t step next is frees lacked stood walk front two = record {
     more = t ∷ two.more;
     turns = two.turns ∙ ap (λ ts. ts ++ two.more) is ∙ append_assoc old.told.state.turns (t ∷ []) two.more;
     stood = stood;
     frees = (old.held.counts, mid.held, frees, two.frees);
     marked = λ made o. two.marked made (lacked ∙ o);
-    ends = λ n. walk two.more (stood_in new.told.state) new.held given (two.ends n);
+    ends = λ n. walk two.more new.told.state.stood new.held given (two.ends n);
     broke = λ made o n.
         let k = two.broke made (lacked ∙ o) n in
         record {
@@ -97,7 +97,7 @@ module _ {A L O R G : Type 0} (old mid new : World A O G) (given : Option (R × 
           mid = k.mid;
           are = ap (λ xs. t ∷ xs) k.are;
           before = k.before ∙ ap (λ ts. ts ++ k.front) is ∙ append_assoc old.told.state.turns (t ∷ []) k.front;
-          walks = front k.front (stood_before k.rest (stood_in new.told.state)) k.mid k.walks;
+          walks = front k.front (stood_before k.rest new.told.state.stood) k.mid k.walks;
           frees = k.frees;
         };
   }
@@ -119,22 +119,22 @@ module _ {A L O R G : Type 0} (old mid new : World A O G) (given : Option (R × 
       (λ front stood end w. does-stops t ask asks made.held on front stood end (rw (← is) w))
       two
 
-  turned-sleep : (due : ℕ) (alarm told : Option ℕ) (on : Heard O → Step A L O R) → told ≡ slept_number old.told.state.clock.time old.told.state.alarms due alarm → Made old mid (Sleeping due alarm) (sleep_reply told) → Turned (on (Plain (sleep_reply told))) mid new given → Turned (Does (Sleeping due alarm) on) old new given
+  turned-sleep : (due : ℕ) (alarm told : Option ℕ) (on : Heard O → Step A L O R) → told ≡ slept_number old.told.state.clock.time old.told.state.stood.alarms due alarm → Made old mid (Sleeping due alarm) (sleep_reply told) → Turned (on (Plain (sleep_reply told))) mid new given → Turned (Does (Sleeping due alarm) on) old new given
   turned-sleep due alarm told on is made two =
-      turned-made (Sleeping due alarm) (sleep_reply told) (Plain (sleep_reply told)) on made (refl, own-alarm old.told.state.clock.time old.told.state.alarms due alarm told is) refl two
+      turned-made (Sleeping due alarm) (sleep_reply told) (Plain (sleep_reply told)) on made (refl, own-alarm old.told.state.clock.time old.told.state.stood.alarms due alarm told is) refl two
 
   -- a call that spends a token
-  module _ (ask : Ask A O) (spends : IsSpending ask) (made : Made old mid ask Done) (there : has_place (stood_in old.told.state) (call_of ask) ≡ true) where
+  module _ (ask : Ask A O) (spends : IsSpending ask) (made : Made old mid ask Done) (there : has_place old.told.state.stood (call_of ask) ≡ true) where
     spent-ends : (next : Step A L O R) (us : List Turn) (stood : Stood) (end : Held A O) (given : Option (R × L)) → EndsWith next mid.held us stood given end → EndsWith (Spends ask next) old.held (turn_in old.told.state old.out (call_of ask) Done ∷ us) stood given end
-    spent-ends next us stood end None w = (λ place. (refl, refl, rw (← made.held) w), λ none. absurd (has-none (has_place (stood_in old.told.state) (call_of ask)) there none))
-    spent-ends next us stood end (Some g) w = (λ place. (refl, refl, rw (← made.held) w), λ none. absurd (has-none (has_place (stood_in old.told.state) (call_of ask)) there none))
+    spent-ends next us stood end None w = (λ place. (refl, refl, rw (← made.held) w), λ none. absurd (has-none (has_place old.told.state.stood (call_of ask)) there none))
+    spent-ends next us stood end (Some g) w = (λ place. (refl, refl, rw (← made.held) w), λ none. absurd (has-none (has_place old.told.state.stood (call_of ask)) there none))
 
     turned-spent : (next : Step A L O R) → Turned next mid new given → Turned (Spends ask next) old new given
     turned-spent next two =
         let t = turn_in old.told.state old.out (call_of ask) Done in
-        turned-before t (Spends ask next) next made.turns (rw made.held (frees-spent (stood_in old.told.state) old.held ask spends)) made.lacked refl
+        turned-before t (Spends ask next) next made.turns (rw made.held (frees-spent old.told.state.stood old.held ask spends)) made.lacked refl
         (λ us stood end given w. spent-ends next us stood end given w)
-        (λ front stood end w. (λ place. (refl, refl, rw (← made.held) w), λ none. absurd (has-none (has_place (stood_in old.told.state) (call_of ask)) there none)))
+        (λ front stood end w. (λ place. (refl, refl, rw (← made.held) w), λ none. absurd (has-none (has_place old.told.state.stood (call_of ask)) there none)))
         two
 
 -- a token that has no place is spent by no call
@@ -151,11 +151,11 @@ stops-gone [] stood before held end ask next stands gone w = ((rw stands gone, w
 stops-gone (t ∷ ts) stood before held end ask next stands gone w = (λ there. absurd (has-none (has_place t.stood (call_of ask)) there (rw stands gone)), λ none. w)
 
 module _ {A L O R G : Type 0} (old new : World A O G) (given : Option (R × L)) where
-  gone-ends : (us : List Turn) (ask : Ask A O) (next : Step A L O R) → has_place (stood_in old.told.state) (call_of ask) ≡ false → stood_before us (stood_in new.told.state) ≡ stood_in old.told.state → (given : Option (R × L)) → EndsWith next old.held us (stood_in new.told.state) given new.held → EndsWith (Spends ask next) old.held us (stood_in new.told.state) given new.held
-  gone-ends us ask next gone stood None w = fronts-gone us (stood_in new.told.state) (stood_in old.told.state) old.held new.held ask next stood gone w
-  gone-ends us ask next gone stood (Some g) w = walks-gone us (stood_in new.told.state) (stood_in old.told.state) g.0 g.1 old.held new.held ask next stood gone w
+  gone-ends : (us : List Turn) (ask : Ask A O) (next : Step A L O R) → has_place old.told.state.stood (call_of ask) ≡ false → stood_before us new.told.state.stood ≡ old.told.state.stood → (given : Option (R × L)) → EndsWith next old.held us new.told.state.stood given new.held → EndsWith (Spends ask next) old.held us new.told.state.stood given new.held
+  gone-ends us ask next gone stood None w = fronts-gone us new.told.state.stood old.told.state.stood old.held new.held ask next stood gone w
+  gone-ends us ask next gone stood (Some g) w = walks-gone us new.told.state.stood old.told.state.stood g.0 g.1 old.held new.held ask next stood gone w
 
-  turned-gone : (ask : Ask A O) (next : Step A L O R) → has_place (stood_in old.told.state) (call_of ask) ≡ false → Turned next old new given → Turned (Spends ask next) old new given
+  turned-gone : (ask : Ask A O) (next : Step A L O R) → has_place old.told.state.stood (call_of ask) ≡ false → Turned next old new given → Turned (Spends ask next) old new given
   turned-gone ask next gone two = record {
     more = two.more;
     turns = two.turns;
@@ -172,7 +172,7 @@ module _ {A L O R G : Type 0} (old new : World A O G) (given : Option (R × L)) 
           are = k.are;
           before = k.before;
           frees = k.frees;
-          walks = stops-gone k.front (stood_before k.rest (stood_in new.told.state)) (stood_in old.told.state) old.held k.mid ask next (sym (stood-both k.front k.rest (stood_in new.told.state)) ∙ sym (ap (λ us. stood_before us (stood_in new.told.state)) k.are) ∙ two.stood) gone k.walks;
+          walks = stops-gone k.front (stood_before k.rest new.told.state.stood) old.told.state.stood old.held k.mid ask next (sym (stood-both k.front k.rest new.told.state.stood) ∙ sym (ap (λ us. stood_before us new.told.state.stood) k.are) ∙ two.stood) gone k.walks;
         };
   }
 
@@ -201,7 +201,7 @@ module _ {A L O R G : Type 0} (old new : World A O G) (change : Change) (next : 
     stood = two.stood;
     frees = frees-counted two.more old.held new.held (counted change old.held).counts two.frees;
     marked = two.marked;
-    ends = λ n. counts-ends two.more (stood_in new.told.state) given (two.ends n);
+    ends = λ n. counts-ends two.more new.told.state.stood given (two.ends n);
     broke = λ made o n.
         let k = two.broke made o n in
         record {
@@ -211,12 +211,12 @@ module _ {A L O R G : Type 0} (old new : World A O G) (change : Change) (next : 
           are = k.are;
           before = k.before;
           frees = k.frees;
-          walks = stops-counts k.front (stood_before k.rest (stood_in new.told.state)) old.held k.mid change next k.walks;
+          walks = stops-counts k.front (stood_before k.rest new.told.state.stood) old.held k.mid change next k.walks;
         };
   }
 
 -- no turn was made
-turned-none : {A L O R G : Type 0} (w : World A O G) (given : Option (R × L)) (step : Step A L O R) → EndsWith step w.held [] (stood_in w.told.state) given w.held → Turned step w w given
+turned-none : {A L O R G : Type 0} (w : World A O G) (given : Option (R × L)) (step : Step A L O R) → EndsWith step w.held [] w.told.state.stood given w.held → Turned step w w given
 turned-none w given step ends = record {
   more = [];
   turns = sym (append-nil w.told.state.turns);
@@ -228,7 +228,7 @@ turned-none w given step ends = record {
 }
 
 -- the first call that lacked memory
-turned-lacking : {A L O R G : Type 0} (w : World A O G) (given : Option (R × L)) (step : Step A L O R) → Lacks (stood_in w.told.state) step → Turned step w (lacking w) given
+turned-lacking : {A L O R G : Type 0} (w : World A O G) (given : Option (R × L)) (step : Step A L O R) → Lacks w.told.state.stood step → Turned step w (lacking w) given
 turned-lacking w given step lacks = by w.lacked refl
   where
     by : (there : Option (List Turn)) → w.lacked ≡ there → Turned step w (lacking w) given
@@ -260,7 +260,7 @@ turned-lacking w given step lacks = by w.lacked refl
     }
 
 -- behind a call that lacked memory all is free
-turned-behind : {A L M O R Q G : Type 0} (old mid new : World A O G) (given : Option (R × L)) (later : Option (Q × M)) (step : Step A L O R) (next : Step A M O Q) → mid ≡ lacking old → Lacks (stood_in old.told.state) step → Turned next mid new later → Turned step old new given
+turned-behind : {A L M O R Q G : Type 0} (old mid new : World A O G) (given : Option (R × L)) (later : Option (Q × M)) (step : Step A L O R) (next : Step A M O Q) → mid ≡ lacking old → Lacks old.told.state.stood step → Turned next mid new later → Turned step old new given
 turned-behind {A = A} {L = L} {O = O} {R = R} {G = G} old mid new given later step next is lacks two = by old.lacked refl
   where
     by : (there : Option (List Turn)) → old.lacked ≡ there → Turned step old new given
@@ -302,7 +302,7 @@ turned-behind {A = A} {L = L} {O = O} {R = R} {G = G} old mid new given later st
         }
 
 -- a token that is spent, and then what comes next
-turned-token : {A L O R G : Type 0} (old mid new : World A O G) (given : Option (R × L)) (ask : Ask A O) (next : Step A L O R) → IsSpending ask → SpentBy old mid ask → Turned next mid new given → (place : Bool) → has_place (stood_in old.told.state) (call_of ask) ≡ place → Turned (Spends ask next) old new given
+turned-token : {A L O R G : Type 0} (old mid new : World A O G) (given : Option (R × L)) (ask : Ask A O) (next : Step A L O R) → IsSpending ask → SpentBy old mid ask → Turned next mid new given → (place : Bool) → has_place old.told.state.stood (call_of ask) ≡ place → Turned (Spends ask next) old new given
 turned-token old mid new given ask next plain spent two true e = turned-spent old mid new given ask plain (spent.there e) e next two
 turned-token old mid new given ask next plain spent two false e = let same = spent.gone e in turned-gone old new given ask next e (rw same at two)
 
@@ -341,7 +341,7 @@ module _ {A L O R G : Type 0} (old mid new : World A O G) (q : R) (b : L) where
   walked-receive slot reply heard on made fits is two = (turned-made old mid new (Some (q, b)) (Plainly (Slots (SlotPoll slot))) reply heard on made (refl, fits) is two)
 
   -- a sleep that is polled
-  pub walked-sleep : (due : ℕ) (alarm told : Option ℕ) (on : Heard O → Step A L O R) → told ≡ slept_number old.told.state.clock.time old.told.state.alarms due alarm → Made old mid (Sleeping due alarm) (sleep_reply told) → Walked (on (Plain (sleep_reply told))) mid new q b → Walked (Does (Sleeping due alarm) on) old new q b
+  pub walked-sleep : (due : ℕ) (alarm told : Option ℕ) (on : Heard O → Step A L O R) → told ≡ slept_number old.told.state.clock.time old.told.state.stood.alarms due alarm → Made old mid (Sleeping due alarm) (sleep_reply told) → Walked (on (Plain (sleep_reply told))) mid new q b → Walked (Does (Sleeping due alarm) on) old new q b
   unfolding Walked
   walked-sleep due alarm told on is made two = (turned-sleep old mid new (Some (q, b)) due alarm told on is made two)
 
@@ -349,7 +349,7 @@ module _ {A L O R G : Type 0} (old mid new : World A O G) (q : R) (b : L) where
   pub walked-spend : (ask : Ask A O) (next : Step A L O R) → IsSpending ask → SpentBy old mid ask → Walked next mid new q b → Walked (Spends ask next) old new q b
   unfolding Walked
   walked-spend ask next plain spent two =
-      (turned-token old mid new (Some (q, b)) ask next plain spent two (has_place (stood_in old.told.state) (call_of ask)) refl)
+      (turned-token old mid new (Some (q, b)) ask next plain spent two (has_place old.told.state.stood (call_of ask)) refl)
 
 module _ {A L O R G : Type 0} (w : World A O G) (q : R) (b : L) where
   -- an answer
@@ -358,7 +358,7 @@ module _ {A L O R G : Type 0} (w : World A O G) (q : R) (b : L) where
   walked-gives = (turned-none w (Some (q, b)) (Gives q b) (refl, refl, refl))
 
 -- a call that lacked memory
-pub walked-lacking : {A L O R G : Type 0} (old new : World A O G) (step : Step A L O R) (q : R) (b : L) → new ≡ lacking old → Lacks (stood_in old.told.state) step → Walked step old new q b
+pub walked-lacking : {A L O R G : Type 0} (old new : World A O G) (step : Step A L O R) (q : R) (b : L) → new ≡ lacking old → Lacks old.told.state.stood step → Walked step old new q b
 unfolding Walked
 walked-lacking old new step q b e l = rw e ((turned-lacking old (Some (q, b)) step l))
 
@@ -406,9 +406,9 @@ module _ {A O G : Type 0} (old mid new : World A O G) (answer : Answer O) (left 
   pub polled-spend : (ask : Ask A O) (next : Step A A O (Answer O)) → IsSpending ask → SpentBy old mid ask → Polled next mid new answer left → Polled (Spends ask next) old new answer left
   unfolding Polled
   polled-spend ask next plain spent two =
-      (turned-token old mid new (answered_by answer left) ask next plain spent two (has_place (stood_in old.told.state) (call_of ask)) refl)
+      (turned-token old mid new (answered_by answer left) ask next plain spent two (has_place old.told.state.stood (call_of ask)) refl)
 
-  pub polled-sleep : (due : ℕ) (alarm told : Option ℕ) (on : Heard O → Step A A O (Answer O)) → told ≡ slept_number old.told.state.clock.time old.told.state.alarms due alarm → Made old mid (Sleeping due alarm) (sleep_reply told) → Polled (on (Plain (sleep_reply told))) mid new answer left → Polled (Does (Sleeping due alarm) on) old new answer left
+  pub polled-sleep : (due : ℕ) (alarm told : Option ℕ) (on : Heard O → Step A A O (Answer O)) → told ≡ slept_number old.told.state.clock.time old.told.state.stood.alarms due alarm → Made old mid (Sleeping due alarm) (sleep_reply told) → Polled (on (Plain (sleep_reply told))) mid new answer left → Polled (Does (Sleeping due alarm) on) old new answer left
   unfolding Polled
   polled-sleep due alarm told on is made two = (turned-sleep old mid new (answered_by answer left) due alarm told on is made two)
 
@@ -419,14 +419,14 @@ answered-ends held stood answer left = (refl, refl, refl)
 module _ {A O G : Type 0} (w : World A O G) (left : A) where
   pub polled-gives : (answer : Answer O) (given : A) → given ≡ left → Polled (Gives answer given) w w answer left
   unfolding Polled
-  polled-gives answer given same = rw same (turned-none w (answered_by answer left) (Gives answer left) (answered-ends w.held (stood_in w.told.state) answer left))
+  polled-gives answer given same = rw same (turned-none w (answered_by answer left) (Gives answer left) (answered-ends w.held w.told.state.stood answer left))
 
   -- it breaks off
   pub polled-lacks : (step : Step A A O (Answer O)) → Polled step w w NoMemory left
   unfolding Polled
   polled-lacks step = (turned-none w None step (w.held.counts, refl))
 
-pub polled-lacking : {A O G : Type 0} (old new : World A O G) (step : Step A A O (Answer O)) (answer : Answer O) (left : A) → new ≡ lacking old → Lacks (stood_in old.told.state) step → Polled step old new answer left
+pub polled-lacking : {A O G : Type 0} (old new : World A O G) (step : Step A A O (Answer O)) (answer : Answer O) (left : A) → new ≡ lacking old → Lacks old.told.state.stood step → Polled step old new answer left
 unfolding Polled
 polled-lacking old new step answer left e l = rw e ((turned-lacking old (answered_by answer left) step l))
 
@@ -445,7 +445,7 @@ module _ {A O G : Type 0} (old mid new : World A O G) (result : Result A OutOfMe
   pub rooted-spend : (ask : Ask A O) (next : Step A A O (Unit {0})) → IsSpending ask → SpentBy old mid ask → Rooted next mid new result → Rooted (Spends ask next) old new result
   unfolding Rooted
   rooted-spend ask next plain spent two =
-      (turned-token old mid new (root_by result) ask next plain spent two (has_place (stood_in old.told.state) (call_of ask)) refl)
+      (turned-token old mid new (root_by result) ask next plain spent two (has_place old.told.state.stood (call_of ask)) refl)
 
 module _ {A O G : Type 0} (w : World A O G) where
   pub rooted-gives : (made root : A) → made ≡ root → Rooted (Gives tt made) w w (Ok root)
@@ -456,7 +456,7 @@ module _ {A O G : Type 0} (w : World A O G) where
   unfolding Rooted
   rooted-lacks step lack = (turned-none w None step (w.held.counts, refl))
 
-pub rooted-lacking : {A O G : Type 0} (old new : World A O G) (step : Step A A O (Unit {0})) (result : Result A OutOfMemory) → new ≡ lacking old → Lacks (stood_in old.told.state) step → Rooted step old new result
+pub rooted-lacking : {A O G : Type 0} (old new : World A O G) (step : Step A A O (Unit {0})) (result : Result A OutOfMemory) → new ≡ lacking old → Lacks old.told.state.stood step → Rooted step old new result
 unfolding Rooted
 rooted-lacking old new step result e l = rw e ((turned-lacking old (root_by result) step l))
 
@@ -499,9 +499,9 @@ module _ {A O G : Type 0} (old new : World A O G) where
   spawn-called node execution made (Ok spawned) is refused = called-made (Spawning node execution made) (spawned_reply spawned) (Plain (spawned_reply spawned)) is (refl, tt) refl
   spawn-called node execution made (Err back) is refused = called-refused (Spawning node execution made) back.0 (λ reply. (refl, tt)) refl refused
 
-  pub sleep-called : (due : ℕ) (alarm : Option ℕ) (result : Result (Option ℕ) OutOfMemory) → IfOk result (λ told. told ≡ slept_number old.told.state.clock.time old.told.state.alarms due alarm) → IfOk result (λ told. Made old new (Sleeping due alarm) (sleep_reply told)) → OnErr result (new ≡ lacking old) → Called (Sleeping due alarm) old new (sleep_told result)
+  pub sleep-called : (due : ℕ) (alarm : Option ℕ) (result : Result (Option ℕ) OutOfMemory) → IfOk result (λ told. told ≡ slept_number old.told.state.clock.time old.told.state.stood.alarms due alarm) → IfOk result (λ told. Made old new (Sleeping due alarm) (sleep_reply told)) → OnErr result (new ≡ lacking old) → Called (Sleeping due alarm) old new (sleep_told result)
   sleep-called due alarm (Ok told) is made lacked =
-      called-made (Sleeping due alarm) (sleep_reply told) (Plain (sleep_reply told)) made (refl, own-alarm old.told.state.clock.time old.told.state.alarms due alarm told is) refl
+      called-made (Sleeping due alarm) (sleep_reply told) (Plain (sleep_reply told)) made (refl, own-alarm old.told.state.clock.time old.told.state.stood.alarms due alarm told is) refl
   sleep-called due alarm (Err lack) is made lacked = called-lacking (Sleeping due alarm) (Plain (Refused OutOf)) lacked
 
   pub join-called : (task : ℕ) (result : Result (Option O) Error) → IfOk result (λ value. Joined old new task value) → IfErr result (λ e. IsRefused old new (Plainly (Join task)) e) → Called (Plainly (Join task)) old new (join_told result)
@@ -530,36 +530,36 @@ module _ {A L O R G : Type 0} (step : Step A L O R) (old new : World A O G) (giv
   turned-front : given ≡ None → new.lacked ≡ None → Fronts step old.held new.told.state.turns new.held
   turned-front e long = rw (← turned-all) (rw e at (two.ends long))
 
-  turned-short : old.lacked ≡ None → (there : Option (List Turn)) → new.lacked ≡ there → is_some new.lacked ≡ true → Breaks step old.held new.told.state.turns (stood_in new.told.state) new.held
+  turned-short : old.lacked ≡ None → (there : Option (List Turn)) → new.lacked ≡ there → is_some new.lacked ≡ true → Breaks step old.held new.told.state.turns new.told.state.stood new.held
   turned-short o None e is = let m = rw e at is in absurd (cc)
   turned-short o (Some made) e is =
       let k = two.broke made o e in
       record { front = k.front; rest = k.rest; mid = k.mid; are = rw (← turned-all) k.are; walks = k.walks; frees = k.frees }
 
 module _ {A L O R G : Type 0} (old new : World A O G) (step : Step A L O R) (q : R) (b : L) (fresh : old.told.state.turns ≡ []) where
-  walked-fresh : new.lacked ≡ None → Walked step old new q b → Walks step old.held new.told.state.turns (stood_in new.told.state) q b new.held
+  walked-fresh : new.lacked ≡ None → Walked step old new q b → Walks step old.held new.told.state.turns new.told.state.stood q b new.held
   unfolding Walked
   walked-fresh long two = rw (← turned-all step old new (Some (q, b)) fresh two) (two.ends long)
 
-  walked-short : old.lacked ≡ None → is_some new.lacked ≡ true → Walked step old new q b → Breaks step old.held new.told.state.turns (stood_in new.told.state) new.held
+  walked-short : old.lacked ≡ None → is_some new.lacked ≡ true → Walked step old new q b → Breaks step old.held new.told.state.turns new.told.state.stood new.held
   unfolding Walked
   walked-short o n two = turned-short step old new (Some (q, b)) fresh two o new.lacked refl n
 
 module _ {A O G : Type 0} (old new : World A O G) (step : Last A O) (fresh : old.told.state.turns ≡ []) where
-  pub spent-fresh : new.lacked ≡ None → Spent step old new → Walks step old.held new.told.state.turns (stood_in new.told.state) tt tt new.held
+  pub spent-fresh : new.lacked ≡ None → Spent step old new → Walks step old.held new.told.state.turns new.told.state.stood tt tt new.held
   unfolding Spent Walked
   spent-fresh long w = walked-fresh old new step tt tt fresh long w
 
-  pub spent-short : old.lacked ≡ None → is_some new.lacked ≡ true → Spent step old new → Breaks step old.held new.told.state.turns (stood_in new.told.state) new.held
+  pub spent-short : old.lacked ≡ None → is_some new.lacked ≡ true → Spent step old new → Breaks step old.held new.told.state.turns new.told.state.stood new.held
   unfolding Spent Walked
   spent-short o n w = walked-short old new step tt tt fresh o n w
 
 module _ {A O G : Type 0} (old new : World A O G) (step : Step A A O (Answer O)) (answer : Answer O) (left : A) (fresh : old.told.state.turns ≡ []) where
-  pub polled-fresh : new.lacked ≡ None → answered_by answer left ≡ Some (answer, left) → Polled step old new answer left → Walks step old.held new.told.state.turns (stood_in new.told.state) answer left new.held
+  pub polled-fresh : new.lacked ≡ None → answered_by answer left ≡ Some (answer, left) → Polled step old new answer left → Walks step old.held new.told.state.turns new.told.state.stood answer left new.held
   unfolding Polled
   polled-fresh long e two = rw (← turned-all step old new (answered_by answer left) fresh two) (rw e at (two.ends long))
 
-  pub polled-short : old.lacked ≡ None → is_some new.lacked ≡ true → Polled step old new answer left → Breaks step old.held new.told.state.turns (stood_in new.told.state) new.held
+  pub polled-short : old.lacked ≡ None → is_some new.lacked ≡ true → Polled step old new answer left → Breaks step old.held new.told.state.turns new.told.state.stood new.held
   unfolding Polled
   polled-short o n two = turned-short step old new (answered_by answer left) fresh two o new.lacked refl n
 
@@ -568,21 +568,21 @@ module _ {A O G : Type 0} (old new : World A O G) (step : Step A A O (Answer O))
   polled-broken long e two = turned-front step old new (answered_by answer left) fresh two e long
 
 module _ {A O G : Type 0} (old new : World A O G) (step : Step A A O (Unit {0})) (fresh : old.told.state.turns ≡ []) where
-  pub rooted-fresh : (root : A) → new.lacked ≡ None → Rooted step old new (Ok root) → Walks step old.held new.told.state.turns (stood_in new.told.state) tt root new.held
+  pub rooted-fresh : (root : A) → new.lacked ≡ None → Rooted step old new (Ok root) → Walks step old.held new.told.state.turns new.told.state.stood tt root new.held
   unfolding Rooted
   rooted-fresh root long two = rw (← turned-all step old new (Some (tt, root)) fresh two) (two.ends long)
 
-  pub rooted-short : (result : Result A OutOfMemory) → old.lacked ≡ None → is_some new.lacked ≡ true → Rooted step old new result → Breaks step old.held new.told.state.turns (stood_in new.told.state) new.held
+  pub rooted-short : (result : Result A OutOfMemory) → old.lacked ≡ None → is_some new.lacked ≡ true → Rooted step old new result → Breaks step old.held new.told.state.turns new.told.state.stood new.held
   unfolding Rooted
   rooted-short result o n two = turned-short step old new (root_by result) fresh two o new.lacked refl n
 
-  rooted-none : (lack : OutOfMemory) → old.lacked ≡ None → (there : Option (List Turn)) → new.lacked ≡ there → Rooted step old new (Err lack) → Breaks step old.held new.told.state.turns (stood_in new.told.state) new.held ⊎ Fronts step old.held new.told.state.turns new.held
+  rooted-none : (lack : OutOfMemory) → old.lacked ≡ None → (there : Option (List Turn)) → new.lacked ≡ there → Rooted step old new (Err lack) → Breaks step old.held new.told.state.turns new.told.state.stood new.held ⊎ Fronts step old.held new.told.state.turns new.held
   unfolding Rooted
   rooted-none lack o None e two = inr (turned-front step old new None fresh two refl e)
   rooted-none lack o (Some made) e r = inl (rooted-short (Err lack) o (rw e refl) r)
 
   -- without a root
-  pub rooted-broken : (lack : OutOfMemory) → old.lacked ≡ None → Rooted step old new (Err lack) → Breaks step old.held new.told.state.turns (stood_in new.told.state) new.held ⊎ Fronts step old.held new.told.state.turns new.held
+  pub rooted-broken : (lack : OutOfMemory) → old.lacked ≡ None → Rooted step old new (Err lack) → Breaks step old.held new.told.state.turns new.told.state.stood new.held ⊎ Fronts step old.held new.told.state.turns new.held
   rooted-broken lack o r = rooted-none lack o new.lacked refl r
 
 -- no call lacked memory

@@ -10,7 +10,7 @@ use Rattle.rt_audit.specs.declared.reply.CallReply.{CallReply}
 use Rattle.rt_audit.specs.declared.reply.CallReply.TheVariants.{Done, TaskAt, Closed, Pending, Ready, Refused}
 use Rattle.rt_model.specs.Lists.{find, has_number}
 use Rattle.rt_model.specs.Slots.{is_there}
-use Rattle.rt_model.specs.State.{Phase, Turn, stood_in}
+use Rattle.rt_model.specs.State.{Phase, Turn}
 use Rattle.rt_model.specs.Turns.{Ask, Plainly, Spawning, call_of, moved_by, has_place}
 use Rattle.rt_model.specs.Effects.{stood_called, drawn_called, is_closing}
 use Rattle.rt_model.specs.Rules.{Answers, MayCall}
@@ -53,9 +53,9 @@ pub record IsPolling {A O G : Type 0} (w : World A O G) (task : ℕ) : Type 0 wh
 pub record Made {A O G : Type 0} (old new : World A O G) (ask : Ask A O) (reply : CallReply) : Type 0 where
   pub answers : Answers old.told.state (call_of ask) reply
   pub turns : new.told.state.turns ≡ old.told.state.turns ++ turn_in old.told.state old.out (call_of ask) reply ∷ []
-  pub held : new.held ≡ moved_by (stood_in old.told.state) old.held ask (call_of ask) reply
+  pub held : new.held ≡ moved_by old.told.state.stood old.held ask (call_of ask) reply
   pub lacked : new.lacked ≡ old.lacked
-  pub stood : stood_in new.told.state ≡ stood_called (stood_in old.told.state) old.out (call_of ask) reply
+  pub stood : new.told.state.stood ≡ stood_called old.told.state.stood old.out (call_of ask) reply
   pub drawn : new.told.state.drawn ≡ drawn_called old.told.state.drawn (call_of ask) reply
 
 -- the call ran out of memory, and nothing else has changed
@@ -68,8 +68,8 @@ IsRefused old new ask error = ((error ≡ NoMemory) × (new ≡ lacking old)) �
 
 -- the call spends a token: where that isn't there it does nothing, and writes no entry
 pub record SpentBy {A O G : Type 0} (old new : World A O G) (ask : Ask A O) : Type 0 where
-  pub there : has_place (stood_in old.told.state) (call_of ask) ≡ true → Made old new ask Done
-  pub gone : has_place (stood_in old.told.state) (call_of ask) ≡ false → new ≡ old
+  pub there : has_place old.told.state.stood (call_of ask) ≡ true → Made old new ask Done
+  pub gone : has_place old.told.state.stood (call_of ask) ≡ false → new ≡ old
 
 -- a result was polled: it isn't there, or this value was handed out
 abbrev pub Joined : {A O G : Type 0} → World A O G → World A O G → ℕ → Option O → Type 0
@@ -79,7 +79,7 @@ Joined old new task (Some value) = (find task old.held.results ≡ Some value) �
 -- nothing was sent into a slot that is left there
 pub record IsUnsent {A O G : Type 0} (w : World A O G) (slot : ℕ) : Type 0 where
   pub held : find slot w.held.sent ≡ None
-  pub there : is_there (find slot w.told.state.slots.results) ≡ false
+  pub there : is_there (find slot w.told.state.stood.slots.results) ≡ false
 
 -- a slot was polled: nothing is there yet, or this value was handed out
 abbrev pub Received : {A O G : Type 0} → World A O G → World A O G → ℕ → Option O → Type 0

@@ -1,6 +1,6 @@
 -- How the journal of a world follows the steps of its tasks and its maker.
 use Rattle.std.specs.Prelude.{◌≡◌, ◌⊎◌, Bool, true, false, Option, Some, None}
-use Rattle.rt_model.specs.State.{begun, stood_in}
+use Rattle.rt_model.specs.State.{begun}
 use Rattle.rt_model.specs.Effects.{after_all}
 use Rattle.rt_model.specs.Turns.{Held}
 use Rattle.rt_model.specs.Walk.{Walks, Fronts, Breaks}
@@ -41,13 +41,13 @@ unmade_of before = record { held = before; output = None; panic = None; unmade =
 pub record IsMade {A O G : Type 0} (p : Steps A O) (w : World A O G) (root : A) : Type 0 where
   pub before : Held A O
   pub follows : Follows p w.told (unmade_of before)
-  pub walks : Walks (p.first w.told.state.clock.time) before w.told.state.turns (stood_in w.told.state) tt root w.held
+  pub walks : Walks (p.first w.told.state.clock.time) before w.told.state.turns w.told.state.stood tt root w.held
 
 -- the maker has run out of memory, or said so itself
 pub record IsUnmade {A O G : Type 0} (p : Steps A O) (w : World A O G) (unmade : Option A) : Type 0 where
   pub before : Held A O
   pub follows : Follows p w.told (unmade_of before)
-  pub breaks : Breaks (p.first w.told.state.clock.time) before w.told.state.turns (stood_in w.told.state) w.held ⊎ (Fronts (p.first w.told.state.clock.time) before w.told.state.turns w.held × (unmade ≡ None))
+  pub breaks : Breaks (p.first w.told.state.clock.time) before w.told.state.turns w.told.state.stood w.held ⊎ (Fronts (p.first w.told.state.clock.time) before w.told.state.turns w.held × (unmade ≡ None))
 
 -- the root of a maker that ran out of memory is free
 abbrev pub MakingAgrees : {A O G : Type 0} → Steps A O → Bool → World A O G → Option A → Type 0

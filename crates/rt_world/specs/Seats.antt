@@ -91,9 +91,9 @@ pub record AreSeated {A O : Type 0} (tasks : Roomed (ℕ × A)) (outputs : Roome
   pub next : tasks.next ≡ s.numbers.next
   pub first : outputs.first ≡ tasks.first
   pub last : outputs.next ≡ tasks.next
-  pub there : AreThere s.results outputs.items
-  pub coming : IsComing s.phase s.results outputs.items
-  pub unset : AreOpen s.running s.results
+  pub there : AreThere s.stood.results outputs.items
+  pub coming : IsComing s.phase s.stood.results outputs.items
+  pub unset : AreOpen s.running s.stood.results
 
 -- something is held for a slot exactly where it was sent and not taken
 unfoldable pub AreSent : {V : Type 0} → List (ℕ × TaskResult) → List (ℕ × V) → Type 0

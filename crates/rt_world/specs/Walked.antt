@@ -8,7 +8,7 @@ use Rattle.rt_base.specs.declared.poll.Poll.TheVariants.{Ready as IsReady}
 use Rattle.rt_audit.specs.declared.reply.CallReply.TheVariants.{Done, NodeAt, SlotAt, SignalAt, CompletionAt, Pending, Number, Bytes, Refused}
 use Rattle.rt_model.specs.declared.answer.Answer.{Answer}
 use Rattle.rt_model.specs.declared.answer.Answer.TheVariants.{NoMemory}
-use Rattle.rt_model.specs.State.{Turn, Stood, stood_in}
+use Rattle.rt_model.specs.State.{Turn, Stood}
 use Rattle.rt_model.specs.Turns.{Ask, Heard, Plain, Handed, Held, Change, counted, Frees}
 use Rattle.rt_model.specs.Walk.{Step, Last, Does, Gives, Spends as IsSpent, Counts, Walks, Fronts, Stops, then, followed_by, stood_before}
 use Rattle.rt_super.specs.declared.stopper.Stopped.{Stopped}
@@ -38,11 +38,11 @@ EndsWith step held turns stood (Some given) end = Walks step held turns stood gi
 pub record Turned {A L O R G : Type 0} (step : Step A L O R) (old new : World A O G) (given : Option (R × L)) : Type 0 where
   pub more : List Turn
   pub turns : new.told.state.turns ≡ old.told.state.turns ++ more
-  pub stood : stood_before more (stood_in new.told.state) ≡ stood_in old.told.state
+  pub stood : stood_before more new.told.state.stood ≡ old.told.state.stood
   pub frees : Frees old.held more new.held
   pub marked : (made : List Turn) → old.lacked ≡ Some made → new.lacked ≡ Some made
-  pub ends : new.lacked ≡ None → EndsWith step old.held more (stood_in new.told.state) given new.held
-  pub broke : (made : List Turn) → old.lacked ≡ None → new.lacked ≡ Some made → Broke step old.held old.told.state.turns made more (stood_in new.told.state) new.held
+  pub ends : new.lacked ≡ None → EndsWith step old.held more new.told.state.stood given new.held
+  pub broke : (made : List Turn) → old.lacked ≡ None → new.lacked ≡ Some made → Broke step old.held old.told.state.turns made more new.told.state.stood new.held
 
 -- the steps were walked, and gave this answer
 unfoldable pub Walked : {A L O R G : Type 0} → Step A L O R → World A O G → World A O G → R → L → Type 0

@@ -91,7 +91,7 @@ impl<T, O, G: Rng> World<T, O, G> {
         requires calling { MayCall self.old.told.state self.old.out }
         requires due { due ≤ MAX_TIME }
         ensures kept { Kept G.stream self.old self.new }
-        ensures told { IfOk result (λ told. told ≡ slept_number self.old.told.state.clock.time self.old.told.state.alarms due alarm) }
+        ensures told { IfOk result (λ told. told ≡ slept_number self.old.told.state.clock.time self.old.told.state.stood.alarms due alarm) }
         ensures ok { IfOk result (λ told. Made self.old self.new (Sleeping due alarm) (sleep_reply told)) }
         ensures err { OnErr result (self.new ≡ lacking self.old) }
         ensures called { Called (Sleeping due alarm) self.old self.new (sleep_told result) }

@@ -87,7 +87,7 @@ impl<T, O: Drop, G: Rng> World<T, O, G> {
         requires spawned { is_some_number task self.old.told.state.root ≡ false }
         requires out { self.old.out ≡ Some task }
         requires one { length block.items ≡ 1 }
-        ensures { self.new ≡ record self.old { told = pushed self.old.told (Entry.Answer task AnswerKind.Ready); held = with_result (is_some (find task self.old.told.state.results)) task output (put_top task block.items self.old.held); out = None } }
+        ensures { self.new ≡ record self.old { told = pushed self.old.told (Entry.Answer task AnswerKind.Ready); held = with_result (is_some (find task self.old.told.state.stood.results)) task output (put_top task block.items self.old.held); out = None } }
     {
         self.machine.answer(task, AnswerKind::Ready);
         self.tasks.put(task, block);

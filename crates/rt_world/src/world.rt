@@ -59,7 +59,7 @@ impl<T, O, G> Model for World<T, O, G> {
 
     ghost view = { λ w. record { told = w.machine.told; lacked = w.machine.lacked; held = record { tasks = w.tasks.items; results = w.outputs.items; sent = w.sent.items; executions = w.executions.items; counts = [] }; panic = w.panic; out = w.out; rng = w.rng } };
 
-    ghost invariant = { λ w. AreSeated w.tasks w.outputs w.out w.machine.told.state × AreSlotted w.sent w.machine.told.state.slots };
+    ghost invariant = { λ w. AreSeated w.tasks w.outputs w.out w.machine.told.state × AreSlotted w.sent w.machine.told.state.stood.slots };
 }
 
 #[tactic(auto, using(crate::proofs::Seats::seat_laws, crate::proofs::Coming::coming_laws, rt_machine::proofs::Counts::count_laws), unfolding(rt_model::specs::Effects::after))]

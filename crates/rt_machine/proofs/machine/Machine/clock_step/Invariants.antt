@@ -11,4 +11,4 @@ invariant-loop l = record {
 }
 
 abbrev pub decreases-loop : goal.decreases-loop
-decreases-loop l = length l.self.told.state.alarms.alarms
+decreases-loop l = length l.self.told.state.stood.alarms.alarms

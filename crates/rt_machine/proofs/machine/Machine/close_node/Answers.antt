@@ -1,4 +1,4 @@
-use Rattle.rt_machine.proofs.Prelude.{◌≡◌, ◌∙◌, refl, sym, arith, true, is_live, stood_in, after, is_closing}
+use Rattle.rt_machine.proofs.Prelude.{◌≡◌, ◌∙◌, refl, sym, arith, true, is_live, after, is_closing}
 use Rattle.rt_machine.proofs.Nodes.{live-release, length-release}
 use Rattle.rt_machine.proofs.Owed.{due-close}
 use Rattle.rt_machine.proofs.Over.{over-release}
@@ -8,16 +8,16 @@ pub overflow_sub-self : goal.overflow_sub-self
 overflow_sub-self c =
     let s = c.self.inside.journal.told.state in
     let i = c.self.invariant in
-    let live : is_live s.nodes c.args.node ≡ true = rw i.nodes_are (cc) in
-    omega (arith, live-release s.nodes c.args.node live, i.promised_is)
+    let live : is_live s.stood.nodes c.args.node ≡ true = rw i.nodes_are (cc) in
+    omega (arith, live-release s.stood.nodes c.args.node live, i.promised_is)
 
 pub invariant_of-self : goal.invariant_of-self
 unfolding after
 invariant_of-self c =
     let s = c.self.inside.journal.told.state in
     let i = c.self.invariant in
-    let live : is_live s.nodes c.args.node ≡ true = rw i.nodes_are (cc) in
-    let fewer = live-release s.nodes c.args.node live in
+    let live : is_live s.stood.nodes c.args.node ≡ true = rw i.nodes_are (cc) in
+    let fewer = live-release s.stood.nodes c.args.node live in
     rw (c.note.ensures.told, c.release.ensures)
     record {
       clock_is = i.clock_is;
@@ -38,8 +38,8 @@ invariant_of-self c =
       nobody_met = i.nobody_met;
       none_announced = refl;
       none_drawn = refl;
-      none_owed = due-close (is_closing s.phase) s.marks (stood_in s) c.args.node;
-      all_ended = λ closing. over-release s.nodes c.args.node (i.all_ended closing);
+      none_owed = due-close (is_closing s.phase) s.marks s.stood c.args.node;
+      all_ended = λ closing. over-release s.stood.nodes c.args.node (i.all_ended closing);
       label_next = i.label_next ∙ sym (length-release c.self.inside.tree c.args.node);
       mark_next = i.mark_next;
       result_next = i.result_next;

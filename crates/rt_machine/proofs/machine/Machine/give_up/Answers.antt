@@ -1,4 +1,4 @@
-use Rattle.rt_machine.proofs.Prelude.{◌≡◌, ◌∙◌, refl, sym, arith, Some, find, stood_in, after, is_closing, result_places, without-places}
+use Rattle.rt_machine.proofs.Prelude.{◌≡◌, ◌∙◌, refl, sym, arith, Some, find, after, is_closing, result_places, without-places}
 use Rattle.rt_machine.proofs.Owed.{due-give-up}
 use Rattle.rt_machine.proofs.machine.Machine.give_up.Goals as goal
 
@@ -7,7 +7,7 @@ overflow_sub-self c =
     let s = c.self.inside.journal.told.state in
     let i = c.self.invariant in
     let there : find c.args.task c.self.inside.results.items ≡ Some c.in-Some.found = sym c.get.ensures ∙ c.in-Some.is in
-    let fewer = without-places result_places c.args.task s.results c.in-Some.found (rw i.results_are there) in
+    let fewer = without-places result_places c.args.task s.stood.results c.in-Some.found (rw i.results_are there) in
     omega (arith, fewer, i.promised_is, c.places_of.ensures)
 
 pub invariant_of-self : goal.invariant_of-self
@@ -16,7 +16,7 @@ invariant_of-self c =
     let s = c.self.inside.journal.told.state in
     let i = c.self.invariant in
     let there : find c.args.task c.self.inside.results.items ≡ Some c.in-Some.found = sym c.get.ensures ∙ c.in-Some.is in
-    let fewer = without-places result_places c.args.task s.results c.in-Some.found (rw i.results_are there) in
+    let fewer = without-places result_places c.args.task s.stood.results c.in-Some.found (rw i.results_are there) in
     rw c.note.ensures.told
     record {
       clock_is = i.clock_is;
@@ -37,7 +37,7 @@ invariant_of-self c =
       nobody_met = i.nobody_met;
       none_announced = refl;
       none_drawn = refl;
-      none_owed = due-give-up (is_closing s.phase) s.marks (stood_in s) c.args.task;
+      none_owed = due-give-up (is_closing s.phase) s.marks s.stood c.args.task;
       all_ended = i.all_ended;
       label_next = i.label_next;
       mark_next = i.mark_next;

@@ -1,4 +1,4 @@
-use Rattle.rt_machine.proofs.Prelude.{◌≡◌, ◌∙◌, refl, sym, arith, true, length, is_live, with_child, stood_in, after, is_closing}
+use Rattle.rt_machine.proofs.Prelude.{◌≡◌, ◌∙◌, refl, sym, arith, true, length, is_live, with_child, after, is_closing}
 use Rattle.rt_machine.proofs.Nodes.{live-child, length-child}
 use Rattle.rt_machine.proofs.Fine.{on-ok, places-most}
 use Rattle.rt_machine.proofs.Owed.{due-child}
@@ -17,7 +17,7 @@ invariant_of-self-2 c =
     let made : c.child.new.self ≡ with_child c.self.inside.tree number c.args.node = c.in-Ok.ensures.made in
     let numbered : number ≡ length c.self.inside.tree.nodes = c.in-Ok.ensures.numbered in
     let live : is_live c.self.inside.tree c.args.node ≡ true = rw (← i.nodes_are) (rw (← c.self.view_is) at c.requires.live) in
-    let more = live-child s.nodes number c.args.node in
+    let more = live-child s.stood.nodes number c.args.node in
     let room = on-ok c.take_places-room.result _ c.if-is_err.ensures.value c.take_places-room.ensures.room in
     let seats = on-ok c.take_places-room.result _ c.if-is_err.ensures.value c.take_places-room.ensures.seats in
     let most = places-most s.phase in
@@ -41,7 +41,7 @@ invariant_of-self-2 c =
       nobody_met = i.nobody_met;
       none_announced = refl;
       none_drawn = refl;
-      none_owed = due-child (is_closing s.phase) s.marks (stood_in s) c.args.node label number c.in-Ok.ended;
+      none_owed = due-child (is_closing s.phase) s.marks s.stood c.args.node label number c.in-Ok.ended;
       all_ended = λ closing. rw (i.nodes_are, ← made) (over-child c.self.inside.tree c.child.new.self number c.args.node c.in-Ok.ended made c.in-Ok.ensures.flag c.in-Ok.ensures.born live (rw (← i.nodes_are) (i.all_ended closing)));
       label_next = rw (c.push.ensures.count, c.reserve-place.ensures.count, i.label_next, made, length-child c.self.inside.tree number c.args.node) refl;
       mark_next = i.mark_next;

@@ -1,4 +1,4 @@
-use Rattle.rt_machine.proofs.Prelude.{◌≡◌, ◌≤◌, ◌+◌, ◌∙◌, refl, sym, ap, arith, length, length-append, List, ℕ, [], if◌then◌else◌, those, Slotted, slots_by, slots_wake, stood_in, after, is_closing, is_spending, slot_cost, slots_owe, slotted, cost-spent}
+use Rattle.rt_machine.proofs.Prelude.{◌≡◌, ◌≤◌, ◌+◌, ◌∙◌, refl, sym, ap, arith, length, length-append, List, ℕ, [], if◌then◌else◌, those, Slotted, slots_by, slots_wake, after, is_closing, is_spending, slot_cost, slots_owe, slotted, cost-spent}
 use Rattle.rt_machine.proofs.Fine.{places-most}
 use Rattle.rt_machine.proofs.Totals.{owed-fewer}
 use Rattle.rt_machine.proofs.Owed.{due-slots}
@@ -30,7 +30,7 @@ wake_waiter-requires-clause-owed c =
     let i = c.self.invariant in
     let before = c.take_room.ensures.slotted ∙ sym i.slots_are in
     let waits = c.apply-waiter.ensures.waiter ∙ ap (λ (ss : Slotted). slots_wake ss c.args.call c.args.reply) before in
-    rw (c.note.ensures.told, c.take_room.ensures.told) (due-slots (is_closing s.phase) s.marks (stood_in s) c.args.call c.args.reply ∙ rw (i.closing_is, waits) refl)
+    rw (c.note.ensures.told, c.take_room.ensures.told) (due-slots (is_closing s.phase) s.marks s.stood c.args.call c.args.reply ∙ rw (i.closing_is, waits) refl)
 
 pub wake_waiter-requires-clause-room : goal.wake_waiter-requires-clause-room
 wake_waiter-requires-clause-room c =
@@ -65,12 +65,12 @@ invariant_of-self-2 c =
     let freed = c.apply-waiter.result.1 in
     let promised = c.self.inside.promised in
     let waits = length (those waiter) in
-    let before : slotted c.take_room.new.slots c.take_room.new.senders ≡ s.slots = c.take_room.ensures.slotted ∙ sym i.slots_are in
-    let behind : slotted c.apply-waiter.new.slots c.apply-waiter.new.senders ≡ slots_by s.slots c.args.by call c.args.reply = a.slotted ∙ ap (λ (ss : Slotted). slots_by ss c.args.by call c.args.reply) before in
+    let before : slotted c.take_room.new.slots c.take_room.new.senders ≡ s.stood.slots = c.take_room.ensures.slotted ∙ sym i.slots_are in
+    let behind : slotted c.apply-waiter.new.slots c.apply-waiter.new.senders ≡ slots_by s.stood.slots c.args.by call c.args.reply = a.slotted ∙ ap (λ (ss : Slotted). slots_by ss c.args.by call c.args.reply) before in
     let owes = ap (λ (ss : Slotted). slots_owe ss) before in
     let owes_then = ap (λ (ss : Slotted). slots_owe ss) behind in
     let met = a.waiter ∙ ap (λ (ss : Slotted). slots_wake ss call c.args.reply) before in
-    let owed : c.note.new.self.told.state.owed ≡ (if closing then [] else those waiter) = rw (c.note.ensures.told, c.take_room.ensures.told) (due-slots (is_closing s.phase) s.marks (stood_in s) call c.args.reply ∙ rw (i.closing_is, met) refl) in
+    let owed : c.note.new.self.told.state.owed ≡ (if closing then [] else those waiter) = rw (c.note.ensures.told, c.take_room.ensures.told) (due-slots (is_closing s.phase) s.marks s.stood call c.args.reply ∙ rw (i.closing_is, met) refl) in
     let fewer : freed ≤ promised + slot_cost call = omega (arith, owes, a.places, i.promised_is) in
     let woken : length c.note.new.self.told.state.owed ≤ waits = rw owed (owed-fewer closing (those waiter)) in
     let shown = ap (λ (xs : List ℕ). length xs) c.wake_waiter.ensures.ready in

@@ -7,5 +7,5 @@ pub overflow_sub-self : goal.overflow_sub-self
 overflow_sub-self c =
     let s = c.self.inside.journal.told.state in
     let i = c.self.invariant in
-    let free : is_free s.nodes c.args.node ≡ true = rw (← c.self.view_is) at c.requires.free in
-    omega (arith, live-release s.nodes c.args.node (free-live s.nodes c.args.node free), i.promised_is)
+    let free : is_free s.stood.nodes c.args.node ≡ true = rw (← c.self.view_is) at c.requires.free in
+    omega (arith, live-release s.stood.nodes c.args.node (free-live s.stood.nodes c.args.node free), i.promised_is)

@@ -1,4 +1,4 @@
-use Rattle.rt_machine.proofs.Prelude.{◌≡◌, ◌<◌, ◌∙◌, refl, sym, arith, length, ◌^◌, ◌-◌, ap, true, false, is_ended, with_child, with_task, is_free, Numbers, stood_in, after, is_closing, new_mark, new_result, mark_places, result_places, more-places}
+use Rattle.rt_machine.proofs.Prelude.{◌≡◌, ◌<◌, ◌∙◌, refl, sym, arith, length, ◌^◌, ◌-◌, ap, true, false, is_ended, with_child, with_task, is_free, Numbers, after, is_closing, new_mark, new_result, mark_places, result_places, more-places}
 use Rattle.rt_machine.proofs.Seats.{free-live}
 use Rattle.rt_machine.proofs.Counts.{length-with, below-with}
 use Rattle.rt_machine.proofs.Nodes.{live-child, live-task, length-child, length-task}
@@ -18,13 +18,13 @@ invariant_of-self-2 c =
     let tree = c.self.inside.tree in
     let made : c.seat.new.tree ≡ with_task (with_child tree number node) node task = c.in-Ok-seat.ensures.made in
     let numbered : number ≡ length tree.nodes = c.in-Ok-seat.ensures.numbered in
-    let more_live = live-child s.nodes number node in
-    let same_live = live-task (with_child s.nodes number node) node task in
+    let more_live = live-child s.stood.nodes number node in
+    let same_live = live-task (with_child s.stood.nodes number node) node task in
     let more_runs = length-with task s.running in
     let more_marks = more-places mark_places s.marks (task, new_mark node) in
-    let more_results = more-places result_places s.results (task, new_result) in
-    let free : is_free s.nodes node ≡ true = rw (← c.self.view_is) at c.requires.free in
-    let unended : is_ended s.nodes node ≡ false = rw (← c.self.view_is) at c.requires.open in
+    let more_results = more-places result_places s.stood.results (task, new_result) in
+    let free : is_free s.stood.nodes node ≡ true = rw (← c.self.view_is) at c.requires.free in
+    let unended : is_ended s.stood.nodes node ≡ false = rw (← c.self.view_is) at c.requires.open in
     let left = rw (← c.self.view_is) at c.requires.left in
     let same : s.numbers.next ≡ task = ap (λ (n : Numbers). n.next) i.numbers_are in
     let low : task < 2 ^ 64 - 1 = omega (arith, left, same) in
@@ -49,8 +49,8 @@ invariant_of-self-2 c =
       nobody_met = i.nobody_met;
       none_announced = refl;
       none_drawn = refl;
-      none_owed = due-spawn (is_closing s.phase) s.marks (stood_in s) node _;
-      all_ended = λ closing. absurd (not-both (is_ended s.nodes node) (over-node s.nodes node (i.all_ended closing) (free-live s.nodes node free)) unended);
+      none_owed = due-spawn (is_closing s.phase) s.marks s.stood node _;
+      all_ended = λ closing. absurd (not-both (is_ended s.stood.nodes node) (over-node s.stood.nodes node (i.all_ended closing) (free-live s.stood.nodes node free)) unended);
       label_next = rw (c.repeat.ensures.count, c.reserve_task.ensures.count, i.label_next, made, length-task (with_child tree number node) node task, length-child tree number node) refl;
       mark_next = rw (c.push.ensures.next, c.reserve_task.ensures.mark_next, i.mark_next) refl;
       result_next = rw (c.push-2.ensures.next, c.reserve_task.ensures.result_next, i.result_next) refl;
@@ -67,6 +67,6 @@ returns-clause-running c =
     let s = c.self.inside.journal.told.state in
     let i = c.self.invariant in
     let node = c.args.node in
-    let free : is_free s.nodes node ≡ true = rw (← c.self.view_is) at c.requires.free in
-    let unended : is_ended s.nodes node ≡ false = rw (← c.self.view_is) at c.requires.open in
-    rw (← c.self.view_is, ← i.closing_is) (not-closing c.self.inside.closing (λ closing. not-both (is_ended s.nodes node) (over-node s.nodes node (i.all_ended closing) (free-live s.nodes node free)) unended))
+    let free : is_free s.stood.nodes node ≡ true = rw (← c.self.view_is) at c.requires.free in
+    let unended : is_ended s.stood.nodes node ≡ false = rw (← c.self.view_is) at c.requires.open in
+    rw (← c.self.view_is, ← i.closing_is) (not-closing c.self.inside.closing (λ closing. not-both (is_ended s.stood.nodes node) (over-node s.stood.nodes node (i.all_ended closing) (free-live s.stood.nodes node free)) unended))

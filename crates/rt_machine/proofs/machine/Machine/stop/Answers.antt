@@ -1,4 +1,4 @@
-use Rattle.rt_machine.proofs.Prelude.{rules, ◌≡◌, ◌≤◌, ◌+◌, ◌-◌, vec_len, vec_capacity, ◌∙◌, ◌++◌, ◌∷◌, refl, ap, arith, length, length-append, List, ℕ, [], if◌then◌else◌, to_z-of_z, stop_after, with_stop, woken_by_stop, Stop, CompletionAt, stood_in, due_called, is_closing, MayCall, turn_in, Grouped, grouped, signal_places, Told}
+use Rattle.rt_machine.proofs.Prelude.{rules, ◌≡◌, ◌≤◌, ◌+◌, ◌-◌, vec_len, vec_capacity, ◌∙◌, ◌++◌, ◌∷◌, refl, ap, arith, length, length-append, List, ℕ, [], if◌then◌else◌, to_z-of_z, stop_after, with_stop, woken_by_stop, Stop, CompletionAt, due_called, is_closing, MayCall, turn_in, Grouped, grouped, signal_places, Told}
 use Rattle.rt_machine.proofs.Announced.{after-stop, may-stop}
 use Rattle.rt_machine.proofs.Totals.{owed-fewer}
 use Rattle.rt_machine.proofs.Owed.{due-stop}
@@ -22,17 +22,17 @@ invariant_of-self-2 c =
     let groups = c.self.inside.groups in
     let given : c.stop.new.self ≡ grouped (stop_after groups.told groups.stop value) (with_stop groups.stop value) (woken_by_stop groups.told groups.stop value) = c.in-Ok-stop.ensures.told ∙ ap (λ v. grouped (stop_after groups.told groups.stop v) (with_stop groups.stop v) (woken_by_stop groups.told groups.stop v)) same in
     let met = woken_by_stop groups.told groups.stop value in
-    let due = due_called (is_closing s.phase) s.marks (stood_in s) (Stop value) (CompletionAt number) in
+    let due = due_called (is_closing s.phase) s.marks s.stood (Stop value) (CompletionAt number) in
     let told = placed.told in
-    let state : c.note-2.new.self.told.state ≡ record s { draws = []; signals = stop_after s.signals s.stop value; stop = with_stop s.stop value; announced = []; owed = due; turns = s.turns ++ turn_in s c.args.by (Stop value) (CompletionAt number) ∷ [] } =
+    let state : c.note-2.new.self.told.state ≡ record s { draws = []; stood = record s.stood { signals = stop_after s.stood.signals s.stood.stop value; stop = with_stop s.stood.stop value }; announced = []; owed = due; turns = s.turns ++ turn_in s c.args.by (Stop value) (CompletionAt number) ∷ [] } =
     ap (λ (t : Told). t.state) c.note-2.ensures.told ∙ rw (c.note.ensures.told, told, c.in-Ok-stop_event.ensures, same, c.of.ensures) (after-stop s c.args.by value number _ _ may) in
     let begin : c.note-2.new.self.told.begin ≡ c.self.inside.journal.told.begin = rw (c.note-2.ensures.told, c.note.ensures.told, told) refl in
     let woken : c.stop.new.self.woken ≡ met = ap (λ (g : Grouped). g.woken) given in
-    let owed : due ≡ (if closing then [] else met) = due-stop (is_closing s.phase) s.marks (stood_in s) value number ∙ rw (i.closing_is, i.signals_are, i.stop_is) refl in
+    let owed : due ≡ (if closing then [] else met) = due-stop (is_closing s.phase) s.marks s.stood value number ∙ rw (i.closing_is, i.signals_are, i.stop_is) refl in
     let fewer : length due ≤ length met = rw owed (owed-fewer closing met) in
     let count : c.wake_met.result ≡ length met = rw woken at c.wake_met.ensures.count in
     let places : signal_places (stop_after groups.told groups.stop value) + length met ≤ signal_places groups.told + 1 = rw given at c.in-Ok-stop.ensures.places in
-    let owes : signal_places s.signals ≡ signal_places groups.told = rw i.signals_are refl in
+    let owes : signal_places s.stood.signals ≡ signal_places groups.told = rw i.signals_are refl in
     let ready : c.wake_met.new.ready.items ≡ c.self.inside.ready.items ++ due = rw (state, placed.items) at c.wake_met.ensures.ready in
     let shown = ap (λ (xs : List ℕ). length xs) ready in
     let grown = length-append c.self.inside.ready.items due in
@@ -84,7 +84,7 @@ returns-clause-ok c =
     let same = to_z-of_z c.ranges.value in
     let number = c.in-Ok-stop.completion in
     let told = c.in-Ok.ensures.told in
-    let due = due_called (is_closing s.phase) s.marks (stood_in s) (Stop value) (CompletionAt number) in
-    let state : c.note-2.new.self.told.state ≡ record s { draws = []; signals = stop_after s.signals s.stop value; stop = with_stop s.stop value; announced = []; owed = due; turns = s.turns ++ turn_in s c.args.by (Stop value) (CompletionAt number) ∷ [] } =
+    let due = due_called (is_closing s.phase) s.marks s.stood (Stop value) (CompletionAt number) in
+    let state : c.note-2.new.self.told.state ≡ record s { draws = []; stood = record s.stood { signals = stop_after s.stood.signals s.stood.stop value; stop = with_stop s.stood.stop value }; announced = []; owed = due; turns = s.turns ++ turn_in s c.args.by (Stop value) (CompletionAt number) ∷ [] } =
     ap (λ (t : Told). t.state) c.note-2.ensures.told ∙ rw (c.note.ensures.told, told, c.in-Ok-stop_event.ensures, same, c.of.ensures) (after-stop s c.args.by value number _ _ may) in
     rw (c.wake_met.ensures.state, state) (search rules)

@@ -19,10 +19,10 @@ invariant_of-self c =
     let begin : c.push.new.self.told.begin ≡ c.self.inside.journal.told.begin = ap (λ (t : Told). t.begin) c.push.ensures.told in
     let fewer = ends-fewer s.running s.root task next in
     let marks = without-fewer mark_places task s.marks in
-    let nodes = released-fewer (find task s.marks) s.nodes in
+    let nodes = released-fewer (find task s.marks) s.stood.nodes in
     let results = c.settle-before.ensures.places refl in
     let fewer_results : total result_places c.settle-before.new.results.items ≤ total result_places c.self.inside.results.items = omega (arith, results) in
-    let kept : total result_places (with_outcome IsClosed task s.results) ≤ total result_places s.results = rw (c.settle-before.ensures.items, ← i.results_are) at fewer_results in
+    let kept : total result_places (with_outcome IsClosed task s.stood.results) ≤ total result_places s.stood.results = rw (c.settle-before.ensures.items, ← i.results_are) at fewer_results in
     let room = rw phase at i.room in
     rw (state, begin)
     record {
@@ -45,7 +45,7 @@ invariant_of-self c =
       none_announced = refl;
       none_drawn = i.none_drawn;
       none_owed = refl;
-      all_ended = λ closing. over-released (find task s.marks) s.nodes (i.all_ended closing);
+      all_ended = λ closing. over-released (find task s.marks) s.stood.nodes (i.all_ended closing);
       label_next = rw (c.leave_node.ensures.tree, length-released (find task c.self.inside.marks.items) c.self.inside.tree) i.label_next;
       mark_next = c.leave_node.ensures.next ∙ i.mark_next;
       result_next = c.settle-before.ensures.next ∙ i.result_next;

@@ -1,6 +1,5 @@
 use Rattle.std.proofs.Common.{◌≡◌, ◌∙◌, refl, ap, ℕ, ℤ, Option, Bool, true, false}
 use Rattle.rt_audit.specs.declared.call.Call.TheVariants.{Signal}
-use Rattle.rt_model.specs.State.{stood_in}
 use Rattle.rt_model.specs.Turns.{has_place}
 use Rattle.rt_machine.specs.Calls.{Spent}
 use Rattle.rt_machine.specs.Places.{Seen}
@@ -9,9 +8,9 @@ use Rattle.rt_runs_tests.proofs.replay.Replay.give.Goals as goal
 
 -- where a run stands, a value leaves as it is
 stays : (by : Option ℕ) (old new : Seen) (signaler : ℕ) (value : ℤ) → Spent by old new (Signal signaler value) → (new.told.state.phase ≡ old.told.state.phase) × (new.told.state.root ≡ old.told.state.root) × (new.told.state.running ≡ old.told.state.running)
-stays by old new signaler value spent = at (has_place (stood_in old.told.state) (Signal signaler value)) refl
+stays by old new signaler value spent = at (has_place old.told.state.stood (Signal signaler value)) refl
   where
-    at : (b : Bool) → has_place (stood_in old.told.state) (Signal signaler value) ≡ b → (new.told.state.phase ≡ old.told.state.phase) × (new.told.state.root ≡ old.told.state.root) × (new.told.state.running ≡ old.told.state.running)
+    at : (b : Bool) → has_place old.told.state.stood (Signal signaler value) ≡ b → (new.told.state.phase ≡ old.told.state.phase) × (new.told.state.root ≡ old.told.state.root) × (new.told.state.running ≡ old.told.state.running)
     at true e = let n = spent.there e in (n.phase, n.root, n.running)
     at false e = rw (spent.gone e) (refl, refl, refl)
 

@@ -21,7 +21,7 @@ unfolding AreThere
 unreachable-requires g c =
     let w = c.self.inside in
     let noted : Noted w.out w.machine c.join.new.self (Join c.args.task) Ready = rw c.if-not-branch.false at c.in_ok-join.ensures.ok in
-    let ready = ready-there (find c.args.task w.machine.told.state.results) noted.answers in
+    let ready = ready-there (find c.args.task w.machine.told.state.stood.results) noted.answers in
     none-some (find c.args.task w.outputs.items) (sym c.take.ensures.state ∙ c.in-None.is) (c.self.invariant.0.there c.args.task ready.0 ready.1 ready.2)
 
 pub invariant_of-self-2 : goal.invariant_of-self-2
@@ -29,7 +29,7 @@ invariant_of-self-2 g c =
     let w = c.self.inside in
     let s = w.machine.told.state in
     let noted : Noted w.out w.machine c.join.new.self (Join c.args.task) Ready = rw c.if-not-branch.false at c.in_ok-join.ensures.ok in
-    let ready = ready-there (find c.args.task s.results) noted.answers in
+    let ready = ready-there (find c.args.task s.stood.results) noted.answers in
     let calls = rw (← c.self.view_is) at c.requires in
     (ready-seated w.tasks w.outputs c.take.new.self w.out w.out w.machine c.join.new.self c.self.invariant.0 c.take.ensures.first c.take.ensures.next c.args.task ready.0 c.take.ensures.items noted ready.1 ready.2 (ending-runs s.phase s.root _ w.out s.running calls c.self.invariant.0.runs), slotted-noted w.sent w.out w.machine c.join.new.self c.self.invariant.1 (Join c.args.task) Ready noted refl)
 

@@ -14,7 +14,7 @@ invariant_of-self-2 g c =
     let r = c.reserve.ensures in
     let k = c.in_ok-slot.slot in
     let noted = c.in_ok-slot.ensures.ok in
-    (seated-quiet w.tasks w.outputs w.out w.out w.machine c.slot.new.self c.self.invariant.0 (Slots Slot) (SlotAt k) noted refl refl refl, made-slotted w.sent c.skip.new.self w.out w.machine c.slot.new.self c.self.invariant.1 k noted (c.skip.ensures.items ∙ r.items) (c.skip.ensures.first ∙ r.first) (c.skip.ensures.next ∙ rw r.next refl) (c.facts.ensures.unslotted w.machine.told.state.slots.count (omega arith)))
+    (seated-quiet w.tasks w.outputs w.out w.out w.machine c.slot.new.self c.self.invariant.0 (Slots Slot) (SlotAt k) noted refl refl refl, made-slotted w.sent c.skip.new.self w.out w.machine c.slot.new.self c.self.invariant.1 k noted (c.skip.ensures.items ∙ r.items) (c.skip.ensures.first ∙ r.first) (c.skip.ensures.next ∙ rw r.next refl) (c.facts.ensures.unslotted w.machine.told.state.stood.slots.count (omega arith)))
 
 pub returns-clause-called : goal.returns-clause-called
 returns-clause-called g c =

@@ -6,12 +6,12 @@ use Rattle.rt_world.proofs.world.World.slot_poll.Goals as goal
 pub slot_poll-requires-clause-unsent : goal.slot_poll-requires-clause-unsent
 slot_poll-requires-clause-unsent g c =
     let w = c.self.inside in
-    held-none w.sent w.machine.told.state.slots c.self.invariant.1 c.args.slot (sym c.get.ensures ∙ rw c.in-None.is refl)
+    held-none w.sent w.machine.told.state.stood.slots c.self.invariant.1 c.args.slot (sym c.get.ensures ∙ rw c.in-None.is refl)
 
 pub returns-in-Err-clause-called : goal.returns-in-Err-clause-called
 returns-in-Err-clause-called g c =
     let w = c.self.inside in
-    rw (← c.self.view_is) (receive-refused w.machine c.slot_poll.new.self _ _ w.panic w.out w.rng c.args.slot c.in-Err.error refl (let none = sym c.get.ensures ∙ rw c.in-None.is refl in record { held = none; there = held-none w.sent w.machine.told.state.slots c.self.invariant.1 c.args.slot none }) c.in-Err.ensures.err)
+    rw (← c.self.view_is) (receive-refused w.machine c.slot_poll.new.self _ _ w.panic w.out w.rng c.args.slot c.in-Err.error refl (let none = sym c.get.ensures ∙ rw c.in-None.is refl in record { held = none; there = held-none w.sent w.machine.told.state.stood.slots c.self.invariant.1 c.args.slot none }) c.in-Err.ensures.err)
 
 pub invariant_of-self-in-None : goal.invariant_of-self-in-None
 invariant_of-self-in-None g c =
@@ -22,17 +22,17 @@ invariant_of-self-in-None g c =
 pub returns-in_default-clause-called : goal.returns-in_default-clause-called
 returns-in_default-clause-called g c =
     let w = c.self.inside in
-    rw (← c.self.view_is) (receive-pending w.machine c.slot_poll.new.self _ _ w.panic w.out w.rng c.args.slot refl (let none = sym c.get.ensures ∙ rw c.in-None.is refl in record { held = none; there = held-none w.sent w.machine.told.state.slots c.self.invariant.1 c.args.slot none }) c.in_default.ensures.ok)
+    rw (← c.self.view_is) (receive-pending w.machine c.slot_poll.new.self _ _ w.panic w.out w.rng c.args.slot refl (let none = sym c.get.ensures ∙ rw c.in-None.is refl in record { held = none; there = held-none w.sent w.machine.told.state.stood.slots c.self.invariant.1 c.args.slot none }) c.in_default.ensures.ok)
 
 pub show_sent-requires-clause-sent : goal.show_sent-requires-clause-sent
 show_sent-requires-clause-sent g c =
     let w = c.self.inside in
-    held-there w.sent w.machine.told.state.slots c.self.invariant.1 c.args.slot c.in-Some-Err.field-0.now (sym c.get.ensures ∙ rw c.in-Some-Err.is refl)
+    held-there w.sent w.machine.told.state.stood.slots c.self.invariant.1 c.args.slot c.in-Some-Err.field-0.now (sym c.get.ensures ∙ rw c.in-Some-Err.is refl)
 
 pub take_sent-requires-clause-sent : goal.take_sent-requires-clause-sent
 take_sent-requires-clause-sent g c =
     let w = c.self.inside in
-    held-there w.sent w.machine.told.state.slots c.self.invariant.1 c.args.slot c.in-Some-Ok.field-0.now (sym c.get.ensures ∙ rw c.in-Some-Ok.is refl)
+    held-there w.sent w.machine.told.state.stood.slots c.self.invariant.1 c.args.slot c.in-Some-Ok.field-0.now (sym c.get.ensures ∙ rw c.in-Some-Ok.is refl)
 
 pub invariant_of-self-in-Some-Ok : goal.invariant_of-self-in-Some-Ok
 invariant_of-self-in-Some-Ok g c =

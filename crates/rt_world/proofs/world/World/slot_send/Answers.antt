@@ -7,12 +7,12 @@ pub put-requires-clause-out : goal.put-requires-clause-out
 put-requires-clause-out g c =
     let w = c.self.inside in
     let takes = sym c.takes-takes.ensures ∙ c.if-takes.true in
-    open-unsent w.sent w.machine.told.state.slots c.self.invariant.1 c.args.slot (both-of (is_some (find c.args.slot w.machine.told.state.slots.senders)) (is_open (find c.args.slot w.machine.told.state.slots.results)) takes).1
+    open-unsent w.sent w.machine.told.state.stood.slots c.self.invariant.1 c.args.slot (both-of (is_some (find c.args.slot w.machine.told.state.stood.slots.senders)) (is_open (find c.args.slot w.machine.told.state.stood.slots.results)) takes).1
 
 pub invariant_of-self : goal.invariant_of-self
 invariant_of-self g c =
     let w = c.self.inside in
-    let slots = w.machine.told.state.slots in
+    let slots = w.machine.told.state.stood.slots in
     let both = both-of (is_some (find c.args.slot slots.senders)) (is_open (find c.args.slot slots.results)) (sym c.takes-takes.ensures ∙ c.if-takes.true) in
     let noted : Noted w.out w.machine c.slot_send.new.self (Slots (SlotSend c.args.slot)) Done = c.slot_send.ensures.there both.0 in
     (seated-quiet w.tasks w.outputs w.out w.out w.machine c.slot_send.new.self c.self.invariant.0 (Slots (SlotSend c.args.slot)) Done noted refl refl refl, sent-slotted w.sent c.put.new.self w.out w.machine c.slot_send.new.self c.self.invariant.1 c.args.slot noted c.args.sent c.put.ensures.items c.put.ensures.first c.put.ensures.next both.1)

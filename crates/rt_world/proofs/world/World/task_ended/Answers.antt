@@ -20,9 +20,9 @@ invariant_of-self g c =
         next = i.next;
         first = i.first;
         last = i.last;
-        there = there-closed s.results w.outputs.items i.there task;
+        there = there-closed s.stood.results w.outputs.items i.there task;
         coming = rw phase (coming-closing _ _ _);
-        unset = open-ended s.running s.results i.unset task _ (rising-gone task w.tasks.first w.tasks.next s.running i.rising);
+        unset = open-ended s.running s.stood.results i.unset task _ (rising-gone task w.tasks.first w.tasks.next s.running i.rising);
       },
       c.self.invariant.1,
     )
