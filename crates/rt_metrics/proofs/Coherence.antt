@@ -1,5 +1,5 @@
 -- What keeps a registry coherent.
-use Rattle.rt_metrics.proofs.Prelude.{◌≡◌, ◌↔◌, ℕ, ◌+◌, ◌<◌, Bool, true, false, cond, ◌&&◌, List, [], ◌∷◌, Option, Some, None, is_some, refl, sym, ap, ◌∙◌, ◌⊎◌, inl, inr, arith, cases_Bool, and_parts, and_from, both_ways, nat_eq, lookup, set_value, option_map_or, text_cmp, Kind, Pairs, same_pairs, FamilyState, MetricState, member_in, with_member, fresh_metric, Agree, IsMetricOf, is_key, ChangesOne}
+use Rattle.rt_metrics.proofs.Prelude.{◌≡◌, ◌↔◌, ℕ, ◌+◌, ◌<◌, ◌≤◌, Bool, true, false, cond, ◌&&◌, List, [], ◌∷◌, Option, Some, None, is_some, refl, sym, ap, ◌∙◌, ◌⊎◌, inl, inr, arith, cases_Bool, and_parts, and_from, both_ways, nat_eq, lookup, set_value, option_map_or, text_cmp, Kind, Pairs, same_pairs, FamilyState, MetricState, member_in, with_member, fresh_metric, Agree, IsMetricOf, is_key, ChangesOne}
 use Rattle.std.specs.BTreeMap as tree
 use Rattle.indexmap.specs.IndexMap as ordered
 use Rattle.rt_metrics.proofs.Lookups.{exact_texts, exact_numbers, exact_pairs, same_text, lookup_set, lookup_push, lookup_put}
@@ -315,16 +315,16 @@ left_removed families written fewer name attributes f new some is found empty me
 
 -- A later next number, with a metric changed and without.
 
-pub keeps_later : (families : List (List ℕ × FamilyState)) (metrics : List (ℕ × MetricState)) (next : ℕ) → Agree families metrics next → Agree families metrics (next + 1)
-keeps_later families metrics next agree = record {
+pub keeps_later : (next later : ℕ) → next ≤ later → (families : List (List ℕ × FamilyState)) (metrics : List (ℕ × MetricState)) → Agree families metrics next → Agree families metrics later
+keeps_later next later after families metrics agree = record {
   leads = agree.leads;
   found = agree.found;
   claimed = agree.claimed;
   below = λ id m e. let low = agree.below id m e in omega arith;
 }
 
-pub keeps_child : (families : List (List ℕ × FamilyState)) (metrics : List (ℕ × MetricState)) (next at : ℕ) (was is : MetricState)
+pub keeps_child : (next later : ℕ) → next ≤ later → (families : List (List ℕ × FamilyState)) (metrics : List (ℕ × MetricState)) (at : ℕ) (was is : MetricState)
     → Agree families metrics next → lookup (nat_eq at) metrics ≡ Some was → is.name ≡ was.name → is.attributes ≡ was.attributes → 0 < is.claims
-    → Agree families (set_value (nat_eq at) metrics is) (next + 1)
-keeps_child families metrics next at was is agree there name attributes claims =
-    keeps_later families (set_value (nat_eq at) metrics is) next (keeps_written families metrics next at was is agree there name attributes claims)
+    → Agree families (set_value (nat_eq at) metrics is) later
+keeps_child next later after families metrics at was is agree there name attributes claims =
+    keeps_later next later after families (set_value (nat_eq at) metrics is) (keeps_written families metrics next at was is agree there name attributes claims)

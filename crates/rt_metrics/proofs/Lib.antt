@@ -4,3 +4,4 @@ pub mod Headers
 pub mod Lookups
 pub mod Maps
 pub mod Prelude
+pub mod Several

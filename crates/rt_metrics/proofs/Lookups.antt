@@ -88,7 +88,7 @@ module _ {K : Type 0} {eq : K → K → Bool} (is : IsExact eq) where
       | inr miss ↦ rw miss (passed (eq q e.0) (eq k q) (Some e.1) (Some w) _ _ (λ p r. met k e.0 q miss p r) (lookup_push q k w es))
     ]
 
-cases_cmp : (o : Ordering) → (o ≡ Less) ⊎ ((o ≡ Equal) ⊎ (o ≡ Greater))
+pub cases_cmp : (o : Ordering) → (o ≡ Less) ⊎ ((o ≡ Equal) ⊎ (o ≡ Greater))
 cases_cmp Less = inl refl
 cases_cmp Equal = inr (inl refl)
 cases_cmp Greater = inr (inr refl)

@@ -1,5 +1,5 @@
 -- The labels of statuses and of tasks: each is named as its variant.
-use Rattle.std.specs.Prelude.{◌≡◌, ℕ, List, [], ◌∷◌, codes, true, false}
+use Rattle.std.specs.Prelude.{ℕ, List, [], ◌∷◌, codes, true, false}
 use Rattle.std.specs.List.{fold}
 use Rattle.std.specs.Option.{option_map_or}
 use Rattle.rt_base.specs.declared.execution.Execution.{Execution as Asked}
@@ -64,9 +64,3 @@ all_statuses = Ambiguous ∷ Dropped ∷ Failure ∷ Invalid ∷ Success ∷ Tim
 -- the family with the children of these statuses
 abbrev pub with_statuses : RegistryState → ℕ → List Status → RegistryState
 with_statuses r id statuses = fold (λ made status. with_status made id status) r statuses
-
--- these are the texts of all statuses
-abbrev pub AreStatusTexts : List ℕ → List ℕ → List ℕ → List ℕ → List ℕ → List ℕ → Type 0
-AreStatusTexts a b c d e f =
-    (a ≡ status_text Ambiguous) × (b ≡ status_text Dropped) × (c ≡ status_text Failure)
-    × (d ≡ status_text Invalid) × (e ≡ status_text Success) × (f ≡ status_text Timeout)

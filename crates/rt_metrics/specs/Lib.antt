@@ -3,3 +3,4 @@ pub mod MetricText
 pub mod Labels
 pub mod Batches
 pub mod Coherence
+pub mod Several

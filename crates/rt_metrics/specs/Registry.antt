@@ -81,6 +81,10 @@ first_sample Gauge = Some (Level (pos 0))
 first_sample CounterFamily = None
 first_sample GaugeFamily = None
 
+-- the values with the first of a kind, if it has one
+abbrev pub with_first : Kind → List (ℕ × Sample) → ℕ → List (ℕ × Sample)
+with_first kind values id = option_map_or (ordered.insert_entry nat_eq values id) (first_sample kind) values
+
 abbrev pub number_in : Sample → ℤ
 number_in (Count n) = pos n
 number_in (Level z) = z
@@ -196,7 +200,7 @@ abbrev pub registered : RegistryState → List ℕ → List ℕ → Kind → Pai
 registered r name help kind attributes = record {
   families = with_member r.families name help kind attributes r.next;
   metrics = ordered.insert_entry nat_eq r.metrics r.next (fresh_metric name attributes);
-  values = option_map_or (ordered.insert_entry nat_eq r.values r.next) (first_sample kind) r.values;
+  values = with_first kind r.values r.next;
   next = r.next + 1;
 }
 
@@ -261,7 +265,7 @@ abbrev pub with_child : RegistryState → ℕ → List ℕ → Kind → Registry
 with_child r id labels kind =
     if has_child r id labels then r
     else record (altered (λ m. record m { children = tree.insert_entry text_cmp m.children labels r.next }) r id) {
-      values = option_map_or (ordered.insert_entry nat_eq r.values r.next) (first_sample kind) r.values;
+      values = with_first kind r.values r.next;
       next = r.next + 1;
     }
 

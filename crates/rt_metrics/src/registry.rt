@@ -1,9 +1,10 @@
 // The registry of metrics.
-ghost use Rattle.std.specs.Prelude.{◌≡◌, ◌⊎◌, ◌↔◌, ◌<◌, ◌≤◌, Some, None, Err, ℕ, List, nat_eq, nat_lt, IsTrue, IfOk, IfErr, OnErr, OnOk, false};
-ghost use Rattle.std.specs.Option.{option_copied, option_map_or};
+ghost use Rattle.std.specs.Prelude.{◌≡◌, ◌⊎◌, ◌↔◌, ◌<◌, ◌≤◌, ◌+◌, ◌-◌, Some, None, Err, ℕ, List, length, nat_eq, nat_lt, IsTrue, IfOk, IfErr, OnErr, OnOk, false};
+ghost use Rattle.std.specs.Option.{option_copied};
 ghost use Rattle.rt_base.specs.Label.{is_label};
 ghost use Rattle.rt_metrics.specs.Coherence.{IsCoherent, ChangesOne};
-ghost use Rattle.rt_metrics.specs.Registry.{Pairs, first_registry, first_sample, is_held, claims_of, claimed, released, registered, family_of, member_of, value_of, metric_of, refusal, claim_number, with_claim, child_of, child_number, has_child, with_child, without_child, lowered, levelled_at, counted, levelled, with_member, without_member, without_value, family_refusal};
+ghost use Rattle.rt_metrics.specs.Registry.{Pairs, first_registry, with_first, is_held, claims_of, claimed, released, registered, family_of, member_of, value_of, metric_of, refusal, claim_number, with_claim, child_of, child_number, has_child, with_child, without_child, lowered, levelled_at, counted, levelled, with_member, without_member, without_value, family_refusal};
+ghost use Rattle.rt_metrics.specs.Several.{with_children, numbered, with_firsts};
 ghost use Rattle.indexmap.specs.IndexMap.{insert_entry, spare};
 ghost use Rattle.std.specs.List.{fold};
 ghost use Rattle.std.specs.Map.{values_of};
@@ -277,6 +278,26 @@ impl Registry {
         Ok(child)
     }
 
+    /// Makes the children that are missing, all or none.
+    pub(crate) fn make_children(
+        &mut self,
+        id: u64,
+        labels: &[Text],
+        kind: Kind,
+    ) -> Result<(), NoMemory>
+        requires held { IsTrue (is_held self.old id) }
+        ensures made { OnOk result (self.new ≡ with_children self.old id labels.now kind) }
+        ensures refused { OnErr result (self.new ≡ self.old) }
+    {
+        self.values.reserve(labels.len())?;
+        let first = self.next;
+        if let Some(entry) = self.metrics.get_mut(&id) {
+            self.next = number_missing(&mut entry.children, labels, first)?;
+        }
+        put_firsts(&mut self.values, first, self.next, kind);
+        Ok(())
+    }
+
     /// Removes a child, and returns whether there was one.
     pub(crate) fn remove_child(&mut self, id: u64, labels: &Text) -> bool
         ensures there { result ≡ has_child self.old id labels.now }
@@ -331,7 +352,8 @@ impl Registry {
 /// Puts a value in, for which there is room.
 fn put<V: Drop>(map: &mut IndexMap<u64, V>, id: u64, value: V)
     requires { 0 < spare map.old }
-    ensures { map.new.entries ≡ insert_entry nat_eq map.old.entries id value }
+    ensures entries { map.new.entries ≡ insert_entry nat_eq map.old.entries id value }
+    ensures spare { spare map.old ≤ spare map.new + 1 }
 {
     match map.insert(id, value) {
         Ok(_) => {}
@@ -342,11 +364,48 @@ fn put<V: Drop>(map: &mut IndexMap<u64, V>, id: u64, value: V)
 /// Puts the first value of a kind in, for which there is room. A family has none.
 fn put_first(values: &mut IndexMap<u64, Sample>, id: u64, kind: Kind)
     requires { 0 < spare values.old }
-    ensures { values.new.entries ≡ option_map_or (insert_entry nat_eq values.old.entries id) (first_sample kind) values.old.entries }
+    ensures entries { values.new.entries ≡ with_first kind values.old.entries id }
+    ensures spare { spare values.old ≤ spare values.new + 1 }
 {
     if let Some(sample) = kind.first_sample() {
         put(values, id, sample);
     }
+}
+
+/// Puts the first value of a kind in for each of these numbers, for which there is room.
+fn put_firsts(values: &mut IndexMap<u64, Sample>, first: u64, end: u64, kind: Kind)
+    requires ordered { first ≤ end }
+    requires room { end - first ≤ spare values.old }
+    ensures { values.new.entries ≡ with_firsts kind values.old.entries first (end - first) }
+{
+    for id in first..end {
+        put_first(values, id, kind);
+    }
+}
+
+/// Numbers the children that are missing from this number on, all or none. Returns the number after the last.
+fn number_missing(
+    children: &mut BTreeMap<Text, u64>,
+    labels: &[Text],
+    next: u64,
+) -> Result<u64, NoMemory>
+    ensures numbered { IfOk result (λ end. numbered children.old.entries next labels.now ≡ (children.new.entries, end)) }
+    ensures few { IfOk result (λ end. (next ≤ end) × (end ≤ next + length labels.now)) }
+    ensures refused { OnErr result (children.new.entries ≡ children.old.entries) }
+{
+    let Some((label, rest)) = labels.split_first() else {
+        return Ok(next);
+    };
+    if children.contains_key(label) {
+        return number_missing(children, rest, next);
+    }
+    let after = next.checked_add(1).ok_or(NoMemory)?;
+    children.insert(label.clone_value()?, next)?;
+    let end = number_missing(children, rest, after);
+    if end.is_err() {
+        children.remove(label);
+    }
+    end
 }
 
 /// Puts a metric into the family of its name, which is made where it is missing.

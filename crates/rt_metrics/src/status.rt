@@ -1,5 +1,5 @@
 //! Counters by status.
-ghost use Rattle.std.specs.Prelude.{◌≡◌, ◌<◌, ◌-◌, ◌^◌, ℕ, take, IsTrue, IfOk, OnOk, OnErr};
+ghost use Rattle.std.specs.Prelude.{◌≡◌, ◌<◌, ◌-◌, ◌^◌, map, IsTrue, IfOk, OnOk, OnErr};
 ghost use Rattle.rt_metrics.specs.Registry.{is_held, claims_of, claimed, released};
 ghost use Rattle.rt_metrics.specs.Labels.{status_name, status_pairs, status_text, raised_status, child_raised, with_statuses, all_statuses};
 
@@ -44,16 +44,6 @@ pub type Raw = raw::Family<raw::Counter>;
 /// A claim on a family of counters by status.
 pub type Counter = Registered<Raw>;
 
-/// All statuses, in the order of their texts.
-const STATUSES: [Status; 6] = [
-    Status::Ambiguous,
-    Status::Dropped,
-    Status::Failure,
-    Status::Invalid,
-    Status::Success,
-    Status::Timeout,
-];
-
 impl Status {
     fn name(self) -> &'static str
         ensures { result.now ≡ status_name self }
@@ -82,46 +72,50 @@ impl LabelSet for Label {
 /// The texts of the labels of all statuses.
 #[derive(Debug, Drop)]
 struct Texts {
-    ambiguous: Text,
-    dropped: Text,
-    failure: Text,
-    invalid: Text,
-    success: Text,
-    timeout: Text,
+    all: [Text; 6],
 }
 
 impl Model for Texts {
-    ghost use Rattle.rt_metrics.specs.Labels.{AreStatusTexts};
+    ghost use Rattle.std.specs.Prelude.{◌≡◌, map};
+    ghost use Rattle.rt_metrics.specs.Labels.{status_text, all_statuses};
 
     ghost Value = { Unit {0} };
 
     ghost view = { λ _. tt };
 
-    ghost invariant = { λ t. AreStatusTexts t.ambiguous t.dropped t.failure t.invalid t.success t.timeout };
+    ghost invariant = { λ t. t.all ≡ map status_text all_statuses };
 }
 
 impl Texts {
     fn new(alloc: Global) -> Result<Texts, NoMemory> {
         Ok(Texts {
-            ambiguous: status_key(alloc, Status::Ambiguous)?,
-            dropped: status_key(alloc, Status::Dropped)?,
-            failure: status_key(alloc, Status::Failure)?,
-            invalid: status_key(alloc, Status::Invalid)?,
-            success: status_key(alloc, Status::Success)?,
-            timeout: status_key(alloc, Status::Timeout)?,
+            all: [
+                status_key(alloc, Status::Ambiguous)?,
+                status_key(alloc, Status::Dropped)?,
+                status_key(alloc, Status::Failure)?,
+                status_key(alloc, Status::Invalid)?,
+                status_key(alloc, Status::Success)?,
+                status_key(alloc, Status::Timeout)?,
+            ],
         })
+    }
+
+    fn all(&self) -> &[Text]
+        ensures { result.now ≡ map status_text all_statuses }
+    {
+        &self.all
     }
 
     fn of(&self, status: Status) -> &Text
         ensures { result.now ≡ status_text status }
     {
         match status {
-            Status::Ambiguous => &self.ambiguous,
-            Status::Dropped => &self.dropped,
-            Status::Failure => &self.failure,
-            Status::Invalid => &self.invalid,
-            Status::Success => &self.success,
-            Status::Timeout => &self.timeout,
+            Status::Ambiguous => &self.all[0],
+            Status::Dropped => &self.all[1],
+            Status::Failure => &self.all[2],
+            Status::Invalid => &self.all[3],
+            Status::Success => &self.all[4],
+            Status::Timeout => &self.all[5],
         }
     }
 }
@@ -169,34 +163,21 @@ impl CounterGuard {
     }
 }
 
-/// Makes the children of all statuses that are missing.
-fn make_children(registry: &mut Registry, id: u64, statuses: &[Status]) -> Result<(), NoMemory>
-    ensures made { OnOk result (registry.new ≡ with_statuses registry.old id statuses.now) }
-    ensures some { OnErr result ((n : ℕ) × (registry.new ≡ with_statuses registry.old id (take n statuses.now))) }
-{
-    for status in statuses {
-        let key = status_key(registry.allocator(), *status)?;
-        registry.child_or_new(id, key, Kind::Counter)?;
-    }
-    Ok(())
-}
-
 impl Registered<raw::Family<raw::Counter>> {
     /// Returns a guard that counts at this status, or another that is set later. The children of all six statuses are
     /// made where they are missing, and the guard has one claim.
     ///
-    /// Error: `NoMemory`, also where no number is left; then the first of the children may have been made, and nothing
-    /// else has changed.
+    /// Error: `NoMemory`, also where no number is left. Nothing has changed after it.
     pub fn guard(&self, registry: &mut Registry, status: Status) -> Result<CounterGuard, NoMemory>
         requires held { IsTrue (is_held registry.old self.now.id) }
         requires few { claims_of registry.old self.now.id < 2 ^ 64 - 1 }
         ensures counter { IfOk result (λ guard. guard.counter.id ≡ self.now.id) }
         ensures status { IfOk result (λ guard. guard.status ≡ status) }
         ensures made { OnOk result (registry.new ≡ claimed (with_statuses registry.old self.now.id all_statuses) self.now.id) }
-        ensures some { OnErr result ((n : ℕ) × (registry.new ≡ with_statuses registry.old self.now.id (take n all_statuses))) }
+        ensures refused { OnErr result (registry.new ≡ registry.old) }
     {
         let texts = Texts::new(registry.allocator())?;
-        make_children(registry, self.id, &STATUSES)?;
+        registry.make_children(self.id, texts.all(), Kind::Counter)?;
         registry.claim(self.id);
         Ok(CounterGuard {
             counter: Registered::of(self.id),
