@@ -1,4 +1,4 @@
-// Each call once. Whole runs of a task type of one's own are compared in `rt_errand_tests`.
+// Each call once. Whole runs of task types of one's own are those of `rt_errand_tests`.
 
 ghost use Rattle.std.specs.Prelude.{◌≡◌};
 ghost use Rattle.rt_core.specs.Pollers.{until};
@@ -9,7 +9,7 @@ use rand_chacha::ChaCha12Rng;
 use rt_audit::FinishCause;
 use rt_core::utils::reschedule;
 use rt_core::{
-    Answer, Config, ConfigError, Context, Cx, Failure, Finished, Handle, HandleOf, MAX_TIME,
+    Answer, Config, ConfigError, Context, Cx, Failure, Finished, Handle, HandleOf, MAX_TIME, Nanos,
     NoMemory, Outcome, Poller, Rng, RootMaker, Runner, Sleep, Task, Timeout, World,
 };
 use std::alloc::Global;
@@ -310,7 +310,8 @@ fn is_left(finished: Finished<u64, ChaCha12Rng>) -> bool {
     let Finished { output, checkpoint } = finished;
     let time = checkpoint.time();
     let entries = checkpoint.journal().len();
-    output == 7 && time == 0 && checkpoint.into_journal().len() == entries
+    let told = checkpoint.auditor() == checkpoint.journal().auditor();
+    output == 7 && time == 0 && told && checkpoint.into_journal().len() == entries
 }
 
 /// Whether a run completes, and leaves what it should.
@@ -353,5 +354,28 @@ fn surface(rt: HostRuntime) -> Result<(), Fail> {
         are_made(rt.clone()?, alloc, Part::Contexts),
     );
     holds(&rt, "draws", are_made(rt.clone()?, alloc, Part::Draws));
+    Ok(())
+}
+
+/// Why settings are refused, if they are.
+fn refusal(config: Config<ChaCha12Rng>) -> Option<ConfigError> {
+    Runner::new(config).err()
+}
+
+/// Settings that start at the last moment.
+fn last_moment(timeout: Nanos) -> Config<ChaCha12Rng> {
+    Config::new()
+        .with_start_time(MAX_TIME)
+        .with_cycle(1)
+        .with_timeout(Some(timeout))
+}
+
+#[test]
+fn refused_settings(rt: HostRuntime) -> Result<(), Fail> {
+    let past = Config::new().with_start_time(MAX_TIME + 1);
+    assert!(rt; refusal(Config::new().with_cycle(0)) == Some(ConfigError::ZeroCycle));
+    assert!(rt; refusal(past) == Some(ConfigError::StartTooLate));
+    assert!(rt; refusal(last_moment(1)) == Some(ConfigError::DeadlineTooLate));
+    assert!(rt; refusal(last_moment(0)) == None);
     Ok(())
 }

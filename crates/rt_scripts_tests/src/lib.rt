@@ -1,15 +1,7 @@
-//! Tests of `rt_scripts`: whole simulations, over sources and sinks in memory.
+//! Tests of `rt_scripts`: simulations of what no text of cases can say, over sources and sinks in memory.
 #![tactic(auto)]
 
 #[cfg(test)]
-mod choosing;
-#[cfg(test)]
-mod lawful;
-#[cfg(test)]
-mod seeded;
-#[cfg(test)]
-mod shutdown;
+mod built;
 #[cfg(test)]
 mod simulations;
-#[cfg(test)]
-mod supervised;
