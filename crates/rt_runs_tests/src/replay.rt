@@ -205,7 +205,7 @@ impl<'a> Replay<'a> {
     {
         match call {
             Call::Signal { signaler, value } => Ok(self.give(by, *signaler, *value)),
-            Call::SignalerClose { signaler } => Ok(self.machine.close_signaler(by, *signaler)),
+            Call::SignalerClose { signaler } => Ok(self.let_go(by, *signaler)),
             Call::CompletionPoll { completion } => told(
                 self.machine.poll_completion(by, *completion),
             ),
@@ -226,6 +226,18 @@ impl<'a> Replay<'a> {
         ensures runs { IfSome by (λ task. has_number task self.new.told.state.running ≡ true) }
     {
         self.machine.signal(by, signaler, value)
+    }
+
+    /// Gives a signaler up.
+    fn let_go(&mut self, by: Option<u64>, signaler: u64)
+        requires calling { MayCall self.old.told.state by }
+        requires runs { IfSome by (λ task. has_number task self.old.told.state.running ≡ true) }
+        ensures phase { self.new.told.state.phase ≡ self.old.told.state.phase }
+        ensures root { self.new.told.state.root ≡ self.old.told.state.root }
+        ensures calling { MayCall self.new.told.state by }
+        ensures runs { IfSome by (λ task. has_number task self.new.told.state.running ≡ true) }
+    {
+        self.machine.close_signaler(by, signaler)
     }
 
     /// Polls a slot.
