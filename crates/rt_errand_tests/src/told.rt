@@ -90,14 +90,20 @@ fn run_roots(
     first: Runner<ChaCha12Rng>,
     roots: &[Root],
 ) -> Result<Journal, NoMemory> {
+    let Some((last, before)) = roots.split_last() else {
+        return Ok(first.into_journal(alloc));
+    };
     let mut runner = first;
-    for root in roots {
+    for root in before {
         match run_root(alloc, text, runner, *root)? {
             Ok(checkpoint) => runner = Runner::from(checkpoint),
             Err(journal) => return Ok(journal),
         }
     }
-    Ok(runner.into_journal(alloc))
+    match run_root(alloc, text, runner, *last)? {
+        Ok(checkpoint) => Ok(checkpoint.into_journal()),
+        Err(journal) => Ok(journal),
+    }
 }
 
 /// Adds the name of a row, how its runs ended, whether their journal is lawful, and its lines.
